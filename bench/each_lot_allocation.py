@@ -1,7 +1,7 @@
 #!/usr/bin/env python3
 """Refuses each allocation of `ParkingLot::new` in turn, and checks that the lot is refused, or made after all.
 
-The test `a_lot_is_made_or_refused` makes a lot of two words for two threads. Each run builds the tests of `lot_trials`,
+The test `a_lot_is_made_or_refused` makes a lot of two words for two threads. Each run builds the tests of `test_core`,
 without their proofs, and counts allocations anew in each test, so it takes some seconds.
 
 python3 bench/each_lot_allocation.py
@@ -11,7 +11,7 @@ import os
 import subprocess
 import sys
 
-CRATE = os.path.join(os.path.dirname(os.path.abspath(__file__)), "..", "crates", "lot_trials")
+CRATE = os.path.join(os.path.dirname(os.path.abspath(__file__)), "..", "crates", "test_core")
 TEST = "tests::single::a_lot_is_made_or_refused"
 # The lot makes fewer.
 LAST = 40

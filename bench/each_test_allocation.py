@@ -1,5 +1,5 @@
 #!/usr/bin/env python3
-"""Refuses each allocation of the tests `refusals` of `drain_trials` in turn, and checks that they pass still.
+"""Refuses each allocation of the tests `refusals` of `test_drain` in turn, and checks that they pass still.
 
 The tests are written so: whatever is refused, they see the fault, find nothing lost, and go on. Each is run without the
 proofs, in a copy of the crates in which its crate has no other tests, and counts its allocations anew.
@@ -15,7 +15,7 @@ import sys
 import tempfile
 
 TOP = os.path.join(os.path.dirname(os.path.abspath(__file__)), "..")
-CRATE = "drain_trials"
+CRATE = "test_drain"
 MODULE = "refusals"
 LAST = 48
 

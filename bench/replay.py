@@ -3,8 +3,8 @@
 
 Build the proved program first: `rt run -- replay < stdin` in crates/lotsim. Then: python3 bench/replay.py [PROGRAM..]
 Several programs are run in turn, so that what else the machine does slows all of them. Each kind of queues is a program:
-in a clone `lot_base::ListQueues` takes the place of `bucket_queues::BucketQueues` in crates/lotsim/src/main.rt, and
-`lot_base` that of `bucket_queues` in the line of `lotsim` in crates.txt; it is built there likewise.
+in a clone `core_base::ListQueues` takes the place of `core_queues::BucketQueues` in crates/lotsim/src/main.rt, and
+`core_base` that of `core_queues` in the line of `lotsim` in crates.txt; it is built there likewise.
 With `--keep FOLDER` the schedules are written into that folder too.
 """
 

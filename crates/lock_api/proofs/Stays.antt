@@ -1,4 +1,4 @@
--- What a thread is behind one more call.
+-- A thread is the same one after one more call.
 use Rattle.std.proofs.Common.{inl, inr, subst}
 use Rattle.lock_api.specs.Conditions.{WaitedOrNot}
 

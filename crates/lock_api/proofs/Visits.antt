@@ -1,7 +1,7 @@
 -- A visit of a lock by its guard.
 use Rattle.std.proofs.Common.{◌≡◌, subst}
-use Rattle.lot_calls.specs.declared.outcomes.Answer.{Answer}
-use Rattle.lot_calls.specs.declared.outcomes.Answer.TheVariants as answers
+use Rattle.spec_locks.specs.declared.outcomes.Answer.{Answer}
+use Rattle.spec_locks.specs.declared.outcomes.Answer.TheVariants as answers
 use Rattle.lock_api.specs.Visits.{CameAndWent}
 
 -- who came in with a guard of the lock and released that guard came and went

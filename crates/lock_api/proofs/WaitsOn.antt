@@ -1,8 +1,8 @@
 -- Waits one after another, and one more.
 use Rattle.std.proofs.Common.{◌≡◌, ◌⊎◌, suc, Bool, true, false, inl, inr, refl, subst}
 use Rattle.lock_raw.specs.Answers.{late_answer}
-use Rattle.lot_calls.specs.declared.outcomes.Answer.{Answer}
-use Rattle.lot_calls.specs.declared.outcomes.Answer.TheVariants as answers
+use Rattle.spec_locks.specs.declared.outcomes.Answer.{Answer}
+use Rattle.spec_locks.specs.declared.outcomes.Answer.TheVariants as answers
 use Rattle.lock_api.specs.Waits.{Waits}
 
 -- a wait with the mutex of a guard that was given back is one with the mutex of the first guard

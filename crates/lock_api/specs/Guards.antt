@@ -1,4 +1,4 @@
--- What a guard is of.
+-- A guard is of a raw lock and of a value.
 use Rattle.lock_api.specs.declared.guarded.Guarded.{Guarded}
 use Rattle.lock_api.specs.declared.shows.Keeps as keeps
 use Rattle.lock_api.specs.declared.shows.Shows as shows

@@ -1,6 +1,6 @@
--- What a thread did that came in and went again.
-use Rattle.lot_calls.specs.declared.outcomes.Answer.{Answer}
-use Rattle.lot_calls.specs.declared.outcomes.Answer.TheVariants as answers
+-- The steps and wakes of a thread that came in and went again.
+use Rattle.spec_locks.specs.declared.outcomes.Answer.{Answer}
+use Rattle.spec_locks.specs.declared.outcomes.Answer.TheVariants as answers
 
 -- it came in by one call, with this answer, and went by another, which has woken whom it lets in:
 -- of the steps of calls and of what releases have woken, as the lock tells both

@@ -1,7 +1,7 @@
 -- Waits one after another, by the steps of each.
 use Rattle.std.specs.Prelude.{◌≡◌, ◌⊎◌, ◌≤◌, ◌+◌, ◌^◌, ℕ, zero, suc, Result, Ok, Err}
-use Rattle.lot_calls.specs.declared.outcomes.Answer.{Answer}
-use Rattle.lot_calls.specs.declared.outcomes.Answer.TheVariants as answers
+use Rattle.spec_locks.specs.declared.outcomes.Answer.{Answer}
+use Rattle.spec_locks.specs.declared.outcomes.Answer.TheVariants as answers
 
 -- between these states of a thread it waited so many times
 abbrev pub WaitsTimes : {Token : Type 0} → (Token → Token → Type 0) → ℕ → Token → Token → Type 0

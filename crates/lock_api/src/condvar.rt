@@ -2,14 +2,14 @@
 ghost use Rattle.std.specs.Prelude.{◌≡◌, Bool, true, false, IfOk, MatchResult};
 ghost use Rattle.std.specs.Arc.{arc_value};
 ghost use Rattle.std.specs.Duration.{as_nanos};
-ghost use Rattle.lot_base.specs.Clocks.{HasElapsed, HasPassed};
-ghost use Rattle.lot_calls.specs.declared.outcomes.Answer.TheVariants.{Number};
+ghost use Rattle.core_base.specs.Clocks.{HasElapsed, HasPassed};
+ghost use Rattle.spec_locks.specs.declared.outcomes.Answer.TheVariants.{Number};
 ghost use Rattle.lock_raw.specs.Answers.{GivesBack, IsRefusal, moved_first, notifying_answer, waiting_answer};
 ghost use Rattle.lock_api.specs.Guards.{lock_of};
 
 use crate::guards::MutexGuard;
 use lock_raw::{RawCondvar, RawMutex};
-use lot_base::Fault;
+use core_base::Fault;
 use std::fmt;
 use std::fmt::{Debug, Formatter, Write};
 use std::marker::Model;
@@ -18,7 +18,7 @@ use std::sync::{Arc, Wait};
 /// The threads of a condition variable's mutexes.
 pub type TokenOf<R> = <<R as RawCondvar>::RawMutex as RawMutex>::Token;
 
-/// What a wait answers: the guard, which is given back too where the wait was refused.
+/// The answer of a wait: the guard, which is given back too where the wait was refused.
 pub type Waited<'a, R, T> = Result<
     MutexGuard<'a, <R as RawCondvar>::RawMutex, T>,
     (Fault, MutexGuard<'a, <R as RawCondvar>::RawMutex, T>),

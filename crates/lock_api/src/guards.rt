@@ -1,15 +1,15 @@
 //! Guards of locks with a value.
 ghost use Rattle.std.specs.Prelude.{◌≡◌};
 ghost use Rattle.lock_api.specs.Guards.{lock_of};
-ghost use Rattle.lot_calls.specs.declared.calls.MutexCall.TheVariants.{Unlock, UnlockFair, Bump};
-ghost use Rattle.lot_calls.specs.declared.outcomes.Answer.TheVariants as answers;
+ghost use Rattle.spec_locks.specs.declared.calls.MutexCall.TheVariants.{Unlock, UnlockFair, Bump};
+ghost use Rattle.spec_locks.specs.declared.outcomes.Answer.TheVariants as answers;
 
 use crate::guarded::Guarded;
 use crate::mutex::Mutex;
 use crate::taken::Taken;
 use lock_raw::{RawMutex, RawMutexFair};
 use std::sync::Wait;
-use value_place::Open;
+use core_parts::Open;
 
 /// The mutex is taken for as long as its guard is not spent. A guard has the raw guard, of this
 /// very mutex; it can't be dropped, and `unlock` or `unlock_fair` is its end.

@@ -22,6 +22,6 @@ pub use lock_raw::{
 };
 pub use mapped::MappedMutexGuard;
 pub use mutex::Mutex;
-pub use projections::{LockName, Mapped, Project, Shown, Then, ThenError};
+pub use lock_values::{LockName, Mapped, Project, Shown, Then, ThenError};
 pub use reentrant::{MappedReentrantMutexGuard, ReentrantMutex, ReentrantMutexGuard};
 pub use waits::WaitTimeoutResult;

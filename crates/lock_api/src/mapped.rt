@@ -1,20 +1,20 @@
 //! Guards of mutexes, as a map sees them, and mapped ones.
 ghost use Rattle.std.specs.Prelude.{◌≡◌, Err, IsOk, MatchResult};
 ghost use Rattle.lock_api.specs.Guards.{lock_of, value_of};
-ghost use Rattle.lot_calls.specs.declared.calls.MutexCall.TheVariants.{Unlock, UnlockFair};
-ghost use Rattle.lot_calls.specs.declared.outcomes.Answer.TheVariants as answers;
+ghost use Rattle.spec_locks.specs.declared.calls.MutexCall.TheVariants.{Unlock, UnlockFair};
+ghost use Rattle.spec_locks.specs.declared.outcomes.Answer.TheVariants as answers;
 
 use crate::guarded::Guarded;
 use crate::guards::MutexGuard;
 use crate::shows::{Keeps, Shows, ShowsMut};
 use crate::taken::Taken;
 use lock_raw::{RawMutex, RawMutexFair};
-use projections::{Mapped, Project, Unlocks, UnlocksFair};
+use lock_values::{Mapped, Project, Unlocks, UnlocksFair};
 use std::ops::{Deref, DerefMut};
 use std::sync::Wait;
-use value_place::Open;
+use core_parts::Open;
 
-impl<K: Keeps, V: Shows> projections::Shows for Guarded<K, V> {
+impl<K: Keeps, V: Shows> lock_values::Shows for Guarded<K, V> {
     ghost use Rattle.std.proofs.Common.{◌∙◌};
 
     type Value = V::Value;
@@ -34,7 +34,7 @@ impl<K: Keeps, V: Shows> projections::Shows for Guarded<K, V> {
     }
 }
 
-impl<K: Keeps, V: ShowsMut> projections::ShowsMut for Guarded<K, V> {
+impl<K: Keeps, V: ShowsMut> lock_values::ShowsMut for Guarded<K, V> {
     #[inline]
     fn show_mut(&mut self) -> &mut V::Value {
         self.deref_mut()

@@ -3,20 +3,20 @@ ghost use Rattle.std.specs.Prelude.{◌≡◌, IfNone, IfOk, IfSome, MatchOption
 ghost use Rattle.std.specs.Fn.{FnOnceReturnsAtMut};
 ghost use Rattle.std.specs.Arc.{arc_value};
 ghost use Rattle.std.specs.Duration.{as_nanos};
-ghost use Rattle.lot_base.specs.Clocks.{HasElapsed, HasPassed};
+ghost use Rattle.core_base.specs.Clocks.{HasElapsed, HasPassed};
 ghost use Rattle.lock_raw.specs.Answers.{IsRefusal, answer_by};
 ghost use Rattle.lock_api.specs.Guards.{lock_of};
 ghost use Rattle.lock_api.specs.Visits.{CameAndWent};
-ghost use Rattle.lot_calls.specs.declared.calls.MutexCall.TheVariants.{Lock, LockTimed, TryLock, Unlock};
-ghost use Rattle.lot_calls.specs.declared.outcomes.Answer.TheVariants as answers;
+ghost use Rattle.spec_locks.specs.declared.calls.MutexCall.TheVariants.{Lock, LockTimed, TryLock, Unlock};
+ghost use Rattle.spec_locks.specs.declared.outcomes.Answer.TheVariants as answers;
 
 use crate::guards::MutexGuard;
 use lock_raw::{RawMutex, RawMutexTimed};
-use lot_base::{Clock, Fault};
+use core_base::{Clock, Fault};
 use std::marker::Model;
 use std::sync::{Arc, Wait};
 use std::time::Duration;
-use value_place::{NamesPermit, Place};
+use core_parts::{NamesPermit, Place};
 
 /// Calls a closure on a value: what the closure promises of the value as it was and as it is.
 pub fn run_on<T, U, F: FnOnce(&mut T) -> U>(value: &mut T, f: F) -> U
@@ -26,7 +26,7 @@ pub fn run_on<T, U, F: FnOnce(&mut T) -> U>(value: &mut T, f: F) -> U
     f(value)
 }
 
-// What says which permit opens a mutex's value.
+// Names the permit that opens a mutex's value.
 #[derive(Drop)]
 struct Names<'a, R> {
     raw: &'a R,

@@ -1,4 +1,4 @@
-//! Who has a mutex for itself reaches its value without a step.
+//! A thread that has a mutex for itself reaches its value without a step.
 ghost use Rattle.std.specs.Prelude.{◌≡◌};
 ghost use Rattle.std.specs.Borrow.{Lends, sem};
 ghost use Rattle.lock_api.specs.contracts.mutex.Mutex.{the_row};

@@ -4,13 +4,13 @@ ghost use Rattle.std.specs.Arc.{arc_value};
 ghost use Rattle.lock_raw.specs.Answers.{IsRefusal};
 ghost use Rattle.lock_raw.specs.Counts.{CountedAgain, CountedLess, CountedMore, CountedOut, CountedOutAlone, SawFull, SawMore, SawOthers, first_count};
 ghost use Rattle.lock_api.specs.Reentrant.{Bumped, CameIn, StayedOut, WentOff};
-ghost use Rattle.lot_base.specs.declared.faults.Fault.TheVariants.{LockCountFull};
-ghost use Rattle.lot_calls.specs.declared.calls.MutexCall.TheVariants.{Bump, Lock, TryLock, Unlock, UnlockFair};
-ghost use Rattle.lot_calls.specs.declared.outcomes.Answer.TheVariants as answers;
+ghost use Rattle.core_base.specs.declared.faults.Fault.TheVariants.{LockCountFull};
+ghost use Rattle.spec_locks.specs.declared.calls.MutexCall.TheVariants.{Bump, Lock, TryLock, Unlock, UnlockFair};
+ghost use Rattle.spec_locks.specs.declared.outcomes.Answer.TheVariants as answers;
 
 use lock_raw::{GetThreadId, RawMutexCounted, RawMutexFair};
-use lot_base::Fault;
-use projections::{Mapped, Project, Unlocks, UnlocksFair};
+use core_base::Fault;
+use lock_values::{Mapped, Project, Unlocks, UnlocksFair};
 use std::marker::{Model, PhantomData};
 use std::ops::Deref;
 use std::sync::{Arc, Wait};
@@ -332,7 +332,7 @@ impl<R: RawMutexCounted + RawMutexFair, G, T> ReentrantMutexGuard<'_, R, G, T> {
     }
 }
 
-impl<R: RawMutexCounted, G, T> projections::Shows for ReentrantMutexGuard<'_, R, G, T> {
+impl<R: RawMutexCounted, G, T> lock_values::Shows for ReentrantMutexGuard<'_, R, G, T> {
     ghost use Rattle.std.specs.Prelude.{◌≡◌, refl};
 
     type Value = T;

@@ -4,19 +4,19 @@ ghost use Rattle.lock_raw.specs.Answers.{answer_by};
 ghost use Rattle.lock_raw.specs.Counts.{CountedAgain, SawFull, SawOthers, first_count};
 ghost use Rattle.lock_api.specs.Guards.{lock_of};
 ghost use Rattle.lock_api.specs.Reentrant.{CameIn, StayedOut};
-ghost use Rattle.lot_calls.specs.declared.calls.MutexCall.TheVariants.{TryLock};
-ghost use Rattle.lot_calls.specs.declared.outcomes.Answer.TheVariants as answers;
+ghost use Rattle.spec_locks.specs.declared.calls.MutexCall.TheVariants.{TryLock};
+ghost use Rattle.spec_locks.specs.declared.outcomes.Answer.TheVariants as answers;
 
 use crate::guards::MutexGuard;
 use crate::mutex::Mutex;
 use crate::reentrant::{ReentrantMutex, ReentrantMutexGuard};
 use lock_raw::{GetThreadId, RawMutex, RawMutexCounted};
-use projections::{LockName, Shown};
+use lock_values::{LockName, Shown};
 use std::sync::Wait;
 
 impl<R: RawMutex, T> Mutex<R, T> {
     /// Shows the mutex, by one try: its value where nobody owns it, and `<locked>` where somebody
-    /// does. What is shown is spent by `close`, which unlocks.
+    /// does. The call `close` spends what is shown, and unlocks.
     pub fn show(&self, token: &mut R::Token) -> Shown<MutexGuard<'_, R, T>>
         requires { R.is_token_of (R.lot_of self.now) token.old }
         ensures token { R.is_token_of (R.lot_of self.now) token.new × R.stays token.old token.new }

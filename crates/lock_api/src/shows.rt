@@ -1,11 +1,11 @@
-//! What an open value shows, and what the lock that is taken keeps for it, as guards see them.
+//! Open values, and the permits that taken locks have out for them, as guards see them.
 ghost use Rattle.std.specs.Prelude.{◌≡◌, refl};
 ghost use Rattle.std.specs.Borrow.{Lends, sem};
-ghost use Rattle.value_place.specs.PermitIds.{PermitId};
-ghost use Rattle.value_place.specs.Written.{with_value};
+ghost use Rattle.core_parts.specs.PermitIds.{PermitId};
+ghost use Rattle.core_parts.specs.Written.{with_value};
 
 use std::ops::{Deref, DerefMut};
-use value_place::Open;
+use core_parts::Open;
 
 /// A lock that is taken, and has a permit out.
 pub trait Keeps {
@@ -18,14 +18,14 @@ pub trait Shows {
 
     // By which permit.
     ghost opened_by: { Self → PermitId };
-    // What it shows.
+    // The value that it shows.
     ghost shown: { Self → Self.Value };
     // The same, once this was written, and it is open by the same permit then.
     ghost written: { Self → Self.Value → Self };
 
     ghost stays_open: { (place : Self) (value : Self.Value)
         → opened_by (written place value) ≡ opened_by place };
-    // What was written is shown.
+    // A value that was written is shown.
     ghost shows_written: { (place : Self) (value : Self.Value)
         → shown (written place value) ≡ value };
 

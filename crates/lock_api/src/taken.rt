@@ -5,7 +5,7 @@ use crate::mutex::Mutex;
 use crate::shows::Keeps;
 use lock_raw::RawMutex;
 use std::marker::Model;
-use value_place::Open;
+use core_parts::Open;
 
 /// A mutex, with the raw guard of who has taken it. The raw guard comes out only for a value that
 /// is closed then.

@@ -2,7 +2,7 @@
 ghost use Rattle.std.specs.Prelude.{◌≡◌, ◌⊎◌, ◌*◌, false, true};
 ghost use Rattle.std.specs.Duration.{as_nanos};
 ghost use Rattle.std.specs.Iterator.Runs.{CallKeepsClosure};
-ghost use Rattle.lot_base.specs.Clocks.{HasElapsed, HasPassed};
+ghost use Rattle.core_base.specs.Clocks.{HasElapsed, HasPassed};
 ghost use Rattle.lock_raw.specs.Answers.{GivesBack, GivesBackTimed, IsLate, timed_answer};
 ghost use Rattle.lock_api.specs.Guards.{lock_of};
 ghost use Rattle.lock_api.specs.Conditions.{LastAnswered, LastRefused, WaitedOrNot};
@@ -11,7 +11,7 @@ ghost use Rattle.lock_api.specs.Waits.{NeverEnds, WaitsInTime, WaitsWhile};
 use crate::condvar::{Condvar, TokenOf, Waited};
 use crate::guards::MutexGuard;
 use lock_raw::{RawCondvar, RawCondvarTimed};
-use lot_base::{Clock, Fault};
+use core_base::{Clock, Fault};
 use std::marker::Model;
 use std::sync::Wait;
 use std::time::Duration;
@@ -42,7 +42,7 @@ impl WaitTimeoutResult {
     }
 }
 
-/// What a wait with a limit answers: the guard, and how it ended.
+/// The answer of a wait with a limit: the guard, and how it ended.
 pub type WaitedFor<'a, R, T> = Result<
     (
         MutexGuard<'a, <R as RawCondvar>::RawMutex, T>,

@@ -1,4 +1,4 @@
--- What a guard of a reader-writer lock is of.
+-- The raw lock of a guard of a reader-writer lock.
 use Rattle.lock_api_rw.specs.declared.held.Held.{Held}
 use Rattle.lock_api_rw.specs.declared.shows.Holds as holds
 use Rattle.lock_api_rw.specs.declared.shows.Shows as shows

@@ -1,5 +1,5 @@
--- What a place that is open to read is, would this stand in it.
-use Rattle.lot_place.specs.declared.place.Seen.{Seen}
+-- A place that is open to read, as it would be with this value in it.
+use Rattle.lock_values.specs.declared.place.Seen.{Seen}
 
 module _ {X : Type 0} where
   abbrev pub seen_with_value : Seen X → X → Seen X

@@ -2,16 +2,16 @@
 ghost use Rattle.std.specs.Prelude.{◌≡◌, IfErr, MatchResult};
 ghost use Rattle.lock_api_rw.specs.Guards.{lock_of};
 ghost use Rattle.lock_raw.specs.Answers.{IsFull, reading_answer};
-ghost use Rattle.lot_calls.specs.declared.calls.Access.TheVariants as access;
-ghost use Rattle.lot_calls.specs.declared.calls.RwLockCall.TheVariants.{ReleaseFair, Bump};
-ghost use Rattle.lot_calls.specs.declared.outcomes.Answer.TheVariants as answers;
+ghost use Rattle.spec_locks.specs.declared.calls.Access.TheVariants as access;
+ghost use Rattle.spec_locks.specs.declared.calls.RwLockCall.TheVariants.{ReleaseFair, Bump};
+ghost use Rattle.spec_locks.specs.declared.outcomes.Answer.TheVariants as answers;
 
 use crate::guards::{RwLockReadGuard, RwLockUpgradableReadGuard, RwLockWriteGuard};
 use crate::held::Held;
 use crate::rights::{Reading, Upgrading, Writing};
 use lock_raw::{RawRwLockFair, RawRwLockUpgradeFair};
-use lot_base::Fault;
-use lot_place::{Open, Seen};
+use core_base::Fault;
+use lock_values::{Open, Seen};
 use std::sync::Wait;
 
 impl<'a, R: RawRwLockFair, T> Held<Reading<'a, R, T>, Seen<'a, T>> {

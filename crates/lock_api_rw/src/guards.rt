@@ -2,14 +2,14 @@
 //! dropped, and is spent by what gives its right up or turns it into another.
 ghost use Rattle.std.specs.Prelude.{◌≡◌, IfErr, MatchResult};
 ghost use Rattle.std.specs.Duration.{as_nanos};
-ghost use Rattle.lot_base.specs.Clocks.{HasElapsed, HasPassed};
+ghost use Rattle.core_base.specs.Clocks.{HasElapsed, HasPassed};
 ghost use Rattle.lock_raw.specs.Answers.{upgrade_answer};
 ghost use Rattle.lock_api_rw.specs.Guards.{lock_of};
-ghost use Rattle.lot_calls.specs.declared.calls.Access.TheVariants as access;
-ghost use Rattle.lot_calls.specs.declared.calls.Downgrade.TheVariants as downgrades;
-ghost use Rattle.lot_calls.specs.declared.calls.Patience.TheVariants.{Patient, Timed, Try};
-ghost use Rattle.lot_calls.specs.declared.calls.RwLockCall.TheVariants.{Release, Downgrade, Upgrade};
-ghost use Rattle.lot_calls.specs.declared.outcomes.Answer.TheVariants as answers;
+ghost use Rattle.spec_locks.specs.declared.calls.Access.TheVariants as access;
+ghost use Rattle.spec_locks.specs.declared.calls.Downgrade.TheVariants as downgrades;
+ghost use Rattle.spec_locks.specs.declared.calls.Patience.TheVariants.{Patient, Timed, Try};
+ghost use Rattle.spec_locks.specs.declared.calls.RwLockCall.TheVariants.{Release, Downgrade, Upgrade};
+ghost use Rattle.spec_locks.specs.declared.outcomes.Answer.TheVariants as answers;
 
 use crate::held::Held;
 use crate::rights::{Reading, Upgrading, Writing};
@@ -18,9 +18,9 @@ use lock_raw::{
     RawRwLock, RawRwLockDowngrade, RawRwLockUpgrade, RawRwLockUpgradeDowngrade,
     RawRwLockUpgradeTimed,
 };
-use lot_base::Clock;
-use lot_calls::Access;
-use lot_place::{Open, Seen};
+use core_base::Clock;
+use spec_locks::Access;
+use lock_values::{Open, Seen};
 use std::sync::Wait;
 use std::time::Duration;
 

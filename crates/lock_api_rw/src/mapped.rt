@@ -1,21 +1,21 @@
 //! Guards of reader-writer locks, as a map sees them, and mapped ones.
 ghost use Rattle.std.specs.Prelude.{◌≡◌, Err, IsOk, MatchResult};
 ghost use Rattle.lock_api_rw.specs.Guards.{lock_of};
-ghost use Rattle.lot_calls.specs.declared.calls.Access.TheVariants as access;
-ghost use Rattle.lot_calls.specs.declared.calls.RwLockCall.TheVariants.{Release, ReleaseFair};
-ghost use Rattle.lot_calls.specs.declared.outcomes.Answer.TheVariants as answers;
+ghost use Rattle.spec_locks.specs.declared.calls.Access.TheVariants as access;
+ghost use Rattle.spec_locks.specs.declared.calls.RwLockCall.TheVariants.{Release, ReleaseFair};
+ghost use Rattle.spec_locks.specs.declared.outcomes.Answer.TheVariants as answers;
 
 use crate::guards::{RwLockReadGuard, RwLockWriteGuard};
 use crate::held::Held;
 use crate::rights::{Reading, Writing};
 use crate::shows::{Holds, Shows, ShowsMut};
 use lock_raw::{RawRwLock, RawRwLockFair};
-use lot_place::{Open, Seen};
-use projections::{Mapped, Project, Unlocks, UnlocksFair};
+use lock_values::{Open, Seen};
+use lock_values::{Mapped, Project, Unlocks, UnlocksFair};
 use std::ops::{Deref, DerefMut};
 use std::sync::Wait;
 
-impl<K: Holds, V: Shows> projections::Shows for Held<K, V> {
+impl<K: Holds, V: Shows> lock_values::Shows for Held<K, V> {
     ghost use Rattle.std.proofs.Common.{◌∙◌};
 
     type Value = V::Value;
@@ -36,7 +36,7 @@ impl<K: Holds, V: Shows> projections::Shows for Held<K, V> {
     }
 }
 
-impl<K: Holds, V: ShowsMut> projections::ShowsMut for Held<K, V> {
+impl<K: Holds, V: ShowsMut> lock_values::ShowsMut for Held<K, V> {
     #[inline]
     fn show_mut(&mut self) -> &mut V::Value {
         self.deref_mut()

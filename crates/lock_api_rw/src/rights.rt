@@ -4,7 +4,7 @@ ghost use Rattle.std.specs.Prelude.{◌≡◌};
 use crate::rwlock::RwLock;
 use crate::shows::Holds;
 use lock_raw::{RawRwLock, RawRwLockUpgrade};
-use lot_place::{Open, Seen};
+use lock_values::{Open, Seen};
 use std::marker::Model;
 
 /// A lock that is held to read.

@@ -3,21 +3,21 @@ ghost use Rattle.std.specs.Prelude.{◌≡◌, ◌≤◌, IfErr, IfOk, IfSome, M
 ghost use Rattle.std.specs.Arc.{arc_value};
 ghost use Rattle.lock_raw.specs.Answers.{IsFull, IsRefusal, TriesOrFull, answer_by, counted_answer, reading_answer};
 ghost use Rattle.lock_api_rw.specs.Guards.{lock_of};
-ghost use Rattle.lot_calls.specs.declared.calls.Access.TheVariants as access;
-ghost use Rattle.lot_calls.specs.declared.calls.Patience.TheVariants.{Patient, Try};
-ghost use Rattle.lot_calls.specs.declared.calls.RwLockCall.TheVariants.{Enter};
-ghost use Rattle.lot_calls.specs.declared.outcomes.Answer.TheVariants as answers;
+ghost use Rattle.spec_locks.specs.declared.calls.Access.TheVariants as access;
+ghost use Rattle.spec_locks.specs.declared.calls.Patience.TheVariants.{Patient, Try};
+ghost use Rattle.spec_locks.specs.declared.calls.RwLockCall.TheVariants.{Enter};
+ghost use Rattle.spec_locks.specs.declared.outcomes.Answer.TheVariants as answers;
 
 use crate::guards::{RwLockReadGuard, RwLockUpgradableReadGuard, RwLockWriteGuard};
 use crate::held::Held;
 use crate::rights::{Reading, Upgrading, Writing};
 use lock_raw::{RawRwLock, RawRwLockUpgrade};
-use lot_base::Fault;
-use lot_place::{NamesPlace, Place};
+use core_base::Fault;
+use lock_values::{NamesPlace, Place};
 use std::marker::Model;
 use std::sync::{Arc, Wait};
 
-// What says which place a lock's value stands in.
+// Names the place in which a lock's value stands.
 #[derive(Drop)]
 struct Names<'a, R> {
     raw: &'a R,

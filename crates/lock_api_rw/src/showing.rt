@@ -5,12 +5,13 @@ ghost use Rattle.lock_api_rw.specs.Guards.{lock_of};
 use crate::guards::RwLockReadGuard;
 use crate::rwlock::RwLock;
 use lock_raw::RawRwLock;
-use projections::{LockName, Shown};
+use lock_values::{LockName, Shown};
 use std::sync::Wait;
 
 impl<R: RawRwLock, T> RwLock<R, T> {
-    /// Shows the lock, by one try to read: its value where that comes in, and `<locked>` where a
-    /// writer keeps it out or as many read as may. What is shown is spent by `close`, which unlocks.
+    /// Shows the lock, by one try to read: its value where the try comes in, and else `<locked>`. A
+    /// writer keeps the try out, and so do as many readers as there may be. The call `close` spends
+    /// what is shown, and unlocks.
     pub fn show<W: Wait>(&self, rt: &W, token: &mut R::Token) -> Shown<RwLockReadGuard<'_, R, T>>
         requires { R.is_token_of (R.lot_of self.now) token.old }
         ensures token { R.is_token_of (R.lot_of self.now) token.new × R.stays token.old token.new }

@@ -1,12 +1,12 @@
 //! The value that an open place shows, and the right of its lock that lies there, as guards see them.
 ghost use Rattle.std.specs.Prelude.{◌≡◌, refl};
 ghost use Rattle.std.specs.Borrow.{Lends, sem};
-ghost use Rattle.lot_place.specs.Ownership.{PlaceId};
-ghost use Rattle.lot_place.specs.Written.{with_value};
-ghost use Rattle.lot_words.specs.declared.views.View.{View};
+ghost use Rattle.lock_values.specs.Ownership.{PlaceId};
+ghost use Rattle.lock_values.specs.Written.{with_value};
+ghost use Rattle.core_words.specs.declared.views.View.{View};
 ghost use Rattle.lock_api_rw.specs.Written.{seen_with_value};
 
-use lot_place::{Open, Seen};
+use lock_values::{Open, Seen};
 use std::ops::{Deref, DerefMut};
 
 /// A lock that is held, whose right lies in the place of its value.
@@ -25,7 +25,7 @@ pub trait Shows {
     ghost opened: { Self → PlaceId };
     // The view of the right that lies there.
     ghost opened_by: { Self → View };
-    // What it shows.
+    // The value that it shows.
     ghost shown: { Self → Self.Value };
     // The same with another value, whose place is open by the same right.
     ghost written: { Self → Self.Value → Self };
@@ -35,7 +35,7 @@ pub trait Shows {
 
     ghost stays_opened_by: { (lent : Self) (value : Self.Value)
         → opened_by (written lent value) ≡ opened_by lent };
-    // What was written is shown.
+    // A value that was written is shown.
     ghost shows_written: { (lent : Self) (value : Self.Value)
         → shown (written lent value) ≡ value };
 

@@ -1,10 +1,10 @@
--- What calls answer.
+-- The answers of calls.
 use Rattle.std.specs.Prelude.{◌≡◌, ◌⊎◌, ℕ, Bool, true, false, Option, Some, None, Ok, Err, IfOk, IfSome, MatchResult}
 use Rattle.std.specs.declared.result.Result.{Result}
-use Rattle.lot_base.specs.declared.faults.Fault.{Fault}
-use Rattle.lot_base.specs.declared.faults.Fault.TheVariants as faults
-use Rattle.lot_calls.specs.declared.outcomes.Answer.{Answer}
-use Rattle.lot_calls.specs.declared.outcomes.Answer.TheVariants as answers
+use Rattle.core_base.specs.declared.faults.Fault.{Fault}
+use Rattle.core_base.specs.declared.faults.Fault.TheVariants as faults
+use Rattle.spec_locks.specs.declared.outcomes.Answer.{Answer}
+use Rattle.spec_locks.specs.declared.outcomes.Answer.TheVariants as answers
 
 -- a call that may end without the lock answers yes with it
 abbrev pub answer_by : {A : Type 0} → Option A → Answer

@@ -1,8 +1,8 @@
 -- Count words of mutexes that their owners may lock again: 0, or a thread with how often it has
 -- locked the mutex.
 use Rattle.std.specs.Prelude.{◌≡◌, ◌≢◌, ℕ, ◌+◌, ◌-◌, ◌*◌, ◌/◌, ◌%◌, ◌<◌, ◌==◌, cond, Result, Ok, Err}
-use Rattle.lot_base.specs.declared.faults.Fault.{Fault}
-use Rattle.lot_base.specs.declared.faults.Fault.TheVariants.{LockCountFull}
+use Rattle.core_base.specs.declared.faults.Fault.{Fault}
+use Rattle.core_base.specs.declared.faults.Fault.TheVariants.{LockCountFull}
 
 -- the count word of a mutex that the thread of this number locks once more
 abbrev pub advanced : ℕ → ℕ → Result ℕ Fault

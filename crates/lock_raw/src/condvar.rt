@@ -2,13 +2,13 @@
 ghost use Rattle.std.specs.Prelude.{◌≡◌, ◌≢◌, ◌≤◌, ◌+◌, ◌^◌, ℕ, Bool, true, false, MatchOption, MatchResult, IfOk};
 ghost use Rattle.std.specs.Arc.{arc_value};
 ghost use Rattle.std.specs.Duration.{as_nanos};
-ghost use Rattle.lot_base.specs.Clocks.{HasElapsed, HasPassed};
-ghost use Rattle.lot_calls.specs.declared.outcomes.Answer.{Answer};
-ghost use Rattle.lot_calls.specs.declared.outcomes.Answer.TheVariants.{No, Number};
+ghost use Rattle.core_base.specs.Clocks.{HasElapsed, HasPassed};
+ghost use Rattle.spec_locks.specs.declared.outcomes.Answer.{Answer};
+ghost use Rattle.spec_locks.specs.declared.outcomes.Answer.TheVariants.{No, Number};
 ghost use Rattle.lock_raw.specs.Answers.{GivesBack, GivesBackTimed, IsRefusal, IsLate, moved_first, notifying_answer, timed_answer, waiting_answer};
 
 use crate::RawMutex;
-use lot_base::{Clock, Fault, to_deadline};
+use core_base::{Clock, Fault, to_deadline};
 use std::sync::{Arc, Wait};
 use std::time::Duration;
 

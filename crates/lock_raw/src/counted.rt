@@ -3,10 +3,10 @@ ghost use Rattle.std.specs.Prelude.{◌≡◌, ℕ, ◌+◌, IfErr, IfOk, IfSome
 ghost use Rattle.std.specs.Arc.{arc_value};
 ghost use Rattle.lock_raw.specs.Answers.{IsRefusal};
 ghost use Rattle.lock_raw.specs.Counts.{CountedAgain, CountedLess, CountedMore, CountedOut, CountedOutAlone, SawFull, SawMore, SawOthers, first_count};
-ghost use Rattle.lot_base.specs.declared.faults.Fault.TheVariants.{LockCountFull};
+ghost use Rattle.core_base.specs.declared.faults.Fault.TheVariants.{LockCountFull};
 
 use crate::RawMutex;
-use lot_base::Fault;
+use core_base::Fault;
 use std::sync::{Arc, Wait};
 
 /// Names the threads of a raw mutex's lot by their numbers.

@@ -2,7 +2,7 @@
 ghost use Rattle.std.specs.Prelude.{◌≡◌, ◌⊎◌, ◌<◌};
 ghost use Rattle.lock_raw.specs.Counts.{Names, advanced};
 
-use lot_base::Fault;
+use core_base::Fault;
 
 // The count is the low half of the word, one more than the thread's number the high one.
 const ONE_THREAD: u64 = 4294967296;

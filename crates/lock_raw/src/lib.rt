@@ -10,18 +10,18 @@ pub mod rwlock_fair;
 ghost use Rattle.std.specs.Prelude.{◌≡◌, ℕ, Bool, MatchResult, IfErr, IfNone, IfOk, IfSome};
 ghost use Rattle.std.specs.Arc.{arc_value};
 ghost use Rattle.std.specs.Duration.{as_nanos};
-ghost use Rattle.lot_base.specs.Clocks.{HasElapsed, HasPassed};
-ghost use Rattle.lot_calls.specs.declared.calls.MutexCall.{MutexCall};
-ghost use Rattle.lot_calls.specs.declared.calls.MutexCall.TheVariants.{Lock, LockTimed, TryLock, Unlock, UnlockFair, Bump};
-ghost use Rattle.lot_calls.specs.declared.outcomes.Answer.{Answer};
-ghost use Rattle.lot_calls.specs.declared.outcomes.Answer.TheVariants as answers;
+ghost use Rattle.core_base.specs.Clocks.{HasElapsed, HasPassed};
+ghost use Rattle.spec_locks.specs.declared.calls.MutexCall.{MutexCall};
+ghost use Rattle.spec_locks.specs.declared.calls.MutexCall.TheVariants.{Lock, LockTimed, TryLock, Unlock, UnlockFair, Bump};
+ghost use Rattle.spec_locks.specs.declared.outcomes.Answer.{Answer};
+ghost use Rattle.spec_locks.specs.declared.outcomes.Answer.TheVariants as answers;
 ghost use Rattle.lock_raw.specs.Answers.{IsRefusal, answer_by};
-ghost use Rattle.value_place.specs.PermitIds.{PermitId};
+ghost use Rattle.core_parts.specs.PermitIds.{PermitId};
 
 pub use condvar::{RawCondvar, RawCondvarTimed};
 pub use counted::{GetThreadId, RawMutexCounted};
 pub use counts::advance_count;
-use lot_base::{Clock, Fault};
+use core_base::{Clock, Fault};
 pub use rwlock::{
     RawRwLock, RawRwLockDowngrade, RawRwLockTimed, RawRwLockUpgrade, RawRwLockUpgradeDowngrade,
     RawRwLockUpgradeTimed,
@@ -29,9 +29,10 @@ pub use rwlock::{
 pub use rwlock_fair::{RawRwLockFair, RawRwLockUpgradeFair};
 use std::sync::{Arc, Wait};
 use std::time::Duration;
-use value_place::Permit;
+use core_parts::Permit;
 
-/// A mutex without a value. Who has taken it has its guard, and spends it to give the mutex up.
+/// A mutex without a value. A thread that has taken it has its guard, and spends it to give the
+/// mutex up.
 pub trait RawMutex {
     /// Where the locks and the threads meet.
     type Lot;
@@ -137,7 +138,8 @@ pub trait RawMutex {
     ///
     /// # Errors
     ///
-    /// What the step saw, where somebody has the mutex. `lock_behind` is the rest of the call then.
+    /// The value that the step saw, where somebody has the mutex. `lock_behind` is the rest of the
+    /// call then.
     fn begin_lock(&self, token: &mut Self::Token) -> Result<Self::Guard, u64>
         requires { is_token_of (lot_of self.now) token.old }
         ensures token { is_token_of (lot_of self.now) token.new }

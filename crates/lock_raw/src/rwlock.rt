@@ -2,27 +2,27 @@
 ghost use Rattle.std.specs.Prelude.{◌≡◌, ◌≤◌, ℕ, Bool, MatchResult, IfErr, IfNone, IfOk, IfSome};
 ghost use Rattle.std.specs.Arc.{arc_value};
 ghost use Rattle.std.specs.Duration.{as_nanos};
-ghost use Rattle.lot_base.specs.Clocks.{HasElapsed, HasPassed};
-ghost use Rattle.lot_calls.specs.declared.calls.Access.{Access};
-ghost use Rattle.lot_calls.specs.declared.calls.Access.TheVariants as access;
-ghost use Rattle.lot_calls.specs.declared.calls.Downgrade.TheVariants as downgrades;
-ghost use Rattle.lot_calls.specs.declared.calls.Patience.TheVariants.{Patient, Timed, Try};
-ghost use Rattle.lot_calls.specs.declared.calls.RwLockCall.{RwLockCall};
-ghost use Rattle.lot_calls.specs.declared.calls.RwLockCall.TheVariants.{Enter, Release, Downgrade, Upgrade};
-ghost use Rattle.lot_calls.specs.declared.outcomes.Answer.{Answer};
-ghost use Rattle.lot_calls.specs.declared.outcomes.Answer.TheVariants as answers;
-ghost use Rattle.lot_place.specs.Ownership.{PlaceId};
-ghost use Rattle.lot_words.specs.declared.views.View.{View};
+ghost use Rattle.core_base.specs.Clocks.{HasElapsed, HasPassed};
+ghost use Rattle.spec_locks.specs.declared.calls.Access.{Access};
+ghost use Rattle.spec_locks.specs.declared.calls.Access.TheVariants as access;
+ghost use Rattle.spec_locks.specs.declared.calls.Downgrade.TheVariants as downgrades;
+ghost use Rattle.spec_locks.specs.declared.calls.Patience.TheVariants.{Patient, Timed, Try};
+ghost use Rattle.spec_locks.specs.declared.calls.RwLockCall.{RwLockCall};
+ghost use Rattle.spec_locks.specs.declared.calls.RwLockCall.TheVariants.{Enter, Release, Downgrade, Upgrade};
+ghost use Rattle.spec_locks.specs.declared.outcomes.Answer.{Answer};
+ghost use Rattle.spec_locks.specs.declared.outcomes.Answer.TheVariants as answers;
+ghost use Rattle.lock_values.specs.Ownership.{PlaceId};
+ghost use Rattle.core_words.specs.declared.views.View.{View};
 ghost use Rattle.lock_raw.specs.Answers.{IsFull, IsRefusal, TriesOrFull, answer_by, counted_answer, reading_answer, upgrade_answer};
 
-use lot_base::{Clock, Fault};
-use lot_calls::Access;
-use lot_place::{Open, Place, Seen};
+use core_base::{Clock, Fault};
+use spec_locks::Access;
+use lock_values::{Open, Place, Seen};
 use std::sync::{Arc, Wait};
 use std::time::Duration;
 
-/// A reader-writer lock without a value. Who has entered it has a guard, which says how, and spends
-/// it to leave.
+/// A reader-writer lock without a value. A thread that has entered it has a guard, which says how.
+/// It spends the guard to leave.
 pub trait RawRwLock {
     /// Where the locks and the threads meet.
     type Lot;
@@ -32,7 +32,7 @@ pub trait RawRwLock {
     type SharedGuard;
     /// The right of who has the lock alone. It borrows nothing.
     type ExclusiveGuard;
-    /// What the first half of a call leaves to the second one.
+    /// The rest of a call, which its first half leaves to its second one.
     type Rest;
 
     // The lot of a lock.
@@ -194,7 +194,7 @@ pub trait RawRwLock {
     ///
     /// # Errors
     ///
-    /// What is left of the call, for `lock_shared_behind`.
+    /// The rest of the call, for `lock_shared_behind`.
     fn begin_lock_shared(
         &self,
         token: &mut Self::Token,
@@ -237,7 +237,7 @@ pub trait RawRwLock {
     ///
     /// # Errors
     ///
-    /// What is left of the call, for `lock_exclusive_behind`.
+    /// The rest of the call, for `lock_exclusive_behind`.
     fn begin_lock_exclusive(
         &self,
         token: &mut Self::Token,
@@ -364,7 +364,8 @@ pub trait RawRwLock {
         requires token { is_token_of (lot_of self.now) token.old }
         requires guards { is_exclusive_of self.now one × is_exclusive_of self.now other };
 
-    /// Who has a lock alone excludes who reads: this can't be called either.
+    /// Never runs: a thread that has the lock alone excludes readers, so nobody ever has both
+    /// guards.
     fn has_writer_and_reader(
         &self,
         token: &mut Self::Token,
@@ -563,7 +564,7 @@ pub trait RawRwLockUpgrade: RawRwLock {
     ///
     /// # Errors
     ///
-    /// What is left of the call, for `lock_upgradable_behind`.
+    /// The rest of the call, for `lock_upgradable_behind`.
     fn begin_lock_upgradable(
         &self,
         token: &mut Self::Token,
@@ -680,7 +681,8 @@ pub trait RawRwLockUpgrade: RawRwLock {
         requires token { Self.is_token_of (Self.lot_of self.now) token.old }
         requires guards { is_upgradable_of self.now one × is_upgradable_of self.now other };
 
-    /// Who has a lock alone excludes who has this right: this can't be called either.
+    /// Never runs: a thread that has the lock alone excludes an upgradable owner, so nobody ever
+    /// has both guards.
     fn has_writer_and_upgradable(
         &self,
         token: &mut Self::Token,

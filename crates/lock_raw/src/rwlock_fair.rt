@@ -1,12 +1,12 @@
 //! Fair releases and bumps of raw reader-writer locks, as generic code sees them.
 ghost use Rattle.std.specs.Prelude.{IfErr, MatchResult};
-ghost use Rattle.lot_calls.specs.declared.calls.Access.TheVariants as access;
-ghost use Rattle.lot_calls.specs.declared.calls.RwLockCall.TheVariants.{ReleaseFair, Bump};
-ghost use Rattle.lot_calls.specs.declared.outcomes.Answer.TheVariants as answers;
+ghost use Rattle.spec_locks.specs.declared.calls.Access.TheVariants as access;
+ghost use Rattle.spec_locks.specs.declared.calls.RwLockCall.TheVariants.{ReleaseFair, Bump};
+ghost use Rattle.spec_locks.specs.declared.outcomes.Answer.TheVariants as answers;
 ghost use Rattle.lock_raw.specs.Answers.{IsFull, reading_answer};
 
 use crate::rwlock::{RawRwLock, RawRwLockUpgrade};
-use lot_base::Fault;
+use core_base::Fault;
 use std::sync::Wait;
 
 /// A reader-writer lock that is handed over to those who wait for it.

@@ -2,17 +2,17 @@
 use Rattle.std.proofs.Common.{ℕ, zero, suc, Bool, true, false, Option, Some, None, if◌then◌else◌, ◌==◌, ◌≡◌, ◌≢◌, ◌≤◌, ◌<◌, length, length-set, inl, inr, refl, sym, ◌∙◌, ap, subst, arith}
 use Rattle.std.specs.Prelude.{replicate, slice_index_or, sum}
 use Rattle.std.proofs.lemmas.Bool.{eqb-true}
-use Rattle.lot_base.specs.declared.wants.Want.TheVariants.{Exclusive}
-use Rattle.lot_calls.specs.declared.calls.Call.{Call}
-use Rattle.lot_calls.specs.declared.kinds.Kind.{Kind}
-use Rattle.lot_calls.specs.declared.kinds.Kind.TheVariants as kind
-use Rattle.lot_calls.specs.declared.outcomes.Outcome.TheVariants as outcome
-use Rattle.lot_calls.specs.Calls.{lock_in}
-use Rattle.abstract_locks.specs.Codes.{code}
-use Rattle.abstract_locks.specs.Locks.{IsLockState, MayEnter, Owns, readers, rights_of}
-use Rattle.abstract_locks.specs.Purposes.{Enters, Patient, purpose_of, rules_of}
-use Rattle.abstract_locks.specs.Runs.{HasRight, purpose_at}
-use Rattle.abstract_locks.specs.Sites.{has_readers}
+use Rattle.core_base.specs.declared.wants.Want.TheVariants.{Exclusive}
+use Rattle.spec_locks.specs.declared.calls.Call.{Call}
+use Rattle.spec_locks.specs.declared.kinds.Kind.{Kind}
+use Rattle.spec_locks.specs.declared.kinds.Kind.TheVariants as kind
+use Rattle.spec_locks.specs.declared.outcomes.Outcome.TheVariants as outcome
+use Rattle.spec_locks.specs.Calls.{lock_in}
+use Rattle.spec_locks.specs.Codes.{code}
+use Rattle.spec_locks.specs.Locks.{IsLockState, MayEnter, Owns, readers, rights_of}
+use Rattle.spec_locks.specs.Purposes.{Enters, Patient, purpose_of, rules_of}
+use Rattle.spec_locks.specs.Runs.{HasRight, purpose_at}
+use Rattle.spec_locks.specs.Sites.{has_readers}
 use Rattle.lot_steps.specs.declared.places.Place.TheVariants.{Idle}
 use Rattle.lot_steps.specs.Steps.{first_place}
 use Rattle.lot_machine.specs.Machine.{State, after, can_begin, kind_at, place_at, section_at, solo, state_after_begin, word_at}
@@ -22,9 +22,9 @@ use Rattle.lot_laws.specs.Solo.{EndsAlone, EndsBy, HasItsWay, locks_behind}
 use Rattle.lot_laws.proofs.calls.Begins.{begin_possible}
 use Rattle.lot_laws.proofs.machine.Parts.{IsSingle}
 use Rattle.lot_laws.proofs.alone.Rests.{ends_alone}
-use Rattle.drain_laws.specs.Drained.{Drains}
-use Rattle.drain_runs.specs.Drains.{IsOver}
-use Rattle.drain_runs.specs.Turns.{NobodyInside, begin_of}
+use Rattle.lot_drain.specs.Drained.{Drains}
+use Rattle.lot_drain.specs.Quiet.{IsOver}
+use Rattle.lot_drain.specs.Turns.{NobodyInside, begin_of}
 use Rattle.lot_drain.specs.Drains.{IsDrained}
 use Rattle.lot_drain.specs.Schedules.{Progress, call_alone, clear, entry_of, fair_release_of, one_more, passed_through}
 use Rattle.lot_drain.proofs.Clears.{IsFree, free_by_code, free_of, free_rights, mutex_word, shared_word}

@@ -2,18 +2,18 @@
 use Rattle.std.proofs.Common.{ℕ, Bool, true, false, Option, Some, None, ◌≡◌, ◌+◌, ◌*◌, ◌≤◌, ◌⊎◌, inl, inr, refl, ap, arith}
 use Rattle.std.specs.Prelude.{slice_index, sum}
 use Rattle.std.proofs.lemmas.Bool.Decides.{nat_tests}
-use Rattle.lot_calls.specs.declared.kinds.Kind.{Kind}
-use Rattle.lot_calls.specs.declared.kinds.Kind.TheVariants as kind
-use Rattle.abstract_locks.specs.Codes.{bit, code, packed, writers}
-use Rattle.abstract_locks.specs.Locks.{IsLockState, LockState, Pending, Rights, count, is_pending, is_thread, one_if_some, readers, rights_of}
-use Rattle.abstract_locks.specs.Purposes.{rules_of}
-use Rattle.abstract_locks.specs.Runs.{no_rights}
-use Rattle.abstract_locks.specs.Sites.{Site}
-use Rattle.drain_laws.specs.Drained.{Drains}
-use Rattle.drain_laws.proofs.Few.{rights_are}
-use Rattle.drain_runs.proofs.Owners.{index_sum}
-use Rattle.drain_runs.proofs.Releases.{one_thread}
-use Rattle.drain_runs.proofs.Quiet.{zero_sum}
+use Rattle.spec_locks.specs.declared.kinds.Kind.{Kind}
+use Rattle.spec_locks.specs.declared.kinds.Kind.TheVariants as kind
+use Rattle.spec_locks.specs.Codes.{bit, code, packed, writers}
+use Rattle.spec_locks.specs.Locks.{IsLockState, LockState, Pending, Rights, count, is_pending, is_thread, one_if_some, readers, rights_of}
+use Rattle.spec_locks.specs.Purposes.{rules_of}
+use Rattle.spec_locks.specs.Runs.{no_rights}
+use Rattle.spec_locks.specs.Sites.{Site}
+use Rattle.lot_drain.specs.Drained.{Drains}
+use Rattle.lot_drain.proofs.Few.{rights_are}
+use Rattle.lot_drain.proofs.Owners.{index_sum}
+use Rattle.lot_drain.proofs.Releases.{one_thread}
+use Rattle.lot_drain.proofs.Quiet.{zero_sum}
 
 -- nobody owns it
 pub record IsFree (s : LockState) : Type 0 where

@@ -1,10 +1,10 @@
 -- The rest of a drain leads where all of it leads.
 use Rattle.std.proofs.Common.{ℕ, zero, suc, Bool, true, false, cond, Some, None, List, ◌≡◌, ◌≢◌, ◌+◌, ◌-◌, ◌<◌, refl, sym, ap, ◌∙◌, arith, add-one}
 use Rattle.std.specs.Prelude.{◌&&◌}
-use Rattle.lot_calls.specs.declared.calls.Step.{Step}
-use Rattle.lot_calls.specs.declared.outcomes.Outcome.{Outcome}
-use Rattle.lot_calls.specs.declared.outcomes.Outcome.TheVariants as outcome
-use Rattle.abstract_locks.specs.Locks.{rights_of}
+use Rattle.spec_locks.specs.declared.calls.Step.{Step}
+use Rattle.spec_locks.specs.declared.outcomes.Outcome.{Outcome}
+use Rattle.spec_locks.specs.declared.outcomes.Outcome.TheVariants as outcome
+use Rattle.spec_locks.specs.Locks.{rights_of}
 use Rattle.lot_machine.specs.Machine.{State, after, go_of, kind_at, place_at, section_at, step_outcome}
 use Rattle.lot_laws.specs.Refinement.{lock_state}
 use Rattle.lot_laws.proofs.alone.Steps.{after_stuck}
@@ -49,13 +49,6 @@ not_taken d next t w steps o told none is same =
     let still : w ≡ d.state = is ∙ after_stuck d.state (go_of t) (sym told ∙ none) in
     let kept : ◌≡◌ {A = Progress} (record { state = w; steps = steps }) d = λ i. record { state = still i; steps = same i } in
     kept ∙ sym (ap (λ x. alone_by x d next next) none)
-
-pub taken_by : (o : Outcome) (d next : Progress) → o ≢ outcome.NotNow → next ≡ alone_by o d next next
-taken_by outcome.NotNow d next h = absurd (h refl)
-taken_by outcome.Step d next h = refl
-taken_by outcome.Sleep d next h = refl
-taken_by (outcome.Closure s) d next h = refl
-taken_by (outcome.End a) d next h = refl
 
 pub alone_end : (n : ℕ) (d : Progress) (t : ℕ) → n ≡ 0 → alone n d t ≡ d
 unfolding alone
@@ -114,21 +107,10 @@ up_later w n t h down =
     ap (λ u. first_up w u (n - (t + 1))) (add-one t)
     ∙ sym (ap (first_up w t) (one_left n t h) ∙ ap (λ b. cond b (Some (go_of t)) (first_up w (suc t) (n - (t + 1)))) down)
 
-pub nobody_up : (w : State) (t n : ℕ) → n ≡ 0 → first_up w t n ≡ None
-nobody_up w t zero h = refl
-nobody_up w t (suc n) h = absurd (omega (arith, h))
-
-pub release_here : (w : State) (n t : ℕ) (s : Step) → t < n → Some s ≡ first_begin w t (releases (kind_at w 0)) → Some s ≡ first_release w t (n - t)
-release_here w n t s h found = sym (ap (first_release w t) (one_left n t h) ∙ ap (λ o. or_else o (first_release w (suc t) (n - (t + 1)))) (sym found))
-
 pub release_later : (w : State) (n t : ℕ) → t < n → None ≡ first_begin w t (releases (kind_at w 0)) → first_release w (t + 1) (n - (t + 1)) ≡ first_release w t (n - t)
 release_later w n t h none =
     ap (λ u. first_release w u (n - (t + 1))) (add-one t)
     ∙ sym (ap (first_release w t) (one_left n t h) ∙ ap (λ o. or_else o (first_release w (suc t) (n - (t + 1)))) (sym none))
-
-pub nobody_releases : (w : State) (t n : ℕ) → n ≡ 0 → first_release w t n ≡ None
-nobody_releases w t zero h = refl
-nobody_releases w t (suc n) h = absurd (omega (arith, h))
 
 abbrev here : State → ℕ → Bool
 here w t = holds_few (place_at w t) (rights_of (lock_state w 0) t)
@@ -140,7 +122,3 @@ more_hold_few w n t h few =
 
 pub one_holds_more : (w : State) (n t : ℕ) → t < n → here w t ≡ false → false ≡ all_hold_few w t (n - t)
 one_holds_more w n t h many = sym (ap (all_hold_few w t) (one_left n t h) ∙ ap (λ b. b && all_hold_few w (suc t) (n - (t + 1))) many)
-
-pub each_holds_few : (w : State) (t n : ℕ) → n ≡ 0 → all_hold_few w t n ≡ true
-each_holds_few w t zero h = refl
-each_holds_few w t (suc n) h = absurd (omega (arith, h))

@@ -3,30 +3,30 @@
 use Rattle.std.proofs.Common.{ℕ, Bool, true, false, cond, Some, ◌≡◌, ◌+◌, ◌-◌, ◌≤◌, refl, ap, arith}
 use Rattle.std.specs.Prelude.{◌↔◌, ◌==◌, ◌||◌}
 use Rattle.std.proofs.lemmas.Bool.Decides.{Decides-eqb}
-use Rattle.lot_base.specs.declared.wants.Want.TheVariants.{Exclusive, Upgradable, Shared}
-use Rattle.lot_calls.specs.declared.calls.Access.{Access}
-use Rattle.lot_calls.specs.declared.calls.Access.TheVariants as access
-use Rattle.abstract_locks.specs.Locks.{Rights, with_right, without_right}
-use Rattle.abstract_locks.specs.Runs.{no_rights}
-use Rattle.lot_mutex.specs.declared.places.MutexPlace.{MutexPlace}
-use Rattle.lot_mutex.specs.declared.places.MutexPlace.TheVariants as mutex
-use Rattle.lot_mutex.specs.declared.lock.Entry.{Entry}
-use Rattle.lot_mutex.specs.declared.lock.Entry.TheVariants as entry
-use Rattle.lot_mutex.specs.declared.hand_off.HandOffAt.TheVariants as hand_off
-use Rattle.lot_mutex.specs.MutexProfiles.{is_bump, entry_purpose, before_entry, was_handed}
-use Rattle.lot_rwlock.specs.declared.places.Admission.{Admission}
-use Rattle.lot_rwlock.specs.declared.purposes.RwLockPurpose.{RwLockPurpose}
-use Rattle.lot_rwlock.specs.declared.purposes.RwLockPurpose.TheVariants as purposes
-use Rattle.lot_rwlock.specs.declared.places.RwLockAt.{RwLockAt}
-use Rattle.lot_rwlock.specs.declared.places.RwLockAt.TheVariants as at
-use Rattle.lot_rwlock.specs.RwLockSteps.{wanted}
-use Rattle.lot_rwlock.specs.RwLockProfiles.{is_pending, without_pending}
-use Rattle.lot_rwlock_fair.specs.declared.places.RwLockCallPlace.{RwLockCallPlace}
-use Rattle.lot_rwlock_fair.specs.declared.places.RwLockCallPlace.TheVariants.{Plain, Glance, HandOver, Bump, Handed}
-use Rattle.lot_rwlock_fair.specs.declared.handed.HandedAt.{HandedAt}
-use Rattle.lot_rwlock_fair.specs.declared.handed.HandedAt.TheVariants as handed
-use Rattle.lot_rwlock_fair.specs.FairProfiles.{before_release, has_given}
-use Rattle.abstract_locks.specs.Purposes.{Bumps}
+use Rattle.core_base.specs.declared.wants.Want.TheVariants.{Exclusive, Upgradable, Shared}
+use Rattle.spec_locks.specs.declared.calls.Access.{Access}
+use Rattle.spec_locks.specs.declared.calls.Access.TheVariants as access
+use Rattle.spec_locks.specs.Locks.{Rights, with_right, without_right}
+use Rattle.spec_locks.specs.Runs.{no_rights}
+use Rattle.steps_mutex.specs.declared.places.MutexPlace.{MutexPlace}
+use Rattle.steps_mutex.specs.declared.places.MutexPlace.TheVariants as mutex
+use Rattle.steps_mutex.specs.declared.lock.Entry.{Entry}
+use Rattle.steps_mutex.specs.declared.lock.Entry.TheVariants as entry
+use Rattle.steps_mutex.specs.declared.hand_off.HandOffAt.TheVariants as hand_off
+use Rattle.steps_mutex.specs.MutexProfiles.{is_bump, entry_purpose, before_entry, was_handed}
+use Rattle.steps_rwlock.specs.declared.places.Admission.{Admission}
+use Rattle.steps_rwlock.specs.declared.purposes.RwLockPurpose.{RwLockPurpose}
+use Rattle.steps_rwlock.specs.declared.purposes.RwLockPurpose.TheVariants as purposes
+use Rattle.steps_rwlock.specs.declared.places.RwLockAt.{RwLockAt}
+use Rattle.steps_rwlock.specs.declared.places.RwLockAt.TheVariants as at
+use Rattle.steps_rwlock.specs.RwLockSteps.{wanted}
+use Rattle.steps_rwlock.specs.RwLockProfiles.{is_pending, without_pending}
+use Rattle.steps_rwlock_fair.specs.declared.places.RwLockCallPlace.{RwLockCallPlace}
+use Rattle.steps_rwlock_fair.specs.declared.places.RwLockCallPlace.TheVariants.{Plain, Glance, HandOver, Bump, Handed}
+use Rattle.steps_rwlock_fair.specs.declared.handed.HandedAt.{HandedAt}
+use Rattle.steps_rwlock_fair.specs.declared.handed.HandedAt.TheVariants as handed
+use Rattle.steps_rwlock_fair.specs.FairProfiles.{before_release, has_given}
+use Rattle.spec_locks.specs.Purposes.{Bumps}
 use Rattle.lot_steps.specs.declared.places.Place.TheVariants as place
 use Rattle.lot_laws.specs.Refinement.{call_state}
 use Rattle.lot_drain.specs.declared.gains.Gain.TheVariants.{Nothing, Pending, Right}

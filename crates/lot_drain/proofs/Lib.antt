@@ -12,3 +12,27 @@ pub mod DrainLemmas
 mod GainsTell
 pub mod DrainableTells
 pub mod StandsOnce
+pub mod Drained
+pub mod AsNow
+pub mod Crowded
+pub mod Potential
+pub mod Few
+pub mod Pending
+pub mod Waits
+pub mod Sleepers
+pub mod PlaceOwners
+pub mod Owned
+pub mod Began
+pub mod Waiting
+pub mod Quiet
+pub mod Turns
+pub mod Outside
+pub mod Releases
+pub mod Leaving
+pub mod Full
+pub mod Now
+pub mod OnNow
+pub mod Begins
+pub mod Entry
+pub mod Course
+pub mod Owners

@@ -3,33 +3,33 @@ use Rattle.std.proofs.Common.{ℕ, zero, suc, Bool, true, false, Option, Some, N
 use Rattle.std.specs.Prelude.{slice_index, slice_index_or}
 use Rattle.std.proofs.lemmas.Bool.{cases_eq, cases_lt, eqb-true}
 use Rattle.std.proofs.lemmas.List.{get_or_past}
-use Rattle.lot_base.specs.declared.wants.Want.{Want}
-use Rattle.lot_base.specs.declared.wants.Want.TheVariants.{Exclusive, Upgradable, Shared, Wait, CallOnce}
-use Rattle.lot_calls.specs.declared.calls.Call.{Call}
-use Rattle.lot_calls.specs.declared.calls.Step.{Step}
-use Rattle.lot_calls.specs.declared.kinds.Kind.{Kind}
-use Rattle.lot_calls.specs.declared.kinds.Kind.TheVariants as kind
-use Rattle.lot_calls.specs.Calls.{lock_in}
-use Rattle.lot_acts.specs.declared.acts.Act.{Act}
-use Rattle.lot_acts.specs.declared.acts.Act.TheVariants as act
-use Rattle.abstract_locks.specs.Locks.{LockState, Owns, Rights, is_thread, rights_of}
-use Rattle.abstract_locks.specs.Purposes.{Releases, purpose_of, rules_of}
-use Rattle.abstract_locks.specs.Runs.{HasRight, MayBegin, no_rights, purpose_at}
+use Rattle.core_base.specs.declared.wants.Want.{Want}
+use Rattle.core_base.specs.declared.wants.Want.TheVariants.{Exclusive, Upgradable, Shared, Wait, CallOnce}
+use Rattle.spec_locks.specs.declared.calls.Call.{Call}
+use Rattle.spec_locks.specs.declared.calls.Step.{Step}
+use Rattle.spec_locks.specs.declared.kinds.Kind.{Kind}
+use Rattle.spec_locks.specs.declared.kinds.Kind.TheVariants as kind
+use Rattle.spec_locks.specs.Calls.{lock_in}
+use Rattle.steps_base.specs.declared.acts.Act.{Act}
+use Rattle.steps_base.specs.declared.acts.Act.TheVariants as act
+use Rattle.spec_locks.specs.Locks.{LockState, Owns, Rights, is_thread, rights_of}
+use Rattle.spec_locks.specs.Purposes.{Releases, purpose_of, rules_of}
+use Rattle.spec_locks.specs.Runs.{HasRight, MayBegin, no_rights, purpose_at}
 use Rattle.lot_steps.specs.declared.places.Place.TheVariants.{Idle}
 use Rattle.lot_steps.specs.Steps.{act_of, is_idle}
 use Rattle.lot_machine.specs.Machine.{State, can_begin, go_of, kind_at, place_at}
 use Rattle.lot_laws.specs.Refinement.{lock_state, locks_of, sleeps}
 use Rattle.lot_laws.proofs.calls.Begins.{begin_goes, begin_possible}
-use Rattle.drain_laws.specs.Drained.{Drains}
-use Rattle.drain_laws.specs.Few.{number}
-use Rattle.drain_laws.proofs.Few.{rights_are}
-use Rattle.drain_runs.specs.Drains.{AtRest, IsQuiet}
-use Rattle.drain_runs.specs.Full.{IsStrict}
-use Rattle.drain_runs.specs.Owners.{ReleaseThere, releases}
-use Rattle.drain_runs.specs.Turns.{awake, begin_of, is_up}
-use Rattle.drain_runs.proofs.Owners.{owners_may_release}
-use Rattle.drain_runs.proofs.Releases.{one_thread}
-use Rattle.drain_runs.proofs.Turns.{idle_is}
+use Rattle.lot_drain.specs.Drained.{Drains}
+use Rattle.lot_drain.specs.Few.{number}
+use Rattle.lot_drain.proofs.Few.{rights_are}
+use Rattle.lot_drain.specs.Quiet.{AtRest, IsQuiet}
+use Rattle.lot_drain.specs.Full.{IsStrict}
+use Rattle.lot_drain.specs.Owners.{ReleaseThere, releases}
+use Rattle.lot_drain.specs.Turns.{awake, begin_of, is_up}
+use Rattle.lot_drain.proofs.Owners.{owners_may_release}
+use Rattle.lot_drain.proofs.Releases.{one_thread}
+use Rattle.lot_drain.proofs.Turns.{idle_is}
 use Rattle.lot_drain.specs.Schedules.{first_begin, first_release, first_up, next_turn, or_else}
 
 same_step : (a b : Step) → Some a ≡ Some b → a ≡ b

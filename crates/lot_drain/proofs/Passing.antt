@@ -1,23 +1,23 @@
 -- Where a bit is left in the word of a lock that nobody owns, a thread takes the lock alone and releases it fairly: the word is 0 then.
 use Rattle.std.proofs.Common.{ℕ, true, false, None, refl}
-use Rattle.lot_base.specs.declared.ops.Op.TheVariants as op
-use Rattle.lot_calls.specs.declared.calls.Access.TheVariants as access
-use Rattle.lot_calls.specs.declared.calls.Patience.TheVariants as patience
-use Rattle.lot_calls.specs.declared.kinds.Kind.{Kind}
-use Rattle.lot_mutex.specs.declared.lock.Entry.TheVariants as entry
-use Rattle.lot_mutex.specs.declared.lock.LockAt.{LockAt}
-use Rattle.lot_mutex.specs.declared.lock.LockAt.TheVariants as locking
-use Rattle.lot_mutex.specs.declared.hand_off.HandOffAt.{HandOffAt}
-use Rattle.lot_mutex.specs.declared.hand_off.HandOffAt.TheVariants as hand_off
-use Rattle.lot_mutex.specs.declared.places.MutexPlace.TheVariants as mutex
-use Rattle.lot_rwlock.specs.declared.places.Admission.{Admission}
-use Rattle.lot_rwlock.specs.declared.places.RwLockAt.{RwLockAt}
-use Rattle.lot_rwlock.specs.declared.places.RwLockAt.TheVariants as at
-use Rattle.lot_rwlock.specs.declared.purposes.RwLockPurpose.TheVariants as purpose
-use Rattle.lot_rwlock_fair.specs.declared.places.RwLockCallPlace.TheVariants.{Plain, HandOver}
-use Rattle.lot_rwlock_fair.specs.declared.hand_over.Taken.{Taken}
-use Rattle.lot_rwlock_fair.specs.declared.hand_over.HandOverAt.{HandOverAt}
-use Rattle.lot_rwlock_fair.specs.declared.hand_over.HandOverAt.TheVariants as handing
+use Rattle.core_base.specs.declared.ops.Op.TheVariants as op
+use Rattle.spec_locks.specs.declared.calls.Access.TheVariants as access
+use Rattle.spec_locks.specs.declared.calls.Patience.TheVariants as patience
+use Rattle.spec_locks.specs.declared.kinds.Kind.{Kind}
+use Rattle.steps_mutex.specs.declared.lock.Entry.TheVariants as entry
+use Rattle.steps_mutex.specs.declared.lock.LockAt.{LockAt}
+use Rattle.steps_mutex.specs.declared.lock.LockAt.TheVariants as locking
+use Rattle.steps_mutex.specs.declared.hand_off.HandOffAt.{HandOffAt}
+use Rattle.steps_mutex.specs.declared.hand_off.HandOffAt.TheVariants as hand_off
+use Rattle.steps_mutex.specs.declared.places.MutexPlace.TheVariants as mutex
+use Rattle.steps_rwlock.specs.declared.places.Admission.{Admission}
+use Rattle.steps_rwlock.specs.declared.places.RwLockAt.{RwLockAt}
+use Rattle.steps_rwlock.specs.declared.places.RwLockAt.TheVariants as at
+use Rattle.steps_rwlock.specs.declared.purposes.RwLockPurpose.TheVariants as purpose
+use Rattle.steps_rwlock_fair.specs.declared.places.RwLockCallPlace.TheVariants.{Plain, HandOver}
+use Rattle.steps_rwlock_fair.specs.declared.hand_over.Taken.{Taken}
+use Rattle.steps_rwlock_fair.specs.declared.hand_over.HandOverAt.{HandOverAt}
+use Rattle.steps_rwlock_fair.specs.declared.hand_over.HandOverAt.TheVariants as handing
 use Rattle.lot_steps.specs.declared.places.Place.{Place}
 use Rattle.lot_steps.specs.declared.places.Place.TheVariants.{Mutex, RwLock}
 use Rattle.lot_machine.specs.Machine.{State}

@@ -1,15 +1,15 @@
 -- A schedule so far: its steps lead to its state, each was possible, and they are few.
 use Rattle.std.proofs.Common.{ℕ, zero, suc, true, if◌then◌else◌, ◌≡◌, ◌≢◌, ◌+◌, ◌≤◌, List, [], ◌∷◌, ◌++◌, length, refl, sym, ◌∙◌, ap, subst, arith}
-use Rattle.lot_acts.specs.declared.acts.Act.{Act}
-use Rattle.lot_acts.specs.declared.acts.Act.TheVariants.{Sleep, Closure, End}
-use Rattle.lot_acts.specs.Acts.{outcome_of}
-use Rattle.lot_calls.specs.declared.calls.Call.{Call}
-use Rattle.lot_calls.specs.declared.calls.Step.{Step}
-use Rattle.lot_calls.specs.declared.outcomes.Outcome.{Outcome}
-use Rattle.lot_calls.specs.declared.outcomes.Outcome.TheVariants as outcome
+use Rattle.steps_base.specs.declared.acts.Act.{Act}
+use Rattle.steps_base.specs.declared.acts.Act.TheVariants.{Sleep, Closure, End}
+use Rattle.steps_base.specs.Acts.{outcome_of}
+use Rattle.spec_locks.specs.declared.calls.Call.{Call}
+use Rattle.spec_locks.specs.declared.calls.Step.{Step}
+use Rattle.spec_locks.specs.declared.outcomes.Outcome.{Outcome}
+use Rattle.spec_locks.specs.declared.outcomes.Outcome.TheVariants as outcome
 use Rattle.lot_steps.specs.Steps.{act_of, next_act}
 use Rattle.lot_machine.specs.Machine.{State, after, after_steps, alone_after, go_of, go_outcome, is_possible, place_at, reply_to, solo, state_after_act, step_outcome}
-use Rattle.drain_runs.specs.Turns.{begin_of}
+use Rattle.lot_drain.specs.Turns.{begin_of}
 use Rattle.lot_drain.specs.Drains.{AllPossible}
 use Rattle.lot_drain.specs.Schedules.{Progress, alone, alone_by, call_alone, one_more}
 

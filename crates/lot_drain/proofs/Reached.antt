@@ -3,22 +3,22 @@ use Rattle.std.proofs.Common.{ℕ, zero, suc, Bool, true, false, Option, Some, N
 use Rattle.std.specs.Prelude.{All, replicate, slice_index, sum}
 use Rattle.std.proofs.lemmas.Bool.{cases_eq}
 use Rattle.std.proofs.lemmas.List.{get_or_past, length-replicate}
-use Rattle.lot_calls.specs.declared.calls.Call.{Call}
-use Rattle.lot_calls.specs.declared.calls.Call.TheVariants as call
-use Rattle.lot_calls.specs.declared.calls.MutexCall.{MutexCall}
-use Rattle.lot_calls.specs.declared.calls.MutexCall.TheVariants as mutex_call
-use Rattle.lot_calls.specs.declared.calls.RwLockCall.{RwLockCall}
-use Rattle.lot_calls.specs.declared.calls.RwLockCall.TheVariants as rwlock_call
-use Rattle.lot_calls.specs.declared.calls.Step.{Step}
-use Rattle.lot_calls.specs.declared.calls.Turn.{Turn}
-use Rattle.lot_calls.specs.declared.calls.Turn.TheVariants as turn
-use Rattle.lot_calls.specs.declared.kinds.Kind.{Kind}
-use Rattle.lot_calls.specs.declared.kinds.Kind.TheVariants as kind
-use Rattle.lot_calls.specs.Calls.{lock_in}
-use Rattle.lot_calls.specs.Kinds.{fits}
-use Rattle.abstract_locks.specs.Locks.{LockState, Rights, opening_lock, rights_of}
-use Rattle.abstract_locks.specs.Purposes.{MayWait, Purpose, Enters, Releases, Converts, Bumps, CallsOnce, Awaits, Waits, Notifies, mutex_purpose, purpose_of, rules_of, rwlock_purpose}
-use Rattle.abstract_locks.specs.Runs.{CallState, Does, GoesOn, IsOpening, IsStep, LocksState, MayTurn, Stays, no_rights, rights_in}
+use Rattle.spec_locks.specs.declared.calls.Call.{Call}
+use Rattle.spec_locks.specs.declared.calls.Call.TheVariants as call
+use Rattle.spec_locks.specs.declared.calls.MutexCall.{MutexCall}
+use Rattle.spec_locks.specs.declared.calls.MutexCall.TheVariants as mutex_call
+use Rattle.spec_locks.specs.declared.calls.RwLockCall.{RwLockCall}
+use Rattle.spec_locks.specs.declared.calls.RwLockCall.TheVariants as rwlock_call
+use Rattle.spec_locks.specs.declared.calls.Step.{Step}
+use Rattle.spec_locks.specs.declared.calls.Turn.{Turn}
+use Rattle.spec_locks.specs.declared.calls.Turn.TheVariants as turn
+use Rattle.spec_locks.specs.declared.kinds.Kind.{Kind}
+use Rattle.spec_locks.specs.declared.kinds.Kind.TheVariants as kind
+use Rattle.spec_locks.specs.Calls.{lock_in}
+use Rattle.spec_locks.specs.Kinds.{fits}
+use Rattle.spec_locks.specs.Locks.{LockState, Rights, opening_lock, rights_of}
+use Rattle.spec_locks.specs.Purposes.{MayWait, Purpose, Enters, Releases, Converts, Bumps, CallsOnce, Awaits, Waits, Notifies, mutex_purpose, purpose_of, rules_of, rwlock_purpose}
+use Rattle.spec_locks.specs.Runs.{CallState, Does, GoesOn, IsOpening, IsStep, LocksState, MayTurn, Stays, no_rights, rights_in}
 use Rattle.lot_steps.specs.declared.places.Place.TheVariants.{Idle}
 use Rattle.lot_machine.specs.Machine.{State, after, after_steps, opening, place_at, step_outcome}
 use Rattle.lot_machine.specs.Fits.{SameSize}
@@ -35,15 +35,15 @@ use Rattle.lot_laws.proofs.machine.Possible.{turner_there}
 use Rattle.lot_laws.proofs.promises.Promises.{opening_is}
 use Rattle.lot_laws.proofs.once.Runs.{opening_running}
 use Rattle.lot_laws.proofs.alone.WorldRuns.{world_after, world_kept}
-use Rattle.drain_laws.specs.Drained.{Drains}
-use Rattle.drain_laws.specs.Few.{IsOfOneLock, PendsInCall}
-use Rattle.drain_laws.specs.Pending.{AllBeganUnpending, BeganUnpending, OnlyWaitersStand}
-use Rattle.drain_laws.proofs.Few.{put_other, put_same, rights_are}
-use Rattle.drain_laws.proofs.Pending.{others_own, unpending_go_on}
-use Rattle.drain_runs.specs.Drains.{HasOneLock}
-use Rattle.drain_runs.proofs.Owners.{index_sum}
-use Rattle.drain_runs.proofs.Quiet.{only_here}
-use Rattle.drain_runs.proofs.Turns.{called_here}
+use Rattle.lot_drain.specs.Drained.{Drains}
+use Rattle.lot_drain.specs.Few.{IsOfOneLock, PendsInCall}
+use Rattle.lot_drain.specs.Pending.{AllBeganUnpending, BeganUnpending, OnlyWaitersStand}
+use Rattle.lot_drain.proofs.Few.{put_other, put_same, rights_are}
+use Rattle.lot_drain.proofs.Pending.{others_own, unpending_go_on}
+use Rattle.lot_drain.specs.Quiet.{HasOneLock}
+use Rattle.lot_drain.proofs.Owners.{index_sum}
+use Rattle.lot_drain.proofs.Quiet.{only_here}
+use Rattle.lot_drain.proofs.Turns.{called_here}
 use Rattle.lot_drain.specs.Reached.{ReachedHaveOwners}
 
 pub record IsReached (w : State) : Type 0 where

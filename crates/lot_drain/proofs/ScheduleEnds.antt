@@ -1,14 +1,14 @@
 -- The schedule of a world that may be drained does so.
 use Rattle.std.proofs.Common.{ℕ, zero, suc, true, Option, Some, None, if◌then◌else◌, ◌==◌, ◌≡◌, ◌+◌, ◌*◌, ◌≤◌, List, [], ◌∷◌, length, refl, sym, ◌∙◌, ap, subst, arith}
-use Rattle.lot_calls.specs.declared.calls.Step.{Step}
-use Rattle.abstract_locks.specs.Sites.{Line, Main, Second}
+use Rattle.spec_locks.specs.declared.calls.Step.{Step}
+use Rattle.spec_locks.specs.Sites.{Line, Main, Second}
 use Rattle.lot_steps.specs.declared.places.Place.TheVariants.{Idle}
 use Rattle.lot_machine.specs.Machine.{State, after, after_steps, go_of, kind_at, place_at, section_at, word_at}
 use Rattle.lot_machine.specs.Fits.{SameSize}
 use Rattle.lot_machine.proofs.Shape.{after_size}
 use Rattle.lot_laws.specs.SitesOf.{IsWorld, key_of}
 use Rattle.lot_laws.specs.Stations.{station_at}
-use Rattle.drain_runs.specs.Course.{left_in}
+use Rattle.lot_drain.specs.Course.{left_in}
 use Rattle.lot_drain.specs.Drains.{IsDrain, IsDrainable, IsDrained}
 use Rattle.lot_drain.specs.Laws.{SchedulesDrain}
 use Rattle.lot_drain.specs.Schedules.{Progress, clear, go_alone, most_turns, next_turn, one_more, out_of_main, out_of_second, passed_through, schedule_of, turn_taken, turns, where_inside, where_some}

@@ -1,10 +1,10 @@
 -- In a world of one lock that has owners, a thread stands under one key, once.
 use Rattle.std.proofs.Common.{ℕ, zero, suc, Bool, true, false, cond, Option, Some, None, ◌≡◌, ◌≢◌, ◌≤◌, length, refl, sym, ap, ◌∙◌, subst, arith, ne_eqb}
 use Rattle.std.specs.Prelude.{◌==◌}
-use Rattle.lot_base.specs.declared.keys.Line.{Line}
-use Rattle.lot_base.specs.declared.keys.Line.TheVariants.{Main, Second}
-use Rattle.lot_base.specs.Keys.{key_of}
-use Rattle.lot_base.specs.Lines.{times}
+use Rattle.core_base.specs.declared.keys.Line.{Line}
+use Rattle.core_base.specs.declared.keys.Line.TheVariants.{Main, Second}
+use Rattle.core_base.specs.Keys.{key_of}
+use Rattle.core_base.specs.Lines.{times}
 use Rattle.lot_steps.specs.declared.places.Place.{Place}
 use Rattle.lot_steps.specs.declared.places.Place.TheVariants as place
 use Rattle.lot_machine.specs.Copies.{StandOnce}

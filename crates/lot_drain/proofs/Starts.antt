@@ -1,10 +1,10 @@
 -- A world that may be drained has all that a drain keeps: each call began with what it needs and no more, and nobody is forgotten.
 use Rattle.std.proofs.Common.{ℕ, Bool, true, false, Option, Some, None, ◌≡◌, ◌≤◌, inl, inr, refl, sym, ◌∙◌, ap, subst, arith}
-use Rattle.lot_base.specs.declared.wants.Want.{Want}
-use Rattle.abstract_locks.specs.Locks.{LockState, Rights, is_pending, rights_of, with_right}
-use Rattle.abstract_locks.specs.Purposes.{Purpose, Releases}
-use Rattle.abstract_locks.specs.Runs.{CallState, no_rights}
-use Rattle.abstract_locks.specs.Sites.{Claim, Has, Pends, Runs, Ran, Holds, IsSite, is_full}
+use Rattle.core_base.specs.declared.wants.Want.{Want}
+use Rattle.spec_locks.specs.Locks.{LockState, Rights, is_pending, rights_of, with_right}
+use Rattle.spec_locks.specs.Purposes.{Purpose, Releases}
+use Rattle.spec_locks.specs.Runs.{CallState, no_rights}
+use Rattle.spec_locks.specs.Sites.{Claim, Has, Pends, Runs, Ran, Holds, IsSite, is_full}
 use Rattle.lot_steps.specs.declared.places.Place.{Place}
 use Rattle.lot_steps.specs.declared.places.Place.TheVariants.{Idle, Mutex, RwLock, Once, Condvar, Semaphore}
 use Rattle.lot_steps.specs.Steps.{is_lock, lock_of, profile}
@@ -12,15 +12,15 @@ use Rattle.lot_machine.specs.Machine.{State, filled_at, place_at}
 use Rattle.lot_laws.specs.Refinement.{call_at, call_state, lock_state}
 use Rattle.lot_laws.specs.SitesOf.{IsWorld, rules_in, site_of}
 use Rattle.lot_laws.specs.Stations.{doing_on}
-use Rattle.drain_laws.specs.Drained.{as_now}
-use Rattle.drain_laws.specs.Few.{HadNone, HasFew, HasNoneBefore, IsFew, PendsInCall, number}
-use Rattle.drain_laws.proofs.Few.{rights_are}
-use Rattle.drain_places.specs.Began.{IsJust}
-use Rattle.drain_places.proofs.Began.{places_began}
-use Rattle.drain_runs.specs.Drains.{IsDraining}
-use Rattle.drain_runs.specs.Full.{IsStrict}
-use Rattle.drain_runs.proofs.Quiet.{OnlyHere, only_here}
-use Rattle.drain_runs.proofs.Releases.{only_right}
+use Rattle.lot_drain.specs.Drained.{as_now}
+use Rattle.lot_drain.specs.Few.{HadNone, HasFew, HasNoneBefore, IsFew, PendsInCall, number}
+use Rattle.lot_drain.proofs.Few.{rights_are}
+use Rattle.lot_drain.specs.Began.{IsJust}
+use Rattle.lot_drain.proofs.Began.{places_began}
+use Rattle.lot_drain.specs.Quiet.{IsDraining}
+use Rattle.lot_drain.specs.Full.{IsStrict}
+use Rattle.lot_drain.proofs.Quiet.{OnlyHere, only_here}
+use Rattle.lot_drain.proofs.Releases.{only_right}
 use Rattle.lot_drain.specs.Drains.{IsDrainable}
 use Rattle.lot_drain.proofs.Clears.{one_pending}
 

@@ -1,26 +1,26 @@
 -- A drain comes to its end, turn after turn.
 use Rattle.std.proofs.Common.{ℕ, zero, suc, true, Option, Some, None, ◌≡◌, ◌+◌, ◌*◌, ◌≤◌, length, inl, inr, refl, sym, ◌∙◌, ap, subst, arith}
 use Rattle.std.proofs.lemmas.Bool.{lt-ltb}
-use Rattle.lot_calls.specs.declared.calls.Step.{Step}
-use Rattle.lot_calls.specs.declared.outcomes.Outcome.TheVariants as outcome
-use Rattle.abstract_locks.specs.Locks.{rights_of}
+use Rattle.spec_locks.specs.declared.calls.Step.{Step}
+use Rattle.spec_locks.specs.declared.outcomes.Outcome.TheVariants as outcome
+use Rattle.spec_locks.specs.Locks.{rights_of}
 use Rattle.lot_machine.specs.Machine.{State, after, go_of, place_at, section_at}
 use Rattle.lot_laws.specs.Refinement.{lock_state}
-use Rattle.drain_laws.proofs.Potential.{potential_most}
-use Rattle.drain_runs.specs.Course.{left_in}
-use Rattle.drain_runs.specs.Drains.{IsDraining, IsOver}
-use Rattle.drain_runs.specs.Entry as before
-use Rattle.drain_runs.specs.Full.{IsStrict}
-use Rattle.drain_runs.specs.Turns.{NobodyInside, after_alone, after_release, awake, begin_of, weight}
-use Rattle.drain_runs.proofs.Begins.{releases_keep_draining, turns_keep_draining}
-use Rattle.drain_runs.proofs.Course.{alone_size, lowered, release_size, weighs}
-use Rattle.drain_runs.proofs.Entry.{entry_leaves, possible}
-use Rattle.drain_runs.proofs.Full.{strict_goes_on}
-use Rattle.drain_runs.proofs.OnNow.{draining_goes_on}
-use Rattle.drain_runs.proofs.Outside.{each_turn_leaves}
-use Rattle.drain_runs.proofs.Quiet.{quiet_is_over}
-use Rattle.drain_runs.proofs.Releases.{each_release_falls}
-use Rattle.drain_runs.proofs.Turns.{each_turn_falls}
+use Rattle.lot_drain.proofs.Potential.{potential_most}
+use Rattle.lot_drain.specs.Course.{left_in}
+use Rattle.lot_drain.specs.Quiet.{IsDraining, IsOver}
+use Rattle.lot_drain.specs.Entry as before
+use Rattle.lot_drain.specs.Full.{IsStrict}
+use Rattle.lot_drain.specs.Turns.{NobodyInside, after_alone, after_release, awake, begin_of, weight}
+use Rattle.lot_drain.proofs.Begins.{releases_keep_draining, turns_keep_draining}
+use Rattle.lot_drain.proofs.Course.{alone_size, lowered, release_size, weighs}
+use Rattle.lot_drain.proofs.Entry.{entry_leaves, possible}
+use Rattle.lot_drain.proofs.Full.{strict_goes_on}
+use Rattle.lot_drain.proofs.OnNow.{draining_goes_on}
+use Rattle.lot_drain.proofs.Outside.{each_turn_leaves}
+use Rattle.lot_drain.proofs.Quiet.{quiet_is_over}
+use Rattle.lot_drain.proofs.Releases.{each_release_falls}
+use Rattle.lot_drain.proofs.Turns.{each_turn_falls}
 use Rattle.lot_drain.specs.Schedules.{Progress, call_alone, go_alone, most_turns, next_turn, one_more, out_of_main, out_of_second, turn_taken, turns, where_inside, where_some}
 use Rattle.lot_drain.proofs.NextTurns.{BeginsRelease, may_release, none_is, quiet, turn_is}
 use Rattle.lot_drain.proofs.Progress.{HasCome, HasGone, alone_goes, alone_state, call_goes, go_possible, goes_one, goes_then, goes_within, stays}

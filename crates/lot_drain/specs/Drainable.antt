@@ -1,26 +1,26 @@
 -- The test whether a world may be drained.
 use Rattle.std.specs.Prelude.{ℕ, zero, suc, Bool, true, false, Option, Some, None, if◌then◌else◌, ◌==◌, ◌&&◌, ◌||◌, not, length, nat_le, nat_lt}
-use Rattle.lot_calls.specs.declared.calls.Access.{Access}
-use Rattle.lot_calls.specs.declared.calls.Access.TheVariants as access
-use Rattle.lot_calls.specs.declared.kinds.Kind.{Kind}
-use Rattle.lot_calls.specs.declared.kinds.Kind.TheVariants as kind
-use Rattle.lot_acts.specs.declared.owners.Owners.{Owners}
-use Rattle.lot_acts.specs.declared.owners.Pending as owners
-use Rattle.abstract_locks.specs.Locks.{Rights, rights_of}
-use Rattle.lot_mutex.specs.declared.places.MutexPlace.{MutexPlace}
-use Rattle.lot_mutex.specs.declared.places.MutexPlace.TheVariants as mutex
-use Rattle.lot_mutex.specs.declared.hand_off.HandOffAt.{HandOffAt}
-use Rattle.lot_mutex.specs.declared.hand_off.HandOffAt.TheVariants as hand_off
-use Rattle.lot_mutex.specs.MutexProfiles.{was_handed}
-use Rattle.lot_rwlock.specs.declared.purposes.RwLockPurpose.{RwLockPurpose}
-use Rattle.lot_rwlock.specs.declared.purposes.RwLockPurpose.TheVariants as purposes
-use Rattle.lot_rwlock.specs.declared.places.RwLockAt.{RwLockAt}
-use Rattle.lot_rwlock.specs.RwLockProfiles.{is_pending, is_waking}
-use Rattle.lot_rwlock_fair.specs.declared.places.RwLockCallPlace.{RwLockCallPlace}
-use Rattle.lot_rwlock_fair.specs.declared.places.RwLockCallPlace.TheVariants.{Plain, Glance, HandOver, Bump, Handed}
-use Rattle.lot_rwlock_fair.specs.declared.handed.HandedAt.{HandedAt}
-use Rattle.lot_rwlock_fair.specs.declared.handed.HandedAt.TheVariants as handed
-use Rattle.lot_rwlock_fair.specs.FairProfiles.{has_given}
+use Rattle.spec_locks.specs.declared.calls.Access.{Access}
+use Rattle.spec_locks.specs.declared.calls.Access.TheVariants as access
+use Rattle.spec_locks.specs.declared.kinds.Kind.{Kind}
+use Rattle.spec_locks.specs.declared.kinds.Kind.TheVariants as kind
+use Rattle.steps_base.specs.declared.owners.Owners.{Owners}
+use Rattle.steps_base.specs.declared.owners.Pending as owners
+use Rattle.spec_locks.specs.Locks.{Rights, rights_of}
+use Rattle.steps_mutex.specs.declared.places.MutexPlace.{MutexPlace}
+use Rattle.steps_mutex.specs.declared.places.MutexPlace.TheVariants as mutex
+use Rattle.steps_mutex.specs.declared.hand_off.HandOffAt.{HandOffAt}
+use Rattle.steps_mutex.specs.declared.hand_off.HandOffAt.TheVariants as hand_off
+use Rattle.steps_mutex.specs.MutexProfiles.{was_handed}
+use Rattle.steps_rwlock.specs.declared.purposes.RwLockPurpose.{RwLockPurpose}
+use Rattle.steps_rwlock.specs.declared.purposes.RwLockPurpose.TheVariants as purposes
+use Rattle.steps_rwlock.specs.declared.places.RwLockAt.{RwLockAt}
+use Rattle.steps_rwlock.specs.RwLockProfiles.{is_pending, is_waking}
+use Rattle.steps_rwlock_fair.specs.declared.places.RwLockCallPlace.{RwLockCallPlace}
+use Rattle.steps_rwlock_fair.specs.declared.places.RwLockCallPlace.TheVariants.{Plain, Glance, HandOver, Bump, Handed}
+use Rattle.steps_rwlock_fair.specs.declared.handed.HandedAt.{HandedAt}
+use Rattle.steps_rwlock_fair.specs.declared.handed.HandedAt.TheVariants as handed
+use Rattle.steps_rwlock_fair.specs.FairProfiles.{has_given}
 use Rattle.lot_steps.specs.declared.places.Place.{Place}
 use Rattle.lot_steps.specs.declared.places.Place.TheVariants as place
 use Rattle.lot_machine.specs.Machine.{State, filled_at, kind_at, owners_at, place_at}

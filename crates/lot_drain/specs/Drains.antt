@@ -1,15 +1,15 @@
 -- Which worlds may be drained, and what a drain comes to: nobody is in a call or queued, and nobody
 -- owns the lock.
 use Rattle.std.specs.Prelude.{ℕ, false, ◌≡◌, ◌≢◌, ◌≤◌, ◌+◌, ◌*◌, List, [], ◌∷◌, length}
-use Rattle.lot_calls.specs.declared.calls.Step.{Step}
-use Rattle.lot_calls.specs.declared.outcomes.Outcome.TheVariants as outcome
-use Rattle.abstract_locks.specs.Locks.{rights_of}
-use Rattle.abstract_locks.specs.Runs.{no_rights}
+use Rattle.spec_locks.specs.declared.calls.Step.{Step}
+use Rattle.spec_locks.specs.declared.outcomes.Outcome.TheVariants as outcome
+use Rattle.spec_locks.specs.Locks.{rights_of}
+use Rattle.spec_locks.specs.Runs.{no_rights}
 use Rattle.lot_machine.specs.Machine.{State, after, after_steps, filled_at, step_outcome, word_at}
 use Rattle.lot_laws.specs.Refinement.{call_at, lock_state}
-pub use Rattle.drain_laws.specs.Drained.{Drains}
-pub use Rattle.drain_laws.specs.Few.{HadNone, HasNoneBefore, InACall, IsFew, PendsInCall, number}
-pub use Rattle.drain_runs.specs.Drains.{HasOneLock, IsOver}
+pub use Rattle.lot_drain.specs.Drained.{Drains}
+pub use Rattle.lot_drain.specs.Few.{HadNone, HasNoneBefore, InACall, IsFew, PendsInCall, number}
+pub use Rattle.lot_drain.specs.Quiet.{HasOneLock, IsOver}
 
 -- One mutex or reader-writer lock, whose readers were never as many as its limit. Each thread has
 -- one right at most, and none where its call is to get one.

@@ -1,12 +1,12 @@
 -- An owner of the lock of a world that was reached is a thread that is there; and a thread is pending only
 -- in a call that waits for a right.
 use Rattle.std.specs.Prelude.{ℕ, true, ◌≡◌, ◌≤◌, List, [], ◌∷◌, length}
-use Rattle.lot_calls.specs.declared.calls.Step.{Step}
-use Rattle.lot_calls.specs.declared.kinds.Kind.{Kind}
-use Rattle.lot_calls.specs.Kinds.{fits}
-use Rattle.abstract_locks.specs.Locks.{rights_of}
-use Rattle.abstract_locks.specs.Purposes.{rules_of}
-use Rattle.abstract_locks.specs.Runs.{no_rights}
+use Rattle.spec_locks.specs.declared.calls.Step.{Step}
+use Rattle.spec_locks.specs.declared.kinds.Kind.{Kind}
+use Rattle.spec_locks.specs.Kinds.{fits}
+use Rattle.spec_locks.specs.Locks.{rights_of}
+use Rattle.spec_locks.specs.Purposes.{rules_of}
+use Rattle.spec_locks.specs.Runs.{no_rights}
 use Rattle.lot_machine.specs.Machine.{State, after_steps, opening}
 use Rattle.lot_laws.specs.Refinement.{call_at, lock_state}
 use Rattle.lot_drain.specs.Drains.{Drains, PendsInCall}

@@ -2,22 +2,22 @@
 -- another goes on alone until it rests: the first that is up. Where none is, the first between its calls
 -- that may release the lock does so.
 use Rattle.std.specs.Prelude.{ℕ, zero, suc, if◌then◌else◌, Option, Some, None, ◌==◌, ◌+◌, ◌*◌, List, [], ◌∷◌, ◌++◌, length}
-use Rattle.lot_calls.specs.declared.calls.Access.TheVariants as access
-use Rattle.lot_calls.specs.declared.calls.Call.{Call}
-use Rattle.lot_calls.specs.declared.calls.Call.TheVariants as call
-use Rattle.lot_calls.specs.declared.calls.MutexCall.TheVariants as mutex_call
-use Rattle.lot_calls.specs.declared.calls.Patience.TheVariants as patience
-use Rattle.lot_calls.specs.declared.calls.RwLockCall.TheVariants as rwlock_call
-use Rattle.lot_calls.specs.declared.calls.Step.{Step}
-use Rattle.lot_calls.specs.declared.calls.Turn.{Turn}
-use Rattle.lot_calls.specs.declared.calls.Turn.TheVariants as turn
-use Rattle.lot_calls.specs.declared.kinds.Kind.{Kind}
-use Rattle.lot_calls.specs.declared.outcomes.Outcome.{Outcome}
-use Rattle.lot_calls.specs.declared.outcomes.Outcome.TheVariants as outcome
+use Rattle.spec_locks.specs.declared.calls.Access.TheVariants as access
+use Rattle.spec_locks.specs.declared.calls.Call.{Call}
+use Rattle.spec_locks.specs.declared.calls.Call.TheVariants as call
+use Rattle.spec_locks.specs.declared.calls.MutexCall.TheVariants as mutex_call
+use Rattle.spec_locks.specs.declared.calls.Patience.TheVariants as patience
+use Rattle.spec_locks.specs.declared.calls.RwLockCall.TheVariants as rwlock_call
+use Rattle.spec_locks.specs.declared.calls.Step.{Step}
+use Rattle.spec_locks.specs.declared.calls.Turn.{Turn}
+use Rattle.spec_locks.specs.declared.calls.Turn.TheVariants as turn
+use Rattle.spec_locks.specs.declared.kinds.Kind.{Kind}
+use Rattle.spec_locks.specs.declared.outcomes.Outcome.{Outcome}
+use Rattle.spec_locks.specs.declared.outcomes.Outcome.TheVariants as outcome
 use Rattle.lot_machine.specs.Machine.{State, after, can_begin, go_of, kind_at, place_at, section_at, step_outcome, word_at}
 use Rattle.lot_machine.specs.Fits.{is_rwlock}
-pub use Rattle.drain_runs.specs.Owners.{releases}
-pub use Rattle.drain_runs.specs.Turns.{begin_of, is_up}
+pub use Rattle.lot_drain.specs.Owners.{releases}
+pub use Rattle.lot_drain.specs.Turns.{begin_of, is_up}
 
 -- a schedule so far: its steps, and where they have led
 pub record Progress : Type 0 where

@@ -1,13 +1,13 @@
 //! Whether a world may be drained.
 ghost use Rattle.std.specs.Prelude.{◌≡◌, ◌<◌, ◌≤◌, length};
 ghost use Rattle.lot_laws.specs.Refinement.{lock_state};
-ghost use Rattle.abstract_locks.specs.Locks.{rights_of};
+ghost use Rattle.spec_locks.specs.Locks.{rights_of};
 ghost use Rattle.lot_drain.specs.Drains.{number};
 ghost use Rattle.lot_drain.specs.Drainable.{is_drainable, has_owners, is_below, are_below, all_hold_few, holds_few, one_if, counted, gained};
 
 use crate::gains::{Gain, gain_of, may_pend};
-use lot_base::Queues;
-use lot_calls::{Access, Kind};
+use core_base::Queues;
+use spec_locks::{Access, Kind};
 use lot_machine::Machine;
 use lot_steps::{Owners, Place};
 

@@ -4,8 +4,8 @@ ghost use Rattle.lot_machine.specs.Machine.{go_of, kind_at, step_outcome};
 ghost use Rattle.lot_machine.specs.Fits.{IsShaped};
 ghost use Rattle.lot_drain.specs.Schedules.{one_more, alone_by, begin_of, go_alone, call_alone, out_of_second, out_of_main, is_up, first_up, releases, first_begin, first_release, next_turn, turn_taken, turns, most_turns, entry_of, fair_release_of, clear, schedule_of};
 
-use lot_base::{Fault, Queues, main_key, second_key};
-use lot_calls::{Access, Call, Kind, MutexCall, Outcome, Patience, RwLockCall, Step, Turn};
+use core_base::{Fault, Queues, main_key, second_key};
+use spec_locks::{Access, Call, Kind, MutexCall, Outcome, Patience, RwLockCall, Step, Turn};
 use lot_machine::Machine;
 use lot_steps::Place;
 use std::alloc::Global;

@@ -2,10 +2,10 @@
 ghost use Rattle.std.specs.Prelude.{◌≡◌};
 ghost use Rattle.lot_drain.specs.Drainable.{gain_of, may_pend, mutex_gain, call_gain, bump_gain, entry_gain, handed_gain};
 
-use lot_calls::Access;
-use lot_mutex::{HandOffAt, LockAt, MutexPlace};
-use lot_rwlock::{RwLockAt, RwLockPlace, RwLockPurpose};
-use lot_rwlock_fair::{HandOverAt, HandedAt, RwLockCallPlace};
+use spec_locks::Access;
+use steps_mutex::{HandOffAt, LockAt, MutexPlace};
+use steps_rwlock::{RwLockAt, RwLockPlace, RwLockPurpose};
+use steps_rwlock_fair::{HandOverAt, HandedAt, RwLockCallPlace};
 use lot_steps::Place;
 
 /// The right that such a call has got.

@@ -1,11 +1,14 @@
-//! The schedule that drains a world of one lock, and that it does: whoever is in a call ends it,
-//! and whoever owns gives its right up.
+//! The schedule that drains a world of one lock, and the laws that it does: a thread in a call ends
+//! it, and an owner gives its right up.
 #![tactic(auto)]
 
+pub mod course;
 pub mod drainable;
 pub mod draining;
 mod gains;
+pub mod ground;
 pub mod laws;
+pub mod waits;
 
 pub use drainable::is_drainable;
 pub use draining::schedule;

@@ -1,7 +1,7 @@
 -- Why there is no picture.
 use Rattle.std.specs.Prelude.{Bool, true, false}
-use Rattle.lot_record.specs.declared.lines.Failure.{Failure}
-use Rattle.lot_record.specs.declared.lines.Failure.TheVariants.{Malformed, NoMemory, Unread, Undrawn, Unwritten}
+use Rattle.lot_draw.specs.declared.lines.Failure.{Failure}
+use Rattle.lot_draw.specs.declared.lines.Failure.TheVariants.{Malformed, NoMemory, Unread, Undrawn, Unwritten}
 
 -- whether a line has another form
 abbrev pub is_malformed : Failure → Bool

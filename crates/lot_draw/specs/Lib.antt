@@ -1,2 +1,3 @@
 pub mod Escapes
 pub mod Endings
+pub mod Cells

@@ -1,6 +1,6 @@
 //! Where things stand on a picture.
 
-use lot_record::{Lane, Recording};
+use crate::{Lane, Recording};
 use std::alloc::{AllocError, Global};
 use std::fmt;
 use std::ops::Add;

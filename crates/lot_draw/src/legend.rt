@@ -1,7 +1,7 @@
 //! How cells look, and the legend that says what they mean.
 
 use crate::layout::{MARGIN, Pixels};
-use lot_record::{Cell, Deed, Recording};
+use crate::{Cell, Deed, Recording};
 use lot_world::Owner;
 use std::io;
 use std::io::Write;

@@ -7,7 +7,7 @@ use crate::layout::{
 use crate::legend::{Look, draw_letter, draw_marker, look_of_deed, look_of_right};
 use crate::texts::put_text;
 use crate::words::draw_words;
-use lot_record::{Cell, Column, Lane, Recording};
+use crate::{Cell, Column, Lane, Recording};
 use std::alloc::Global;
 use std::io;
 use std::io::Write;

@@ -5,7 +5,7 @@ use crate::legend::{Spot, draw_legend, legend_bottom};
 use crate::panels::{draw_panel, height_of_panel};
 use crate::texts::{put_text, title_of};
 use crate::words::height_of_words;
-use lot_record::Recording;
+use crate::Recording;
 use std::alloc::{AllocError, Global};
 use std::io;
 use std::io::Write;

@@ -3,7 +3,7 @@ ghost use Rattle.std.specs.Prelude.{OnOk};
 ghost use Rattle.std.specs.Io.KnownBytes.{Appends};
 ghost use Rattle.lot_draw.specs.Escapes.{escaped, escaped_byte};
 
-use lot_record::{LockRow, Recording};
+use crate::{LockRow, Recording};
 use lot_world::Kind;
 use std::alloc::{AllocError, Global};
 use std::io;

@@ -3,7 +3,7 @@
 use crate::layout::{COLUMN, Layout, MARGIN, Panel, Pixels, Run, runs};
 use crate::texts::put_text;
 use itoa::Buffer;
-use lot_record::{LockRow, Recording};
+use crate::{LockRow, Recording};
 use std::alloc::{AllocError, Global};
 use std::io;
 use std::io::Write;

@@ -2,16 +2,16 @@
 -- waiter owns it in its place. At a lock that is shared each waiter that it takes has its right in that one
 -- step, or would pass the limit, and is woken.
 use Rattle.std.specs.Prelude.{ℕ, true, false, Option, Some, None, MatchOption, ◌≡◌, ◌≢◌, ◌⊎◌, []}
-use Rattle.lot_base.specs.declared.wants.Want.{Want}
-use Rattle.lot_base.specs.declared.wants.Want.TheVariants.{Exclusive, Shared}
-use Rattle.lot_mutex.specs.MutexSteps.{is_locked, is_parked}
+use Rattle.core_base.specs.declared.wants.Want.{Want}
+use Rattle.core_base.specs.declared.wants.Want.TheVariants.{Exclusive, Shared}
+use Rattle.steps_mutex.specs.MutexSteps.{is_locked, is_parked}
 use Rattle.lot_machine.specs.Machine.{State, kind_at, word_at}
-use Rattle.lot_rwlock_fair.specs.FairGives.{IsToGive, GivesToAll, LetsGo as LetsItGo, WakesThem}
+use Rattle.steps_rwlock_fair.specs.FairGives.{IsToGive, GivesToAll, LetsGo as LetsItGo, WakesThem}
 use Rattle.lot_laws.specs.SitesOf.{is_mutex, rules_in}
-use Rattle.abstract_locks.specs.Locks.{LockState, Rules, Owns, IsTaken, HasTakenNobody, first_thread}
-use Rattle.abstract_locks.specs.Purposes.{Purpose, Releases, Bumps, lock_for}
-use Rattle.abstract_locks.specs.Runs.{CallState}
-use Rattle.abstract_locks.specs.Sites.{has_readers}
+use Rattle.spec_locks.specs.Locks.{LockState, Rules, Owns, IsTaken, HasTakenNobody, first_thread}
+use Rattle.spec_locks.specs.Purposes.{Purpose, Releases, Bumps, lock_for}
+use Rattle.spec_locks.specs.Runs.{CallState}
+use Rattle.spec_locks.specs.Sites.{has_readers}
 use Rattle.lot_laws.specs.Refinement.{lock_state, call_at}
 
 -- unlock_fair, the unlock of a fair mutex, or a bump

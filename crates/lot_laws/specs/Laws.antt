@@ -1,27 +1,27 @@
 -- One run of the world, and states and steps that no world comes to.
 use Rattle.std.specs.Prelude.{ℕ, true, false, Some, None, ◌≡◌, List, [], ◌∷◌}
-use Rattle.lot_base.specs.declared.wants.Want.TheVariants.{Exclusive}
-use Rattle.lot_base.specs.Lines.{waiter}
-use Rattle.lot_calls.specs.declared.kinds.Kind.TheVariants as kind
-use Rattle.lot_calls.specs.declared.calls.Call.TheVariants as call
-use Rattle.lot_calls.specs.declared.calls.MutexCall.{MutexCall}
-use Rattle.lot_calls.specs.declared.calls.MutexCall.TheVariants.{Lock, UnlockFair}
-use Rattle.lot_calls.specs.declared.calls.Turn.{Turn}
-use Rattle.lot_calls.specs.declared.calls.Turn.TheVariants.{Begin, Go}
-use Rattle.lot_calls.specs.declared.calls.Step.{Step}
-use Rattle.lot_calls.specs.declared.outcomes.Answer.TheVariants as answer
-use Rattle.lot_calls.specs.declared.outcomes.Outcome.{Outcome}
-use Rattle.lot_calls.specs.declared.outcomes.Outcome.TheVariants as told
-use Rattle.lot_mutex.specs.declared.places.MutexPlace.TheVariants as at
-use Rattle.lot_mutex.specs.declared.lock.Entry.TheVariants as entry
-use Rattle.lot_mutex.specs.declared.lock.LockAt.TheVariants.{Asleep, Taken}
-use Rattle.lot_mutex.specs.declared.hand_off.HandOffAt.TheVariants.{Store}
+use Rattle.core_base.specs.declared.wants.Want.TheVariants.{Exclusive}
+use Rattle.core_base.specs.Lines.{waiter}
+use Rattle.spec_locks.specs.declared.kinds.Kind.TheVariants as kind
+use Rattle.spec_locks.specs.declared.calls.Call.TheVariants as call
+use Rattle.spec_locks.specs.declared.calls.MutexCall.{MutexCall}
+use Rattle.spec_locks.specs.declared.calls.MutexCall.TheVariants.{Lock, UnlockFair}
+use Rattle.spec_locks.specs.declared.calls.Turn.{Turn}
+use Rattle.spec_locks.specs.declared.calls.Turn.TheVariants.{Begin, Go}
+use Rattle.spec_locks.specs.declared.calls.Step.{Step}
+use Rattle.spec_locks.specs.declared.outcomes.Answer.TheVariants as answer
+use Rattle.spec_locks.specs.declared.outcomes.Outcome.{Outcome}
+use Rattle.spec_locks.specs.declared.outcomes.Outcome.TheVariants as told
+use Rattle.steps_mutex.specs.declared.places.MutexPlace.TheVariants as at
+use Rattle.steps_mutex.specs.declared.lock.Entry.TheVariants as entry
+use Rattle.steps_mutex.specs.declared.lock.LockAt.TheVariants.{Asleep, Taken}
+use Rattle.steps_mutex.specs.declared.hand_off.HandOffAt.TheVariants.{Store}
 use Rattle.lot_steps.specs.declared.places.Place.TheVariants.{Idle, Mutex}
 use Rattle.lot_machine.specs.Machine.{State, opening, unlocked, nobody, after_steps, word_at}
 use Rattle.lot_laws.specs.Refinement.{lock_state, locks_of}
 use Rattle.lot_laws.specs.Fair.{IsFair}
 use Rattle.lot_laws.specs.Promises.{IsKept}
-use Rattle.abstract_locks.specs.Runs.{IsRun}
+use Rattle.spec_locks.specs.Runs.{IsRun}
 
 abbrev turn_of : ℕ → Turn → Step
 turn_of t x = record { thread = t; turn = x }

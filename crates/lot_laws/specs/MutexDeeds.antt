@@ -1,17 +1,17 @@
 -- The steps of a mutex, told by what a thread does about the abstract lock: the deeds of each step.
 use Rattle.std.specs.Prelude.{ℕ, Option, Some, None, List, [], ◌∷◌, ◌++◌}
-use Rattle.lot_base.specs.declared.wants.Want.TheVariants.{Exclusive}
-use Rattle.lot_mutex.specs.declared.places.MutexPlace.{MutexPlace}
-use Rattle.lot_mutex.specs.declared.places.MutexPlace.TheVariants.{HandOff}
-use Rattle.lot_mutex.specs.declared.hand_off.HandOffAt.TheVariants as hand_off
-use Rattle.lot_acts.specs.declared.acts.Reply.{Reply}
-use Rattle.lot_acts.specs.declared.acts.Reply.TheVariants.{Value}
+use Rattle.core_base.specs.declared.wants.Want.TheVariants.{Exclusive}
+use Rattle.steps_mutex.specs.declared.places.MutexPlace.{MutexPlace}
+use Rattle.steps_mutex.specs.declared.places.MutexPlace.TheVariants.{HandOff}
+use Rattle.steps_mutex.specs.declared.hand_off.HandOffAt.TheVariants as hand_off
+use Rattle.steps_base.specs.declared.acts.Reply.{Reply}
+use Rattle.steps_base.specs.declared.acts.Reply.TheVariants.{Value}
 use Rattle.lot_laws.specs.Stations.{Station, station_by}
-pub use Rattle.lot_mutex.specs.MutexDeeds.{enters, hands_over, hand_off_deeds, lock_deeds, mutex_deeds, queued, takes, unlock_deeds}
-pub use Rattle.lot_mutex.specs.MutexLaws.{mutex_doing, mutex_row}
-pub use Rattle.lot_mutex.specs.MutexProfiles.{mutex_profile, owner, inside, again, carrying}
-pub use Rattle.lot_acts.specs.Profiles.{Hand, Of, hand, hand_owner, in_hand}
-use Rattle.abstract_locks.specs.Sites.{Has, Deed, Begin}
+pub use Rattle.steps_mutex.specs.MutexDeeds.{enters, hands_over, hand_off_deeds, lock_deeds, mutex_deeds, queued, takes, unlock_deeds}
+pub use Rattle.steps_mutex.specs.MutexLaws.{mutex_doing, mutex_row}
+pub use Rattle.steps_mutex.specs.MutexProfiles.{mutex_profile, owner, inside, again, carrying}
+pub use Rattle.steps_base.specs.Profiles.{Hand, Of, hand, hand_owner, in_hand}
+use Rattle.spec_locks.specs.Sites.{Has, Deed, Begin}
 
 abbrev pub mutex_station : MutexPlace → Station
 mutex_station at = station_by (mutex_row at)

@@ -1,15 +1,15 @@
 -- The promises of every state, in the words of a mutex.
 use Rattle.std.specs.Prelude.{ℕ, true, false, Option, None, Some, ◌≡◌, ◌≢◌, ◌+◌, ◌*◌, ◌⊎◌, ◌↔◌}
-use Rattle.lot_base.specs.declared.keys.Keys.TheVariants.{One}
-use Rattle.lot_base.specs.declared.wants.Want.TheVariants.{Exclusive}
-use Rattle.lot_acts.specs.declared.acts.Act.TheVariants.{Enter, Sleep}
-use Rattle.lot_calls.specs.declared.outcomes.Outcome.{Outcome}
-use Rattle.lot_calls.specs.declared.outcomes.Outcome.TheVariants as told
-use Rattle.lot_mutex.specs.MutexSteps.{is_parked}
+use Rattle.core_base.specs.declared.keys.Keys.TheVariants.{One}
+use Rattle.core_base.specs.declared.wants.Want.TheVariants.{Exclusive}
+use Rattle.steps_base.specs.declared.acts.Act.TheVariants.{Enter, Sleep}
+use Rattle.spec_locks.specs.declared.outcomes.Outcome.{Outcome}
+use Rattle.spec_locks.specs.declared.outcomes.Outcome.TheVariants as told
+use Rattle.steps_mutex.specs.MutexSteps.{is_parked}
 use Rattle.lot_steps.specs.Steps.{act_of, owes_on}
-use Rattle.abstract_locks.specs.Locks.{one_if_some, standing}
-use Rattle.abstract_locks.specs.Purposes.{Notifies, Purpose, Recall, Releases, Waits}
-use Rattle.abstract_locks.specs.Sites.{Main}
+use Rattle.spec_locks.specs.Locks.{one_if_some, standing}
+use Rattle.spec_locks.specs.Purposes.{Notifies, Purpose, Recall, Releases, Waits}
+use Rattle.spec_locks.specs.Sites.{Main}
 use Rattle.lot_machine.specs.Machine.{State, place_at, word_at, kind_at}
 use Rattle.lot_laws.specs.Refinement.{owner_at, lock_state, call_at}
 use Rattle.lot_laws.specs.SitesOf.{is_mutex}

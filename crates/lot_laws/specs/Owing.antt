@@ -1,20 +1,20 @@
 -- A thread owes a wake on a line by its history: from the step that saw waiters, or from entering the
 -- section, until the section is left.
-use Rattle.lot_acts.specs.Rows.{IsDowngrade}
+use Rattle.steps_base.specs.Rows.{IsDowngrade}
 use Rattle.std.specs.Prelude.{ℕ, Bool, true, false, if◌then◌else◌, ◌==◌, ◌&&◌, ◌||◌, Option, Some, ◌≡◌, ◌≢◌, ◌⊎◌, ◌↔◌}
-use Rattle.lot_base.specs.declared.wants.Want.TheVariants.{Exclusive, Shared}
-use Rattle.lot_calls.specs.declared.outcomes.Outcome.{Outcome}
-use Rattle.lot_calls.specs.declared.outcomes.Outcome.TheVariants as told
-use Rattle.lot_base.specs.declared.keys.Keys.TheVariants.{One}
-use Rattle.lot_acts.specs.declared.acts.Act.TheVariants.{Enter}
+use Rattle.core_base.specs.declared.wants.Want.TheVariants.{Exclusive, Shared}
+use Rattle.spec_locks.specs.declared.outcomes.Outcome.{Outcome}
+use Rattle.spec_locks.specs.declared.outcomes.Outcome.TheVariants as told
+use Rattle.core_base.specs.declared.keys.Keys.TheVariants.{One}
+use Rattle.steps_base.specs.declared.acts.Act.TheVariants.{Enter}
 use Rattle.lot_steps.specs.Steps.{act_of, line_owed}
 use Rattle.lot_machine.specs.Machine.{State, place_at, word_at, section_at}
 use Rattle.lot_laws.specs.Refinement.{call_at}
 use Rattle.lot_laws.specs.SitesOf.{rules_in, key_of}
-use Rattle.abstract_locks.specs.Codes.{parked_in, aside_in, count_in}
-use Rattle.abstract_locks.specs.Locks.{Sort}
-use Rattle.abstract_locks.specs.Sites.{Line, Main, Second, has_readers}
-use Rattle.abstract_locks.specs.Purposes.{Purpose, Releases, Bumps, Waits, IsReleasing}
+use Rattle.spec_locks.specs.Codes.{parked_in, aside_in, count_in}
+use Rattle.spec_locks.specs.Locks.{Sort}
+use Rattle.spec_locks.specs.Sites.{Line, Main, Second, has_readers}
+use Rattle.spec_locks.specs.Purposes.{Purpose, Releases, Bumps, Waits, IsReleasing}
 
 abbrev pub sort_at : State → ℕ → Sort
 sort_at w l = (rules_in w l).sort

@@ -1,20 +1,20 @@
 -- The abstract locks that a world's words, places and queues stand for.
 use Rattle.std.specs.Prelude.{ℕ, Bool, true, false, Option, Some, None, if◌then◌else◌, ◌&&◌, not, ◌+◌, ◌*◌, ◌≡◌, ◌≢◌, ◌⊎◌, length, is_some}
 use Rattle.lot_steps.specs.declared.places.Place.{Place}
-use Rattle.lot_acts.specs.Profiles.{Profile, bringing_nobody, taken_from}
-pub use Rattle.lot_acts.specs.Calls.{call_by, call_of_two}
-pub use Rattle.lot_acts.specs.Owners.{lock_seen}
-use Rattle.lot_mutex.specs.declared.places.MutexPlace.{MutexPlace}
-use Rattle.lot_acts.specs.declared.acts.Act.{Act}
-use Rattle.lot_acts.specs.declared.acts.Act.TheVariants.{Enter, Sleep}
-use Rattle.lot_base.specs.declared.keys.Keys.{Keys}
+use Rattle.steps_base.specs.Profiles.{Profile, bringing_nobody, taken_from}
+pub use Rattle.steps_base.specs.Calls.{call_by, call_of_two}
+pub use Rattle.steps_base.specs.Owners.{lock_seen}
+use Rattle.steps_mutex.specs.declared.places.MutexPlace.{MutexPlace}
+use Rattle.steps_base.specs.declared.acts.Act.{Act}
+use Rattle.steps_base.specs.declared.acts.Act.TheVariants.{Enter, Sleep}
+use Rattle.core_base.specs.declared.keys.Keys.{Keys}
 use Rattle.lot_steps.specs.Steps.{act_of, beside_of, looking, lock_of, calls, is_lock, profile, profile_beside}
-pub use Rattle.lot_mutex.specs.MutexProfiles.{mutex_profile, is_bump, entry_purpose, release_purpose, before_entry, before_release}
+pub use Rattle.steps_mutex.specs.MutexProfiles.{mutex_profile, is_bump, entry_purpose, release_purpose, before_entry, before_release}
 pub use Rattle.lot_machine.specs.Machine.{runs_closure}
 use Rattle.lot_machine.specs.Machine.{State, place_at, word_at, owners_at, shares_at, kind_at, queue_at, section_at}
-use Rattle.abstract_locks.specs.Locks.{LockState, Taken, Rights}
-use Rattle.abstract_locks.specs.Runs.{LocksState, CallState, Stance, no_call}
-use Rattle.abstract_locks.specs.Locks as locks
+use Rattle.spec_locks.specs.Locks.{LockState, Taken, Rights}
+use Rattle.spec_locks.specs.Runs.{LocksState, CallState, Stance, no_call}
+use Rattle.spec_locks.specs.Locks as locks
 
 -- ---------------------------------------------------------------- one lock
 

@@ -1,35 +1,35 @@
 -- The locks of a world, with what each thread does about each.
 use Rattle.std.specs.Prelude.{ℕ, Bool, true, false, Option, Some, None, ◌≡◌, ◌≢◌, ◌<◌, ◌≤◌, ◌-◌, ◌^◌, ◌↔◌, List, [], ◌∷◌, length}
-use Rattle.lot_base.specs.declared.wants.Waiter.{Waiter}
-pub use Rattle.lot_base.specs.Keys.{key_of}
-use Rattle.lot_base.specs.Lines.{times}
+use Rattle.core_base.specs.declared.wants.Waiter.{Waiter}
+pub use Rattle.core_base.specs.Keys.{key_of}
+use Rattle.core_base.specs.Lines.{times}
 use Rattle.lot_steps.specs.declared.places.Place.{Place}
 use Rattle.lot_steps.specs.declared.places.Place.TheVariants.{Idle, Mutex as OfMutex, RwLock as OfRwLock, Once as OfOnce, Condvar as OfCondvar, Semaphore as OfSemaphore}
-use Rattle.lot_base.specs.declared.wants.Want.{Want}
-use Rattle.abstract_locks.specs.Locks.{Rules, Mutex as OneOwner, Once as OnceSort, Condvar as CondvarSort, Semaphore as SemaphoreSort}
-use Rattle.abstract_locks.specs.Sites.{Line, Main, Second, Site, IsSite, has_readers, after_deed, Needed}
-use Rattle.abstract_locks.specs.Codes.{code, parked_in, aside_in, HasLimit}
-use Rattle.abstract_locks.specs.Permits.{HasPermits}
-use Rattle.abstract_locks.specs.Purposes.{rules_of}
+use Rattle.core_base.specs.declared.wants.Want.{Want}
+use Rattle.spec_locks.specs.Locks.{Rules, Mutex as OneOwner, Once as OnceSort, Condvar as CondvarSort, Semaphore as SemaphoreSort}
+use Rattle.spec_locks.specs.Sites.{Line, Main, Second, Site, IsSite, has_readers, after_deed, Needed}
+use Rattle.spec_locks.specs.Codes.{code, parked_in, aside_in, HasLimit}
+use Rattle.spec_locks.specs.Permits.{HasPermits}
+use Rattle.spec_locks.specs.Purposes.{rules_of}
 use Rattle.lot_machine.specs.Machine.{State, held, place_at, word_at, shares_at, sharers, successor_from, want_of_successor, wants_more_in_hand, filled_at, kind_at, queue_at, section_at}
 use Rattle.lot_machine.specs.Fits.{IsShaped}
 use Rattle.lot_laws.specs.Refinement.{RunsClosure, lock_state}
-use Rattle.abstract_locks.specs.Onces.{InProgress}
-use Rattle.abstract_locks.specs.Condvars.{CondvarSite, Inside, IsCondvar, Rests, Stage}
+use Rattle.spec_locks.specs.Onces.{InProgress}
+use Rattle.spec_locks.specs.Condvars.{CondvarSite, Inside, IsCondvar, Rests, Stage}
 use Rattle.lot_steps.specs.Steps.{profile_at}
-use Rattle.lot_calls.specs.declared.kinds.Kind.{Kind}
-use Rattle.lot_calls.specs.declared.kinds.Kind as kind
-use Rattle.lot_calls.specs.Kinds.{is_plain_mutex}
-use Rattle.lot_rwlock.specs.declared.places.Admission.{Admission}
-use Rattle.lot_rwlock.specs.RwLockDeeds.{Admits}
-use Rattle.lot_rwlock_fair.specs.declared.places.RwLockCallPlace.{RwLockCallPlace}
-use Rattle.lot_rwlock_fair.specs.declared.hand_over.Taken.{Taken as Counted}
-use Rattle.lot_rwlock_fair.specs.FairCalls.{CallStands, in_hand_of}
-use Rattle.lot_condvar.specs.declared.places.CondvarPlace.{CondvarPlace}
-use Rattle.lot_condvar.specs.CondvarSteps.{mutex_beside}
-use Rattle.lot_condvar.specs.CondvarCalls.{IsReached}
-use Rattle.lot_semaphore.specs.declared.places.SemaphorePlace.{SemaphorePlace}
-use Rattle.lot_semaphore.specs.SemaphoreProfiles.{semaphore_profile}
+use Rattle.spec_locks.specs.declared.kinds.Kind.{Kind}
+use Rattle.spec_locks.specs.declared.kinds.Kind as kind
+use Rattle.spec_locks.specs.Kinds.{is_plain_mutex}
+use Rattle.steps_rwlock.specs.declared.places.Admission.{Admission}
+use Rattle.steps_rwlock.specs.RwLockDeeds.{Admits}
+use Rattle.steps_rwlock_fair.specs.declared.places.RwLockCallPlace.{RwLockCallPlace}
+use Rattle.steps_rwlock_fair.specs.declared.hand_over.Taken.{Taken as Counted}
+use Rattle.steps_rwlock_fair.specs.FairCalls.{CallStands, in_hand_of}
+use Rattle.steps_condvar.specs.declared.places.CondvarPlace.{CondvarPlace}
+use Rattle.steps_condvar.specs.CondvarSteps.{mutex_beside}
+use Rattle.steps_condvar.specs.CondvarCalls.{IsReached}
+use Rattle.steps_semaphore.specs.declared.places.SemaphorePlace.{SemaphorePlace}
+use Rattle.steps_semaphore.specs.SemaphoreProfiles.{semaphore_profile}
 use Rattle.lot_laws.specs.MutexDeeds.{Act}
 use Rattle.lot_laws.specs.Stations.{Hand, Station, hand, station_at, doing_on}
 

@@ -1,27 +1,27 @@
 -- A call whose thread steps alone, and to what it comes.
 use Rattle.std.specs.Prelude.{ℕ, Bool, true, false, if◌then◌else◌, List, Option, Some, None, ◌≡◌, ◌≢◌, ◌≤◌, ◌⊎◌, ◌++◌, ◌∷◌, [], length, replicate}
-use Rattle.lot_base.specs.declared.keys.Keys.TheVariants.{One, Two}
-use Rattle.lot_base.specs.declared.wants.Want.{Want}
-use Rattle.lot_base.specs.declared.wants.Want.TheVariants.{Exclusive, Shared, CallOnce, Wait}
-use Rattle.lot_acts.specs.declared.acts.Act.{Act}
-use Rattle.lot_acts.specs.declared.acts.Act.TheVariants.{Enter, Sleep}
-use Rattle.lot_calls.specs.declared.outcomes.Answer.{Answer}
-use Rattle.lot_calls.specs.declared.outcomes.Answer as answer
-use Rattle.lot_calls.specs.declared.outcomes.Outcome.{Outcome}
-use Rattle.lot_calls.specs.declared.outcomes.Outcome as outcome
-use Rattle.lot_calls.specs.declared.outcomes.OnceState.{OnceState}
-use Rattle.lot_calls.specs.declared.outcomes.OnceState as once_state
-use Rattle.lot_condvar.specs.declared.places.CondvarPlace.TheVariants.{Look}
+use Rattle.core_base.specs.declared.keys.Keys.TheVariants.{One, Two}
+use Rattle.core_base.specs.declared.wants.Want.{Want}
+use Rattle.core_base.specs.declared.wants.Want.TheVariants.{Exclusive, Shared, CallOnce, Wait}
+use Rattle.steps_base.specs.declared.acts.Act.{Act}
+use Rattle.steps_base.specs.declared.acts.Act.TheVariants.{Enter, Sleep}
+use Rattle.spec_locks.specs.declared.outcomes.Answer.{Answer}
+use Rattle.spec_locks.specs.declared.outcomes.Answer as answer
+use Rattle.spec_locks.specs.declared.outcomes.Outcome.{Outcome}
+use Rattle.spec_locks.specs.declared.outcomes.Outcome as outcome
+use Rattle.spec_locks.specs.declared.outcomes.OnceState.{OnceState}
+use Rattle.spec_locks.specs.declared.outcomes.OnceState as once_state
+use Rattle.steps_condvar.specs.declared.places.CondvarPlace.TheVariants.{Look}
 use Rattle.lot_steps.specs.declared.places.Place.{Place}
 use Rattle.lot_steps.specs.declared.places.Place.TheVariants.{Idle, Condvar}
 use Rattle.lot_steps.specs.Steps.{act_of, beside_of, lock_of}
 use Rattle.lot_machine.specs.Machine.{State, place_at, word_at, kind_at, section_at, go_of, after_steps, runs_closure}
-use Rattle.abstract_locks.specs.Locks.{Sort, Mutex, Recursive, Rules, LockState, first_thread, Queued, MayEnter, IsBlocked, Owns, count, readers, with_right}
-use Rattle.abstract_locks.specs.Sites.{Line, Main, Second, has_readers}
-use Rattle.abstract_locks.specs.Purposes.{rules_of, Purpose, Enters, Releases, Converts, Bumps, CallsOnce, Awaits, Patience, Patient, Try, Waits, Notifies}
-use Rattle.abstract_locks.specs.Codes.{has_parked}
-use Rattle.abstract_locks.specs.Onces.{Phase, New, Poisoned, InProgress, Done}
-use Rattle.abstract_locks.specs.Runs.{LocksState, IsFull, IsRun, rules_at, rights_in, ShowsOther}
+use Rattle.spec_locks.specs.Locks.{Sort, Mutex, Recursive, Rules, LockState, first_thread, Queued, MayEnter, IsBlocked, Owns, count, readers, with_right}
+use Rattle.spec_locks.specs.Sites.{Line, Main, Second, has_readers}
+use Rattle.spec_locks.specs.Purposes.{rules_of, Purpose, Enters, Releases, Converts, Bumps, CallsOnce, Awaits, Patience, Patient, Try, Waits, Notifies}
+use Rattle.spec_locks.specs.Codes.{has_parked}
+use Rattle.spec_locks.specs.Onces.{Phase, New, Poisoned, InProgress, Done}
+use Rattle.spec_locks.specs.Runs.{LocksState, IsFull, IsRun, rules_at, rights_in, ShowsOther}
 use Rattle.lot_laws.specs.SitesOf.{key_of}
 use Rattle.lot_laws.specs.Refinement.{lock_state, locks_of}
 use Rattle.lot_laws.specs.WorldRuns.{IsWorldRun}

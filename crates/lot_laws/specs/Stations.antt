@@ -2,9 +2,9 @@
 use Rattle.std.specs.Prelude.{ℕ, if◌then◌else◌}
 use Rattle.lot_steps.specs.declared.places.Place.{Place}
 use Rattle.lot_steps.specs.Steps.{beside_of, calls, is_lock, profile, profile_beside}
-pub use Rattle.lot_acts.specs.Profiles.{Hand, Of, hand, hand_owner, in_hand}
-pub use Rattle.lot_acts.specs.Stations.{Station, station_by, nowhere}
-use Rattle.abstract_locks.specs.Sites.{Doing, idle}
+pub use Rattle.steps_base.specs.Profiles.{Hand, Of, hand, hand_owner, in_hand}
+pub use Rattle.steps_base.specs.Stations.{Station, station_by, nowhere}
+use Rattle.spec_locks.specs.Sites.{Doing, idle}
 
 -- what it does about the lock l
 abbrev pub doing_on : Place → ℕ → Doing

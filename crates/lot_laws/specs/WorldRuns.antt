@@ -1,20 +1,20 @@
 -- A run of the world: it leads by its steps from one state to another, and of each step all holds
 -- that is promised of steps.
 use Rattle.std.specs.Prelude.{ℕ, Bool, true, false, ◌==◌, ◌≡◌, ◌≢◌, ◌⊎◌, ◌++◌, Some, List, [], ◌∷◌, is_none}
-use Rattle.lot_calls.specs.declared.calls.Access.TheVariants.{Exclusive}
-use Rattle.lot_calls.specs.declared.calls.Call as call
-use Rattle.lot_calls.specs.declared.calls.MutexCall.TheVariants as mutex_call
-use Rattle.lot_calls.specs.declared.calls.Patience.TheVariants.{Try}
-use Rattle.lot_calls.specs.declared.calls.RwLockCall.TheVariants as rwlock_call
-use Rattle.lot_calls.specs.declared.calls.Turn.{Turn}
-use Rattle.lot_calls.specs.declared.calls.Turn as turn
-use Rattle.lot_calls.specs.declared.calls.Step.{Step}
-use Rattle.lot_calls.specs.declared.outcomes.Answer as answer
-use Rattle.lot_calls.specs.declared.outcomes.Outcome.{Outcome}
-use Rattle.lot_calls.specs.declared.outcomes.Outcome as outcome
-use Rattle.abstract_locks.specs.Runs.{IsStep}
-use Rattle.abstract_locks.specs.Headline.{full_by}
-use Rattle.lot_acts.specs.declared.acts.Act.TheVariants.{Sleep}
+use Rattle.spec_locks.specs.declared.calls.Access.TheVariants.{Exclusive}
+use Rattle.spec_locks.specs.declared.calls.Call as call
+use Rattle.spec_locks.specs.declared.calls.MutexCall.TheVariants as mutex_call
+use Rattle.spec_locks.specs.declared.calls.Patience.TheVariants.{Try}
+use Rattle.spec_locks.specs.declared.calls.RwLockCall.TheVariants as rwlock_call
+use Rattle.spec_locks.specs.declared.calls.Turn.{Turn}
+use Rattle.spec_locks.specs.declared.calls.Turn as turn
+use Rattle.spec_locks.specs.declared.calls.Step.{Step}
+use Rattle.spec_locks.specs.declared.outcomes.Answer as answer
+use Rattle.spec_locks.specs.declared.outcomes.Outcome.{Outcome}
+use Rattle.spec_locks.specs.declared.outcomes.Outcome as outcome
+use Rattle.spec_locks.specs.Runs.{IsStep}
+use Rattle.spec_locks.specs.Headline.{full_by}
+use Rattle.steps_base.specs.declared.acts.Act.TheVariants.{Sleep}
 use Rattle.lot_steps.specs.Steps.{act_of, first_place, taker}
 use Rattle.lot_machine.specs.Machine.{State, place_at, kind_at, word_at, queue_at, filled_at}
 use Rattle.lot_laws.specs.Refinement.{locks_of, lock_state, ChangesOneThing}

@@ -1,67 +1,17 @@
 -- Which threads have debts on a lock, by the links of a book.
-use Rattle.std.proofs.Common.{◌≡◌, ◌∙◌, ℕ, suc, zero, ◌+◌, ◌-◌, ◌<◌, ◌≤◌, Bool, true, false, inl, inr, Some, None, List, [], ◌∷◌, ◌++◌, length, get_or, set, drop, refl, sym, ap, subst, replicate, get_or-set_same, get_or-set_other, length-set, ne_eqb, arith}
+use Rattle.std.proofs.Common.{◌≡◌, ◌∙◌, ℕ, suc, zero, ◌+◌, ◌-◌, ◌<◌, ◌≤◌, true, false, inl, inr, Some, None, List, [], ◌∷◌, ◌++◌, length, get_or, set, drop, refl, sym, ap, subst, replicate, get_or-set_same, get_or-set_other, length-set, ne_eqb, arith}
 use Rattle.std.proofs.lemmas.Bool.{cases_eq, cases_lt}
 use Rattle.std.proofs.lemmas.List.{drop_more, get_or-drop, get_or_past, get_or-replicate, length-replicate}
 use Rattle.std.proofs.Math.Seq.{drop-nil}
 use Rattle.std.specs.Prelude.{◌&&◌}
 use Rattle.lot_steps.specs.declared.places.Place.{Place}
-use Rattle.lot_steps.specs.declared.places.Place.TheVariants.{Idle, Mutex, RwLock, Once, Semaphore}
-use Rattle.lot_mutex.specs.declared.places.MutexPlace.{MutexPlace}
-use Rattle.lot_once.specs.declared.places.OncePlace.{OncePlace}
-use Rattle.lot_semaphore.specs.declared.places.SemaphorePlace.{SemaphorePlace}
-use Rattle.lot_rwlock.specs.declared.places.Admission.{Admission}
-use Rattle.lot_rwlock_fair.specs.declared.places.RwLockCallPlace.{RwLockCallPlace}
+use Rattle.lot_steps.specs.declared.places.Place.TheVariants.{Idle}
 use Rattle.lot_machine.specs.declared.debts.Debt.{Debt}
 use Rattle.lot_machine.specs.declared.debts.Link.{Link}
-use Rattle.lot_machine.specs.declared.debts.Tag.{Tag}
-use Rattle.lot_machine.specs.declared.debts.Tag.TheVariants.{Nowhere, On, Anywhere}
+use Rattle.lot_machine.specs.declared.debts.Tag.TheVariants.{Nowhere, On}
 use Rattle.lot_machine.specs.declared.debts.Debt.TheVariants.{Owes, Retries}
-use Rattle.lot_machine.specs.Debts.{AreLinked, AreLinkedFrom, HasDebtsOnlyOn, Skips, Tells, place_of, unlinked}
+use Rattle.lot_machine.specs.Debts.{AreLinked, AreLinkedFrom, Skips, Tells, place_of, unlinked}
 use Rattle.lot_machine.specs.Views.{debtors, has_debt}
-
-and_false : (b : Bool) → (b && false) ≡ false
-and_false true = refl
-and_false false = refl
-
--- a place outside a condition variable has no debts but on the lock that it calls
-pub only_mutex : (own : ℕ) (at : MutexPlace) → HasDebtsOnlyOn own (Mutex own at)
-only_mutex own at Owes l e = rw e refl
-only_mutex own at Retries l e = rw e (and_false _)
-
-pub only_rwlock : (own : ℕ) (a : Admission) (at : RwLockCallPlace) → HasDebtsOnlyOn own (RwLock own a at)
-only_rwlock own a at Owes l e = rw e refl
-only_rwlock own a at Retries l e = rw e (and_false _)
-
-pub only_once : (own : ℕ) (at : OncePlace) → HasDebtsOnlyOn own (Once own at)
-only_once own at Owes l e = rw e refl
-only_once own at Retries l e = rw e (and_false _)
-
-pub only_semaphore : (own : ℕ) (at : SemaphorePlace) → HasDebtsOnlyOn own (Semaphore own at)
-only_semaphore own at Owes l e = rw e refl
-only_semaphore own at Retries l e = rw e (and_false _)
-
-pub tells_idle : (tag : Tag) → Tells tag Idle
-tells_idle tag Owes l e = refl
-tells_idle tag Retries l e = refl
-
--- a tag that leaves out no lock
-pub tells_anywhere : (p : Place) → Tells Anywhere p
-tells_anywhere p debt l e = absurd cc
-
--- the tag of the one lock with debts
-pub tells_lock : (own : ℕ) (p : Place) → HasDebtsOnlyOn own p → Tells (On own) p
-tells_lock own p only = only
-
--- no debts at all
-pub tells_nowhere : (own : ℕ) (p : Place) → HasDebtsOnlyOn own p → has_debt p Owes own ≡ false → has_debt p Retries own ≡ false → Tells Nowhere p
-tells_nowhere own p only owes retries debt l e = elim (cases_eq own l) [
-  | inl same ↦ subst (λ x. has_debt p debt x ≡ false) same (none debt)
-  | inr ne ↦ only debt l (ne_eqb own l ne)
-]
-  where
-    none : (debt : Debt) → has_debt p debt own ≡ false
-    none Owes = owes
-    none Retries = retries
 
 -- ---------------------------------------------------------------- what is skipped
 
@@ -157,10 +107,6 @@ module _ (links : List Link) (first : List ℕ) (places : List Place) (t : ℕ) 
     begins = λ l lt. goes_before l lt (λ debt. tells debt l (ne_eqb own l (λ same. omega (arith, same, past, lt))));
     linked = f.linked;
   }
-
-  -- a thread that may have debts on any lock begins all chains
-  pub links_anywhere : AreLinkedFrom links (replicate 256 t) places t
-  links_anywhere = begins_at links places t f.sizes.0 (omega (arith, there)) f.linked
 
   -- a thread that may have debts on one lock stands before those of its chain
   module _ (own : ℕ) (lt : own < 256) (tells : Tells (On own) (place_of places t)) where

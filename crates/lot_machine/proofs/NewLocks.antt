@@ -3,9 +3,9 @@ use Rattle.std.proofs.Common.{ℕ, true, false, ◌&&◌, ◌≡◌, ◌*◌, �
 use Rattle.std.proofs.lemmas.Bool.{leb-true}
 use Rattle.std.proofs.lemmas.Bool.Decides.{nat_tests}
 use Rattle.std.proofs.Math.Nat.{mod-eq_of_lt}
-use Rattle.lot_calls.specs.declared.kinds.Kind.TheVariants.{Mutex, Fair, RwLock, Recursive, Condvar, Once, Semaphore}
-use Rattle.lot_calls.specs.declared.kinds.TheConstants.{MOST_PERMITS}
-use Rattle.abstract_locks.specs.Codes.{bit, has_parked}
+use Rattle.spec_locks.specs.declared.kinds.Kind.TheVariants.{Mutex, Fair, RwLock, Recursive, Condvar, Once, Semaphore}
+use Rattle.spec_locks.specs.declared.kinds.TheConstants.{MOST_PERMITS}
+use Rattle.spec_locks.specs.Codes.{bit, has_parked}
 use Rattle.lot_machine.specs.Machine.{first_word}
 use Rattle.lot_machine.specs.NewLocks.{NewWordsAreTrue}
 use Rattle.lot_machine.proofs.Opening.{no_readers}

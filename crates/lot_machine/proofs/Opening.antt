@@ -1,9 +1,9 @@
 -- The opening state.
 use Rattle.std.proofs.Common.{◌≡◌, ℕ, zero, suc, ◌*◌, Option, None, List, [], length, get_or, replicate, sum, refl, sym, ◌∙◌, ap, ◌∷◌, map}
 use Rattle.std.proofs.lemmas.List.{length-replicate}
-use Rattle.lot_calls.specs.declared.kinds.Kind.{Kind}
-use Rattle.lot_calls.specs.declared.kinds.Kind as kind
-use Rattle.lot_base.specs.declared.wants.Waiter.{Waiter}
+use Rattle.spec_locks.specs.declared.kinds.Kind.{Kind}
+use Rattle.spec_locks.specs.declared.kinds.Kind as kind
+use Rattle.core_base.specs.declared.wants.Waiter.{Waiter}
 use Rattle.lot_steps.specs.declared.places.Place.TheVariants.{Idle}
 use Rattle.lot_machine.specs.Machine.{State, unlocked, opening, nobody, shares_at}
 

@@ -2,22 +2,22 @@
 use Rattle.std.proofs.Common.{ℕ, zero, suc, Bool, true, false, Option, ◌≡◌, ◌≢◌, ◌+◌, ◌<◌, List, [], ◌∷◌, ◌++◌, length, refl, sym, ap, subst, ◌∙◌, arith, drop, append-nil}
 use Rattle.std.specs.Prelude.{map, replicate, slice_set, slice_index_or}
 use Rattle.std.proofs.lemmas.Bool.Decides.{nat_tests, Decides-eqb}
-use Rattle.lot_base.specs.declared.wants.Waiter.{Waiter}
-use Rattle.lot_base.specs.declared.wants.Want.{Want}
-use Rattle.lot_base.specs.declared.lock_picker.LockPicker.{LockPicker}
-use Rattle.lot_base.specs.declared.requeues.Requeue.{Requeue}
-use Rattle.lot_base.specs.declared.requeues.Requeue as requeue
-use Rattle.lot_base.specs.Lines.{line, lines, threads_of, waiter, without, without_first, without_key}
-use Rattle.lot_base.specs.Picks.{without_picked, without_lock_picked, lock_picker, lock_answer, next_picker}
-use Rattle.lot_base.specs.Requeues.{moved_by, left_by, requeued}
-use Rattle.abstract_locks.specs.Locks.{Normal, Recursive}
-use Rattle.abstract_locks.proofs.Picks.{pickers_pick}
+use Rattle.core_base.specs.declared.wants.Waiter.{Waiter}
+use Rattle.core_base.specs.declared.wants.Want.{Want}
+use Rattle.core_base.specs.declared.lock_picker.LockPicker.{LockPicker}
+use Rattle.core_base.specs.declared.requeues.Requeue.{Requeue}
+use Rattle.core_base.specs.declared.requeues.Requeue as requeue
+use Rattle.core_base.specs.Lines.{line, lines, threads_of, waiter, without, without_first, without_key}
+use Rattle.core_base.specs.Picks.{without_picked, without_lock_picked, lock_picker, lock_answer, next_picker}
+use Rattle.core_base.specs.Requeues.{moved_by, left_by, requeued}
+use Rattle.spec_locks.specs.Locks.{Normal, Recursive}
+use Rattle.spec_locks.proofs.Picks.{pickers_pick}
 use Rattle.std.specs.Prelude.{◌==◌}
 use Rattle.std.proofs.lemmas.List.Elements.{filter_passes}
 use Rattle.std.proofs.lemmas.List.{length-map, length-append}
 use Rattle.lot_machine.specs.Views.{StandUnder}
 use Rattle.std.proofs.Common.{length-set}
-use Rattle.lot_acts.specs.declared.acts.Reply.{Reply}
+use Rattle.steps_base.specs.declared.acts.Reply.{Reply}
 use Rattle.lot_steps.specs.declared.places.Place.{Place}
 use Rattle.lot_machine.specs.Machine.{places_told, lines_from, queues_with_last, queues_without_first, queues_without, left_behind, moved_under, queues_requeued}
 

@@ -5,74 +5,74 @@ use Rattle.std.proofs.lemmas.List.{length-replicate}
 use Rattle.std.proofs.lemmas.Bool.{ltb-true}
 use Rattle.std.proofs.lemmas.List.{length-map}
 use Rattle.std.proofs.Math.ListN.{get_or-map}
-use Rattle.lot_base.specs.declared.keys.Keys.{Keys}
-use Rattle.lot_base.specs.declared.keys.Keys.TheVariants.{One, Two}
-use Rattle.lot_base.specs.declared.ops.Op.{Op}
-use Rattle.lot_base.specs.declared.wants.Waiter.{Waiter}
-use Rattle.lot_base.specs.declared.wants.Want.{Want}
-use Rattle.lot_base.specs.Lines.{waiter, without, first_of}
-use Rattle.lot_acts.specs.declared.acts.Act.{Act}
-use Rattle.lot_acts.specs.declared.acts.Act.TheVariants.{Word, HandOver, Enter, Park, Stand, Take, Remove, Leave}
-use Rattle.lot_acts.specs.declared.acts.Act.TheVariants as act
-use Rattle.lot_acts.specs.declared.acts.Check.{Check}
-use Rattle.lot_acts.specs.declared.acts.Wakes.{Wakes}
-use Rattle.lot_acts.specs.declared.acts.Wakes as wakes
-use Rattle.lot_acts.specs.declared.acts.Reply.{Reply}
-use Rattle.lot_acts.specs.declared.acts.Reply.TheVariants.{Value, TakenBy, MovedTo, HandedBy, Late, Woken, Closed}
-use Rattle.lot_acts.specs.declared.acts.Next.{Next}
-use Rattle.lot_acts.specs.declared.acts.Next as next
-use Rattle.lot_calls.specs.declared.calls.Call.{Call}
-use Rattle.lot_calls.specs.declared.kinds.Kind.{Kind}
-use Rattle.lot_calls.specs.declared.kinds.Kind.TheVariants as kind
-use Rattle.lot_calls.specs.Kinds.{is_condvar}
-use Rattle.lot_calls.specs.declared.calls.Turn.{Turn}
-use Rattle.lot_calls.specs.declared.calls.Turn as turn
-use Rattle.lot_calls.specs.declared.calls.Step.{Step}
+use Rattle.core_base.specs.declared.keys.Keys.{Keys}
+use Rattle.core_base.specs.declared.keys.Keys.TheVariants.{One, Two}
+use Rattle.core_base.specs.declared.ops.Op.{Op}
+use Rattle.core_base.specs.declared.wants.Waiter.{Waiter}
+use Rattle.core_base.specs.declared.wants.Want.{Want}
+use Rattle.core_base.specs.Lines.{waiter, without, first_of}
+use Rattle.steps_base.specs.declared.acts.Act.{Act}
+use Rattle.steps_base.specs.declared.acts.Act.TheVariants.{Word, HandOver, Enter, Park, Stand, Take, Remove, Leave}
+use Rattle.steps_base.specs.declared.acts.Act.TheVariants as act
+use Rattle.steps_base.specs.declared.acts.Check.{Check}
+use Rattle.steps_base.specs.declared.acts.Wakes.{Wakes}
+use Rattle.steps_base.specs.declared.acts.Wakes as wakes
+use Rattle.steps_base.specs.declared.acts.Reply.{Reply}
+use Rattle.steps_base.specs.declared.acts.Reply.TheVariants.{Value, TakenBy, MovedTo, HandedBy, Late, Woken, Closed}
+use Rattle.steps_base.specs.declared.acts.Next.{Next}
+use Rattle.steps_base.specs.declared.acts.Next as next
+use Rattle.spec_locks.specs.declared.calls.Call.{Call}
+use Rattle.spec_locks.specs.declared.kinds.Kind.{Kind}
+use Rattle.spec_locks.specs.declared.kinds.Kind.TheVariants as kind
+use Rattle.spec_locks.specs.Kinds.{is_condvar}
+use Rattle.spec_locks.specs.declared.calls.Turn.{Turn}
+use Rattle.spec_locks.specs.declared.calls.Turn as turn
+use Rattle.spec_locks.specs.declared.calls.Step.{Step}
 use Rattle.lot_steps.specs.declared.places.Place.{Place}
 use Rattle.lot_steps.specs.declared.places.Place.TheVariants.{Idle, Mutex, RwLock, Once, Condvar, Semaphore}
-use Rattle.lot_base.specs.declared.keys.Line.{Line}
-use Rattle.lot_base.specs.Keys.{key_of}
-use Rattle.lot_rwlock_fair.specs.declared.places.RwLockCallPlace.{RwLockCallPlace}
-use Rattle.lot_rwlock_fair.specs.FairSteps.{call_next}
-use Rattle.lot_rwlock_fair.specs.FairProfiles.{call_profile}
-use Rattle.lot_once.specs.declared.places.OncePlace.{OncePlace}
-use Rattle.lot_once.specs.OnceSteps.{once_next}
-use Rattle.lot_once.specs.OnceProfiles.{once_profile}
-use Rattle.lot_semaphore.specs.declared.places.SemaphorePlace.{SemaphorePlace}
-use Rattle.lot_semaphore.specs.SemaphoreProfiles.{semaphore_profile}
-use Rattle.lot_semaphore.specs.SemaphoreSteps.{semaphore_next}
-use Rattle.lot_mutex.specs.declared.lock.Entry.{Entry}
-use Rattle.lot_mutex.specs.declared.places.MutexPlace.{MutexPlace}
-use Rattle.lot_mutex.specs.declared.places.MutexPlace.TheVariants.{Lock, TryLock, Unlock, UnlockFair, Bump, HandOff}
-use Rattle.lot_mutex.specs.declared.lock.LockAt.{LockAt}
-use Rattle.lot_acts.specs.Acts.{takes_effect, holds, outcome_of}
-use Rattle.lot_calls.specs.declared.outcomes.Outcome.{Outcome}
-use Rattle.lot_calls.specs.declared.outcomes.Outcome as outcome
+use Rattle.core_base.specs.declared.keys.Line.{Line}
+use Rattle.core_base.specs.Keys.{key_of}
+use Rattle.steps_rwlock_fair.specs.declared.places.RwLockCallPlace.{RwLockCallPlace}
+use Rattle.steps_rwlock_fair.specs.FairSteps.{call_next}
+use Rattle.steps_rwlock_fair.specs.FairProfiles.{call_profile}
+use Rattle.steps_once.specs.declared.places.OncePlace.{OncePlace}
+use Rattle.steps_once.specs.OnceSteps.{once_next}
+use Rattle.steps_once.specs.OnceProfiles.{once_profile}
+use Rattle.steps_semaphore.specs.declared.places.SemaphorePlace.{SemaphorePlace}
+use Rattle.steps_semaphore.specs.SemaphoreProfiles.{semaphore_profile}
+use Rattle.steps_semaphore.specs.SemaphoreSteps.{semaphore_next}
+use Rattle.steps_mutex.specs.declared.lock.Entry.{Entry}
+use Rattle.steps_mutex.specs.declared.places.MutexPlace.{MutexPlace}
+use Rattle.steps_mutex.specs.declared.places.MutexPlace.TheVariants.{Lock, TryLock, Unlock, UnlockFair, Bump, HandOff}
+use Rattle.steps_mutex.specs.declared.lock.LockAt.{LockAt}
+use Rattle.steps_base.specs.Acts.{takes_effect, holds, outcome_of}
+use Rattle.spec_locks.specs.declared.outcomes.Outcome.{Outcome}
+use Rattle.spec_locks.specs.declared.outcomes.Outcome as outcome
 use Rattle.lot_steps.specs.Steps.{next_act}
-use Rattle.lot_base.specs.declared.requeues.Requeue.{Requeue}
-use Rattle.lot_base.specs.declared.requeues.Requeue as requeue
-use Rattle.lot_base.specs.declared.lock_picker.LockPicker.{LockPicker}
-use Rattle.lot_base.specs.declared.picks.Pick.{Pick}
-use Rattle.lot_base.specs.declared.picks.Pick.TheVariants.{Unpark, Skip, Stop}
-use Rattle.lot_base.specs.Lines.{threads_of}
-use Rattle.lot_base.specs.Picks.{without_picked, without_lock_picked, lock_picked, lock_answer, next_picker, lock_picker}
-use Rattle.lot_base.specs.Requeues.{taken_by, moved_by}
+use Rattle.core_base.specs.declared.requeues.Requeue.{Requeue}
+use Rattle.core_base.specs.declared.requeues.Requeue as requeue
+use Rattle.core_base.specs.declared.lock_picker.LockPicker.{LockPicker}
+use Rattle.core_base.specs.declared.picks.Pick.{Pick}
+use Rattle.core_base.specs.declared.picks.Pick.TheVariants.{Unpark, Skip, Stop}
+use Rattle.core_base.specs.Lines.{threads_of}
+use Rattle.core_base.specs.Picks.{without_picked, without_lock_picked, lock_picked, lock_answer, next_picker, lock_picker}
+use Rattle.core_base.specs.Requeues.{taken_by, moved_by}
 use Rattle.lot_machine.proofs.QueueLemmas.{told_count}
-use Rattle.lot_mutex.specs.MutexSteps.{is_timed, mutex_next}
-use Rattle.lot_calls.specs.Calls.{lock_in}
-use Rattle.lot_acts.specs.Profiles.{in_line}
-use Rattle.abstract_locks.specs.Sites.{Main}
+use Rattle.steps_mutex.specs.MutexSteps.{is_timed, mutex_next}
+use Rattle.spec_locks.specs.Calls.{lock_in}
+use Rattle.steps_base.specs.Profiles.{in_line}
+use Rattle.spec_locks.specs.Sites.{Main}
 use Rattle.lot_steps.specs.Steps.{is_idle, first_place, act_of, next_place, mutex_goes, rwlock_goes, once_goes, looking, late_key, key_in, HasKeys, condvar_goes, semaphore_goes}
 use Rattle.lot_machine.specs.Machine.{first_word, state_after_hand_over_by, hand_over_told, State, unlocked, opening, kind_at, word_at, place_at, queue_at, put, state_after_operation, state_with_sections, queues_with_last, queues_without_first, queues_without, state_after_park, state_after_reply, place_after_telling, state_after_telling, state_after_hand_over, state_after_taking, state_after_wake, state_after_act, state_after_takes, state_after_take_first, state_after_requeue, queues_requeued, left_behind, moved_under, moved_threads, listed, places_told, state_after_going, going_outcome, closed_place, state_after_close, close_outcome, can_close, runs_closure, can_do, state_after_go, reply_to, state_after_begin, can_begin, is_open_to, state_after_spin, state_after_late, state_after_late_on, state_after_turn, can_turn, is_possible, after, state_after_look, look_outcome, spin_outcome, can_spin, can_go, go_outcome}
-use Rattle.lot_mutex.specs.declared.lock.LockAt as lock
-use Rattle.lot_acts.specs.declared.acts.Whom as whom
+use Rattle.steps_mutex.specs.declared.lock.LockAt as lock
+use Rattle.steps_base.specs.declared.acts.Whom as whom
 use Rattle.lot_machine.specs.Fits.{ActFits, AllBelow, IsOfItsKind, IsShaped, PlaceFits, SameSize, Shows}
-use Rattle.lot_condvar.specs.declared.notify.NotifyAt.{NotifyAt}
-use Rattle.lot_condvar.specs.declared.places.CondvarPlace.{CondvarPlace}
-use Rattle.lot_condvar.specs.declared.places.CondvarPlace.TheVariants.{Wait, Look, Notify}
-use Rattle.lot_condvar.specs.declared.wait.WaitAt.{WaitAt}
-use Rattle.lot_condvar.specs.declared.wait.WaitAt.TheVariants as wait
-use Rattle.lot_condvar.specs.CondvarSteps.{in_notify, in_wait, next_notify, next_wait}
+use Rattle.steps_condvar.specs.declared.notify.NotifyAt.{NotifyAt}
+use Rattle.steps_condvar.specs.declared.places.CondvarPlace.{CondvarPlace}
+use Rattle.steps_condvar.specs.declared.places.CondvarPlace.TheVariants.{Wait, Look, Notify}
+use Rattle.steps_condvar.specs.declared.wait.WaitAt.{WaitAt}
+use Rattle.steps_condvar.specs.declared.wait.WaitAt.TheVariants as wait
+use Rattle.steps_condvar.specs.CondvarSteps.{in_notify, in_wait, next_notify, next_wait}
 use Rattle.lot_machine.proofs.Acted.{Befalls, acted_keeps}
 use Rattle.lot_machine.proofs.Shown.{AreShown, Writes, performed_shown, writes}
 use Rattle.lot_machine.proofs.Suits.{ReplyFits, SeesFit, call_suits, next_suits}

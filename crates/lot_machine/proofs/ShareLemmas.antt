@@ -1,16 +1,7 @@
 -- Shared rights that are given one after another.
 use Rattle.std.proofs.Common.{ℕ, zero, suc, ◌≡◌, ◌<◌, ◌≤◌, ◌⊎◌, inl, inr, List, [], ◌∷◌, length, get_or, drop, refl, ap, arith}
 use Rattle.lot_steps.specs.declared.places.Place.{Place}
-use Rattle.lot_steps.specs.declared.places.Place.TheVariants.{Idle}
-use Rattle.lot_machine.specs.Machine.{held, shares_in_hand, with_share, shares_given}
-
--- the next of them
-pub given_next : (t i : ℕ) (ps : List Place) (ns : List ℕ) → i < length ps → i < length ns
-    → shares_given t (drop i ps) (drop i ns) ≡ with_share (shares_in_hand t (held (get_or ps i Idle))) (get_or ns i 0) ∷ shares_given t (drop (suc i) ps) (drop (suc i) ns)
-given_next t i [] ns h k = absurd (omega arith)
-given_next t i (p ∷ ps) [] h k = absurd (omega arith)
-given_next t zero (p ∷ ps) (n ∷ ns) h k = refl
-given_next t (suc i) (p ∷ ps) (n ∷ ns) h k = given_next t i ps ns (omega arith) (omega arith)
+use Rattle.lot_machine.specs.Machine.{shares_given}
 
 -- as many numbers as before
 pub given_count : (t : ℕ) (ps : List Place) (ns : List ℕ) → length (shares_given t ps ns) ≡ length ns

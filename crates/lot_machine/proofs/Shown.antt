@@ -1,31 +1,31 @@
 -- Only calls of condition variables work on the word of one, and leave 0 or a mutex that is there.
 use Rattle.std.proofs.Common.{ℕ, Bool, true, false, Option, Some, None, if◌then◌else◌, ◌==◌, ◌||◌, ◌≡◌, ◌<◌, ◌+◌, ◌-◌, inl, inr, length, get_or, refl, sym, ◌∙◌, subst, arith}
-use Rattle.lot_base.specs.declared.keys.Keys.TheVariants.{One, Two}
-use Rattle.lot_base.specs.Lines.{first_of}
-use Rattle.lot_base.specs.Words.{apply}
-use Rattle.lot_calls.specs.declared.kinds.Kind.{Kind}
-use Rattle.lot_calls.specs.declared.kinds.Kind.TheVariants as kinds
-use Rattle.lot_calls.specs.Kinds.{is_condvar, is_fair, is_plain_mutex}
-use Rattle.lot_acts.specs.declared.acts.Act.{Act}
-use Rattle.lot_acts.specs.declared.acts.Act.TheVariants.{Word, HandOver, Enter, Park, Take, Leave}
-use Rattle.lot_acts.specs.declared.acts.Wakes as wakes
-use Rattle.lot_acts.specs.declared.acts.Whom as whom
-use Rattle.lot_acts.specs.Acts.{holds, takes_effect}
-use Rattle.lot_once.specs.declared.give_up.GiveUpAt.TheVariants as give_up
-use Rattle.lot_once.specs.declared.look.LookAt.TheVariants as look
-use Rattle.lot_once.specs.declared.run.RunAt.TheVariants as run
-use Rattle.lot_once.specs.declared.places.OncePlace.{OncePlace}
-use Rattle.lot_once.specs.declared.places.OncePlace.TheVariants.{Run}
-use Rattle.lot_once.specs.declared.places.OncePlace.TheVariants as once
-use Rattle.lot_once.specs.OnceSteps.{course_act, course_of, once_act}
-use Rattle.lot_mutex.specs.MutexSteps.{mutex_act}
-use Rattle.lot_rwlock_fair.specs.FairSteps.{call_act}
-use Rattle.lot_semaphore.specs.SemaphoreSteps.{semaphore_act}
-use Rattle.lot_condvar.specs.declared.notify.NotifyAt.TheVariants as notify
-use Rattle.lot_condvar.specs.declared.places.CondvarPlace.{CondvarPlace}
-use Rattle.lot_condvar.specs.declared.places.CondvarPlace.TheVariants.{Wait, Look, Notify}
-use Rattle.lot_condvar.specs.declared.wait.WaitAt.TheVariants as wait
-use Rattle.lot_condvar.specs.CondvarSteps.{shown_as}
+use Rattle.core_base.specs.declared.keys.Keys.TheVariants.{One, Two}
+use Rattle.core_base.specs.Lines.{first_of}
+use Rattle.core_base.specs.Words.{apply}
+use Rattle.spec_locks.specs.declared.kinds.Kind.{Kind}
+use Rattle.spec_locks.specs.declared.kinds.Kind.TheVariants as kinds
+use Rattle.spec_locks.specs.Kinds.{is_condvar, is_fair, is_plain_mutex}
+use Rattle.steps_base.specs.declared.acts.Act.{Act}
+use Rattle.steps_base.specs.declared.acts.Act.TheVariants.{Word, HandOver, Enter, Park, Take, Leave}
+use Rattle.steps_base.specs.declared.acts.Wakes as wakes
+use Rattle.steps_base.specs.declared.acts.Whom as whom
+use Rattle.steps_base.specs.Acts.{holds, takes_effect}
+use Rattle.steps_once.specs.declared.give_up.GiveUpAt.TheVariants as give_up
+use Rattle.steps_once.specs.declared.look.LookAt.TheVariants as look
+use Rattle.steps_once.specs.declared.run.RunAt.TheVariants as run
+use Rattle.steps_once.specs.declared.places.OncePlace.{OncePlace}
+use Rattle.steps_once.specs.declared.places.OncePlace.TheVariants.{Run}
+use Rattle.steps_once.specs.declared.places.OncePlace.TheVariants as once
+use Rattle.steps_once.specs.OnceSteps.{course_act, course_of, once_act}
+use Rattle.steps_mutex.specs.MutexSteps.{mutex_act}
+use Rattle.steps_rwlock_fair.specs.FairSteps.{call_act}
+use Rattle.steps_semaphore.specs.SemaphoreSteps.{semaphore_act}
+use Rattle.steps_condvar.specs.declared.notify.NotifyAt.TheVariants as notify
+use Rattle.steps_condvar.specs.declared.places.CondvarPlace.{CondvarPlace}
+use Rattle.steps_condvar.specs.declared.places.CondvarPlace.TheVariants.{Wait, Look, Notify}
+use Rattle.steps_condvar.specs.declared.wait.WaitAt.TheVariants as wait
+use Rattle.steps_condvar.specs.CondvarSteps.{shown_as}
 use Rattle.lot_steps.specs.declared.places.Place.{Place}
 use Rattle.lot_steps.specs.declared.places.Place.TheVariants.{Idle, Mutex, RwLock, Once, Condvar, Semaphore}
 use Rattle.lot_steps.specs.Steps.{act_of}

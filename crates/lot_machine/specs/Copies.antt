@@ -1,7 +1,7 @@
--- Who stands in the lines of a machine that is copied: each thread once.
+-- Each thread stands once in the lines of a machine that is copied.
 use Rattle.std.specs.Prelude.{ℕ, ◌≡◌, ◌≢◌, ◌≤◌, List, All}
-use Rattle.lot_base.specs.declared.wants.Waiter.{Waiter}
-use Rattle.lot_base.specs.Lines.{times}
+use Rattle.core_base.specs.declared.wants.Waiter.{Waiter}
+use Rattle.core_base.specs.Lines.{times}
 use Rattle.lot_machine.specs.Machine.{State, queue_at}
 
 -- a thread that stands under a key stands there once, and under no other

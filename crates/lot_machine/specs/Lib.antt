@@ -1,8 +1,8 @@
-pub use Rattle.lot_base.specs.Words
-pub use Rattle.lot_base.specs.Lines
-pub use Rattle.lot_calls.specs.Calls
-pub use Rattle.lot_calls.specs.Kinds
-pub use Rattle.lot_acts.specs.Acts
+pub use Rattle.core_base.specs.Words
+pub use Rattle.core_base.specs.Lines
+pub use Rattle.spec_locks.specs.Calls
+pub use Rattle.spec_locks.specs.Kinds
+pub use Rattle.steps_base.specs.Acts
 pub use Rattle.lot_steps.specs.Steps
 pub mod Machine
 pub mod Fits

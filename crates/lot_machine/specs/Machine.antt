@@ -1,50 +1,50 @@
 -- The machine of the world: its state, and where each step leads.
 use Rattle.std.specs.Prelude.{ℕ, zero, suc, Bool, true, false, Option, Some, None, if◌then◌else◌, ◌==◌, ◌*◌, ◌+◌, ◌%◌, ◌^◌, sum, ◌&&◌, ◌||◌, not, List, [], ◌∷◌, ◌++◌, map, length, take, drop, replicate, nat_lt, is_some, is_none, slice_set, slice_index_or}
-use Rattle.lot_base.specs.declared.keys.Keys.{Keys}
-use Rattle.lot_base.specs.declared.keys.Keys as keys
-use Rattle.lot_base.specs.declared.ops.Op.{Op}
-use Rattle.lot_base.specs.declared.wants.Waiter.{Waiter}
-use Rattle.lot_base.specs.declared.wants.Want.{Want}
-use Rattle.lot_base.specs.declared.wants.Want.TheVariants.{Exclusive, Upgradable, Shared, Wait, CallOnce}
-use Rattle.lot_base.specs.declared.requeues.Requeue.{Requeue}
-use Rattle.lot_base.specs.declared.requeues.Requeue as requeue
-use Rattle.lot_base.specs.Words.{apply}
-use Rattle.lot_base.specs.Lines.{waiter, line, without, first_of, threads_of}
-use Rattle.lot_base.specs.Picks.{lock_picked, without_lock_picked}
-use Rattle.lot_base.specs.Requeues.{taken_by, moved_by}
+use Rattle.core_base.specs.declared.keys.Keys.{Keys}
+use Rattle.core_base.specs.declared.keys.Keys as keys
+use Rattle.core_base.specs.declared.ops.Op.{Op}
+use Rattle.core_base.specs.declared.wants.Waiter.{Waiter}
+use Rattle.core_base.specs.declared.wants.Want.{Want}
+use Rattle.core_base.specs.declared.wants.Want.TheVariants.{Exclusive, Upgradable, Shared, Wait, CallOnce}
+use Rattle.core_base.specs.declared.requeues.Requeue.{Requeue}
+use Rattle.core_base.specs.declared.requeues.Requeue as requeue
+use Rattle.core_base.specs.Words.{apply}
+use Rattle.core_base.specs.Lines.{waiter, line, without, first_of, threads_of}
+use Rattle.core_base.specs.Picks.{lock_picked, without_lock_picked}
+use Rattle.core_base.specs.Requeues.{taken_by, moved_by}
 use Rattle.std.specs.List.{filter}
-use Rattle.lot_calls.specs.declared.kinds.Kind.{Kind}
-use Rattle.lot_calls.specs.declared.kinds.Kind.TheVariants.{Mutex}
-use Rattle.lot_calls.specs.declared.kinds.Kind.TheVariants as kinds
-use Rattle.lot_acts.specs.declared.owners.Owners.{Owners}
-use Rattle.lot_acts.specs.declared.owners.Fallback as fallback
-use Rattle.lot_acts.specs.declared.owners.Phase.TheVariants as phases
+use Rattle.spec_locks.specs.declared.kinds.Kind.{Kind}
+use Rattle.spec_locks.specs.declared.kinds.Kind.TheVariants.{Mutex}
+use Rattle.spec_locks.specs.declared.kinds.Kind.TheVariants as kinds
+use Rattle.steps_base.specs.declared.owners.Owners.{Owners}
+use Rattle.steps_base.specs.declared.owners.Fallback as fallback
+use Rattle.steps_base.specs.declared.owners.Phase.TheVariants as phases
 use Rattle.lot_steps.specs.declared.places.Place.{Place}
 use Rattle.lot_steps.specs.declared.places.Place.TheVariants.{Idle}
-use Rattle.lot_acts.specs.declared.acts.Act.{Act}
-use Rattle.lot_acts.specs.declared.acts.Act.TheVariants.{Rest, Word, HandOver, Enter, Park, Stand, Take, Remove, Leave, Sleep, Closure, End}
-use Rattle.lot_acts.specs.declared.acts.Act.TheVariants as act
-use Rattle.lot_acts.specs.declared.acts.Check.{Check}
-use Rattle.lot_acts.specs.declared.acts.Wakes.{Wakes}
-use Rattle.lot_acts.specs.declared.acts.Wakes as wakes
-use Rattle.lot_acts.specs.declared.acts.Reply.{Reply}
-use Rattle.lot_acts.specs.declared.acts.Reply.TheVariants.{Done, Value, Parked, Took, Picked, Requeued, Removed, TakenBy, MovedTo, HandedBy, Late, Woken, Closed}
-use Rattle.lot_acts.specs.declared.acts.Whom.{Whom}
-use Rattle.lot_acts.specs.declared.acts.Whom as whom
-use Rattle.lot_calls.specs.declared.calls.Call.{Call}
-use Rattle.lot_calls.specs.declared.calls.Turn.{Turn}
-use Rattle.lot_calls.specs.declared.calls.Turn as turn
-use Rattle.lot_calls.specs.declared.calls.Step.{Step}
-use Rattle.lot_calls.specs.declared.outcomes.Outcome.{Outcome}
-use Rattle.lot_calls.specs.declared.outcomes.Outcome as outcome
-use Rattle.lot_calls.specs.Kinds.{has_call, is_plain_mutex}
-use Rattle.lot_acts.specs.Acts.{holds, takes_effect, outcome_of}
-use Rattle.lot_acts.specs.Owners.{is_thread, with_exclusive}
-use Rattle.lot_calls.specs.Calls.{lock_in, mutex_in, right_in}
+use Rattle.steps_base.specs.declared.acts.Act.{Act}
+use Rattle.steps_base.specs.declared.acts.Act.TheVariants.{Rest, Word, HandOver, Enter, Park, Stand, Take, Remove, Leave, Sleep, Closure, End}
+use Rattle.steps_base.specs.declared.acts.Act.TheVariants as act
+use Rattle.steps_base.specs.declared.acts.Check.{Check}
+use Rattle.steps_base.specs.declared.acts.Wakes.{Wakes}
+use Rattle.steps_base.specs.declared.acts.Wakes as wakes
+use Rattle.steps_base.specs.declared.acts.Reply.{Reply}
+use Rattle.steps_base.specs.declared.acts.Reply.TheVariants.{Done, Value, Parked, Took, Picked, Requeued, Removed, TakenBy, MovedTo, HandedBy, Late, Woken, Closed}
+use Rattle.steps_base.specs.declared.acts.Whom.{Whom}
+use Rattle.steps_base.specs.declared.acts.Whom as whom
+use Rattle.spec_locks.specs.declared.calls.Call.{Call}
+use Rattle.spec_locks.specs.declared.calls.Turn.{Turn}
+use Rattle.spec_locks.specs.declared.calls.Turn as turn
+use Rattle.spec_locks.specs.declared.calls.Step.{Step}
+use Rattle.spec_locks.specs.declared.outcomes.Outcome.{Outcome}
+use Rattle.spec_locks.specs.declared.outcomes.Outcome as outcome
+use Rattle.spec_locks.specs.Kinds.{has_call, is_plain_mutex}
+use Rattle.steps_base.specs.Acts.{holds, takes_effect, outcome_of}
+use Rattle.steps_base.specs.Owners.{is_thread, with_exclusive}
+use Rattle.spec_locks.specs.Calls.{lock_in, mutex_in, right_in}
 use Rattle.lot_steps.specs.Steps.{first_place, has_right, is_idle, act_of, next_place, next_act, owners_after, shares_after, taker, wants, looking, late_key}
-use Rattle.abstract_locks.specs.Codes.{fills}
-use Rattle.abstract_locks.specs.Locks.{Taken, wants_shared}
-use Rattle.abstract_locks.specs.Purposes.{rules_of}
+use Rattle.spec_locks.specs.Codes.{fills}
+use Rattle.spec_locks.specs.Locks.{Taken, wants_shared}
+use Rattle.spec_locks.specs.Purposes.{rules_of}
 use Rattle.lot_machine.specs.declared.locks.Lock.{Lock}
 use Rattle.lot_machine.specs.declared.hands.Successor.{Successor}
 

@@ -1,10 +1,10 @@
 -- A new lock as its word shows it.
 use Rattle.std.specs.Prelude.{ℕ, true, ◌≡◌}
-use Rattle.lot_calls.specs.declared.kinds.Kind.{Kind}
-use Rattle.lot_calls.specs.Kinds.{fits}
-use Rattle.abstract_locks.specs.Codes.{aside_in, code, parked_in}
-use Rattle.abstract_locks.specs.Purposes.{rules_of}
-use Rattle.abstract_locks.specs.Sites.{Site, opening_site}
+use Rattle.spec_locks.specs.declared.kinds.Kind.{Kind}
+use Rattle.spec_locks.specs.Kinds.{fits}
+use Rattle.spec_locks.specs.Codes.{aside_in, code, parked_in}
+use Rattle.spec_locks.specs.Purposes.{rules_of}
+use Rattle.spec_locks.specs.Sites.{Site, opening_site}
 use Rattle.lot_machine.specs.Machine.{first_word}
 
 -- nobody owns it or waits for it, and its parked bits are those of its word

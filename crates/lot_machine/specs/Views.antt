@@ -1,13 +1,13 @@
--- What the views of a lock show, in the order of a printed line.
+-- The owners, waiters and debts that the views of a lock show, in the order of a printed line.
 use Rattle.std.specs.Prelude.{ℕ, Bool, Option, Some, None, if◌then◌else◌, ◌+◌, ◌*◌, List, [], ◌∷◌, ◌++◌, replicate, ◌≡◌, All}
-use Rattle.lot_acts.specs.declared.owners.Owner.{Owner}
-use Rattle.lot_acts.specs.declared.owners.Owner.TheVariants.{Exclusive, Pending, Upgradable, Running, Shared}
-use Rattle.lot_acts.specs.declared.owners.Owners.{Owners}
-use Rattle.lot_acts.specs.declared.owners.Pending as pending
-use Rattle.lot_acts.specs.Owners.{runner}
+use Rattle.steps_base.specs.declared.owners.Owner.{Owner}
+use Rattle.steps_base.specs.declared.owners.Owner.TheVariants.{Exclusive, Pending, Upgradable, Running, Shared}
+use Rattle.steps_base.specs.declared.owners.Owners.{Owners}
+use Rattle.steps_base.specs.declared.owners.Pending as pending
+use Rattle.steps_base.specs.Owners.{runner}
 use Rattle.lot_steps.specs.declared.places.Place.{Place}
 use Rattle.lot_steps.specs.Steps.{owes_on, retries_on}
-use Rattle.lot_base.specs.declared.wants.Waiter.{Waiter}
+use Rattle.core_base.specs.declared.wants.Waiter.{Waiter}
 use Rattle.lot_machine.specs.declared.debts.Debt.{Debt}
 use Rattle.lot_machine.specs.declared.debts.Debt.TheVariants.{Owes, Retries}
 use Rattle.lot_machine.specs.Machine.{State, owners_at, shares_at, queue_at}

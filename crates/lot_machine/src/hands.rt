@@ -1,8 +1,9 @@
-//! Whom a thread has in hand: those whom it has taken of queues, until it wakes them.
+//! The threads that a thread has in hand: it has taken them from queues, and has not woken them
+//! yet.
 ghost use Rattle.std.specs.Prelude.{◌≡◌, ◌≤◌, vec_capacity, length, map};
 ghost use Rattle.lot_machine.specs.Machine.{places_told, listed, moved_threads, held, shares_in_hand, sharers, wants_more_in_hand, successor_from, want_of_successor, place_after_telling};
 
-use lot_base::{Requeue, Want};
+use core_base::{Requeue, Want};
 use lot_steps::{Place, Reply};
 
 /// The one of those in a hand that wants more than to share.
@@ -59,7 +60,7 @@ pub(crate) fn one_if_some(thread: Option<usize>) -> usize
     }
 }
 
-/// Of those who stand in a line, whom a requeue moves.
+/// Keeps those waiters of a line that a requeue moves.
 pub(crate) fn keep_moved(whom: &mut Vec<usize>, how: Requeue)
     ensures moved { whom.new.items ≡ moved_threads how whom.old.items }
     ensures room { vec_capacity whom.new ≡ vec_capacity whom.old }
@@ -92,7 +93,8 @@ pub(crate) fn sharers(thread: usize, places: &[Place]) -> usize
         .count()
 }
 
-/// What this one wants, where a thread has it in hand and it wants more than to share.
+/// Returns what the waiter at this place wants, where the thread has it in hand and it wants more
+/// than to share.
 pub(crate) fn wants_more_in_hand(thread: usize, place: &Place) -> Option<Want>
     ensures { result ≡ wants_more_in_hand thread (held place.now) }
 {

@@ -1,4 +1,4 @@
-//! What the words of new locks say.
+//! The words of new locks are true.
 ghost use Rattle.lot_machine.specs.NewLocks.{NewWordsAreTrue};
 
 /// The word of a new lock of each kind is the one of an abstract lock that nobody owns and nobody

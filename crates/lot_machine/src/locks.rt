@@ -1,13 +1,13 @@
 //! The locks of a machine.
 ghost use Rattle.std.specs.Prelude.{◌≡◌, IfOk, map};
 ghost use Rattle.lot_machine.specs.Machine.{unlocked, first_word};
-ghost use Rattle.abstract_locks.specs.Codes.{fills};
-ghost use Rattle.abstract_locks.specs.Purposes.{rules_of};
+ghost use Rattle.spec_locks.specs.Codes.{fills};
+ghost use Rattle.spec_locks.specs.Purposes.{rules_of};
 
 use lot_steps::{Kind, Owners};
 use std::alloc::{AllocError, Global};
 
-/// What a reader adds to the word of a reader-writer lock.
+/// The number that a reader adds to the word of a reader-writer lock.
 const READER: u64 = 16;
 
 /// A lock of the world.

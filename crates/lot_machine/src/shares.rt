@@ -3,7 +3,7 @@ ghost use Rattle.std.specs.Prelude.{ℕ, ◌≡◌, ◌==◌, IfOk, map, sum, sl
 ghost use Rattle.lot_machine.specs.Machine.{shares_given, with_share, held, shares_in_hand, owners_of_successor};
 
 use crate::hands::{Successor, shares_in_hand};
-use lot_base::Want;
+use core_base::Want;
 use lot_steps::{Fallback, Owners, Pending, Place};
 use std::alloc::{AllocError, Global};
 

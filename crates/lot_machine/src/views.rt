@@ -1,9 +1,9 @@
-//! What a world shows of a lock: named iterators in the order of a printed line, without memory.
+//! The views of a lock: named iterators in the order of a printed line, without memory.
 ghost use Rattle.std.specs.Prelude.{◌≡◌, ◌<◌, ◌^◌, ◌+◌, ◌*◌, ◌++◌, [], MatchOption, IfSome, length, drop, replicate, slice_index_or};
 ghost use Rattle.std.specs.Iterator.{YieldsFirst, item_count};
 ghost use Rattle.lot_machine.specs.Views.{owners_listed, sharers_listed};
 
-use lot_base::{Queues, Waiter, main_key, second_key};
+use core_base::{Queues, Waiter, main_key, second_key};
 use lot_steps::{Owner, Owners, Pending, Phase};
 use std::marker::Model;
 
@@ -20,8 +20,8 @@ pub struct OwnersOf<'a> {
 
 impl<'a> Model for OwnersOf<'a> {
     ghost use Rattle.std.specs.Prelude.{List, ℕ, ◌++◌, drop, replicate};
-    ghost use Rattle.lot_acts.specs.declared.owners.Owner.{Owner};
-    ghost use Rattle.lot_acts.specs.declared.owners.Owner.TheVariants.{Shared};
+    ghost use Rattle.steps_base.specs.declared.owners.Owner.{Owner};
+    ghost use Rattle.steps_base.specs.declared.owners.Owner.TheVariants.{Shared};
     ghost use Rattle.lot_machine.specs.Views.{owners_listed, sharers_listed};
 
     ghost Value = { List (Owner × ℕ) };
@@ -112,7 +112,7 @@ pub struct QueueOf<'a, Q: Queues> {
 
 impl<'a, Q: Queues> Model for QueueOf<'a, Q> {
     ghost use Rattle.std.specs.Prelude.{List, ◌+◌, ◌*◌, ◌<◌, ◌^◌, ◌++◌, if◌then◌else◌};
-    ghost use Rattle.lot_base.specs.declared.wants.Waiter.{Waiter};
+    ghost use Rattle.core_base.specs.declared.wants.Waiter.{Waiter};
 
     ghost Value = { List Waiter };
 

@@ -2,7 +2,7 @@
 use Rattle.std.proofs.Common.{inl, inr, ◌≡◌, ℕ, ◌≤◌, Bool, true, false, cond, List, [], ◌∷◌, ◌++◌, Option, None, Some, length, refl, ap, sym, subst, arith, length-append}
 use Rattle.std.proofs.lemmas.List.Elements.{All-nil, All-push}
 use Rattle.std.specs.Prelude.{All, ◌&&◌, nat_le, option_map, option_and_then}
-use Rattle.lot_calls.specs.declared.kinds.Kind.{Kind}
+use Rattle.spec_locks.specs.declared.kinds.Kind.{Kind}
 use Rattle.lot_machine.specs.Machine.{State, after_steps, opening}
 use Rattle.lot_text.specs.Lines.{line_len}
 use Rattle.lot_text.specs.Grammar.{meaning}

@@ -2,7 +2,7 @@
 use Rattle.std.proofs.Common.{ℕ, ◌≡◌, ◌+◌, ◌<◌, List, ◌++◌, length, drop, ap}
 use Rattle.std.specs.Prelude.{slice_index_or}
 use Rattle.std.proofs.lemmas.List.{drop_more}
-use Rattle.lot_calls.specs.declared.calls.Step.{Step}
+use Rattle.spec_locks.specs.declared.calls.Step.{Step}
 use Rattle.lot_text.specs.Steps.{drain_line}
 use Rattle.lot_replay.specs.Drains.{drain_lines}
 

@@ -7,10 +7,6 @@ use Rattle.lot_text.specs.Text.{malformed_line}
 use Rattle.lot_replay.specs.Stages.{Stage, nothing, after_line}
 use Rattle.lot_replay.specs.Replay.{IsReplay, LinesWrite, IsBeginning, BeginningsBegin, EarlyTextsBegin, HasOneText}
 
--- a text that ends in a line feed adds its lines in front
-onto_first_append : (b : ℕ) (ls ms : List (List ℕ)) (l : List ℕ) → onto_first b ((l ∷ ls) ++ ms) ≡ onto_first b (l ∷ ls) ++ ms
-onto_first_append b ls ms l = refl
-
 -- the lines of a text in front of a line feed: at least one
 pub record SomeLines (front : List ℕ) : Type 0 where
   first : List ℕ

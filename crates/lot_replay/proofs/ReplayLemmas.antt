@@ -172,16 +172,6 @@ finish_lost a b c p q text h k e = subst (SendsFront a c) (append-nil text) (end
 pub all_sent : (a c : Option (List ℕ)) (text : List ℕ) → Sends a c text [] → Appends a c text
 all_sent a c text s = subst (Appends a c) (sym (append-nil s.taken) ∙ s.whole) s.appended
 
-ended_sent : (y z : Bool) (a b c : Option (List ℕ)) (mid left text : List ℕ) → PutsWhere false y a b [] mid text → PutsWhere y z b c mid left [] → z ≡ false → left ≡ [] → (y ≡ false) × Appends a c text
-ended_sent y true a b c mid left text p q e f = cc
-ended_sent true false a b c mid left text p q e f = absurd q
-ended_sent false false a b c mid left text p q e f =
-    let whole = puts_then a b c (record { bytes = []; lost = false }) (record { bytes = mid; lost = false }) (record { bytes = left; lost = false }) text [] p q in
-    (refl, all_sent a c text (subst (λ l. Sends a c text l) f (subst (λ l. Sends a c l left) (append-nil text) whole)))
-
-pub finish_sent : (a b c : Option (List ℕ)) (p q : Held) (text : List ℕ) → Puts a b (record { bytes = []; lost = false }) p text → Puts b c p q [] → q.lost ≡ false → q.bytes ≡ [] → (p.lost ≡ false) × Appends a c text
-finish_sent a b c p q text h k e f = ended_sent p.lost q.lost a b c p.bytes q.bytes text h k e f
-
 -- lines one after another
 reached_all : (input text : List ℕ) (k : ℕ) (s : Stage) (lines rest : List (List ℕ)) (next : Stage) (t : List ℕ) → Reached input text k s (lines ++ rest) → MayAnswerAll s lines next t → Reached input (text ++ t) (k + length lines) next rest
 reached_all input text k s [] rest next t r h =

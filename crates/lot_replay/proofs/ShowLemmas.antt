@@ -2,7 +2,7 @@
 use Rattle.std.proofs.Common.{◌≡◌, ◌≢◌, ℕ, ◌+◌, ◌*◌, ◌<◌, Bool, true, false, cond, List, [], ◌∷◌, ◌++◌, length, refl, sym, ap, ◌∙◌, arith, append_assoc, All, get_or, drop, drop-cons, suc, add-one, ne_eqb, eq-eqb}
 use Rattle.std.specs.Prelude.{codes, decimal, if◌then◌else◌, ◌==◌}
 use Rattle.std.proofs.lemmas.List.Elements.{All-nil, All-cons, All-head, All-tail}
-use Rattle.lot_base.specs.declared.wants.Waiter.{Waiter}
+use Rattle.core_base.specs.declared.wants.Waiter.{Waiter}
 use Rattle.lot_steps.specs.declared.places.Place.{Place}
 use Rattle.lot_machine.specs.declared.debts.Debt.{Debt}
 use Rattle.lot_machine.specs.declared.debts.Debt.TheVariants.{Owes, Retries}

@@ -5,7 +5,7 @@ use Rattle.std.proofs.lemmas.Bool.Decides.{leb_tells}
 use Rattle.lot_machine.specs.Machine.{State}
 use Rattle.lot_text.specs.declared.grammar.Command as command
 use Rattle.lot_text.specs.declared.grammar.NamedTurn.{NamedTurn}
-use Rattle.lot_base.specs.declared.queues.Queues.{Ghosts}
+use Rattle.core_base.specs.declared.queues.Queues.{Ghosts}
 use Rattle.lot_replay.specs.declared.session.Session.{Session}
 use Rattle.lot_replay.specs.Sessions.{session_stage, session_world, stage_with, world_with}
 use Rattle.lot_replay.specs.Stages.{Stage, obeyed, played, after_line}

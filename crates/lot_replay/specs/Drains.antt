@@ -1,6 +1,6 @@
 -- The lines of `drain`.
 use Rattle.std.specs.Prelude.{ℕ, List, [], ◌∷◌, ◌++◌}
-use Rattle.lot_calls.specs.declared.calls.Step.{Step}
+use Rattle.spec_locks.specs.declared.calls.Step.{Step}
 use Rattle.lot_text.specs.Steps.{drain_line}
 
 -- a line for each step, of locks with these names

@@ -1,8 +1,8 @@
 -- The stage that the program keeps.
 use Rattle.std.specs.Prelude.{ℕ, List, Option, None, Some}
-use Rattle.lot_calls.specs.declared.kinds.Kind.{Kind}
+use Rattle.spec_locks.specs.declared.kinds.Kind.{Kind}
 use Rattle.lot_machine.specs.Machine.{State, opening}
-use Rattle.lot_base.specs.declared.queues.Queues.{Ghosts}
+use Rattle.core_base.specs.declared.queues.Queues.{Ghosts}
 use Rattle.lot_replay.specs.declared.session.Session.{Session}
 use Rattle.lot_replay.specs.Stages.{Stage, nothing, declaring, running}
 

@@ -1,11 +1,11 @@
 -- The lines of `show`.
 use Rattle.std.specs.Prelude.{ℕ, ◌+◌, ◌*◌, List, [], ◌∷◌, ◌++◌, codes, decimal}
 use Rattle.std.specs.List.{join_by}
-use Rattle.lot_base.specs.declared.wants.Waiter.{Waiter}
-use Rattle.lot_base.specs.declared.wants.Want.{Want}
-use Rattle.lot_base.specs.declared.wants.Want as want
-use Rattle.lot_acts.specs.declared.owners.Owner.{Owner}
-use Rattle.lot_acts.specs.declared.owners.Owner as owner
+use Rattle.core_base.specs.declared.wants.Waiter.{Waiter}
+use Rattle.core_base.specs.declared.wants.Want.{Want}
+use Rattle.core_base.specs.declared.wants.Want as want
+use Rattle.steps_base.specs.declared.owners.Owner.{Owner}
+use Rattle.steps_base.specs.declared.owners.Owner as owner
 use Rattle.lot_machine.specs.declared.debts.Debt.{Debt}
 use Rattle.lot_machine.specs.declared.debts.Debt.TheVariants.{Owes, Retries}
 use Rattle.lot_machine.specs.Machine.{State, word_at, queue_at}

@@ -1,19 +1,19 @@
 -- The lines of a schedule, one after another, and the stages to which they lead.
 use Rattle.std.specs.Prelude.{ℕ, Bool, true, false, ◌&&◌, nat_le, nat_lt, is_none, List, [], ◌∷◌, ◌++◌, length, if◌then◌else◌, Option, None, Some, option_map, option_and_then}
-use Rattle.lot_calls.specs.declared.kinds.Kind.{Kind}
+use Rattle.spec_locks.specs.declared.kinds.Kind.{Kind}
 use Rattle.lot_text.specs.declared.grammar.NamedCall.{NamedCall}
 use Rattle.lot_text.specs.declared.grammar.NamedCall.TheVariants as calling
-use Rattle.lot_calls.specs.declared.calls.Call.{Call}
-use Rattle.lot_calls.specs.declared.calls.Call as calls
-use Rattle.lot_calls.specs.declared.calls.Turn.{Turn}
-use Rattle.lot_calls.specs.declared.calls.Turn as turns
-use Rattle.lot_calls.specs.declared.calls.Step.{Step}
-use Rattle.lot_calls.specs.declared.outcomes.Outcome.{Outcome}
-use Rattle.lot_calls.specs.declared.outcomes.Outcome as outcome
-use Rattle.lot_calls.specs.declared.calls.CondvarCall.TheVariants as condvar
-use Rattle.lot_calls.specs.declared.calls.OnceCall.{OnceCall}
-use Rattle.lot_calls.specs.declared.calls.OnceCall.TheVariants.{CallOnce, Wait, WaitTimed}
-use Rattle.lot_calls.specs.Kinds.{fits, is_condvar}
+use Rattle.spec_locks.specs.declared.calls.Call.{Call}
+use Rattle.spec_locks.specs.declared.calls.Call as calls
+use Rattle.spec_locks.specs.declared.calls.Turn.{Turn}
+use Rattle.spec_locks.specs.declared.calls.Turn as turns
+use Rattle.spec_locks.specs.declared.calls.Step.{Step}
+use Rattle.spec_locks.specs.declared.outcomes.Outcome.{Outcome}
+use Rattle.spec_locks.specs.declared.outcomes.Outcome as outcome
+use Rattle.spec_locks.specs.declared.calls.CondvarCall.TheVariants as condvar
+use Rattle.spec_locks.specs.declared.calls.OnceCall.{OnceCall}
+use Rattle.spec_locks.specs.declared.calls.OnceCall.TheVariants.{CallOnce, Wait, WaitTimed}
+use Rattle.spec_locks.specs.Kinds.{fits, is_condvar}
 use Rattle.lot_machine.specs.Machine.{State, kind_at, opening, is_possible, after, after_steps, step_outcome, solo}
 use Rattle.lot_drain.specs.Drainable.{is_drainable}
 use Rattle.lot_drain.specs.Schedules.{schedule_of}

@@ -6,8 +6,8 @@ ghost use Rattle.lot_replay.specs.Sessions.{session_world};
 ghost use Rattle.lot_replay.specs.Stages.{call_named, action_of, done_by, is_bare_wait};
 
 use crate::session::Session;
-use lot_base::Queues;
-use lot_calls::{CondvarCall, OnceCall};
+use core_base::Queues;
+use spec_locks::{CondvarCall, OnceCall};
 use lot_text::{Name, NamedCall, NamedTurn, PlainTurn};
 use lot_world::{Call, Kind, Outcome, Step, Turn, World};
 

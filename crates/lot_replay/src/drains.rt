@@ -6,7 +6,7 @@ ghost use Rattle.lot_replay.specs.Drains.{drain_lines};
 ghost use Rattle.lot_replay.specs.Stages.{drained, running};
 
 use crate::state::Refusal;
-use lot_base::Queues;
+use core_base::Queues;
 use lot_text::{Name, Page, print_drain_refused, print_drain_step};
 use lot_world::{Step, World};
 use std::alloc::Global;

@@ -9,7 +9,7 @@ ghost use Rattle.lot_replay.specs.Replay.{MayWrite, Replays, BeginningsBegin, Ea
 use crate::state::{Refusal, State};
 use crate::status::{BROKEN, DONE, MALFORMED, NO_MEMORY};
 use arrayvec::ArrayVec;
-use lot_base::Queues;
+use core_base::Queues;
 use lot_text::{LINE_LEN, Page, Reading, first_line, print_malformed, print_no_memory, read_line};
 use std::alloc::Global;
 use std::io::{BufRead, ErrorKind, Write};

@@ -4,7 +4,7 @@ ghost use Rattle.std.specs.Option.{ForSome};
 ghost use Rattle.lot_world.specs.Kinds.{fits};
 ghost use Rattle.lot_world.specs.declared.world.TheConstants.{MOST_THREADS, MOST_LOCKS};
 
-use lot_base::Queues;
+use core_base::Queues;
 use lot_text::Names;
 use lot_world::{Kind, MOST_LOCKS, MOST_THREADS, World};
 

@@ -4,7 +4,7 @@ ghost use Rattle.lot_machine.specs.Views.{StandUnder};
 ghost use Rattle.lot_text.specs.Sent.{Puts};
 ghost use Rattle.lot_replay.specs.Shows.{owner_letter, want_letter, owners_text, waiters_text, debtors_text, show_line, show_lines};
 
-use lot_base::{Queues, Waiter, Want, main_key};
+use core_base::{Queues, Waiter, Want, main_key};
 use lot_text::{Name, Page};
 use lot_world::{Debt, DebtBook, Debts, MOST_LOCKS, Owner, OwnersOf, QueueOf, World};
 use std::io::Write;

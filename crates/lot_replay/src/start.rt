@@ -7,7 +7,7 @@ ghost use Rattle.lot_replay.specs.Start.{TellsUsage, texts_of};
 
 use crate::replay::replay;
 use crate::status::{BROKEN, MALFORMED};
-use lot_base::Queues;
+use core_base::Queues;
 use lot_text::send_all;
 use std::alloc::Global;
 use std::io::{BufRead, Write};

@@ -13,7 +13,7 @@ use crate::actions::{Action, perform, plain_action};
 use crate::drains::drain_world;
 use crate::session::Session;
 use crate::show::show_locks;
-use lot_base::Queues;
+use core_base::Queues;
 use lot_text::{Command, LINE_LEN, Line, Name, Names, Page, PlainTurn, meaning, print_turn};
 use lot_world::{Kind, MOST_LOCKS, MOST_THREADS, World};
 use std::alloc::Global;

@@ -1,5 +1,5 @@
-pub use Rattle.lot_base.specs.Words
-pub use Rattle.lot_base.specs.Lines
-pub use Rattle.lot_calls.specs.Calls
-pub use Rattle.lot_calls.specs.Kinds
+pub use Rattle.core_base.specs.Words
+pub use Rattle.core_base.specs.Lines
+pub use Rattle.spec_locks.specs.Calls
+pub use Rattle.spec_locks.specs.Kinds
 pub mod Steps

@@ -1,39 +1,39 @@
 -- The steps of every call.
 use Rattle.std.specs.Prelude.{ℕ, Bool, true, false, Option, Some, None, if◌then◌else◌, ◌==◌, ◌&&◌, ◌||◌, ◌^◌, ◌<◌}
-use Rattle.lot_calls.specs.declared.kinds.Kind.{Kind}
-use Rattle.lot_calls.specs.declared.calls.Call.{Call}
-use Rattle.lot_calls.specs.declared.calls.Call as call
+use Rattle.spec_locks.specs.declared.kinds.Kind.{Kind}
+use Rattle.spec_locks.specs.declared.calls.Call.{Call}
+use Rattle.spec_locks.specs.declared.calls.Call as call
 use Rattle.lot_steps.specs.declared.places.Place.{Place}
 use Rattle.lot_steps.specs.declared.places.Place.TheVariants.{Idle, Mutex, RwLock, Once, Condvar, Semaphore}
-use Rattle.lot_mutex.specs.declared.places.MutexPlace.{MutexPlace}
-use Rattle.lot_acts.specs.declared.acts.Act.{Act}
-use Rattle.lot_acts.specs.declared.acts.Act as act
-use Rattle.lot_acts.specs.declared.acts.Reply.{Reply}
-use Rattle.lot_acts.specs.declared.acts.Next.{Next}
-use Rattle.lot_acts.specs.declared.acts.Next.TheVariants.{At, End}
-use Rattle.lot_acts.specs.declared.owners.Owners.{Owners}
-use Rattle.lot_calls.specs.Kinds.{is_fair}
-use Rattle.lot_mutex.specs.MutexSteps.{mutex_first, mutex_right, mutex_act, mutex_next, mutex_looking, mutex_owners}
-use Rattle.lot_base.specs.declared.keys.Line.{Line}
-use Rattle.lot_base.specs.declared.wants.Want.{Want}
-use Rattle.lot_base.specs.Keys.{key_of}
-use Rattle.lot_acts.specs.Profiles.{Profile, blank, bringing_nobody, hand_owner}
-use Rattle.lot_rwlock.specs.declared.places.Admission.{Admission}
-use Rattle.lot_rwlock.specs.RwLockBegins.{admission_of}
-use Rattle.lot_rwlock_fair.specs.declared.places.RwLockCallPlace.{RwLockCallPlace}
-use Rattle.lot_rwlock_fair.specs.FairBegins.{call_first, call_right}
-use Rattle.lot_rwlock_fair.specs.FairSteps.{call_act, call_next, call_owners, call_shares}
-use Rattle.lot_rwlock_fair.specs.FairProfiles.{call_profile, call_looking}
-use Rattle.lot_mutex.specs.MutexProfiles.{mutex_profile}
-use Rattle.lot_once.specs.declared.places.OncePlace.{OncePlace}
-use Rattle.lot_once.specs.OnceSteps.{once_first, once_act, once_next, once_looking, once_owners}
-use Rattle.lot_once.specs.OnceProfiles.{once_profile}
-use Rattle.lot_condvar.specs.declared.places.CondvarPlace.{CondvarPlace}
-use Rattle.lot_condvar.specs.CondvarSteps.{HasMutexKey, condvar_act, condvar_first, condvar_right, condvar_next, condvar_looking, condvar_owners, mutex_beside}
-use Rattle.lot_condvar.specs.CondvarProfiles.{condvar_profile, mutex_side}
-use Rattle.lot_semaphore.specs.declared.places.SemaphorePlace.{SemaphorePlace}
-use Rattle.lot_semaphore.specs.SemaphoreSteps.{semaphore_act, semaphore_first, semaphore_looking, semaphore_next, semaphore_right, semaphore_shares}
-use Rattle.lot_semaphore.specs.SemaphoreProfiles.{semaphore_profile}
+use Rattle.steps_mutex.specs.declared.places.MutexPlace.{MutexPlace}
+use Rattle.steps_base.specs.declared.acts.Act.{Act}
+use Rattle.steps_base.specs.declared.acts.Act as act
+use Rattle.steps_base.specs.declared.acts.Reply.{Reply}
+use Rattle.steps_base.specs.declared.acts.Next.{Next}
+use Rattle.steps_base.specs.declared.acts.Next.TheVariants.{At, End}
+use Rattle.steps_base.specs.declared.owners.Owners.{Owners}
+use Rattle.spec_locks.specs.Kinds.{is_fair}
+use Rattle.steps_mutex.specs.MutexSteps.{mutex_first, mutex_right, mutex_act, mutex_next, mutex_looking, mutex_owners}
+use Rattle.core_base.specs.declared.keys.Line.{Line}
+use Rattle.core_base.specs.declared.wants.Want.{Want}
+use Rattle.core_base.specs.Keys.{key_of}
+use Rattle.steps_base.specs.Profiles.{Profile, blank, bringing_nobody, hand_owner}
+use Rattle.steps_rwlock.specs.declared.places.Admission.{Admission}
+use Rattle.steps_rwlock.specs.RwLockBegins.{admission_of}
+use Rattle.steps_rwlock_fair.specs.declared.places.RwLockCallPlace.{RwLockCallPlace}
+use Rattle.steps_rwlock_fair.specs.FairBegins.{call_first, call_right}
+use Rattle.steps_rwlock_fair.specs.FairSteps.{call_act, call_next, call_owners, call_shares}
+use Rattle.steps_rwlock_fair.specs.FairProfiles.{call_profile, call_looking}
+use Rattle.steps_mutex.specs.MutexProfiles.{mutex_profile}
+use Rattle.steps_once.specs.declared.places.OncePlace.{OncePlace}
+use Rattle.steps_once.specs.OnceSteps.{once_first, once_act, once_next, once_looking, once_owners}
+use Rattle.steps_once.specs.OnceProfiles.{once_profile}
+use Rattle.steps_condvar.specs.declared.places.CondvarPlace.{CondvarPlace}
+use Rattle.steps_condvar.specs.CondvarSteps.{HasMutexKey, condvar_act, condvar_first, condvar_right, condvar_next, condvar_looking, condvar_owners, mutex_beside}
+use Rattle.steps_condvar.specs.CondvarProfiles.{condvar_profile, mutex_side}
+use Rattle.steps_semaphore.specs.declared.places.SemaphorePlace.{SemaphorePlace}
+use Rattle.steps_semaphore.specs.SemaphoreSteps.{semaphore_act, semaphore_first, semaphore_looking, semaphore_next, semaphore_right, semaphore_shares}
+use Rattle.steps_semaphore.specs.SemaphoreProfiles.{semaphore_profile}
 
 -- where a call of a lock of a kind begins
 abbrev pub first_place : Kind → Call → Place

@@ -6,9 +6,9 @@
 
 pub mod places;
 
-pub use lot_acts::{
+pub use steps_base::{
     Act, Check, Fallback, Next, Op, Owner, Owners, Pending, Phase, Reply, Wakes, Whom,
 };
-pub use lot_calls::{Answer, Call, Kind, MutexCall, OnceState, Outcome, Step, Turn};
-pub use lot_mutex::{Entry, HandOffAt, LockAt, MutexPlace, UnlockAt};
+pub use spec_locks::{Answer, Call, Kind, MutexCall, OnceState, Outcome, Step, Turn};
+pub use steps_mutex::{Entry, HandOffAt, LockAt, MutexPlace, UnlockAt};
 pub use places::{Place, advance, has_right};

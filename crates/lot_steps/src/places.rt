@@ -1,17 +1,17 @@
 //! Where a thread stands, and where each step leads it.
 ghost use Rattle.std.specs.Prelude.{◌≡◌};
-ghost use Rattle.lot_acts.specs.Acts.{outcome_of};
+ghost use Rattle.steps_base.specs.Acts.{outcome_of};
 ghost use Rattle.lot_steps.specs.Steps.{HasKeys, ShowsKeys, first_place, has_right, act_of, next_place, next_act, owners_after, shares_after, taker, wants, looking, late_key, owes_on, retries_on, is_idle};
 
-use lot_acts::{Act, Next, Owners, Reply};
-use lot_base::{Key, Want};
-use lot_calls::{Call, Kind, Outcome};
-use lot_condvar::{CondvarPlace, condvar_right};
-use lot_mutex::{MutexPlace, mutex_right};
-use lot_once::OncePlace;
-use lot_rwlock::Admission;
-use lot_rwlock_fair::{RwLockCallPlace, call_right};
-use lot_semaphore::{SemaphorePlace, semaphore_right};
+use steps_base::{Act, Next, Owners, Reply};
+use core_base::{Key, Want};
+use spec_locks::{Call, Kind, Outcome};
+use steps_condvar::{CondvarPlace, condvar_right};
+use steps_mutex::{MutexPlace, mutex_right};
+use steps_once::OncePlace;
+use steps_rwlock::Admission;
+use steps_rwlock_fair::{RwLockCallPlace, call_right};
+use steps_semaphore::{SemaphorePlace, semaphore_right};
 
 /// Where a thread stands: in no call, or in a call of a lock, with all that the call remembers.
 #[derive(Clone, Copy)]
@@ -76,7 +76,7 @@ impl Place {
         matches!(self, Place::Idle)
     }
 
-    /// What the thread does next.
+    /// Returns the thread's next act.
     pub fn act(self) -> Act
         requires { HasKeys self }
         ensures { result ≡ act_of self }
@@ -203,7 +203,7 @@ impl Place {
         Outcome::End(answer)
     }
 
-    /// What a thread is told that comes here.
+    /// Returns the outcome that a thread is told when it comes here.
     pub fn outcome(&self) -> Outcome
         ensures { result ≡ outcome_of (act_of self.now) }
     {
@@ -226,8 +226,8 @@ impl Place {
         next
     }
 
-    /// Who owns the lock after the thread's operation on its word, which saw this value. Those to
-    /// whom the operation hands the lock are told so, and own it too.
+    /// Returns the owners of the lock after the thread's operation on its word, which saw this
+    /// value. The threads to which the operation hands the lock are told so, and own it too.
     pub fn owners_after(&self, thread: usize, seen: u64, owners: Owners) -> Owners
         ensures { result ≡ owners_after self.now thread seen owners }
     {
@@ -255,7 +255,7 @@ impl Place {
         }
     }
 
-    /// What the thread wants, where it waits.
+    /// Returns what the thread wants, where it waits.
     pub fn wants(&self) -> Option<Want>
         ensures { result ≡ wants self.now }
     {

@@ -63,11 +63,6 @@ takes_last (Some x) (Some y) (Some z) [] p e q h some = absurd (omega arith)
 takes_last (Some x) (Some y) (Some z) (d ∷ line) p e q h some =
     ap lines_of (p ∙ ap (λ l. (d ∷ line) ++ l) e ∙ append-nil (d ∷ line)) ∙ lines_last d line h ∙ ap (λ l. (d ∷ line) ∷ lines_of l) (sym (q ∙ e))
 
-pub at_end : (a b : Option (List ℕ)) (line : List ℕ) → Consumes a b line → IsAtEnd b → line ≡ [] → IsAtEnd a
-at_end None b line p e none = tt
-at_end (Some x) None line p e none = absurd p
-at_end (Some x) (Some y) line p e none = p ∙ ap (λ l. l ++ y) none ∙ e
-
 pub too_long : (a b : Option (List ℕ)) (line : List ℕ) → Consumes a b line → IsOneLine line → line_len < length line → StartsTooLong a
 too_long None b line p h long = tt
 too_long (Some x) None line p h long = absurd p

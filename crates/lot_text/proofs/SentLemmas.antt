@@ -1,4 +1,4 @@
--- What several sends in a row send.
+-- Several sends in a row send their bytes one after the other.
 use Rattle.std.proofs.Common.{◌≡◌, ℕ, ◌+◌, ◌-◌, ◌≤◌, ◌<◌, ◌∷◌, None, Some, Result, Ok, Err, OnErr, is_ok, Bool, true, false, subst, List, [], ◌++◌, Option, take, drop, length, refl, sym, ap, ◌∙◌, inl, inr, arith, append_assoc, append-nil, take-append-drop, length-append, length-drop}
 use Rattle.std.specs.Io.KnownBytes.{Appends, Keeps}
 use Rattle.std.proofs.KnownBytes.{Appends-nil, Appends-trans, Keeps-refl, Keeps-trans}
@@ -89,16 +89,6 @@ nothing false a held = rw append-nil (sends_none a held)
 
 pub puts_nothing : (a : Option (List ℕ)) (p : Held) → Puts a a p p []
 puts_nothing a p = nothing p.lost a p.bytes
-
--- once a write failed, it doesn't matter what else was to go out
-lost_longer : (x y : Bool) (a c : Option (List ℕ)) (held left t u : List ℕ) → y ≡ true → PutsWhere x y a c held left t → PutsWhere x y a c held left (t ++ u)
-lost_longer true true a c held left t u e p = p
-lost_longer true false a c held left t u e p = absurd p
-lost_longer false true a c held left t u e p = subst (SendsFront a c) (append_assoc held t u) (front_longer a c (held ++ t) u p)
-lost_longer false false a c held left t u e p = cc
-
-pub puts_longer : (a c : Option (List ℕ)) (p q : Held) (t u : List ℕ) → q.lost ≡ true → Puts a c p q t → Puts a c p q (t ++ u)
-puts_longer a c p q t u = lost_longer p.lost q.lost a c p.bytes q.bytes t u
 
 -- from what a put did
 as_lost : (x y : Bool) (a c : Option (List ℕ)) (held left text : List ℕ) → x ≡ false → y ≡ true → SendsFront a c (held ++ text) → PutsWhere x y a c held left text

@@ -1,4 +1,4 @@
--- What reading a line takes from a reader.
+-- The bytes that reading a line takes from a reader.
 use Rattle.std.specs.Prelude.{◌≡◌, ◌≢◌, ℕ, ◌<◌, ◌≤◌, List, [], ◌∷◌, ◌++◌, length, ⊤, Option, None, Some, All}
 use Rattle.std.specs.Io.KnownBytes.{Consumes, Keeps, IsAtEnd}
 use Rattle.lot_text.specs.Lines.{line_len, lines_of}

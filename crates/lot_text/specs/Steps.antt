@@ -1,27 +1,27 @@
 -- Steps as a schedule has them, and the lines of a drain.
 use Rattle.std.specs.Prelude.{ℕ, true, false, List, [], ◌++◌, ◌≡◌, ◌<◌, ◌^◌, codes, decimal, Option, None, Some, slice_index_or, IfSome}
-use Rattle.lot_calls.specs.declared.calls.Access.{Access}
-use Rattle.lot_calls.specs.declared.calls.Access.TheVariants as access
-use Rattle.lot_calls.specs.declared.calls.Call.{Call}
-use Rattle.lot_calls.specs.declared.calls.Call.TheVariants as call
-use Rattle.lot_calls.specs.declared.calls.CondvarCall.{CondvarCall}
-use Rattle.lot_calls.specs.declared.calls.CondvarCall.TheVariants as condvar
-use Rattle.lot_calls.specs.declared.calls.Downgrade.{Downgrade}
-use Rattle.lot_calls.specs.declared.calls.Downgrade.TheVariants.{ToShared, ToUpgradable, UpgradableToShared}
-use Rattle.lot_calls.specs.declared.calls.MutexCall.{MutexCall}
-use Rattle.lot_calls.specs.declared.calls.MutexCall.TheVariants as mutex
-use Rattle.lot_calls.specs.declared.calls.OnceCall.{OnceCall}
-use Rattle.lot_calls.specs.declared.calls.OnceCall.TheVariants as once
-use Rattle.lot_calls.specs.declared.calls.Patience.{Patience}
-use Rattle.lot_calls.specs.declared.calls.Patience.TheVariants.{Patient, Timed, Try}
-use Rattle.lot_calls.specs.declared.calls.RwLockCall.{RwLockCall}
-use Rattle.lot_calls.specs.declared.calls.RwLockCall.TheVariants as rwlock
-use Rattle.lot_calls.specs.declared.calls.SemaphoreCall.{SemaphoreCall}
-use Rattle.lot_calls.specs.declared.calls.SemaphoreCall.TheVariants as semaphore
-use Rattle.lot_calls.specs.declared.calls.Step.{Step}
-use Rattle.lot_calls.specs.declared.calls.Turn.{Turn}
-use Rattle.lot_calls.specs.declared.calls.Turn.TheVariants as turn
-use Rattle.lot_calls.specs.Calls.{lock_in, mutex_in}
+use Rattle.spec_locks.specs.declared.calls.Access.{Access}
+use Rattle.spec_locks.specs.declared.calls.Access.TheVariants as access
+use Rattle.spec_locks.specs.declared.calls.Call.{Call}
+use Rattle.spec_locks.specs.declared.calls.Call.TheVariants as call
+use Rattle.spec_locks.specs.declared.calls.CondvarCall.{CondvarCall}
+use Rattle.spec_locks.specs.declared.calls.CondvarCall.TheVariants as condvar
+use Rattle.spec_locks.specs.declared.calls.Downgrade.{Downgrade}
+use Rattle.spec_locks.specs.declared.calls.Downgrade.TheVariants.{ToShared, ToUpgradable, UpgradableToShared}
+use Rattle.spec_locks.specs.declared.calls.MutexCall.{MutexCall}
+use Rattle.spec_locks.specs.declared.calls.MutexCall.TheVariants as mutex
+use Rattle.spec_locks.specs.declared.calls.OnceCall.{OnceCall}
+use Rattle.spec_locks.specs.declared.calls.OnceCall.TheVariants as once
+use Rattle.spec_locks.specs.declared.calls.Patience.{Patience}
+use Rattle.spec_locks.specs.declared.calls.Patience.TheVariants.{Patient, Timed, Try}
+use Rattle.spec_locks.specs.declared.calls.RwLockCall.{RwLockCall}
+use Rattle.spec_locks.specs.declared.calls.RwLockCall.TheVariants as rwlock
+use Rattle.spec_locks.specs.declared.calls.SemaphoreCall.{SemaphoreCall}
+use Rattle.spec_locks.specs.declared.calls.SemaphoreCall.TheVariants as semaphore
+use Rattle.spec_locks.specs.declared.calls.Step.{Step}
+use Rattle.spec_locks.specs.declared.calls.Turn.{Turn}
+use Rattle.spec_locks.specs.declared.calls.Turn.TheVariants as turn
+use Rattle.spec_locks.specs.Calls.{lock_in, mutex_in}
 use Rattle.lot_text.specs.declared.grammar.Command.TheVariants as command
 use Rattle.lot_text.specs.declared.grammar.NamedCall.{NamedCall}
 use Rattle.lot_text.specs.declared.grammar.NamedCall.TheVariants as named

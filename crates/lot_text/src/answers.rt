@@ -5,7 +5,7 @@ ghost use Rattle.lot_text.specs.Text.{state_text, answer_text, turn_line, malfor
 ghost use Rattle.std.specs.Prelude.{◌≡◌};
 
 use crate::output::Page;
-use lot_calls::{Answer, OnceState, Outcome};
+use spec_locks::{Answer, OnceState, Outcome};
 use std::io::Write;
 
 /// Prints the line that answers a thread's turn, as almost every line of an output does: so it is

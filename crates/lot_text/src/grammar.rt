@@ -1,12 +1,12 @@
-//! What a line means.
+//! The meaning of a line.
 ghost use Rattle.std.specs.Prelude.{ℕ, List, Some, decimal, ◌^◌, ◌≡◌, ◌≢◌, ◌<◌, ◌≤◌, [], ◌∷◌, length, take, slice_index, All, MatchOption};
 ghost use Rattle.lot_text.specs.Names.{name_of};
 ghost use Rattle.lot_text.specs.Grammar.{words_of, number_of, digits_after, kind_of, rwlock_kind_of, limited_kind_of, mutex_call_of, entering_call_of, fair_call_of, other_call_of, once_call_of, semaphore_call_of, notification_of, wait_of, call_of, turn_of, closing_turn_of, calling_turn_of, lock_command, turn_command, calling_command_of, command_of, meaning};
 
 use crate::names::Name;
 use crate::words::is_text;
-use lot_calls::kinds::MOST_READERS;
-use lot_calls::{
+use spec_locks::kinds::MOST_READERS;
+use spec_locks::{
     Access, Downgrade, Kind, MutexCall, OnceCall, Patience, RwLockCall, SemaphoreCall,
 };
 
@@ -41,7 +41,7 @@ pub enum NamedCall {
     Wait { mutex: Name, timed: bool },
 }
 
-/// What a thread does, of locks by their names.
+/// A thread's turn, with locks by their names.
 #[derive(Clone, Copy, PartialEq, Eq)]
 pub enum NamedTurn {
     /// It begins a call.
@@ -62,7 +62,7 @@ pub enum NamedTurn {
     Do { call: NamedCall, name: Name },
 }
 
-/// What a line says, where it has one of the forms.
+/// Returns the meaning of a line, where it has one of the forms.
 pub fn meaning(line: &[u8]) -> Option<Command>
     ensures { result ≡ meaning line.now }
 {

@@ -10,7 +10,7 @@ use std::io::{BufRead, ErrorKind};
 /// The longest line, without its line feed.
 pub const LINE_LEN: usize = 128;
 
-/// What came of reading a line.
+/// The result of reading a line.
 #[derive(Clone, Copy, Debug, PartialEq, Eq)]
 pub enum Reading {
     Line,
@@ -19,7 +19,7 @@ pub enum Reading {
     Failed,
 }
 
-/// What came of a look at the reader's bytes.
+/// The result of a look at the reader's bytes.
 #[derive(Clone, Copy)]
 pub enum Piece {
     More,

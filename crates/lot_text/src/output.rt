@@ -1,4 +1,4 @@
-//! What goes out, through a page of bytes.
+//! Output through a page of bytes.
 ghost use Rattle.std.specs.Prelude.{◌≡◌, ℕ, ◌≤◌, List, [], ◌++◌, true, false, length, take, decimal};
 ghost use Rattle.std.specs.Io.KnownBytes.{Appends};
 ghost use Rattle.lot_text.specs.Sent.{Held, Puts, Sends, SendsFront};

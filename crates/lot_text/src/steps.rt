@@ -5,7 +5,7 @@ ghost use Rattle.lot_text.specs.Steps.{mutex_word, read_word, upgradable_word, w
 
 use crate::names::Name;
 use crate::output::Page;
-use lot_calls::{
+use spec_locks::{
     Access, Call, CondvarCall, Downgrade, MutexCall, OnceCall, Patience, RwLockCall, SemaphoreCall,
     Step, Turn,
 };

@@ -16,7 +16,7 @@ pub enum PlainTurn {
     Late,
 }
 
-/// What a line says: a plain turn, or what its whole text means.
+/// A line that was read: a plain turn, or what its whole text means.
 #[derive(Clone, Copy)]
 pub enum Line {
     Turn { thread: usize, turn: PlainTurn },

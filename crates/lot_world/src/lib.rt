@@ -3,7 +3,7 @@
 
 pub mod world;
 
-pub use lot_calls::{Answer, Call, Kind, MutexCall, OnceState, Outcome, Step, Turn};
+pub use spec_locks::{Answer, Call, Kind, MutexCall, OnceState, Outcome, Step, Turn};
 pub use lot_machine::{Debt, DebtBook, Debts, Lock, OwnersOf, QueueOf};
 pub use lot_steps::{
     Act, Check, Entry, Fallback, HandOffAt, LockAt, MutexPlace, Next, Op, Owner, Owners, Pending,

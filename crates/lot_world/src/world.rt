@@ -1,14 +1,14 @@
 //! Any number of threads over locks, by a list of steps.
 ghost use Rattle.std.specs.Prelude.{ℕ, List, [], ◌∷◌, ◌≡◌, ◌<◌, ◌≤◌, ◌++◌, ◌+◌, ◌*◌, ◌⊎◌, IfOk, IfErr, OnOk, IsTrue, ◌↔◌, All, length, take, true, false, vec_len, vec_capacity};
-ghost use Rattle.lot_calls.specs.Kinds.{fits};
-ghost use Rattle.lot_calls.specs.Calls.{lock_in};
+ghost use Rattle.spec_locks.specs.Kinds.{fits};
+ghost use Rattle.spec_locks.specs.Calls.{lock_in};
 ghost use Rattle.lot_steps.specs.Steps.{first_place};
 ghost use Rattle.lot_machine.specs.Machine.{opening, place_at, word_at, kind_at, filled_at, queue_at, section_at, after, step_outcome, after_steps, step_outcomes, solo};
 ghost use Rattle.lot_machine.specs.Fits.{SameSize};
-ghost use Rattle.abstract_locks.specs.Runs.{IsOpening, IsStep, IsRun, purpose_at};
-ghost use Rattle.abstract_locks.specs.Headline.{Behaves, MayTell, Opens, full_by};
-ghost use Rattle.abstract_locks.specs.UserLaws.{ReadersStayOut, RereadersPass, UpgradesLetNobodyWrite, DowngradesOwn};
-ghost use Rattle.abstract_locks.specs.CondvarLaws.{NobodyWakesByItself};
+ghost use Rattle.spec_locks.specs.Runs.{IsOpening, IsStep, IsRun, purpose_at};
+ghost use Rattle.spec_locks.specs.Headline.{Behaves, MayTell, Opens, full_by};
+ghost use Rattle.spec_locks.specs.UserLaws.{ReadersStayOut, RereadersPass, UpgradesLetNobodyWrite, DowngradesOwn};
+ghost use Rattle.spec_locks.specs.CondvarLaws.{NobodyWakesByItself};
 ghost use Rattle.lot_laws.specs.Refinement.{locks_of, ChangesOneThing};
 ghost use Rattle.lot_laws.specs.Promises.{IsKept};
 ghost use Rattle.lot_laws.specs.Fair.{IsFair};
@@ -20,7 +20,7 @@ ghost use Rattle.lot_drain.specs.Drains.{IsDrainable, IsDrain};
 ghost use Rattle.lot_drain.specs.Drainable.{is_drainable};
 ghost use Rattle.lot_drain.specs.Schedules.{schedule_of};
 
-use lot_base::{Fault, Queues, main_key, second_key};
+use core_base::{Fault, Queues, main_key, second_key};
 use lot_drain::{is_drainable, schedule};
 use lot_machine::{DebtBook, Debts, Machine, OwnersOf, QueueOf};
 use lot_steps::{Call, Kind, Outcome, Place, Step, Turn};

@@ -1,0 +1,2 @@
+pub mod Modes
+pub mod Seats

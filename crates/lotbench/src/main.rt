@@ -1,7 +1,19 @@
 //! Times many operations on one lock, by one thread or by several that share them.
 #![tactic(auto)]
 
+mod condvars;
+mod least;
+mod loops;
+mod made;
+mod mutexes;
+mod plans;
+mod rows;
+mod runs;
+mod rwlocks;
+mod semaphores;
+mod shares;
 mod start;
+mod timing;
 
 use std::process::ExitCode;
 use std::rt::Env;

@@ -1,7 +1,7 @@
 //! The program's work for its arguments.
-use bench_runs::plans::{MODES, Plan, plan_of};
-use bench_runs::runs::{Figures, carry_out};
-use least_steps::timing::{Loop, time_loop};
+use crate::plans::{MODES, Plan, plan_of};
+use crate::runs::{Figures, carry_out};
+use crate::timing::{Loop, time_loop};
 use parking_lot::{Fault, ParkingLot};
 use std::alloc::Global;
 use std::io;

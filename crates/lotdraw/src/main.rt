@@ -1,7 +1,7 @@
 //! A schedule on standard input, its picture as SVG on standard output.
 #![tactic(auto)]
 
-use bucket_queues::BucketQueues;
+use core_queues::BucketQueues;
 use lot_draw::start::start;
 use lot_replay::status;
 use std::io::{BufReader, BufWriter, ErrorKind};

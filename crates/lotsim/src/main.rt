@@ -1,8 +1,12 @@
 //! Any number of threads over named locks, by a list of lines; or real threads on one lot.
 #![tactic(auto)]
 
-use bucket_queues::BucketQueues;
-use lot_live::live;
+mod live;
+#[cfg(test)]
+mod tests;
+
+use crate::live::live;
+use core_queues::BucketQueues;
 use lot_replay::start::start;
 use lot_replay::status;
 use std::io::{BufReader, ErrorKind};

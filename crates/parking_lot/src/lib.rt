@@ -6,22 +6,22 @@ pub use core_team::Team;
 pub use lock_api;
 pub use lock_api::{GetThreadId, WaitTimeoutResult, advance_count};
 pub use lock_api_rw;
-pub use lot_base::{ListQueues, LockPicker, Pick, Picker, Queues, Waiter};
-pub use lot_calls::{
+pub use core_base::{ListQueues, LockPicker, Pick, Picker, Queues, Waiter};
+pub use spec_locks::{
     Access, Answer, Call, CondvarCall, Downgrade, Kind, MutexCall, OnceCall, Patience, RwLockCall,
     SemaphoreCall,
 };
-pub use lot_condvar::{CondvarPlace, NotifyAt, Stands, WaitAt};
-pub use lot_once::{LookAt, OncePlace, RunAt};
-pub use lot_rwlock::{Admission, RwLockAt, RwLockPlace, RwLockPurpose};
-pub use lot_rwlock_fair::{HandOverAt, HandedAt, RwLockCallPlace, Taken};
-pub use lot_semaphore::{AcquireAt, ReleaseAt, SemaphorePlace, TryAt};
+pub use steps_condvar::{CondvarPlace, NotifyAt, Stands, WaitAt};
+pub use steps_once::{LookAt, OncePlace, RunAt};
+pub use steps_rwlock::{Admission, RwLockAt, RwLockPlace, RwLockPurpose};
+pub use steps_rwlock_fair::{HandOverAt, HandedAt, RwLockCallPlace, Taken};
+pub use steps_semaphore::{AcquireAt, ReleaseAt, SemaphorePlace, TryAt};
 pub use lot_world;
 pub use parking_lot_core::{
     Clock, Did, Fault, Key, Keys, Note, Op, ParkingLot, Requeue, Right, Section, SectionRecord,
     Slept, SystemClock, TickClock, Ticket, Token, Want, Word, WordKind, to_deadline,
 };
-pub use projections::{LockName, Mapped, Project, Shown, Then, ThenError};
+pub use lock_values::{LockName, Mapped, Project, Shown, Then, ThenError};
 pub use raw_mutexes::{
     OpenGuard, RawCondvar, RawFairMutex, RawGuard, RawMutex, RawShare, RawThreadId,
 };

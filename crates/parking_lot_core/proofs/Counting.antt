@@ -1,16 +1,16 @@
 -- Counts of mutexes: an ownership is taken in, says another count, and is split off again.
 use Rattle.std.proofs.Common.{◌≡◌, ◌≢◌, ◌∙◌, ℕ, ◌+◌, List, ◌∷◌, ◌||◌, true, cond, eqb, eq-eqb, ne_eqb, ap, arith, refl, sym, subst}
-use Rattle.lot_base.specs.declared.ops.Op.TheVariants.{Load, Store}
-use Rattle.lot_words.proofs.Trades.{is_itself}
-use Rattle.lot_words.specs.Codes.{exclusive}
-use Rattle.lot_words.specs.Indices.{mutex_of_count, word_index}
-use Rattle.lot_words.specs.Plays.{left_over, piece, stepping, takes_in}
-use Rattle.lot_words.specs.Steps.{CodesWith, after_step, has, listed, says_instead, without}
-use Rattle.lot_words.specs.Views.{owning, owning_with, view}
-use Rattle.lot_words.specs.declared.owners.Owner.TheVariants.{Exclusive}
-use Rattle.lot_words.specs.declared.owners.Ownership.{Ownership}
-use Rattle.lot_words.specs.declared.views.View.{View}
-use Rattle.lot_words.specs.declared.words.WordKind.TheVariants.{Mutex, Count}
+use Rattle.core_base.specs.declared.ops.Op.TheVariants.{Load, Store}
+use Rattle.core_words.proofs.Trades.{is_itself}
+use Rattle.core_words.specs.Codes.{exclusive}
+use Rattle.core_words.specs.Indices.{mutex_of_count, word_index}
+use Rattle.core_words.specs.Plays.{left_over, piece, stepping, takes_in}
+use Rattle.core_words.specs.Steps.{CodesWith, after_step, has, listed, says_instead, without}
+use Rattle.core_words.specs.Views.{owning, owning_with, view}
+use Rattle.core_words.specs.declared.owners.Owner.TheVariants.{Exclusive}
+use Rattle.core_words.specs.declared.owners.Ownership.{Ownership}
+use Rattle.core_words.specs.declared.views.View.{View}
+use Rattle.core_words.specs.declared.words.WordKind.TheVariants.{Mutex, Count}
 
 has_first : (x : Ownership) (xs : List Ownership) → has x (x ∷ xs) ≡ true
 has_first x xs = ap (λ b. b || has x xs) (is_itself x)

@@ -1,15 +1,15 @@
--- What is left to be given, place by place.
+-- The rights that are left to be given, place by place.
 use Rattle.std.proofs.Common.{◌≡◌, ◌∙◌, ℕ, List, [], ◌∷◌, ◌<◌, ◌≤◌, ◌+◌, ◌==◌, Bool, true, false, cond, not, drop, length, slice_index, slice_index_or, sym, refl, ap, subst, eq-eqb}
 use Rattle.std.specs.List.{filter}
 use Rattle.std.proofs.lemmas.List.{drop_more, drop_all}
-use Rattle.lot_base.specs.declared.wants.Want.{Want}
-use Rattle.lot_base.specs.declared.wants.Want.TheVariants.{Exclusive}
-use Rattle.lot_words.specs.Plays.{left_over}
-use Rattle.lot_words.specs.Rights.{named_by}
-use Rattle.lot_words.specs.Steps.{has}
-use Rattle.lot_words.specs.Views.{shown}
-use Rattle.lot_words.specs.declared.views.View.{View}
-use Rattle.lot_words.specs.declared.words.Word.{Word}
+use Rattle.core_base.specs.declared.wants.Want.{Want}
+use Rattle.core_base.specs.declared.wants.Want.TheVariants.{Exclusive}
+use Rattle.core_words.specs.Plays.{left_over}
+use Rattle.core_words.specs.Rights.{named_by}
+use Rattle.core_words.specs.Steps.{has}
+use Rattle.core_words.specs.Views.{shown}
+use Rattle.core_words.specs.declared.views.View.{View}
+use Rattle.core_words.specs.declared.words.Word.{Word}
 use Rattle.parking_lot_core.specs.Giving.{owner_at, HasEach, less_each}
 
 -- without all of these

@@ -2,7 +2,7 @@
 use Rattle.std.proofs.Common.{◌≡◌, Option, None, IfSome, ℕ, zero, suc, List, [], ◌∷◌, ◌++◌, ◌+◌, map, All, sym, ap, ◌∙◌, subst, arith}
 use Rattle.std.proofs.lemmas.List.{map-append}
 use Rattle.std.proofs.lemmas.List.Elements.{All-append}
-use Rattle.keyed_locks.specs.Guards.{HasValue}
+use Rattle.core_parts.specs.Guards.{HasValue}
 use Rattle.std.specs.List.{range_with_len}
 
 one : {A : Type 0} (P : A → Type 0) (x : A) → P x → All P (x ∷ [])

@@ -1,14 +1,14 @@
 -- The buckets of a section after each call.
 use Rattle.std.proofs.Common.{ℕ, ◌≡◌, ◌≢◌, inl, inr, List, [], ◌++◌, Some, sym, ap, subst, ◌∙◌}
 use Rattle.std.proofs.lemmas.Bool.{cases_eq}
-use Rattle.lot_base.specs.declared.keys.Keys.{Keys}
-use Rattle.lot_base.specs.declared.wants.Waiter.{Waiter}
-use Rattle.lot_base.specs.Lines.{line, lines}
-use Rattle.bucket_queues.specs.Chains.{bucket_of}
-use Rattle.bucket_queues.proofs.Joined.{everywhere}
-use Rattle.lot_queues.specs.Places.{AreTwo, IsSameBucket, KeepApart}
-use Rattle.lot_queues.specs.declared.queueing.Queueing.{Queueing}
-use Rattle.lot_queues.proofs.Halves.{first_of_both, line_both}
+use Rattle.core_base.specs.declared.keys.Keys.{Keys}
+use Rattle.core_base.specs.declared.wants.Waiter.{Waiter}
+use Rattle.core_base.specs.Lines.{line, lines}
+use Rattle.core_queues.specs.Chains.{bucket_of}
+use Rattle.core_queues.proofs.Joined.{everywhere}
+use Rattle.core_queues.specs.Places.{AreTwo, IsSameBucket, KeepApart}
+use Rattle.core_queues.specs.declared.queueing.Queueing.{Queueing}
+use Rattle.core_queues.proofs.Halves.{first_of_both, line_both}
 use Rattle.parking_lot_core.specs.Keys.{IsKeyOf}
 use Rattle.parking_lot_core.specs.Pairs.{AreApartAt, AreBuckets, IsAlone}
 

@@ -1,7 +1,7 @@
--- What a sleep that was told something, or that gave up, has ended in.
+-- The end of a sleep that was told something, or that gave up.
 use Rattle.std.proofs.Common.{ℕ}
-use Rattle.lot_words.specs.declared.words.Word.{Word}
-use Rattle.lot_base.specs.declared.wants.Want.{Want}
+use Rattle.core_words.specs.declared.words.Word.{Word}
+use Rattle.core_base.specs.declared.wants.Want.{Want}
 use Rattle.parking_lot_core.specs.Sleeps.{IsWoken, IsLate, IsSlept, WasLate}
 use Rattle.parking_lot_core.specs.declared.lot.ParkingLot.{ParkingLot}
 use Rattle.parking_lot_core.specs.declared.sleep.Slept.{Slept}

@@ -1,9 +1,9 @@
 -- Mutexes that are counted, and what all guards of one have together.
 use Rattle.std.specs.Prelude.{◌≡◌, ℕ, ◌+◌, ◌*◌, ◌<◌}
-use Rattle.lot_words.specs.RightsOf.{IsCountedOf}
-use Rattle.lot_words.specs.declared.table.LotWords.{LotWords}
-use Rattle.lot_words.specs.declared.words.Word.{Word}
-use Rattle.lot_words.specs.declared.words.WordKind.TheVariants.{Mutex, Count}
+use Rattle.core_words.specs.RightsOf.{IsCountedOf}
+use Rattle.core_words.specs.declared.table.LotWords.{LotWords}
+use Rattle.core_words.specs.declared.words.Word.{Word}
+use Rattle.core_words.specs.declared.words.WordKind.TheVariants.{Mutex, Count}
 use Rattle.parking_lot_core.specs.declared.counts.Kept.{Kept}
 
 -- a mutex, and the word behind it, on which it is counted

@@ -1,15 +1,15 @@
 -- The rights that are given to those whom a section took.
 use Rattle.std.specs.Prelude.{ℕ, List, slice_index_or}
-use Rattle.lot_base.specs.declared.wants.Want.{Want}
-use Rattle.lot_base.specs.declared.wants.Want.TheVariants as wants
-use Rattle.lot_words.specs.Indices.{word_index}
-use Rattle.lot_words.specs.Rights.{owner_given, owners_given}
-use Rattle.lot_words.specs.Steps.{HasAll, without_all}
-use Rattle.lot_words.specs.Views.{view}
-use Rattle.lot_words.specs.declared.owners.Owner.{Owner}
-use Rattle.lot_words.specs.declared.owners.Ownership.{Ownership}
-use Rattle.lot_words.specs.declared.views.View.{View}
-use Rattle.lot_words.specs.declared.words.Word.{Word}
+use Rattle.core_base.specs.declared.wants.Want.{Want}
+use Rattle.core_base.specs.declared.wants.Want.TheVariants as wants
+use Rattle.core_words.specs.Indices.{word_index}
+use Rattle.core_words.specs.Rights.{owner_given, owners_given}
+use Rattle.core_words.specs.Steps.{HasAll, without_all}
+use Rattle.core_words.specs.Views.{view}
+use Rattle.core_words.specs.declared.owners.Owner.{Owner}
+use Rattle.core_words.specs.declared.owners.Ownership.{Ownership}
+use Rattle.core_words.specs.declared.views.View.{View}
+use Rattle.core_words.specs.declared.words.Word.{Word}
 
 -- how the one at a place owns the word, which is left at this value
 abbrev pub owner_at : Word → ℕ → List Want → ℕ → Owner

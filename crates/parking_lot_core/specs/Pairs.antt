@@ -2,12 +2,12 @@
 use Rattle.std.specs.Prelude.{ℕ, ◌≡◌, ◌≢◌, List, [], Option, Some, None}
 use Rattle.std.specs.Sync.Mutex.{mutex_guard_value}
 use Rattle.std.specs.declared.sync.MutexGuard.{MutexGuard}
-use Rattle.lot_base.specs.declared.keys.Keys.{Keys}
-use Rattle.lot_base.specs.declared.wants.Waiter.{Waiter}
-use Rattle.bucket_queues.specs.Chains.{bucket_of}
-use Rattle.lot_queues.specs.Buckets.{AreApart}
-use Rattle.lot_queues.specs.Places.{AreTwo}
-use Rattle.lot_queues.specs.declared.queueing.Queueing.{Queueing}
+use Rattle.core_base.specs.declared.keys.Keys.{Keys}
+use Rattle.core_base.specs.declared.wants.Waiter.{Waiter}
+use Rattle.core_queues.specs.Chains.{bucket_of}
+use Rattle.core_queues.specs.Buckets.{AreApart}
+use Rattle.core_queues.specs.Places.{AreTwo}
+use Rattle.core_queues.specs.declared.queueing.Queueing.{Queueing}
 use Rattle.parking_lot_core.specs.Keys.{IsKeyOf}
 
 -- the waiters of the second bucket, if there is one

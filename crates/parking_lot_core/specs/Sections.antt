@@ -1,11 +1,11 @@
--- What stands in the queues of a section, and whom it took.
+-- The waiters in the queues of a section, and those that it took.
 use Rattle.std.specs.Prelude.{ℕ, ◌≡◌, List, [], Option}
 use Rattle.std.specs.Sync.Mutex.{mutex_guard_value}
-use Rattle.lot_base.specs.declared.notes.Note.{Note}
-use Rattle.lot_base.specs.declared.notes.Note.TheVariants.{Normal, HandOff}
-use Rattle.lot_base.specs.declared.wants.Waiter.{Waiter}
-use Rattle.lot_base.specs.declared.wants.Want.{Want}
-use Rattle.lot_queues.specs.Buckets.{both}
+use Rattle.core_base.specs.declared.notes.Note.{Note}
+use Rattle.core_base.specs.declared.notes.Note.TheVariants.{Normal, HandOff}
+use Rattle.core_base.specs.declared.wants.Waiter.{Waiter}
+use Rattle.core_base.specs.declared.wants.Want.{Want}
+use Rattle.core_queues.specs.Buckets.{both}
 use Rattle.parking_lot_core.specs.Pairs.{waiters_of}
 use Rattle.parking_lot_core.specs.declared.sections.Section.{Section}
 use Rattle.parking_lot_core.specs.declared.tokens.Did.TheVariants.{Nothing}

@@ -1,10 +1,10 @@
 -- How a sleep ends.
 use Rattle.std.specs.Prelude.{ℕ, ◌≡◌, Some}
-use Rattle.lot_words.specs.RightsOf.{IsRightOf, IsFor}
-use Rattle.lot_words.specs.declared.words.Word.{Word}
-use Rattle.lot_base.specs.Lines.{key_of}
-use Rattle.lot_base.specs.declared.wants.Want.{Want}
-use Rattle.lot_base.specs.declared.keys.Keys.TheVariants.{One}
+use Rattle.core_words.specs.RightsOf.{IsRightOf, IsFor}
+use Rattle.core_words.specs.declared.words.Word.{Word}
+use Rattle.core_base.specs.Lines.{key_of}
+use Rattle.core_base.specs.declared.wants.Want.{Want}
+use Rattle.core_base.specs.declared.keys.Keys.TheVariants.{One}
 use Rattle.parking_lot_core.specs.Sections.{IsUntouched, waiting_in}
 use Rattle.parking_lot_core.specs.declared.lot.ParkingLot.{ParkingLot}
 use Rattle.parking_lot_core.specs.declared.sleep.Slept.{Slept}

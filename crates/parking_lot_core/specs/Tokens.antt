@@ -1,9 +1,9 @@
--- Who belongs to a lot.
+-- The threads that belong to a lot.
 use Rattle.std.specs.Prelude.{◌≡◌, ◌<◌, ◌==◌, ℕ, List, [], Option, Some, None, if◌then◌else◌}
-use Rattle.lot_words.specs.Views.{blank, shown}
-use Rattle.lot_words.specs.Lots.{IsSeatOf}
-use Rattle.lot_words.specs.declared.table.LotWords.{LotWords}
-use Rattle.lot_words.specs.declared.views.View.{View}
+use Rattle.core_words.specs.Views.{blank, shown}
+use Rattle.core_words.specs.Lots.{IsSeatOf}
+use Rattle.core_words.specs.declared.table.LotWords.{LotWords}
+use Rattle.core_words.specs.declared.views.View.{View}
 use Rattle.parking_lot_core.specs.declared.lot.ParkingLot.{ParkingLot}
 use Rattle.parking_lot_core.specs.declared.tokens.SectionRecord.{SectionRecord}
 use Rattle.parking_lot_core.specs.declared.tokens.Ticket.{Ticket}

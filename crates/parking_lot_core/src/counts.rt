@@ -2,26 +2,26 @@
 #![tactic(auto, unfolding(crate::specs::Tokens::view_of))]
 
 ghost use Rattle.std.specs.Prelude.{◌≡◌, ◌≢◌, ◌+◌, ◌/◌, ◌<◌, None};
-ghost use Rattle.lot_base.specs.declared.ops.Op.TheVariants.{Load, Store};
-ghost use Rattle.lot_words.specs.Codes.{IsCountCode};
-ghost use Rattle.lot_words.specs.Indices.{word_index};
-ghost use Rattle.lot_words.specs.Lots.{IsWordOf, permit_of};
-ghost use Rattle.lot_words.specs.Plays.{stepping};
-ghost use Rattle.lot_words.specs.Rights.{OwnsWith};
-ghost use Rattle.lot_words.specs.RightsOf.{IsCountedOf, IsOpenOf};
-ghost use Rattle.lot_words.specs.Steps.{after_step};
-ghost use Rattle.lot_words.specs.declared.words.WordKind.TheVariants.{Mutex, Count};
+ghost use Rattle.core_base.specs.declared.ops.Op.TheVariants.{Load, Store};
+ghost use Rattle.core_words.specs.Codes.{IsCountCode};
+ghost use Rattle.core_words.specs.Indices.{word_index};
+ghost use Rattle.core_words.specs.Lots.{IsWordOf, permit_of};
+ghost use Rattle.core_words.specs.Plays.{stepping};
+ghost use Rattle.core_words.specs.Rights.{OwnsWith};
+ghost use Rattle.core_words.specs.RightsOf.{IsCountedOf, IsOpenOf};
+ghost use Rattle.core_words.specs.Steps.{after_step};
+ghost use Rattle.core_words.specs.declared.words.WordKind.TheVariants.{Mutex, Count};
 ghost use Rattle.parking_lot_core.specs.Tokens.{IsTokenOf, IsSameThread, view_of, last_of};
 
 use crate::lot::ParkingLot;
 use crate::tokens::Token;
-use lot_base::Op;
-use lot_words::laws::{count_may_step, mutex_may_step};
-use lot_words::{Counted, LotWords, OpenHeld, Word};
-use share_rows::{ShareRow, Shared};
-use value_place::Permit;
+use core_base::Op;
+use core_words::laws::{count_may_step, mutex_may_step};
+use core_words::{Counted, LotWords, OpenHeld, Word};
+use core_parts::{ShareRow, Shared};
+use core_parts::Permit;
 
-/// What all guards of a reentrant mutex have together: the ownership of the mutex, and what it says
+/// The common hold of all guards of a reentrant mutex: the ownership of the mutex, and what it says
 /// of the count word.
 #[derive(Drop)]
 pub struct Kept {

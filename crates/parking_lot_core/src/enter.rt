@@ -7,19 +7,19 @@
 //! that of a lower bucket before that of a higher one.
 ghost use Rattle.std.specs.Prelude.{ℕ, ◌≡◌, ◌≢◌, ◌⊎◌, ◌<◌, length};
 ghost use Rattle.std.specs.Sync.Mutex.{mutex_guard_value};
-ghost use Rattle.lot_base.specs.Lines.{line};
-ghost use Rattle.bucket_queues.specs.Chains.{bucket_of};
+ghost use Rattle.core_base.specs.Lines.{line};
+ghost use Rattle.core_queues.specs.Chains.{bucket_of};
 ghost use Rattle.parking_lot_core.specs.Keys.{AreKeys, IsKeyOf};
 ghost use Rattle.parking_lot_core.specs.Pairs.{IsBegun};
-ghost use Rattle.lot_base.specs.declared.keys.Keys.TheVariants.{Two};
+ghost use Rattle.core_base.specs.declared.keys.Keys.TheVariants.{Two};
 
 use crate::lot::ParkingLot;
 use crate::pauses::pause;
 use crate::sections::Section;
 use crate::tokens::{Did, Token};
-use bucket_queues::bucket_among;
-use lot_base::{Key, Keys, Note};
-use lot_queues::Queueing;
+use core_queues::bucket_among;
+use core_base::{Key, Keys, Note};
+use core_queues::Queueing;
 use std::sync::atomic::Ordering::SeqCst;
 use std::sync::{Mutex, MutexGuard, Wait};
 
@@ -201,7 +201,8 @@ impl ParkingLot {
         }
     }
 
-    // Who comes after a thread is read before it is woken: once it runs, it may be taken again.
+    // Wakes so many threads that were taken one after the other. Each one's successor is read
+    // before its wake: once the thread runs, it may be taken again.
     pub(crate) fn wake_tied<R: Wait>(&self, rt: &R, first: usize, number: usize, note: Note) {
         let mut thread = first;
         for _ in 0..number {

@@ -1,4 +1,4 @@
-//! What a thread's steps expect of a mutex's word.
+//! The values that a thread's steps expect of a mutex's word.
 ghost use Rattle.std.specs.Prelude.{◌≡◌, ◌≢◌, ◌<◌, ◌≤◌, ◌↔◌};
 
 /// The word of a mutex that nobody has, and what the unlock of one takes from it. While a thread

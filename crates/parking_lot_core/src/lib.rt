@@ -16,12 +16,12 @@ pub mod words;
 
 pub use counts::Kept;
 pub use lot::ParkingLot;
-pub use lot_base::{
+pub use core_base::{
     Clock, Fault, Key, Keys, Note, Op, Requeue, SystemClock, TickClock, Waiter, Want, to_deadline,
 };
-pub use lot_words::{Held, OpenHeld, Owner, Right, Word, WordKind};
+pub use core_words::{Held, OpenHeld, Owner, Right, Word, WordKind};
 pub use sections::Section;
 pub use sleep::Slept;
 pub use team::DEFAULT_WORDS;
 pub use tokens::{Did, SectionRecord, Ticket, Token};
-pub use value_place::Permit;
+pub use core_parts::Permit;

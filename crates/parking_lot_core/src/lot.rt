@@ -2,18 +2,18 @@
 ghost use Rattle.std.specs.Prelude.{◌≡◌, ◌<◌, ◌≤◌, IfOk, IfErr, IsTrue, ◌↔◌, All, length, map, ◌^◌};
 ghost use Rattle.std.specs.List.{range_with_len};
 ghost use Rattle.std.specs.Arc.{arc_value};
-ghost use Rattle.lot_words.specs.Indices.{most_words};
+ghost use Rattle.core_words.specs.Indices.{most_words};
 
 use crate::counts::Kept;
 use crate::tokens::Ticket;
 use crate::waiters::WakeRecord;
-use bucket_queues::bits_for;
+use core_queues::bits_for;
 use crossbeam_utils::sync::{Parker, Unparker};
-use keyed_locks::KeyedLocks;
-use lot_base::Fault;
-use lot_queues::{Queueing, Stands};
-use lot_words::{LotWords, Seat};
-use share_rows::ShareRow;
+use core_parts::KeyedLocks;
+use core_base::Fault;
+use core_queues::{Queueing, Stands};
+use core_words::{LotWords, Seat};
+use core_parts::ShareRow;
 use std::alloc::{AllocError, Global};
 use std::sync::atomic::AtomicUsize;
 use std::sync::{Arc, Mutex};
@@ -28,7 +28,7 @@ pub struct ParkingLot {
     pub(crate) bits: u32,
     pub(crate) records: KeyedLocks<LotWords, WakeRecord>,
     pub(crate) unparkers: Vec<Unparker>,
-    // Of a thread that was taken, the one that was taken next with it.
+    // For each thread that was taken, the one that was taken next with it.
     pub(crate) next_taken: Vec<AtomicUsize>,
     pub(crate) stands: Stands,
     // The mutexes that their owners lock again, by their numbers.
@@ -84,7 +84,7 @@ fn no_links(alloc: Global, seats: usize) -> Result<Vec<AtomicUsize>, AllocError>
 }
 
 impl ParkingLot {
-    ghost use Rattle.lot_words.specs.Lots.{IsSeatOf};
+    ghost use Rattle.core_words.specs.Lots.{IsSeatOf};
     ghost use Rattle.parking_lot_core.specs.Tokens.{IsNewTicket, IsNewTicketOf, number_of};
 
     // A ticket for each seat, numbered from 0, and what wakes its thread.

@@ -2,12 +2,12 @@
 ghost use Rattle.std.specs.Prelude.{◌≡◌, ◌≢◌, ◌<◌, ◌≤◌, ◌+◌, ◌++◌, ◌∷◌, ◌==◌, not, [], Some, Contains, MatchOption, length, slice_index, take, true};
 ghost use Rattle.std.specs.List.{filter};
 ghost use Rattle.std.specs.Sync.Mutex.{mutex_guard_value};
-ghost use Rattle.lot_base.specs.Lines.{waiter, line, lines, without, without_first, without_key, first_of, threads_of, key_of};
-ghost use Rattle.lot_base.specs.Picks.{lock_picked, without_lock_picked};
-ghost use Rattle.lot_base.specs.Requeues.{taken_by, moved_by, requeued};
-ghost use Rattle.lot_queues.specs.Wants.{wants_of, taken_in_line};
-ghost use Rattle.bucket_queues.specs.Chains.{bucket_of};
-ghost use Rattle.lot_queues.specs.Buckets.{HasNone};
+ghost use Rattle.core_base.specs.Lines.{waiter, line, lines, without, without_first, without_key, first_of, threads_of, key_of};
+ghost use Rattle.core_base.specs.Picks.{lock_picked, without_lock_picked};
+ghost use Rattle.core_base.specs.Requeues.{taken_by, moved_by, requeued};
+ghost use Rattle.core_queues.specs.Wants.{wants_of, taken_in_line};
+ghost use Rattle.core_queues.specs.Chains.{bucket_of};
+ghost use Rattle.core_queues.specs.Buckets.{HasNone};
 ghost use Rattle.parking_lot_core.specs.Keys.{IsKeyOf, first_key};
 ghost use Rattle.std.specs.Option.{ForNone, ForSome};
 ghost use Rattle.parking_lot_core.specs.Pairs.{AreApartAt, AreBuckets, IsAlone, IsBegun};
@@ -17,13 +17,13 @@ use crate::enter::never;
 use crate::expected::Expected;
 use crate::lot::ParkingLot;
 use crate::tokens::{Did, SectionRecord, Token};
-use lot_base::{Key, Keys, Note, Requeue, Want};
-use lot_queues::Queueing;
-use lot_words::{Owner, Right, Word};
+use core_base::{Key, Keys, Note, Requeue, Want};
+use core_queues::Queueing;
+use core_words::{Owner, Right, Word};
 use std::mem::swap;
 use std::sync::{MutexGuard, Wait};
 
-/// What a thread may do to the queues of its keys while nobody else does anything to them.
+/// The right of a thread to the queues of its keys, while no other thread does anything to them.
 ///
 /// It takes or moves waiters by one call at most, and wakes those that it took as it leaves. It has
 /// to be left: it can't be dropped.
@@ -68,11 +68,11 @@ impl<'a> Section<'a> {
     ghost use Rattle.parking_lot_core.specs.Sections.{waiting_in, taken_in, wants_in, rightless_in, moved_in, StaysIn, TookAs, MayNote};
     ghost use Rattle.parking_lot_core.specs.Tokens.{out_of, view_of};
     ghost use Rattle.parking_lot_core.specs.Giving.{owner_at, HasEach, less_each};
-    ghost use Rattle.lot_words.specs.Lots.{IsWordOf};
-    ghost use Rattle.lot_words.specs.Plays.{left_over};
-    ghost use Rattle.lot_words.specs.Rights.{named_by};
-    ghost use Rattle.lot_words.specs.RightsOf.{IsRightOf};
-    ghost use Rattle.lot_words.specs.Steps.{has};
+    ghost use Rattle.core_words.specs.Lots.{IsWordOf};
+    ghost use Rattle.core_words.specs.Plays.{left_over};
+    ghost use Rattle.core_words.specs.Rights.{named_by};
+    ghost use Rattle.core_words.specs.RightsOf.{IsRightOf};
+    ghost use Rattle.core_words.specs.Steps.{has};
 
     // Makes the bucket of a key the first. Nobody has been taken yet.
     fn turn_to(&mut self, key: Key)
@@ -266,15 +266,15 @@ impl<'a> Section<'a> {
         }
     }
 
-    /// Whom the section took, in order.
+    /// Returns the threads that the section took, in order.
     pub fn taken(&self) -> &[usize]
         ensures { result.now ≡ taken_in self.now }
     {
         self.first.taken()
     }
 
-    /// What each of them wants, in the same order. So who hands a lock over to several gives each
-    /// the right that it wants.
+    /// Returns the want of each of them, in the same order. By these a thread that hands a lock
+    /// over to several gives each the right that it wants.
     pub fn wants(&self) -> &[Want]
         ensures { result.now ≡ wants_in self.now }
     {
@@ -401,8 +401,8 @@ impl<'a> Section<'a> {
         drop(first);
     }
 
-    /// Leaves, with the token that entered. Whom the section took gets the note and is woken, and the
-    /// token keeps the record of it. With another token it never returns.
+    /// Leaves, with the token that entered. The threads that the section took get the note and are
+    /// woken, and the token keeps the record of it. With another token it never returns.
     #[tactic(auto, unfolding(crate::specs::Tokens::view_of))]
     pub fn leave<R: Wait>(self, rt: &R, token: &mut Token, note: Note)
         requires own { IsTokenOf self.lot.now token.old }

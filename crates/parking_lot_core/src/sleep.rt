@@ -1,13 +1,13 @@
 //! Sleep, until somebody wakes the thread or its time is up.
 ghost use Rattle.std.specs.Prelude.{◌≡◌, ◌<◌, IfSome, None};
-ghost use Rattle.lot_base.specs.Clocks.{IsUp};
+ghost use Rattle.core_base.specs.Clocks.{IsUp};
 
 use crate::lot::ParkingLot;
 use crate::pauses::pause;
 use crate::sections::Section;
 use crate::tokens::Token;
-use lot_base::{Clock, Key, Keys, Note, Want};
-use lot_words::{Right, Word};
+use core_base::{Clock, Key, Keys, Note, Want};
+use core_words::{Right, Word};
 use std::sync::Wait;
 
 // How often a thread polls its note before it parks, and the rounds of the pause behind each poll:
@@ -45,9 +45,9 @@ impl ParkingLot {
         }
     }
 
-    // What the thread was told, if anything. The right is looked at only once there is a note:
-    // whoever gives a right writes the note after it, and a note that came later would wake the
-    // next sleep.
+    // Looks whether the thread was told something. It looks at the right only once there is a note.
+    // A thread that gives a right writes the note after it, and a note that came later would wake
+    // the next sleep.
     fn look<'a, R: Wait>(
         &'a self,
         rt: &R,
@@ -127,7 +127,7 @@ impl ParkingLot {
                         if let Some(late) = self.give_up(rt, token.number) {
                             return late;
                         }
-                        // Whoever took the thread is about to wake it.
+                        // The thread that took this one is about to wake it.
                         limit = None;
                     }
                 }

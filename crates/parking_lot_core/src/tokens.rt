@@ -1,19 +1,20 @@
-//! Who steps in the lot.
+//! The threads that step in the lot.
 ghost use Rattle.std.specs.Prelude.{◌≡◌, ◌==◌, not, None};
 
 use crate::expected::Expected;
 use crossbeam_utils::sync::Parker;
-use lot_base::{Key, Requeue, Want};
-use lot_words::Seat;
+use core_base::{Key, Requeue, Want};
+use core_words::Seat;
 use std::marker::PhantomData;
 
-/// What a section took or moved.
+/// The waiters that a section took or moved.
 #[derive(Clone, Copy, Debug, PartialEq, Eq)]
 pub enum Did {
     Nothing,
     TakeFirst(Key),
     TakeAll(Key),
-    /// Who is picked of a reader-writer lock's queue by a thread that keeps this right of its own.
+    /// The waiters that are picked of a reader-writer lock's queue by a thread that keeps this
+    /// right of its own.
     TakePicked {
         key: Key,
         start: Option<Want>,
@@ -26,7 +27,7 @@ pub enum Did {
     },
 }
 
-/// What a thread did in a section that it has left.
+/// The record of a section that a thread has left.
 #[derive(Clone, Copy, Debug, PartialEq, Eq)]
 pub struct SectionRecord {
     /// The section's key, of two keys the first.
@@ -56,7 +57,7 @@ pub struct Token {
     pub(crate) seat: Seat,
     pub(crate) number: usize,
     pub(crate) parker: Parker,
-    // What it did in the section that it left last, if it has taken no step since.
+    // The record of the section that it left last, if it has taken no step since.
     pub(crate) record: SectionRecord,
     pub(crate) expected: Expected,
     here: PhantomData<*const ()>,
@@ -96,7 +97,7 @@ impl Ticket {
 impl Token {
     ghost use Rattle.parking_lot_core.specs.Tokens.{last_of};
 
-    /// The thread leaves the lot. What it owns stays with its ticket.
+    /// Takes the thread out of the lot. All that it owns stays with its ticket.
     pub fn leave(self) -> Ticket
         ensures { (result.seat ≡ self.seat) × (result.number ≡ self.number) }
     {
@@ -162,8 +163,8 @@ impl Token {
         self.expected = Expected::meeting();
     }
 
-    /// What the thread did in the section that it left last. None once it has stepped on a word
-    /// since.
+    /// Returns the record of the section that the thread left last. None once it has stepped on a
+    /// word since.
     #[inline]
     pub fn last_section(&self) -> Option<SectionRecord>
         ensures { result ≡ last_of self.now }

@@ -1,11 +1,11 @@
-//! What a thread that takes a waiter leaves for it.
+//! The records by which a thread that takes a waiter wakes it.
 ghost use Rattle.std.specs.Prelude.{◌≡◌, IfSome, None};
-ghost use Rattle.lot_words.specs.RightsOf.{IsRightOf, IsFor};
+ghost use Rattle.core_words.specs.RightsOf.{IsRightOf, IsFor};
 
 use crate::lot::ParkingLot;
-use keyed_locks::Keyed;
-use lot_base::{Note, Want};
-use lot_words::{LotWords, Right, Word};
+use core_parts::Keyed;
+use core_base::{Note, Want};
+use core_words::{LotWords, Right, Word};
 use std::sync::Wait;
 
 /// A waiter's record: its wake note, and a right that was handed to it.

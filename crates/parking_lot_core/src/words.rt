@@ -2,27 +2,27 @@
 #![tactic(auto, unfolding(crate::specs::Tokens::view_of))]
 
 ghost use Rattle.std.specs.Prelude.{◌≡◌, ◌≢◌, ℕ, ◌+◌, ◌%◌, ◌^◌, ◌<◌, ◌≤◌, ◌⊎◌, ◌∷◌, ◌++◌, [], true, None, IfOk, MatchOption, MatchResult};
-ghost use Rattle.lot_words.specs.Indices.{permits_in, plain, word_index};
-ghost use Rattle.lot_words.specs.Codes.{IsCountCode, ShowsBeside};
-ghost use Rattle.lot_words.specs.Views.{HasSeen};
-ghost use Rattle.lot_words.specs.Steps.{MayStep, CodesWith, after_step, has, holding};
-ghost use Rattle.lot_words.specs.Draws.{IsDrawn, IsDrawRefused};
-ghost use Rattle.lot_words.specs.Lots.{IsWordOf, permit_of};
-ghost use Rattle.lot_words.specs.Plays.{WithinPermits, entering_saw, left_over, stepping, takes_in};
-ghost use Rattle.lot_words.specs.Rights.{leaving_alone, named_by, owner_for, piece_of, OwnsWith};
-ghost use Rattle.lot_words.specs.Permits.{out_after};
-ghost use Rattle.lot_words.specs.RightsOf.{IsHeldOf, IsOpenOf, IsRightOf};
-ghost use Rattle.lot_words.specs.declared.owners.Owner.TheVariants.{Exclusive};
-ghost use Rattle.lot_words.specs.declared.words.WordKind.TheVariants.{Mutex, Condvar, Count, Semaphore};
-ghost use Rattle.lot_base.specs.declared.ops.Op.TheVariants.{Add, Exchange, Load, Or, Sub};
+ghost use Rattle.core_words.specs.Indices.{permits_in, plain, word_index};
+ghost use Rattle.core_words.specs.Codes.{IsCountCode, ShowsBeside};
+ghost use Rattle.core_words.specs.Views.{HasSeen};
+ghost use Rattle.core_words.specs.Steps.{MayStep, CodesWith, after_step, has, holding};
+ghost use Rattle.core_words.specs.Draws.{IsDrawn, IsDrawRefused};
+ghost use Rattle.core_words.specs.Lots.{IsWordOf, permit_of};
+ghost use Rattle.core_words.specs.Plays.{WithinPermits, entering_saw, left_over, stepping, takes_in};
+ghost use Rattle.core_words.specs.Rights.{leaving_alone, named_by, owner_for, piece_of, OwnsWith};
+ghost use Rattle.core_words.specs.Permits.{out_after};
+ghost use Rattle.core_words.specs.RightsOf.{IsHeldOf, IsOpenOf, IsRightOf};
+ghost use Rattle.core_words.specs.declared.owners.Owner.TheVariants.{Exclusive};
+ghost use Rattle.core_words.specs.declared.words.WordKind.TheVariants.{Mutex, Condvar, Count, Semaphore};
+ghost use Rattle.core_base.specs.declared.ops.Op.TheVariants.{Add, Exchange, Load, Or, Sub};
 ghost use Rattle.parking_lot_core.specs.Tokens.{IsTokenOf, IsSameThread, view_of, out_of, last_of};
 
 use crate::lot::ParkingLot;
 use crate::tokens::Token;
-use lot_base::{Fault, Op, Want};
-use lot_words::laws::{condvar_may_step, count_may_step};
-use lot_words::{Held, OpenHeld, Owner, Right, Word, WordKind};
-use value_place::Permit;
+use core_base::{Fault, Op, Want};
+use core_words::laws::{condvar_may_step, count_may_step};
+use core_words::{Held, OpenHeld, Owner, Right, Word, WordKind};
+use core_parts::Permit;
 
 impl ParkingLot {
     /// One step on a word, sequentially consistent. It answers the value before. With the step that

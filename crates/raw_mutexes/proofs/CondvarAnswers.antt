@@ -1,18 +1,18 @@
 -- The waits of a raw condition variable answer by what they give back.
 use Rattle.std.proofs.Common.{ℕ, ◌≡◌, ◌+◌, ◌++◌, ◌∙◌, ap, Bool, true, false, List, inl, inr, refl, sym, subst}
-use Rattle.lot_base.specs.declared.ops.Op.TheVariants.{Load}
-use Rattle.lot_calls.specs.declared.outcomes.Answer.{Answer}
-use Rattle.lot_calls.specs.declared.outcomes.Answer.TheVariants.{No, Number, TimedOut, TwoMutexes, Yes}
-use Rattle.lot_condvar.specs.CondvarSteps.{waited}
+use Rattle.core_base.specs.declared.ops.Op.TheVariants.{Load}
+use Rattle.spec_locks.specs.declared.outcomes.Answer.{Answer}
+use Rattle.spec_locks.specs.declared.outcomes.Answer.TheVariants.{No, Number, TimedOut, TwoMutexes, Yes}
+use Rattle.steps_condvar.specs.CondvarSteps.{waited}
 use Rattle.lock_raw.specs.Answers.{GivesBack, GivesBackTimed, IsLate, timed_answer, waiting_answer}
-use Rattle.lot_words.specs.declared.owners.Ownership.{Ownership}
-use Rattle.lot_words.specs.declared.views.WordStep.{WordStep}
+use Rattle.core_words.specs.declared.owners.Ownership.{Ownership}
+use Rattle.core_words.specs.declared.views.WordStep.{WordStep}
 use Rattle.parking_lot_core.specs.declared.tokens.Token.{Token}
-use Rattle.lot_driver.specs.CondvarFitting.{IsWaitOver, LateIf}
-use Rattle.lot_driver.specs.Paths.{condvar_at, step}
-use Rattle.lot_driver.specs.Stages.{Stage}
-use Rattle.lot_driver.specs.Telling.{steps_of}
-use Rattle.mutex_driver.specs.CondvarCalls.{AnswersWait, HasGoneOn, HasLooked, HasMoved, LookedElse, SawNobody, TellsMoved, ended, given_back}
+use Rattle.run_base.specs.CondvarFitting.{IsWaitOver, LateIf}
+use Rattle.run_base.specs.Paths.{condvar_at, step}
+use Rattle.run_base.specs.Stages.{Stage}
+use Rattle.run_base.specs.Telling.{steps_of}
+use Rattle.run_locks.specs.CondvarCalls.{AnswersWait, HasGoneOn, HasLooked, HasMoved, LookedElse, SawNobody, TellsMoved, ended, given_back}
 
 module _ {G : Type 0} (guard : G) where
   pub waits_so : (answer : Answer) → AnswersWait false answer → waiting_answer (given_back answer guard) ≡ answer

@@ -1,11 +1,11 @@
 -- Counts of mutexes, as words and as numbers of shares.
 use Rattle.std.proofs.Common.{◌≡◌, ◌≢◌, ◌∙◌, ℕ, ◌+◌, ◌-◌, ◌*◌, ◌/◌, ◌%◌, ◌<◌, ◌++◌, List, [], ◌∷◌, inr, ap, arith, subst, sym, refl}
 use Rattle.lock_raw.specs.Counts.{times_in}
-use Rattle.lot_words.specs.Codes.{IsCountCode}
-use Rattle.lot_words.specs.RightsOf.{IsCountedOf}
-use Rattle.lot_words.specs.declared.counted.Counted.{Counted}
-use Rattle.lot_words.specs.declared.table.LotWords.{LotWords}
-use Rattle.lot_words.specs.declared.views.WordStep.{WordStep}
+use Rattle.core_words.specs.Codes.{IsCountCode}
+use Rattle.core_words.specs.RightsOf.{IsCountedOf}
+use Rattle.core_words.specs.declared.counted.Counted.{Counted}
+use Rattle.core_words.specs.declared.table.LotWords.{LotWords}
+use Rattle.core_words.specs.declared.views.WordStep.{WordStep}
 use Rattle.parking_lot_core.specs.Counts.{IsKept}
 use Rattle.parking_lot_core.specs.declared.counts.Kept.{Kept}
 use Rattle.raw_mutexes.specs.Counting.{looks}

@@ -1,13 +1,13 @@
 -- Calls of which the first step is taken, and that have more to do.
 use Rattle.std.specs.Prelude.{◌≡◌, ℕ, List, ◌∷◌, ◌++◌}
-use Rattle.lot_calls.specs.declared.calls.MutexCall.{MutexCall}
-use Rattle.lot_calls.specs.declared.calls.MutexCall.TheVariants.{Unlock, UnlockFair, Bump}
-use Rattle.lot_driver.specs.Calls.{IsUnfinished, first_op}
-use Rattle.lot_driver.specs.MutexFitting.{held}
-use Rattle.lot_driver.specs.Paths.{mutex_at, step}
-use Rattle.lot_driver.specs.Telling.{owns_of, steps_of}
-use Rattle.lot_words.specs.declared.owners.Ownership.{Ownership}
-use Rattle.mutex_driver.specs.MutexCourses.{locked_and_parked}
+use Rattle.spec_locks.specs.declared.calls.MutexCall.{MutexCall}
+use Rattle.spec_locks.specs.declared.calls.MutexCall.TheVariants.{Unlock, UnlockFair, Bump}
+use Rattle.run_base.specs.Calls.{IsUnfinished, first_op}
+use Rattle.run_base.specs.MutexFitting.{held}
+use Rattle.run_base.specs.Paths.{mutex_at, step}
+use Rattle.run_base.specs.Telling.{owns_of, steps_of}
+use Rattle.core_words.specs.declared.owners.Ownership.{Ownership}
+use Rattle.run_locks.specs.MutexCourses.{locked_and_parked}
 use Rattle.parking_lot_core.specs.declared.tokens.Token.{Token}
 
 -- what the thread owns between, of who owned these beside the guard that it spends: who is to hand

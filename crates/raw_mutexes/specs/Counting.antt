@@ -1,20 +1,20 @@
 -- Mutexes that their owners lock again: their count words and their shares.
 use Rattle.std.specs.Prelude.{◌≡◌, ℕ, ◌+◌, List, [], ◌∷◌, ◌++◌, map}
 use Rattle.std.proofs.Props.{props}
-use Rattle.lot_base.specs.declared.ops.Op.TheVariants.{Load, Store}
-use Rattle.lot_driver.specs.Paths.{step}
-use Rattle.lot_driver.specs.Telling.{steps_of}
-use Rattle.lot_words.specs.Draws.{IsDrawn, IsDrawRefused}
-use Rattle.lot_words.specs.Indices.{word_index}
-use Rattle.lot_words.specs.Lots.{IsWordOf}
-use Rattle.lot_words.specs.declared.views.WordStep.{WordStep}
-use Rattle.lot_words.specs.declared.words.Word.{Word}
-use Rattle.lot_words.specs.declared.words.WordKind.TheVariants.{Mutex, Count}
+use Rattle.core_base.specs.declared.ops.Op.TheVariants.{Load, Store}
+use Rattle.run_base.specs.Paths.{step}
+use Rattle.run_base.specs.Telling.{steps_of}
+use Rattle.core_words.specs.Draws.{IsDrawn, IsDrawRefused}
+use Rattle.core_words.specs.Indices.{word_index}
+use Rattle.core_words.specs.Lots.{IsWordOf}
+use Rattle.core_words.specs.declared.views.WordStep.{WordStep}
+use Rattle.core_words.specs.declared.words.Word.{Word}
+use Rattle.core_words.specs.declared.words.WordKind.TheVariants.{Mutex, Count}
 use Rattle.parking_lot_core.specs.Tokens.{view_of}
 use Rattle.parking_lot_core.specs.declared.lot.ParkingLot.{ParkingLot}
 use Rattle.parking_lot_core.specs.declared.tokens.Token.{Token}
 use Rattle.raw_mutexes.specs.declared.counting.RawShare.{RawShare}
-use Rattle.share_rows.specs.Entries as rows
+use Rattle.core_parts.specs.Entries as rows
 
 -- the word on which a mutex of the lot is counted: that of the next number
 abbrev pub IsCountOf : ParkingLot → Word → Word → Type 0

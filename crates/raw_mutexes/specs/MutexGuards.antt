@@ -2,12 +2,12 @@
 use Rattle.std.specs.Prelude.{◌≡◌}
 use Rattle.std.proofs.Props.{props}
 use Rattle.std.proofs.Common.{◌∙◌}
-use Rattle.lot_words.specs.Lots.{permit_of}
-use Rattle.lot_words.specs.RightsOf.{IsOpenOf}
-use Rattle.lot_words.specs.declared.words.Word.{Word}
+use Rattle.core_words.specs.Lots.{permit_of}
+use Rattle.core_words.specs.RightsOf.{IsOpenOf}
+use Rattle.core_words.specs.declared.words.Word.{Word}
 use Rattle.raw_mutexes.specs.declared.guards.OpenGuard.{OpenGuard}
 use Rattle.raw_mutexes.specs.declared.guards.RawGuard.{RawGuard}
-use Rattle.value_place.specs.PermitIds.{PermitId}
+use Rattle.core_parts.specs.PermitIds.{PermitId}
 use Rattle.parking_lot_core.specs.Tokens.{view_of}
 use Rattle.parking_lot_core.specs.declared.lot.ParkingLot.{ParkingLot}
 use Rattle.parking_lot_core.specs.declared.tokens.Token.{Token}

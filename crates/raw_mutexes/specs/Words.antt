@@ -1,6 +1,6 @@
 -- The lot and the word of a raw mutex.
 use Rattle.std.specs.Arc.{arc_value}
-use Rattle.lot_words.specs.declared.words.Word.{Word}
+use Rattle.core_words.specs.declared.words.Word.{Word}
 use Rattle.parking_lot_core.specs.declared.lot.ParkingLot.{ParkingLot}
 use Rattle.raw_mutexes.specs.declared.raw_mutex.RawMutex.{RawMutex}
 

@@ -2,8 +2,8 @@
 ghost use Rattle.std.specs.Prelude.{◌≡◌, ◌+◌, ◌/◌, ◌<◌, ◌++◌, ◌∷◌, [], IfErr, IfOk, IfSome, MatchOption, MatchResult};
 ghost use Rattle.std.specs.Arc.{arc_value};
 ghost use Rattle.lock_raw.specs.Counts.{Names, times_in};
-ghost use Rattle.lot_base.specs.declared.faults.Fault.TheVariants.{LockCountFull};
-ghost use Rattle.lot_driver.specs.Telling.{steps_of};
+ghost use Rattle.core_base.specs.declared.faults.Fault.TheVariants.{LockCountFull};
+ghost use Rattle.run_base.specs.Telling.{steps_of};
 ghost use Rattle.parking_lot_core.specs.Tokens.{IsTokenOf};
 ghost use Rattle.raw_mutexes.specs.Counting.{DrewPair, FoundFew, IsCountOf, IsCountOf-prop, IsShareOf, IsShareOf-prop, SawCount, StoredCount, count_at, looks, thread_of};
 ghost use Rattle.raw_mutexes.specs.MutexGuards.{IsGuardOf, StaysAs};
@@ -11,10 +11,10 @@ ghost use Rattle.raw_mutexes.specs.MutexGuards.{IsGuardOf, StaysAs};
 use crate::guards::RawGuard;
 use crate::raw_mutex::RawMutex;
 use lock_raw::{GetThreadId, RawMutexCounted, advance_count};
-use lot_words::LotWords;
-use lot_words::laws::count_may_step;
+use core_words::LotWords;
+use core_words::laws::count_may_step;
 use parking_lot_core::{Fault, Kept, ParkingLot, Token, Word};
-use share_rows::Share;
+use core_parts::Share;
 use std::sync::{Arc, Wait};
 
 const ONE_THREAD: u64 = 4294967296;

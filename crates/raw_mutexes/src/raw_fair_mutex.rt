@@ -2,13 +2,13 @@
 ghost use Rattle.std.specs.Prelude.{◌≡◌};
 ghost use Rattle.std.specs.Arc.{arc_value};
 ghost use Rattle.parking_lot_core.specs.Tokens.{IsTokenOf, last_of};
-ghost use Rattle.lot_driver.specs.Calls.{fairly, HasWalked, Sees, Releases};
-ghost use Rattle.lot_words.specs.declared.words.WordKind.TheVariants.{Mutex};
-ghost use Rattle.lot_driver.specs.Drawing.{Drew, FoundFull};
-ghost use Rattle.lot_driver.specs.Stages.{TookNobodyAt};
+ghost use Rattle.run_base.specs.Calls.{fairly, HasWalked, Sees, Releases};
+ghost use Rattle.core_words.specs.declared.words.WordKind.TheVariants.{Mutex};
+ghost use Rattle.run_base.specs.Drawing.{Drew, FoundFull};
+ghost use Rattle.run_base.specs.Stages.{TookNobodyAt};
 ghost use Rattle.raw_mutexes.specs.Begun.{HasBegun};
 ghost use Rattle.raw_mutexes.specs.MutexGuards.{IsGuardOf, IsGuardOf-prop, IsOpenGuardOf, IsOpenGuardOf-prop, permit_in, StaysAs, StaysAs-on};
-ghost use Rattle.lot_driver.specs.Telling.{steps_of};
+ghost use Rattle.run_base.specs.Telling.{steps_of};
 
 use crate::guards::{OpenGuard, RawGuard};
 use crate::raw_mutex::RawMutex;

@@ -1,33 +1,33 @@
 //! The mutex, without a value.
 ghost use Rattle.std.specs.Prelude.{◌≡◌, ◌<◌, ◌*◌, ◌++◌, List, None, true, IfNone, IfSome};
 ghost use Rattle.std.specs.Arc.{arc_value};
-ghost use Rattle.lot_base.specs.Clocks.{IsUp};
+ghost use Rattle.core_base.specs.Clocks.{IsUp};
 ghost use Rattle.lock_raw.specs.Answers.{answer_by};
-ghost use Rattle.lot_calls.specs.declared.calls.MutexCall.TheVariants.{Bump, LockTimed, Unlock, UnlockFair};
-ghost use Rattle.lot_calls.specs.declared.outcomes.Answer.TheVariants.{Ok as ok};
-ghost use Rattle.lot_words.specs.Lots.{IsWordOf};
-ghost use Rattle.lot_words.specs.Plays.{piece, left_over, takes_in};
-ghost use Rattle.lot_words.specs.Steps.{has};
-ghost use Rattle.lot_words.specs.declared.words.WordKind.TheVariants.{Mutex};
+ghost use Rattle.spec_locks.specs.declared.calls.MutexCall.TheVariants.{Bump, LockTimed, Unlock, UnlockFair};
+ghost use Rattle.spec_locks.specs.declared.outcomes.Answer.TheVariants.{Ok as ok};
+ghost use Rattle.core_words.specs.Lots.{IsWordOf};
+ghost use Rattle.core_words.specs.Plays.{piece, left_over, takes_in};
+ghost use Rattle.core_words.specs.Steps.{has};
+ghost use Rattle.core_words.specs.declared.words.WordKind.TheVariants.{Mutex};
 ghost use Rattle.parking_lot_core.specs.Tokens.{IsTokenOf, IsSameThread, view_of, last_of};
 ghost use Rattle.parking_lot_core.specs.declared.tokens.Token.{Token};
-ghost use Rattle.mutex_driver.specs.MutexCourses.{locked_and_parked};
+ghost use Rattle.run_locks.specs.MutexCourses.{locked_and_parked};
 ghost use Rattle.raw_mutexes.specs.Begun.{HasBegun};
-ghost use Rattle.lot_words.specs.declared.views.WordStep.{WordStep};
-ghost use Rattle.lot_driver.specs.Calls.{MeetAt, purpose_in, IsUnfinished, HasWalked, Sees, Releases, WalksBehind};
-ghost use Rattle.lot_driver.specs.Drawing.{Drew, FoundFull};
+ghost use Rattle.core_words.specs.declared.views.WordStep.{WordStep};
+ghost use Rattle.run_base.specs.Calls.{MeetAt, purpose_in, IsUnfinished, HasWalked, Sees, Releases, WalksBehind};
+ghost use Rattle.run_base.specs.Drawing.{Drew, FoundFull};
 ghost use Rattle.raw_mutexes.specs.MutexGuards.{IsGuardOf, IsGuardOf-prop, IsOpenGuardOf, IsOpenGuardOf-prop, permit_in, StaysAs, StaysAs-on};
-ghost use Rattle.lot_driver.specs.MutexFitting.{IsMutexOver, held, releases};
-ghost use Rattle.lot_driver.specs.Stages.{TookNobodyAt};
-ghost use Rattle.lot_driver.specs.Stages.{stage_of};
-ghost use Rattle.lot_driver.specs.Telling.{owns_of, steps_of};
+ghost use Rattle.run_base.specs.MutexFitting.{IsMutexOver, held, releases};
+ghost use Rattle.run_base.specs.Stages.{TookNobodyAt};
+ghost use Rattle.run_base.specs.Stages.{stage_of};
+ghost use Rattle.run_base.specs.Telling.{owns_of, steps_of};
 
 use crate::guards::{OpenGuard, RawGuard};
-use lot_base::main_key;
-use lot_calls::{Answer, MutexCall};
-use lot_driver::driver::{NO_LIMIT, behind, step};
-use lot_mutex::{LOCKED, PARKED, is_locked, is_parked};
-use mutex_driver::unlocks::unlock_behind;
+use core_base::main_key;
+use spec_locks::{Answer, MutexCall};
+use run_base::driver::{NO_LIMIT, behind, step};
+use steps_mutex::{LOCKED, PARKED, is_locked, is_parked};
+use run_locks::unlocks::unlock_behind;
 use parking_lot_core::{
     Clock, Fault, Key, Op, ParkingLot, Permit, Token, Word, WordKind, to_deadline,
 };

@@ -1,21 +1,21 @@
 -- A release by halves: from where its right is joined to its end.
 use Rattle.std.proofs.Common.{◌≡◌, List, refl, ap, ◌∙◌, subst}
-use Rattle.lot_calls.specs.declared.calls.Access.{Access}
-use Rattle.lot_calls.specs.declared.outcomes.Answer.{Answer}
-use Rattle.lot_driver.specs.Paths.{Walks, at_rwlock, rwlock_at}
-use Rattle.lot_driver.specs.RwLockCalls.{BeginsWith, Wakes, rwlock_begin}
-use Rattle.lot_rwlock.specs.RwLockSteps.{wanted}
-use Rattle.lot_rwlock.specs.declared.purposes.RwLockPurpose.TheVariants.{Release}
-use Rattle.lot_words.specs.Plays.{piece, takes_in}
-use Rattle.lot_words.specs.Rights.{owner_for}
-use Rattle.lot_words.specs.Views.{owning}
-use Rattle.lot_words.specs.declared.views.View.{View}
-use Rattle.lot_words.specs.declared.views.WordStep.{WordStep}
+use Rattle.spec_locks.specs.declared.calls.Access.{Access}
+use Rattle.spec_locks.specs.declared.outcomes.Answer.{Answer}
+use Rattle.run_base.specs.Paths.{Walks, at_rwlock, rwlock_at}
+use Rattle.run_base.specs.RwLockCalls.{BeginsWith, Wakes, rwlock_begin}
+use Rattle.steps_rwlock.specs.RwLockSteps.{wanted}
+use Rattle.steps_rwlock.specs.declared.purposes.RwLockPurpose.TheVariants.{Release}
+use Rattle.core_words.specs.Plays.{piece, takes_in}
+use Rattle.core_words.specs.Rights.{owner_for}
+use Rattle.core_words.specs.Views.{owning}
+use Rattle.core_words.specs.declared.views.View.{View}
+use Rattle.core_words.specs.declared.views.WordStep.{WordStep}
 use Rattle.parking_lot_core.specs.Tokens.{view_of, last_of}
 use Rattle.parking_lot_core.specs.declared.tokens.Token.{Token}
 use Rattle.raw_rwlocks.specs.RwLockHalves.{HasReleased}
 use Rattle.raw_rwlocks.specs.declared.rwlock_rights.LotRwLock.{LotRwLock}
-use Rattle.rwlock_driver.specs.Halves.{HasEnded}
+use Rattle.run_locks.specs.Halves.{HasEnded}
 
 module _ (lock : LotRwLock) (x : Access) (old joined : Token) (same : joined.number ≡ old.number) (view : view_of joined ≡ takes_in (view_of old) (piece (owning (rwlock_at lock.word.number) (owner_for (wanted x))))) where
   pub begins_releasing : BeginsWith lock.word.number (Release x) (view_of old).owns (view_of joined).owns

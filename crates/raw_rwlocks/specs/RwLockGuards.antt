@@ -1,8 +1,8 @@
 -- Guards of reader-writer locks: the rights to read, to read and upgrade, and to own alone.
 use Rattle.std.proofs.Props.{props}
-use Rattle.lot_words.specs.declared.owners.Owner.TheVariants.{Exclusive, Shared, Upgradable}
-use Rattle.lot_words.specs.declared.words.Word.{Word}
-use Rattle.lot_driver.specs.RwLockCalls.{IsRwLockRight}
+use Rattle.core_words.specs.declared.owners.Owner.TheVariants.{Exclusive, Shared, Upgradable}
+use Rattle.core_words.specs.declared.words.Word.{Word}
+use Rattle.run_base.specs.RwLockCalls.{IsRwLockRight}
 use Rattle.raw_rwlocks.specs.declared.rwlock_guards.RawExclusiveGuard.{RawExclusiveGuard}
 use Rattle.raw_rwlocks.specs.declared.rwlock_guards.RawSharedGuard.{RawSharedGuard}
 use Rattle.raw_rwlocks.specs.declared.rwlock_guards.RawUpgradableGuard.{RawUpgradableGuard}

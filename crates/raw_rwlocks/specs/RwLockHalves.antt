@@ -1,29 +1,29 @@
 -- The halves of a call of a reader-writer lock, of which the fast one may be all, and to what they come.
 use Rattle.std.specs.Prelude.{◌≡◌, Option, IfErr, IfNone, IfOk, IfSome, MatchResult}
 use Rattle.std.specs.declared.result.Result.{Result}
-use Rattle.lot_base.specs.declared.faults.Fault.{Fault}
-use Rattle.lot_base.specs.declared.faults.Fault.TheVariants.{ReadersFull}
-use Rattle.lot_calls.specs.declared.calls.Access.{Access}
-use Rattle.lot_calls.specs.declared.calls.Patience.{Patience}
-use Rattle.lot_calls.specs.declared.calls.RwLockCall.{RwLockCall}
-use Rattle.lot_calls.specs.declared.calls.RwLockCall.TheVariants as calls
-use Rattle.lot_calls.specs.declared.outcomes.Answer.TheVariants.{Ok as ok}
-use Rattle.lot_driver.specs.Paths.{rwlock_at}
-use Rattle.lot_driver.specs.RwLockCalls.{HasWalkedRwLock, IsRwLockRight, StaysBeside, WakesBy, entry_answer}
-use Rattle.lot_driver.specs.RwLockFitting.{IsCounted, MayGiveUp}
-use Rattle.lot_rwlock.specs.RwLockSteps.{wanted}
-use Rattle.lot_rwlock.specs.declared.purposes.RwLockPurpose.TheVariants.{Enter, Release}
-use Rattle.lot_words.specs.Plays.{piece, takes_in}
-use Rattle.lot_words.specs.Rights.{owner_for}
-use Rattle.lot_words.specs.Views.{owning}
-use Rattle.lot_words.specs.declared.rights.Held.{Held}
+use Rattle.core_base.specs.declared.faults.Fault.{Fault}
+use Rattle.core_base.specs.declared.faults.Fault.TheVariants.{ReadersFull}
+use Rattle.spec_locks.specs.declared.calls.Access.{Access}
+use Rattle.spec_locks.specs.declared.calls.Patience.{Patience}
+use Rattle.spec_locks.specs.declared.calls.RwLockCall.{RwLockCall}
+use Rattle.spec_locks.specs.declared.calls.RwLockCall.TheVariants as calls
+use Rattle.spec_locks.specs.declared.outcomes.Answer.TheVariants.{Ok as ok}
+use Rattle.run_base.specs.Paths.{rwlock_at}
+use Rattle.run_base.specs.RwLockCalls.{HasWalkedRwLock, IsRwLockRight, StaysBeside, WakesBy, entry_answer}
+use Rattle.run_base.specs.RwLockFitting.{IsCounted, MayGiveUp}
+use Rattle.steps_rwlock.specs.RwLockSteps.{wanted}
+use Rattle.steps_rwlock.specs.declared.purposes.RwLockPurpose.TheVariants.{Enter, Release}
+use Rattle.core_words.specs.Plays.{piece, takes_in}
+use Rattle.core_words.specs.Rights.{owner_for}
+use Rattle.core_words.specs.Views.{owning}
+use Rattle.core_words.specs.declared.rights.Held.{Held}
 use Rattle.parking_lot_core.specs.Tokens.{view_of}
 use Rattle.parking_lot_core.specs.declared.tokens.Token.{Token}
 use Rattle.raw_rwlocks.specs.RwLockUsers.{admission_in, lot_in, word_in}
 use Rattle.raw_rwlocks.specs.declared.rwlock_rights.LotRwLock.{LotRwLock}
-use Rattle.rwlock_driver.specs.Halves.{HasBegun}
-use Rattle.rwlock_driver.specs.RwLockRefusals.{GaveUp, SawFull}
-use Rattle.rwlock_driver.specs.declared.calls.Rest.{Rest}
+use Rattle.run_locks.specs.Halves.{HasBegun}
+use Rattle.run_locks.specs.RwLockRefusals.{GaveUp, SawFull}
+use Rattle.run_locks.specs.declared.rwlock_calls.Rest.{Rest}
 
 -- a call that enters gave this: the right, nothing where it gave up, or that the lock is full
 abbrev pub HasEntered : Type 0 → LotRwLock → Access → Patience → Result (Option Held) Fault → Token

@@ -1,8 +1,8 @@
 -- The names that clauses of users of reader-writer locks cite.
 use Rattle.std.specs.Prelude.{ℕ}
 use Rattle.std.specs.Arc.{arc_value}
-use Rattle.lot_rwlock.specs.declared.places.Admission.{Admission}
-use Rattle.lot_words.specs.declared.words.Word.{Word}
+use Rattle.steps_rwlock.specs.declared.places.Admission.{Admission}
+use Rattle.core_words.specs.declared.words.Word.{Word}
 use Rattle.raw_rwlocks.specs.declared.rwlock_rights.LotRwLock.{LotRwLock}
 use Rattle.raw_rwlocks.specs.declared.raw_rwlock.RawRwLock.{RawRwLock}
 use Rattle.parking_lot_core.specs.declared.lot.ParkingLot.{ParkingLot}

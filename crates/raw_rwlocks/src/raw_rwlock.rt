@@ -2,24 +2,24 @@
 ghost use Rattle.std.specs.Prelude.{◌≡◌, ◌⊎◌, ◌≤◌, ◌+◌, ◌*◌, IfOk, MatchResult};
 ghost use Rattle.std.specs.Arc.{arc_value};
 ghost use Rattle.parking_lot_core.specs.Tokens.{IsTokenOf};
-ghost use Rattle.lot_driver.specs.RwLockCalls.{HasWalkedCall, SeesBy, StaysSettled, StaysSettled-on, WakesByCall, is_held, is_held_alone};
-ghost use Rattle.rwlock_driver.specs.RwLockRefusals.{GaveUpCall, SawFull};
+ghost use Rattle.run_base.specs.RwLockCalls.{HasWalkedCall, SeesBy, StaysSettled, StaysSettled-on, WakesByCall, is_held, is_held_alone};
+ghost use Rattle.run_locks.specs.RwLockRefusals.{GaveUpCall, SawFull};
 ghost use Rattle.lock_raw.specs.Answers.{IsRefusal};
-ghost use Rattle.lot_place.specs.Places.{place_of as place_at};
-ghost use Rattle.lot_words.specs.Rights.{piece_of};
-ghost use Rattle.lot_words.specs.declared.owners.Owner.TheVariants.{Exclusive, Shared, Upgradable};
-ghost use Rattle.lot_words.specs.declared.words.WordKind.TheVariants.{RwLock};
-ghost use Rattle.lot_driver.specs.Drawing.{Drew, FoundFull};
+ghost use Rattle.lock_values.specs.Places.{place_of as place_at};
+ghost use Rattle.core_words.specs.Rights.{piece_of};
+ghost use Rattle.core_words.specs.declared.owners.Owner.TheVariants.{Exclusive, Shared, Upgradable};
+ghost use Rattle.core_words.specs.declared.words.WordKind.TheVariants.{RwLock};
+ghost use Rattle.run_base.specs.Drawing.{Drew, FoundFull};
 ghost use Rattle.raw_rwlocks.specs.RwLockGuards.{IsExclusiveOf, IsExclusiveOf-prop, IsSharedOf, IsSharedOf-prop, IsUpgradableOf, IsUpgradableOf-prop};
 
 use crate::rwlock_guards::{RawExclusiveGuard, RawSharedGuard, RawUpgradableGuard};
 use crate::rwlock_rights::LotRwLock;
-use lot_acts::bits::{count_in, has_writer};
-use lot_calls::{Access, Downgrade, Patience};
-use lot_driver::driver::FOR_EVER;
-use lot_place::{Open, Place, Seen, calls};
+use steps_base::bits::{count_in, has_writer};
+use spec_locks::{Access, Downgrade, Patience};
+use run_base::driver::FOR_EVER;
+use lock_values::{Open, Place, Seen, calls};
 use parking_lot_core::{Fault, Key, ParkingLot, Token, Want};
-use rwlock_driver::calls::Rest;
+use run_locks::rwlock_calls::Rest;
 use std::sync::{Arc, Wait};
 
 // So many may share a lock for which nothing else is chosen.

@@ -1,12 +1,12 @@
 //! The reader-writer lock, handed over to those who wait.
 ghost use Rattle.std.specs.Prelude.{◌≡◌, ◌<◌, ◌-◌, ◌^◌};
 ghost use Rattle.std.specs.Arc.{arc_value};
-ghost use Rattle.lot_words.specs.Lots.{IsWordOf};
-ghost use Rattle.lot_words.specs.declared.words.WordKind.TheVariants.{RwLock};
+ghost use Rattle.core_words.specs.Lots.{IsWordOf};
+ghost use Rattle.core_words.specs.declared.words.WordKind.TheVariants.{RwLock};
 
 use crate::raw_rwlock::RawRwLock;
 use crate::rwlock_guards::{RawExclusiveGuard, RawSharedGuard, RawUpgradableGuard};
-use lot_calls::Access;
+use spec_locks::Access;
 use parking_lot_core::{Fault, Token};
 use std::sync::Wait;
 

@@ -1,7 +1,7 @@
 //! Calls of a reader-writer lock that give up in time.
 use crate::raw_rwlock::RawRwLock;
 use crate::rwlock_guards::{RawExclusiveGuard, RawSharedGuard, RawUpgradableGuard};
-use lot_calls::{Access, Patience};
+use spec_locks::{Access, Patience};
 use parking_lot_core::{Clock, Fault, Token, to_deadline};
 use std::sync::Wait;
 use std::time::Duration;
@@ -9,13 +9,13 @@ use std::time::Duration;
 impl<const RECURSIVE: bool> RawRwLock<RECURSIVE> {
     ghost use Rattle.std.specs.Prelude.{◌≡◌, IfErr, IfNone, IfOk, IfSome, MatchResult};
     ghost use Rattle.lock_raw.specs.Answers.{answer_by, counted_answer, upgrade_answer};
-    ghost use Rattle.lot_base.specs.Clocks.{IsUp};
-    ghost use Rattle.lot_calls.specs.declared.calls.Access.TheVariants as access;
-    ghost use Rattle.lot_calls.specs.declared.calls.Patience.TheVariants.{Timed};
-    ghost use Rattle.lot_rwlock.specs.declared.purposes.RwLockPurpose.TheVariants.{Enter, Upgrade};
+    ghost use Rattle.core_base.specs.Clocks.{IsUp};
+    ghost use Rattle.spec_locks.specs.declared.calls.Access.TheVariants as access;
+    ghost use Rattle.spec_locks.specs.declared.calls.Patience.TheVariants.{Timed};
+    ghost use Rattle.steps_rwlock.specs.declared.purposes.RwLockPurpose.TheVariants.{Enter, Upgrade};
     ghost use Rattle.parking_lot_core.specs.Tokens.{IsTokenOf};
-    ghost use Rattle.lot_driver.specs.RwLockCalls.{HasWalkedRwLock, StaysSettled};
-    ghost use Rattle.rwlock_driver.specs.RwLockRefusals.{GaveUp, SawFull};
+    ghost use Rattle.run_base.specs.RwLockCalls.{HasWalkedRwLock, StaysSettled};
+    ghost use Rattle.run_locks.specs.RwLockRefusals.{GaveUp, SawFull};
     ghost use Rattle.raw_rwlocks.specs.RwLockGuards.{IsExclusiveOf, IsSharedOf, IsUpgradableOf};
     ghost use Rattle.raw_rwlocks.specs.RwLockUsers.{admission_of, lot_of, word_of};
 

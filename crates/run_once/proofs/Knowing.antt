@@ -1,28 +1,28 @@
 -- A thread's knowledge and rights behind a call of a `Once`.
 use Rattle.std.proofs.Common.{ℕ, zero, suc, ◌≡◌, Bool, true, false, List, ◌∷◌, Option, None, refl, sym, ap, ◌∙◌, subst}
-use Rattle.abstract_locks.specs.Codes.{is_done}
-use Rattle.lot_acts.specs.declared.acts.Act.{Act}
-use Rattle.lot_acts.specs.declared.acts.Reply.TheVariants.{Value}
-use Rattle.lot_calls.specs.declared.calls.OnceCall.{OnceCall}
-use Rattle.lot_calls.specs.declared.outcomes.Answer.{Answer}
-use Rattle.lot_calls.specs.declared.outcomes.Answer.TheVariants as answers
-use Rattle.lot_once.specs.OnceSteps.{is_timed, when_done}
-use Rattle.lot_words.specs.Steps.{has, without}
-use Rattle.lot_words.specs.Views.{owning}
-use Rattle.lot_words.specs.declared.owners.Owner.TheVariants.{Runner, Witness}
-use Rattle.lot_words.specs.declared.owners.Ownership.{Ownership}
-use Rattle.lot_words.proofs.RwLockOwning.{first_goes, has_first}
+use Rattle.spec_locks.specs.Codes.{is_done}
+use Rattle.steps_base.specs.declared.acts.Act.{Act}
+use Rattle.steps_base.specs.declared.acts.Reply.TheVariants.{Value}
+use Rattle.spec_locks.specs.declared.calls.OnceCall.{OnceCall}
+use Rattle.spec_locks.specs.declared.outcomes.Answer.{Answer}
+use Rattle.spec_locks.specs.declared.outcomes.Answer.TheVariants as answers
+use Rattle.steps_once.specs.OnceSteps.{is_timed, when_done}
+use Rattle.core_words.specs.Steps.{has, without}
+use Rattle.core_words.specs.Views.{owning}
+use Rattle.core_words.specs.declared.owners.Owner.TheVariants.{Runner, Witness}
+use Rattle.core_words.specs.declared.owners.Ownership.{Ownership}
+use Rattle.core_words.proofs.RwLockOwning.{first_goes, has_first}
 use Rattle.parking_lot_core.specs.declared.tokens.SectionRecord.{SectionRecord}
 use Rattle.parking_lot_core.specs.declared.tokens.Token.{Token}
 use Rattle.parking_lot_core.specs.Tokens.{last_of}
-use Rattle.lot_calls.specs.declared.calls.OnceCall.TheVariants.{CallOnce, Wait, WaitTimed}
-use Rattle.lot_calls.specs.declared.outcomes.OnceState.{OnceState}
+use Rattle.spec_locks.specs.declared.calls.OnceCall.TheVariants.{CallOnce, Wait, WaitTimed}
+use Rattle.spec_locks.specs.declared.outcomes.OnceState.{OnceState}
 use Rattle.lot_steps.specs.Steps.{next_place}
-use Rattle.lot_driver.specs.Fitting.{ReachedBy, aim_of, answer_of}
-use Rattle.lot_driver.specs.OnceFitting.{LooksAnswer, OwnsBehind, OwnsKnowing, OwnsRun, knowing}
-use Rattle.lot_driver.specs.Paths.{once_at}
-use Rattle.lot_driver.specs.Stages.{stage_of}
-use Rattle.lot_driver.specs.Telling.{owns_of, steps_of}
+use Rattle.run_base.specs.Fitting.{ReachedBy, aim_of, answer_of}
+use Rattle.run_base.specs.OnceFitting.{LooksAnswer, OwnsBehind, OwnsKnowing, OwnsRun, knowing}
+use Rattle.run_base.specs.Paths.{once_at}
+use Rattle.run_base.specs.Stages.{stage_of}
+use Rattle.run_base.specs.Telling.{owns_of, steps_of}
 use Rattle.run_once.specs.OnceCalls.{Closes, ComesTo, EndsRun, HasSeen, LookOwns, LooksBy, in_closure, once_begin}
 use Rattle.run_once.specs.declared.once_calls.Look.TheVariants.{Ended}
 use Rattle.run_once.specs.Looks.{Began, CameTo, FoundDone, came_by}

@@ -1,49 +1,49 @@
 -- The calls of a `Once`: what they come to, by what a run of the driver came to.
 use Rattle.std.proofs.Common.{ℕ, ◌≡◌, ◌<◌, ◌/◌, ◌%◌, Bool, true, false, List, ◌++◌, ◌⊎◌, Option, None, Some, if◌then◌else◌, inl, inr, sym, refl, ap, subst, arith}
-use Rattle.abstract_locks.specs.Codes.{is_done, is_marked}
-use Rattle.lot_base.specs.declared.ops.Op.TheVariants.{Load, Swap}
-use Rattle.lot_calls.specs.declared.calls.OnceCall.{OnceCall}
-use Rattle.lot_calls.specs.declared.calls.OnceCall.TheVariants.{CallOnce, Wait, WaitTimed}
-use Rattle.lot_calls.specs.declared.outcomes.Answer.{Answer}
-use Rattle.lot_calls.specs.declared.outcomes.Answer.TheVariants as answers
-use Rattle.lot_calls.specs.declared.outcomes.OnceState.{OnceState}
-use Rattle.lot_acts.specs.declared.acts.Act as act
-use Rattle.lot_acts.specs.declared.acts.Next as next
-use Rattle.lot_acts.specs.declared.acts.Reply.TheVariants.{Value}
-use Rattle.lot_condvar.specs.declared.places.CondvarPlace.TheVariants as waiting
-use Rattle.lot_once.specs.OnceSteps.{course_act, course_of, ended, give_up_act, in_look, in_run, look_act, looked_by, state_before, when_done, word_behind}
-use Rattle.lot_once.specs.declared.look.Course.{Course}
-use Rattle.lot_once.specs.declared.look.Course.TheVariants.{Ends, Runs, Marks, Parks}
-use Rattle.lot_once.specs.declared.look.LookAt.{LookAt}
-use Rattle.lot_once.specs.declared.look.LookAt.TheVariants as look
-use Rattle.lot_once.specs.declared.run.RunAt.TheVariants as run
-use Rattle.lot_once.specs.declared.give_up.GiveUpAt.{GiveUpAt}
-use Rattle.lot_once.specs.declared.give_up.GiveUpAt.TheVariants as give_up
-use Rattle.lot_once.specs.declared.places.OncePlace.TheVariants.{Look, Run, GiveUp}
+use Rattle.spec_locks.specs.Codes.{is_done, is_marked}
+use Rattle.core_base.specs.declared.ops.Op.TheVariants.{Load, Swap}
+use Rattle.spec_locks.specs.declared.calls.OnceCall.{OnceCall}
+use Rattle.spec_locks.specs.declared.calls.OnceCall.TheVariants.{CallOnce, Wait, WaitTimed}
+use Rattle.spec_locks.specs.declared.outcomes.Answer.{Answer}
+use Rattle.spec_locks.specs.declared.outcomes.Answer.TheVariants as answers
+use Rattle.spec_locks.specs.declared.outcomes.OnceState.{OnceState}
+use Rattle.steps_base.specs.declared.acts.Act as act
+use Rattle.steps_base.specs.declared.acts.Next as next
+use Rattle.steps_base.specs.declared.acts.Reply.TheVariants.{Value}
+use Rattle.steps_condvar.specs.declared.places.CondvarPlace.TheVariants as waiting
+use Rattle.steps_once.specs.OnceSteps.{course_act, course_of, ended, give_up_act, in_look, in_run, look_act, looked_by, state_before, when_done, word_behind}
+use Rattle.steps_once.specs.declared.look.Course.{Course}
+use Rattle.steps_once.specs.declared.look.Course.TheVariants.{Ends, Runs, Marks, Parks}
+use Rattle.steps_once.specs.declared.look.LookAt.{LookAt}
+use Rattle.steps_once.specs.declared.look.LookAt.TheVariants as look
+use Rattle.steps_once.specs.declared.run.RunAt.TheVariants as run
+use Rattle.steps_once.specs.declared.give_up.GiveUpAt.{GiveUpAt}
+use Rattle.steps_once.specs.declared.give_up.GiveUpAt.TheVariants as give_up
+use Rattle.steps_once.specs.declared.places.OncePlace.TheVariants.{Look, Run, GiveUp}
 use Rattle.lot_steps.specs.Steps.{next_act, next_place, once_does, once_goes}
 use Rattle.lot_steps.specs.declared.places.Place.{Place}
 use Rattle.lot_steps.specs.declared.places.Place.TheVariants.{Idle, Mutex, RwLock, Once, Condvar, Semaphore}
-use Rattle.lot_words.specs.Codes.{IsOnceWord, runner}
-use Rattle.lot_words.specs.Indices.{word_index}
-use Rattle.lot_words.specs.Steps.{CodesWith, has, owns_after_step, without}
-use Rattle.lot_words.specs.Views.{owned, owning}
-use Rattle.lot_words.specs.declared.owners.Owner.TheVariants.{Runner}
-use Rattle.lot_words.specs.declared.owners.Ownership.{Ownership}
-use Rattle.lot_words.specs.declared.views.WordStep.{WordStep}
-use Rattle.lot_words.specs.declared.words.Word.{Word}
-use Rattle.lot_words.specs.declared.words.WordKind as kinds
-use Rattle.lot_words.proofs.Trades.{owned_some}
-use Rattle.lot_driver.specs.Fitting.{IsStopped, Reached, ReachedBy, answer_of, of_once, of_run}
-use Rattle.lot_driver.specs.OnceFitting.{LooksAnswer, OwnsBehind, OwnsRun}
-use Rattle.lot_driver.specs.Paths.{Brings, Path, Walks, at_once, once_at, onces, step, word}
-use Rattle.lot_driver.specs.Stages.{Stage, stage}
-use Rattle.lot_driver.specs.Words.{alone, at_in, kind_in}
-use Rattle.lot_driver.specs.declared.driver.Stop.TheVariants.{Paused}
-use Rattle.lot_words.proofs.OnceSteps.{each_once_code}
-use Rattle.lot_driver.proofs.OnceLeading.{lands}
-use Rattle.lot_driver.proofs.Paths.{comes_here, comes_then, comes_on, ends_at_once, goes_on}
-use Rattle.lot_driver.proofs.RwLockLeading.{rwlock_no_closure}
-use Rattle.lot_driver.proofs.SemaphoreLeading.{semaphore_no_closure}
+use Rattle.core_words.specs.Codes.{IsOnceWord, runner}
+use Rattle.core_words.specs.Indices.{word_index}
+use Rattle.core_words.specs.Steps.{CodesWith, has, owns_after_step, without}
+use Rattle.core_words.specs.Views.{owned, owning}
+use Rattle.core_words.specs.declared.owners.Owner.TheVariants.{Runner}
+use Rattle.core_words.specs.declared.owners.Ownership.{Ownership}
+use Rattle.core_words.specs.declared.views.WordStep.{WordStep}
+use Rattle.core_words.specs.declared.words.Word.{Word}
+use Rattle.core_words.specs.declared.words.WordKind as kinds
+use Rattle.core_words.proofs.Trades.{owned_some}
+use Rattle.run_base.specs.Fitting.{IsStopped, Reached, ReachedBy, answer_of, of_once, of_run}
+use Rattle.run_base.specs.OnceFitting.{LooksAnswer, OwnsBehind, OwnsRun}
+use Rattle.run_base.specs.Paths.{Brings, Path, Walks, at_once, once_at, onces, step, word}
+use Rattle.run_base.specs.Stages.{Stage, stage}
+use Rattle.run_base.specs.Words.{alone, at_in, kind_in}
+use Rattle.run_base.specs.declared.driver.Stop.TheVariants.{Paused}
+use Rattle.core_words.proofs.OnceSteps.{each_once_code}
+use Rattle.run_base.proofs.OnceLeading.{lands}
+use Rattle.run_base.proofs.Paths.{comes_here, comes_then, comes_on, ends_at_once, goes_on}
+use Rattle.run_base.proofs.RwLockLeading.{rwlock_no_closure}
+use Rattle.run_base.proofs.SemaphoreLeading.{semaphore_no_closure}
 use Rattle.run_once.specs.OnceCalls.{ComesTo, EndsRun, in_closure, once_begin, run_end}
 
 -- a look runs no closure

@@ -1,16 +1,16 @@
 -- A call of a `Once`, up to its closure.
 use Rattle.std.specs.Prelude.{ℕ, ◌≡◌, Bool, true, false}
-use Rattle.lot_calls.specs.declared.calls.OnceCall.{OnceCall}
-use Rattle.lot_calls.specs.declared.calls.OnceCall.TheVariants.{CallOnce}
-use Rattle.lot_calls.specs.declared.outcomes.Answer.{Answer}
-use Rattle.lot_calls.specs.declared.outcomes.Answer.TheVariants as answers
-use Rattle.lot_calls.specs.declared.outcomes.OnceState.{OnceState}
-use Rattle.lot_once.specs.OnceSteps.{is_forced, is_timed, state_before, when_done}
+use Rattle.spec_locks.specs.declared.calls.OnceCall.{OnceCall}
+use Rattle.spec_locks.specs.declared.calls.OnceCall.TheVariants.{CallOnce}
+use Rattle.spec_locks.specs.declared.outcomes.Answer.{Answer}
+use Rattle.spec_locks.specs.declared.outcomes.Answer.TheVariants as answers
+use Rattle.spec_locks.specs.declared.outcomes.OnceState.{OnceState}
+use Rattle.steps_once.specs.OnceSteps.{is_forced, is_timed, state_before, when_done}
 use Rattle.parking_lot_core.specs.Tokens.{last_of}
 use Rattle.parking_lot_core.specs.declared.tokens.Token.{Token}
-use Rattle.lot_driver.specs.OnceFitting.{KnowsIt, OwnsRun}
-use Rattle.lot_driver.specs.Stages.{TookNobodyAt}
-use Rattle.lot_driver.specs.Telling.{owns_of, steps_of}
+use Rattle.run_base.specs.OnceFitting.{KnowsIt, OwnsRun}
+use Rattle.run_base.specs.Stages.{TookNobodyAt}
+use Rattle.run_base.specs.Telling.{owns_of, steps_of}
 use Rattle.run_once.specs.OnceCalls.{ComesTo, in_closure, once_begin}
 use Rattle.run_once.specs.Ran.{HasLooked, StaysKnowing}
 use Rattle.run_once.specs.declared.once.Came.{Came}

@@ -1,29 +1,29 @@
 -- The calls of a `Once`, by the steps that they took.
 use Rattle.std.specs.Prelude.{ℕ, ◌≡◌, ◌<◌, Bool, true, false, List, [], ◌++◌, Option, None}
-use Rattle.abstract_locks.specs.Codes.{is_marked}
-use Rattle.lot_acts.specs.declared.acts.Reply.TheVariants.{Value}
-use Rattle.lot_base.specs.declared.ops.Op.TheVariants.{Load, Swap}
-use Rattle.lot_calls.specs.declared.calls.OnceCall.{OnceCall}
-use Rattle.lot_calls.specs.declared.calls.OnceCall.TheVariants.{CallOnce}
-use Rattle.lot_once.specs.OnceSteps.{ended, once_first, state_before, word_behind}
-use Rattle.lot_once.specs.declared.run.RunAt.TheVariants as run
-use Rattle.lot_once.specs.declared.places.OncePlace.TheVariants.{Run}
+use Rattle.spec_locks.specs.Codes.{is_marked}
+use Rattle.steps_base.specs.declared.acts.Reply.TheVariants.{Value}
+use Rattle.core_base.specs.declared.ops.Op.TheVariants.{Load, Swap}
+use Rattle.spec_locks.specs.declared.calls.OnceCall.{OnceCall}
+use Rattle.spec_locks.specs.declared.calls.OnceCall.TheVariants.{CallOnce}
+use Rattle.steps_once.specs.OnceSteps.{ended, once_first, state_before, word_behind}
+use Rattle.steps_once.specs.declared.run.RunAt.TheVariants as run
+use Rattle.steps_once.specs.declared.places.OncePlace.TheVariants.{Run}
 use Rattle.lot_steps.specs.declared.places.Place.{Place}
 use Rattle.lot_steps.specs.declared.places.Place.TheVariants.{Once}
-use Rattle.lot_words.specs.Lots.{IsWordOf}
-use Rattle.lot_words.specs.declared.owners.Ownership.{Ownership}
-use Rattle.lot_words.specs.declared.views.WordStep.{WordStep}
-use Rattle.lot_words.specs.declared.words.Word.{Word}
-use Rattle.lot_words.specs.declared.words.WordKind as kinds
+use Rattle.core_words.specs.Lots.{IsWordOf}
+use Rattle.core_words.specs.declared.owners.Ownership.{Ownership}
+use Rattle.core_words.specs.declared.views.WordStep.{WordStep}
+use Rattle.core_words.specs.declared.words.Word.{Word}
+use Rattle.core_words.specs.declared.words.WordKind as kinds
 use Rattle.parking_lot_core.specs.Tokens.{IsTokenOf}
 use Rattle.parking_lot_core.specs.declared.lot.ParkingLot.{ParkingLot}
 use Rattle.parking_lot_core.specs.declared.tokens.SectionRecord.{SectionRecord}
 use Rattle.parking_lot_core.specs.declared.tokens.Token.{Token}
-use Rattle.lot_driver.specs.Fitting.{Reached}
-use Rattle.lot_driver.specs.OnceFitting.{LooksAnswer, OwnsRun, WokeAll}
-use Rattle.lot_driver.specs.Paths.{Path, Walks, at_once, once_at, step}
-use Rattle.lot_driver.specs.Stages.{stage_of}
-use Rattle.lot_driver.specs.Telling.{owns_of, steps_of}
+use Rattle.run_base.specs.Fitting.{Reached}
+use Rattle.run_base.specs.OnceFitting.{LooksAnswer, OwnsRun, WokeAll}
+use Rattle.run_base.specs.Paths.{Path, Walks, at_once, once_at, step}
+use Rattle.run_base.specs.Stages.{stage_of}
+use Rattle.run_base.specs.Telling.{owns_of, steps_of}
 use Rattle.run_once.specs.declared.once_calls.Look.{Look}
 use Rattle.run_once.specs.declared.once_calls.Look.TheVariants.{Ended, Runs}
 

@@ -1,27 +1,27 @@
 -- The calls of a `Once` that have run a closure, or waited for a run.
 use Rattle.std.specs.Prelude.{ℕ, ◌≡◌, ◌≢◌, ◌⊎◌, ◌++◌, Bool, true, false, List, Ok, Err, if◌then◌else◌}
 use Rattle.std.specs.declared.result.Result.{Result}
-use Rattle.abstract_locks.specs.Codes.{is_done, is_poisoned, is_running}
-use Rattle.lot_base.specs.declared.faults.Fault.{Fault}
-use Rattle.lot_base.specs.declared.faults.Fault.TheVariants as faults
-use Rattle.lot_base.specs.declared.ops.Op.TheVariants.{Exchange, Load}
-use Rattle.lot_calls.specs.declared.calls.OnceCall.{OnceCall}
-use Rattle.lot_calls.specs.declared.calls.OnceCall.TheVariants.{CallOnce, Wait}
-use Rattle.lot_calls.specs.declared.outcomes.Answer.{Answer}
-use Rattle.lot_calls.specs.declared.outcomes.Answer.TheVariants as answers
-use Rattle.lot_calls.specs.declared.outcomes.OnceState.{OnceState}
-use Rattle.lot_calls.specs.declared.outcomes.OnceState.TheVariants as states
-use Rattle.lot_once.specs.OnceSteps.{state_before}
-use Rattle.lot_words.specs.declared.views.WordStep.{WordStep}
-use Rattle.lot_words.specs.declared.words.Word.{Word}
-use Rattle.lot_words.specs.declared.words.WordKind as kinds
+use Rattle.spec_locks.specs.Codes.{is_done, is_poisoned, is_running}
+use Rattle.core_base.specs.declared.faults.Fault.{Fault}
+use Rattle.core_base.specs.declared.faults.Fault.TheVariants as faults
+use Rattle.core_base.specs.declared.ops.Op.TheVariants.{Exchange, Load}
+use Rattle.spec_locks.specs.declared.calls.OnceCall.{OnceCall}
+use Rattle.spec_locks.specs.declared.calls.OnceCall.TheVariants.{CallOnce, Wait}
+use Rattle.spec_locks.specs.declared.outcomes.Answer.{Answer}
+use Rattle.spec_locks.specs.declared.outcomes.Answer.TheVariants as answers
+use Rattle.spec_locks.specs.declared.outcomes.OnceState.{OnceState}
+use Rattle.spec_locks.specs.declared.outcomes.OnceState.TheVariants as states
+use Rattle.steps_once.specs.OnceSteps.{state_before}
+use Rattle.core_words.specs.declared.views.WordStep.{WordStep}
+use Rattle.core_words.specs.declared.words.Word.{Word}
+use Rattle.core_words.specs.declared.words.WordKind as kinds
 use Rattle.parking_lot_core.specs.Tokens.{last_of}
 use Rattle.parking_lot_core.specs.declared.lot.ParkingLot.{ParkingLot}
 use Rattle.parking_lot_core.specs.declared.tokens.Token.{Token}
-use Rattle.lot_driver.specs.Drawing.{Drew}
-use Rattle.lot_driver.specs.OnceFitting.{KnowsIt, OwnsKnowing}
-use Rattle.lot_driver.specs.Paths.{Walks, at_once, once_at, step}
-use Rattle.lot_driver.specs.Telling.{owns_of, steps_of}
+use Rattle.run_base.specs.Drawing.{Drew}
+use Rattle.run_base.specs.OnceFitting.{KnowsIt, OwnsKnowing}
+use Rattle.run_base.specs.Paths.{Walks, at_once, once_at, step}
+use Rattle.run_base.specs.Telling.{owns_of, steps_of}
 use Rattle.run_once.specs.OnceCalls.{Closes, ComesTo, EndsRun, in_closure, once_begin}
 use Rattle.run_once.specs.declared.once.OnceFault.{OnceFault}
 use Rattle.run_once.specs.declared.once.OnceFault.TheVariants.{Refused, Failed}

@@ -1,8 +1,8 @@
 //! `OnceCell`: a value that the first who asks for it makes.
 ghost use Rattle.std.specs.Prelude.{◌≡◌, ◌⊎◌, ◌∷◌, [], Err, IfErr, IfOk, MatchResult};
 ghost use Rattle.std.specs.Arc.{arc_value};
-ghost use Rattle.lot_words.specs.Draws.{IsDrawn, IsDrawRefused};
-ghost use Rattle.lot_words.specs.declared.words.WordKind.TheVariants as kinds;
+ghost use Rattle.core_words.specs.Draws.{IsDrawn, IsDrawRefused};
+ghost use Rattle.core_words.specs.declared.words.WordKind.TheVariants as kinds;
 ghost use Rattle.parking_lot_core.specs.Tokens.{IsTokenOf, view_of};
 
 use crate::once::{Once, OnceFault};
@@ -13,7 +13,8 @@ use std::sync::{Arc, OnceLock, Wait};
 
 /// A value that is made once, by the first who asks for it, and then read by all.
 ///
-/// Whoever asks while another makes it waits. Where making it fails, the next who asks makes it.
+/// A thread waits while another one makes it. Where making it fails, the next thread that asks
+/// makes it.
 #[derive(Drop)]
 pub struct OnceCell<T> {
     made: Once,
@@ -83,7 +84,7 @@ impl<T: Drop> OnceCell<T> {
     ///
     /// # Errors
     ///
-    /// What the closure answers that makes none. The cell stays empty then.
+    /// The error of a closure that makes no value. The cell stays empty then.
     #[inline]
     pub fn get_or_try_init<R: Wait, E, F: FnOnce() -> Result<T, E> + Drop>(
         &self,

@@ -3,7 +3,7 @@ ghost use Rattle.std.specs.Prelude.{◌≡◌, ℕ};
 ghost use Rattle.parking_lot_core.specs.Tokens.{IsTokenOf};
 
 use crate::once::Once;
-use lot_calls::OnceState;
+use spec_locks::OnceState;
 use parking_lot_core::Token;
 use std::fmt;
 use std::fmt::{Debug, Formatter, Write};

@@ -1,33 +1,33 @@
 -- The calls of a semaphore: on which words they step, and how their steps lead on.
 use Rattle.std.proofs.Common.{ℕ, ◌≡◌, ◌≢◌, ◌<◌, ◌++◌, ◌∙◌, ◌+◌, ◌-◌, ◌*◌, ◌/◌, ◌≤◌, ◌^◌, Bool, true, false, List, if◌then◌else◌, not, ◌==◌, ◌&&◌, refl, sym, ap, subst, arith, eq-eqb, ne_eqb}
-use Rattle.lot_semaphore.specs.declared.places.SemaphorePlace.{SemaphorePlace}
-use Rattle.abstract_locks.specs.Codes.{has_parked}
-use Rattle.lot_base.specs.declared.keys.Keys.TheVariants.{One}
-use Rattle.lot_base.specs.declared.ops.Op.TheVariants.{Add, Exchange, Load}
-use Rattle.lot_calls.specs.declared.calls.Patience.TheVariants.{Try as OnlyTry}
-use Rattle.lot_calls.specs.declared.calls.SemaphoreCall.TheVariants as calls
-use Rattle.lot_calls.specs.declared.outcomes.Answer.{Answer}
-use Rattle.lot_calls.specs.declared.outcomes.Answer.TheVariants as answers
-use Rattle.lot_acts.specs.declared.acts.Act.TheVariants as act
-use Rattle.lot_acts.specs.declared.acts.Next.TheVariants.{At, End}
-use Rattle.lot_acts.specs.declared.acts.Reply.TheVariants.{Value}
-use Rattle.lot_semaphore.specs.SemaphoreSteps.{acquired, in_acquire, in_release, in_try, is_free, looked}
-use Rattle.lot_semaphore.specs.declared.acquire.AcquireAt.TheVariants as acquire
-use Rattle.lot_semaphore.specs.declared.tries.TryAt.TheVariants as tries
-use Rattle.lot_semaphore.specs.declared.release.ReleaseAt.TheVariants as release
+use Rattle.steps_semaphore.specs.declared.places.SemaphorePlace.{SemaphorePlace}
+use Rattle.spec_locks.specs.Codes.{has_parked}
+use Rattle.core_base.specs.declared.keys.Keys.TheVariants.{One}
+use Rattle.core_base.specs.declared.ops.Op.TheVariants.{Add, Exchange, Load}
+use Rattle.spec_locks.specs.declared.calls.Patience.TheVariants.{Try as OnlyTry}
+use Rattle.spec_locks.specs.declared.calls.SemaphoreCall.TheVariants as calls
+use Rattle.spec_locks.specs.declared.outcomes.Answer.{Answer}
+use Rattle.spec_locks.specs.declared.outcomes.Answer.TheVariants as answers
+use Rattle.steps_base.specs.declared.acts.Act.TheVariants as act
+use Rattle.steps_base.specs.declared.acts.Next.TheVariants.{At, End}
+use Rattle.steps_base.specs.declared.acts.Reply.TheVariants.{Value}
+use Rattle.steps_semaphore.specs.SemaphoreSteps.{acquired, in_acquire, in_release, in_try, is_free, looked}
+use Rattle.steps_semaphore.specs.declared.acquire.AcquireAt.TheVariants as acquire
+use Rattle.steps_semaphore.specs.declared.tries.TryAt.TheVariants as tries
+use Rattle.steps_semaphore.specs.declared.release.ReleaseAt.TheVariants as release
 use Rattle.lot_steps.specs.Steps.{act_of, next_act, next_place, semaphore_does, semaphore_goes}
 use Rattle.lot_steps.specs.declared.places.Place.TheVariants.{Semaphore}
-use Rattle.lot_words.specs.Steps.{CodesWith, MayStep, holding, owns_after_step}
-use Rattle.lot_words.specs.declared.owners.Ownership.{Ownership}
-use Rattle.lot_words.specs.declared.views.WordStep.{WordStep}
-use Rattle.lot_words.proofs.SemaphoreSteps.{has_many, semaphore_steps, semaphore_trades}
-use Rattle.lot_words.specs.Indices.{word_index}
-use Rattle.lot_words.specs.declared.words.Word.{Word}
-use Rattle.lot_words.specs.declared.words.WordKind as kinds
-use Rattle.lot_driver.specs.Fitting.{AreWordsFor}
-use Rattle.lot_driver.specs.Paths.{Walks, at_semaphore, semaphore_at, step, word}
-use Rattle.lot_driver.specs.Words.{alone, at_in, kind_in}
-use Rattle.lot_driver.proofs.Paths.{Comes, comes_here, comes_on, comes_to_end, ends_at_once, walks_on}
+use Rattle.core_words.specs.Steps.{CodesWith, MayStep, holding, owns_after_step}
+use Rattle.core_words.specs.declared.owners.Ownership.{Ownership}
+use Rattle.core_words.specs.declared.views.WordStep.{WordStep}
+use Rattle.core_words.proofs.SemaphoreSteps.{has_many, semaphore_steps, semaphore_trades}
+use Rattle.core_words.specs.Indices.{word_index}
+use Rattle.core_words.specs.declared.words.Word.{Word}
+use Rattle.core_words.specs.declared.words.WordKind as kinds
+use Rattle.run_base.specs.Fitting.{AreWordsFor}
+use Rattle.run_base.specs.Paths.{Walks, at_semaphore, semaphore_at, step, word}
+use Rattle.run_base.specs.Words.{alone, at_in, kind_in}
+use Rattle.run_base.proofs.Paths.{Comes, comes_here, comes_on, comes_to_end, ends_at_once, walks_on}
 use Rattle.run_semaphore.specs.Calls.{IsSemaphore, deciding, semaphore_begin, trying, waiting, waking}
 
 -- its word stands where that of any semaphore of its number does

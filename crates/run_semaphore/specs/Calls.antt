@@ -1,28 +1,28 @@
 -- The calls of a semaphore, by the steps that they took.
 use Rattle.std.specs.Prelude.{ℕ, ◌≡◌, ◌<◌, ◌-◌, Bool, true, false, List, [], ◌++◌, Option, Some, None}
-use Rattle.abstract_locks.specs.Codes.{has_parked}
-use Rattle.lot_base.specs.declared.ops.Op.TheVariants.{Add, Exchange, Load}
-use Rattle.lot_calls.specs.declared.calls.SemaphoreCall.{SemaphoreCall}
-use Rattle.lot_calls.specs.declared.outcomes.Answer.{Answer}
-use Rattle.lot_calls.specs.declared.outcomes.Answer.TheVariants as answers
-use Rattle.lot_semaphore.specs.SemaphoreSteps.{semaphore_first}
-use Rattle.lot_semaphore.specs.declared.acquire.AcquireAt.TheVariants as acquire
-use Rattle.lot_semaphore.specs.declared.tries.TryAt.TheVariants as tries
-use Rattle.lot_semaphore.specs.declared.release.ReleaseAt.TheVariants as release
-use Rattle.lot_semaphore.specs.declared.places.SemaphorePlace.TheVariants.{Acquire, Try, Release}
+use Rattle.spec_locks.specs.Codes.{has_parked}
+use Rattle.core_base.specs.declared.ops.Op.TheVariants.{Add, Exchange, Load}
+use Rattle.spec_locks.specs.declared.calls.SemaphoreCall.{SemaphoreCall}
+use Rattle.spec_locks.specs.declared.outcomes.Answer.{Answer}
+use Rattle.spec_locks.specs.declared.outcomes.Answer.TheVariants as answers
+use Rattle.steps_semaphore.specs.SemaphoreSteps.{semaphore_first}
+use Rattle.steps_semaphore.specs.declared.acquire.AcquireAt.TheVariants as acquire
+use Rattle.steps_semaphore.specs.declared.tries.TryAt.TheVariants as tries
+use Rattle.steps_semaphore.specs.declared.release.ReleaseAt.TheVariants as release
+use Rattle.steps_semaphore.specs.declared.places.SemaphorePlace.TheVariants.{Acquire, Try, Release}
 use Rattle.lot_steps.specs.declared.places.Place.{Place}
 use Rattle.lot_steps.specs.declared.places.Place.TheVariants.{Semaphore}
-use Rattle.lot_words.specs.Lots.{IsWordOf}
-use Rattle.lot_words.specs.declared.views.WordStep.{WordStep}
-use Rattle.lot_words.specs.declared.words.Word.{Word}
-use Rattle.lot_words.specs.declared.words.WordKind as kinds
+use Rattle.core_words.specs.Lots.{IsWordOf}
+use Rattle.core_words.specs.declared.views.WordStep.{WordStep}
+use Rattle.core_words.specs.declared.words.Word.{Word}
+use Rattle.core_words.specs.declared.words.WordKind as kinds
 use Rattle.parking_lot_core.specs.Tokens.{IsTokenOf, last_of}
 use Rattle.parking_lot_core.specs.declared.lot.ParkingLot.{ParkingLot}
 use Rattle.parking_lot_core.specs.declared.tokens.SectionRecord.{SectionRecord}
 use Rattle.parking_lot_core.specs.declared.tokens.Token.{Token}
-use Rattle.lot_driver.specs.MutexFitting.{TookAt}
-use Rattle.lot_driver.specs.Paths.{Walks, at_semaphore, semaphore_at, step}
-use Rattle.lot_driver.specs.Telling.{owns_of, steps_of}
+use Rattle.run_base.specs.MutexFitting.{TookAt}
+use Rattle.run_base.specs.Paths.{Walks, at_semaphore, semaphore_at, step}
+use Rattle.run_base.specs.Telling.{owns_of, steps_of}
 
 -- a word of a semaphore, whatever its permits are
 abbrev pub IsSemaphore : Word → Type 0

@@ -2,16 +2,16 @@
 use Rattle.std.specs.Prelude.{ℕ, ◌≡◌, ◌≤◌, ◌<◌, ◌+◌, ◌*◌, ◌++◌, ◌^◌, ◌/◌}
 use Rattle.std.specs.Arc.{arc_value}
 pub use Rattle.parking_lot_core.specs.Tokens.{IsTicketOf, IsTokenOf, view_of, last_of}
-use Rattle.lot_base.specs.declared.ops.Op.TheVariants.{Add, Load}
-use Rattle.lot_words.specs.Codes.{shared}
-use Rattle.lot_words.specs.Views.{drew_permits, owned}
-use Rattle.lot_words.specs.declared.words.Word.{Word}
-use Rattle.lot_words.specs.declared.words.WordKind as kinds
+use Rattle.core_base.specs.declared.ops.Op.TheVariants.{Add, Load}
+use Rattle.core_words.specs.Codes.{shared}
+use Rattle.core_words.specs.Views.{drew_permits, owned}
+use Rattle.core_words.specs.declared.words.Word.{Word}
+use Rattle.core_words.specs.declared.words.WordKind as kinds
 use Rattle.parking_lot_core.specs.declared.lot.ParkingLot.{ParkingLot}
 use Rattle.parking_lot_core.specs.declared.tokens.Token.{Token}
-use Rattle.lot_driver.specs.Drawing.{Drew}
-use Rattle.lot_driver.specs.Paths.{semaphore_at, step}
-use Rattle.lot_driver.specs.Telling.{owns_of, steps_of}
+use Rattle.run_base.specs.Drawing.{Drew}
+use Rattle.run_base.specs.Paths.{semaphore_at, step}
+use Rattle.run_base.specs.Telling.{owns_of, steps_of}
 use Rattle.run_semaphore.specs.declared.semaphore.Permit.{Permit}
 use Rattle.run_semaphore.specs.declared.semaphore.Semaphore.{Semaphore}
 

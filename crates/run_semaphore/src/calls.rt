@@ -1,28 +1,28 @@
 //! The steps of which the calls of a semaphore are made, and what each call leaves to the driver.
 ghost use Rattle.std.specs.Prelude.{ℕ, ◌≡◌, ◌≢◌, ◌≤◌, ◌++◌, ◌∷◌, ◌-◌, ◌*◌, ◌^◌, List, None, true, false};
-ghost use Rattle.abstract_locks.specs.Codes.{has_parked};
-ghost use Rattle.lot_base.specs.Clocks.{IsUp};
-ghost use Rattle.lot_base.specs.declared.ops.Op.TheVariants.{Add, Exchange};
-ghost use Rattle.lot_semaphore.specs.SemaphoreSteps.{is_free};
-ghost use Rattle.lot_words.specs.Steps.{has, holding, without};
-ghost use Rattle.lot_words.specs.declared.owners.Ownership.{Ownership};
-ghost use Rattle.lot_words.specs.declared.views.WordStep.{WordStep};
+ghost use Rattle.spec_locks.specs.Codes.{has_parked};
+ghost use Rattle.core_base.specs.Clocks.{IsUp};
+ghost use Rattle.core_base.specs.declared.ops.Op.TheVariants.{Add, Exchange};
+ghost use Rattle.steps_semaphore.specs.SemaphoreSteps.{is_free};
+ghost use Rattle.core_words.specs.Steps.{has, holding, without};
+ghost use Rattle.core_words.specs.declared.owners.Ownership.{Ownership};
+ghost use Rattle.core_words.specs.declared.views.WordStep.{WordStep};
 ghost use Rattle.parking_lot_core.specs.Tokens.{IsSameThread, IsTokenOf, last_of};
-ghost use Rattle.lot_driver.specs.Fitting.{AreWordsFor, Fits, IsOver, aim_of};
-ghost use Rattle.lot_driver.specs.Paths.{Walks, at_semaphore, semaphore_at, step};
-ghost use Rattle.lot_driver.specs.SemaphoreFitting.{FitsSemaphore, IsSemaphoreOver, acquires, permit, purpose_at, releases, tries_once};
+ghost use Rattle.run_base.specs.Fitting.{AreWordsFor, Fits, IsOver, aim_of};
+ghost use Rattle.run_base.specs.Paths.{Walks, at_semaphore, semaphore_at, step};
+ghost use Rattle.run_base.specs.SemaphoreFitting.{FitsSemaphore, IsSemaphoreOver, acquires, permit, purpose_at, releases, tries_once};
 ghost use Rattle.lot_steps.specs.declared.places.Place.TheVariants.{Semaphore};
-ghost use Rattle.lot_driver.specs.Stages.{stage_of};
-ghost use Rattle.lot_driver.specs.Telling.{owns_of, steps_of};
-ghost use Rattle.lot_driver.specs.Words.{alone, at_in, kind_in};
+ghost use Rattle.run_base.specs.Stages.{stage_of};
+ghost use Rattle.run_base.specs.Telling.{owns_of, steps_of};
+ghost use Rattle.run_base.specs.Words.{alone, at_in, kind_in};
 ghost use Rattle.run_semaphore.specs.Calls.{HasAdded, HasFound, HasLooked, MeetsSemaphore, deciding, trying, waking};
 
-use lot_calls::Answer;
-use lot_driver::driver::{NO_LIMIT, Stop, run};
-use lot_driver::words::Words;
-use lot_semaphore::{AcquireAt, ReleaseAt, SemaphorePlace, TryAt};
+use spec_locks::Answer;
+use run_base::driver::{NO_LIMIT, Stop, run};
+use run_base::words::Words;
+use steps_semaphore::{AcquireAt, ReleaseAt, SemaphorePlace, TryAt};
 use lot_steps::Place;
-use lot_words::laws::{semaphore_may_step, semaphore_trades};
+use core_words::laws::{semaphore_may_step, semaphore_trades};
 use parking_lot_core::{Clock, Op, ParkingLot, Token, Word};
 use std::sync::Wait;
 

@@ -3,25 +3,25 @@ use Rattle.std.proofs.Common.{subst, ℕ, true, false, Option, Some, None, if◌
 use Rattle.std.proofs.lemmas.Bool.{lt-ltb}
 use Rattle.std.proofs.lemmas.List.{length-map}
 use Rattle.std.proofs.Math.ListN.{get_or-map}
-use Rattle.lot_base.specs.declared.keys.Keys.TheVariants.{One}
-use Rattle.lot_base.specs.declared.notes.Note.{Note}
-use Rattle.lot_base.specs.declared.ops.Op.{Op}
-use Rattle.lot_base.specs.declared.wants.Waiter.{Waiter}
-use Rattle.lot_base.specs.declared.wants.Want.TheVariants.{Exclusive}
-use Rattle.lot_base.specs.Words.{apply}
-use Rattle.lot_base.specs.Lines.{waiter, without, first_of}
-use Rattle.lot_calls.specs.declared.kinds.Kind as kind
-use Rattle.lot_acts.specs.declared.acts.Act as act
-use Rattle.lot_acts.specs.declared.acts.Check.TheVariants.{WordIs}
-use Rattle.lot_acts.specs.declared.acts.Wakes as wakes
-use Rattle.lot_acts.specs.declared.acts.Reply.TheVariants.{Done, Value, Parked, Took, Removed, TakenBy, Woken}
-use Rattle.lot_calls.specs.declared.outcomes.Outcome.{Outcome}
-use Rattle.lot_calls.specs.declared.outcomes.Outcome as outcome
+use Rattle.core_base.specs.declared.keys.Keys.TheVariants.{One}
+use Rattle.core_base.specs.declared.notes.Note.{Note}
+use Rattle.core_base.specs.declared.ops.Op.{Op}
+use Rattle.core_base.specs.declared.wants.Waiter.{Waiter}
+use Rattle.core_base.specs.declared.wants.Want.TheVariants.{Exclusive}
+use Rattle.core_base.specs.Words.{apply}
+use Rattle.core_base.specs.Lines.{waiter, without, first_of}
+use Rattle.spec_locks.specs.declared.kinds.Kind as kind
+use Rattle.steps_base.specs.declared.acts.Act as act
+use Rattle.steps_base.specs.declared.acts.Check.TheVariants.{WordIs}
+use Rattle.steps_base.specs.declared.acts.Wakes as wakes
+use Rattle.steps_base.specs.declared.acts.Reply.TheVariants.{Done, Value, Parked, Took, Removed, TakenBy, Woken}
+use Rattle.spec_locks.specs.declared.outcomes.Outcome.{Outcome}
+use Rattle.spec_locks.specs.declared.outcomes.Outcome as outcome
 use Rattle.lot_steps.specs.declared.places.Place.{Place}
 use Rattle.lot_steps.specs.declared.places.Place.TheVariants.{Idle, Mutex}
-use Rattle.lot_mutex.specs.declared.places.MutexPlace.{MutexPlace}
-use Rattle.lot_acts.specs.declared.acts.Whom as whoms
-use Rattle.lot_acts.specs.Acts.{takes_effect, outcome_of}
+use Rattle.steps_mutex.specs.declared.places.MutexPlace.{MutexPlace}
+use Rattle.steps_base.specs.declared.acts.Whom as whoms
+use Rattle.steps_base.specs.Acts.{takes_effect, outcome_of}
 use Rattle.lot_steps.specs.Steps.{act_of, next_place, next_act}
 use Rattle.lot_machine.specs.Machine.{state_after_hand_over_by, hand_over_told, State, unlocked, place_at, word_at, owners_at, section_at, queue_at, put, state_after_operation, state_with_sections, queues_with_last, queues_without, queues_without_first, state_after_taking, state_after_reply, state_after_act, reply_to, can_do, state_after_go, go_of, is_possible, after, step_outcome, go_outcome, place_after_telling, state_after_telling, state_after_hand_over, owners_handed_over, is_there, going_outcome, state_after_going}
 use Rattle.lot_machine.specs.Fits.{IsShaped, SameSize}
@@ -29,7 +29,7 @@ use Rattle.lot_laws.proofs.machine.Parts.{IsSingle, next_single, nothing_at}
 use Rattle.lot_laws.proofs.alone.Leads.{Leads, leads_barred, leads_step}
 use Rattle.lot_laws.proofs.calls.OwnPlace.{goes_from_there, told_from_there}
 use Rattle.lot_laws.specs.Refinement.{owner_at}
-use Rattle.abstract_locks.specs.Sites.{Main}
+use Rattle.spec_locks.specs.Sites.{Main}
 use Rattle.lot_laws.specs.Solo.{EntersAt}
 use Rattle.lot_laws.specs.Stations.{station, station_at}
 use Rattle.lot_laws.specs.SitesOf.{AreCondvars, AreCounted, IsSteady}
@@ -39,8 +39,8 @@ use Rattle.lot_laws.proofs.hands.CountsKept.{counted_after}
 use Rattle.lot_laws.proofs.sites.TurnsKept.{after_steady}
 use Rattle.lot_laws.proofs.machine.AtPlaces.{same_without}
 use Rattle.lot_laws.proofs.promises.ExclusiveOwners.{mutex_is, mutex_owner_after}
-use Rattle.lot_acts.specs.declared.owners.Owners.{Owners}
-use Rattle.lot_acts.specs.Owners.{with_exclusive}
+use Rattle.steps_base.specs.declared.owners.Owners.{Owners}
+use Rattle.steps_base.specs.Owners.{with_exclusive}
 use Rattle.lot_steps.specs.Steps.{owners_after}
 
 -- ---------------------------------------------------------------- acts

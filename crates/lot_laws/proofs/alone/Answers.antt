@@ -1,14 +1,14 @@
 -- The answer of a call that has stepped alone to its end is true.
 use Rattle.std.proofs.Common.{Some, None, ℕ, zero, suc, Bool, true, false, Option, if◌then◌else◌, ◌≡◌, ◌≢◌, inl, inr, List, [], ◌∷◌, length, replicate, refl, sym, ◌∙◌, ap, subst}
-use Rattle.lot_calls.specs.declared.outcomes.Answer.{Answer}
-use Rattle.lot_calls.specs.declared.outcomes.Outcome.{Outcome}
-use Rattle.lot_calls.specs.declared.outcomes.Outcome.TheVariants as outcome
-use Rattle.abstract_locks.specs.Locks.{Rights, Enter, Pend, Settle, Leave, Park, Aside, Wake, HandOff, Late, OfOnce}
-use Rattle.abstract_locks.specs.Onces.{OnceCase, Start, Finish, Fail, Rest, TakeAll}
-use Rattle.abstract_locks.specs.Locks as locks
-use Rattle.abstract_locks.specs.Purposes.{Purpose, Recall, WasMoved}
-use Rattle.abstract_locks.specs.Condvars.{moved_of}
-use Rattle.abstract_locks.specs.Runs.{LocksState, CallState, Event, Nothing, AtLock, IsStep, IsRun, GoesOn, AnswerHolds, behind_wake, going_on, is_among, is_taken_by, woken, Moves, gives_up}
+use Rattle.spec_locks.specs.declared.outcomes.Answer.{Answer}
+use Rattle.spec_locks.specs.declared.outcomes.Outcome.{Outcome}
+use Rattle.spec_locks.specs.declared.outcomes.Outcome.TheVariants as outcome
+use Rattle.spec_locks.specs.Locks.{Rights, Enter, Pend, Settle, Leave, Park, Aside, Wake, HandOff, Late, OfOnce}
+use Rattle.spec_locks.specs.Onces.{OnceCase, Start, Finish, Fail, Rest, TakeAll}
+use Rattle.spec_locks.specs.Locks as locks
+use Rattle.spec_locks.specs.Purposes.{Purpose, Recall, WasMoved}
+use Rattle.spec_locks.specs.Condvars.{moved_of}
+use Rattle.spec_locks.specs.Runs.{LocksState, CallState, Event, Nothing, AtLock, IsStep, IsRun, GoesOn, AnswerHolds, behind_wake, going_on, is_among, is_taken_by, woken, Moves, gives_up}
 use Rattle.lot_machine.specs.Machine.{go_of}
 use Rattle.lot_laws.specs.Solo.{GoesOnUntil, last_told}
 use Rattle.lot_laws.proofs.machine.Parts.{same}

@@ -4,34 +4,34 @@ use Rattle.std.proofs.Common.{ℕ, zero, suc, Bool, true, false, Option, Some, N
 use Rattle.std.specs.Prelude.{slice_index, slice_set, sum}
 use Rattle.std.proofs.lemmas.Bool.{eqb-true}
 use Rattle.std.proofs.lemmas.Bool.Decides.{nat_tests}
-use Rattle.lot_base.specs.declared.wants.Want.TheVariants.{Exclusive, Upgradable, Shared}
-use Rattle.lot_calls.specs.declared.calls.Access.{Access}
-use Rattle.lot_calls.specs.declared.calls.Access.TheVariants as access
-use Rattle.lot_calls.specs.declared.calls.Patience.TheVariants.{Patient, Timed, Try}
-use Rattle.lot_calls.specs.declared.calls.RwLockCall.{RwLockCall}
-use Rattle.lot_calls.specs.declared.calls.RwLockCall.TheVariants as call
-use Rattle.lot_calls.specs.declared.outcomes.Answer.TheVariants as answer
-use Rattle.lot_calls.specs.declared.outcomes.Outcome.{Outcome}
-use Rattle.lot_calls.specs.declared.outcomes.Outcome.TheVariants as outcome
-use Rattle.lot_rwlock.specs.declared.places.Admission.{Admission}
-use Rattle.lot_rwlock.specs.declared.places.RwLockPlace.{RwLockPlace}
-use Rattle.lot_rwlock.specs.declared.purposes.RwLockPurpose.TheVariants as purpose
-use Rattle.lot_rwlock.specs.RwLockBegins.{rwlock_first}
-use Rattle.lot_rwlock.specs.RwLockDeeds.{Admits}
-use Rattle.lot_rwlock.specs.RwLockSteps.{wanted}
-use Rattle.lot_rwlock_fair.specs.declared.places.RwLockCallPlace.TheVariants.{Plain, Glance}
-use Rattle.lot_rwlock_fair.specs.declared.hand_over.HandOverAt.TheVariants as handing
-use Rattle.lot_rwlock_fair.specs.FairBegins.{call_first}
-use Rattle.lot_rwlock_fair.specs.FairDeeds.{call_doing}
-use Rattle.lot_rwlock_fair.specs.FairSteps.{enters_again, gives_way}
-use Rattle.abstract_locks.specs.Locks.{IsLockState, LockState, Rights, Sort, Mutex as Mutual, Normal, Recursive, Semaphore, Once, Rules, IsBlocked, IsFree, MayEnter, Owns, count, is_recursive, one_if_some, readers, rights_of, with_right, Condvar}
-use Rattle.abstract_locks.specs.Codes.{TellsTrue, bit, code, count_in, has_parked, has_writer, writers}
-use Rattle.abstract_locks.specs.Purposes.{Bumps, rwlock_purpose}
-use Rattle.abstract_locks.specs.Runs.{LocksState, IsRun, one_more_at, rules_at}
-use Rattle.abstract_locks.specs.Sites.{Doing, Has, IsSite, Main, has_readers}
-use Rattle.abstract_locks.proofs.CodeLaws.{rw_is, words_tell_true}
-use Rattle.abstract_locks.proofs.Seen.{packed_writer}
-use Rattle.abstract_locks.proofs.SiteFacts.{fewer_share}
+use Rattle.core_base.specs.declared.wants.Want.TheVariants.{Exclusive, Upgradable, Shared}
+use Rattle.spec_locks.specs.declared.calls.Access.{Access}
+use Rattle.spec_locks.specs.declared.calls.Access.TheVariants as access
+use Rattle.spec_locks.specs.declared.calls.Patience.TheVariants.{Patient, Timed, Try}
+use Rattle.spec_locks.specs.declared.calls.RwLockCall.{RwLockCall}
+use Rattle.spec_locks.specs.declared.calls.RwLockCall.TheVariants as call
+use Rattle.spec_locks.specs.declared.outcomes.Answer.TheVariants as answer
+use Rattle.spec_locks.specs.declared.outcomes.Outcome.{Outcome}
+use Rattle.spec_locks.specs.declared.outcomes.Outcome.TheVariants as outcome
+use Rattle.steps_rwlock.specs.declared.places.Admission.{Admission}
+use Rattle.steps_rwlock.specs.declared.places.RwLockPlace.{RwLockPlace}
+use Rattle.steps_rwlock.specs.declared.purposes.RwLockPurpose.TheVariants as purpose
+use Rattle.steps_rwlock.specs.RwLockBegins.{rwlock_first}
+use Rattle.steps_rwlock.specs.RwLockDeeds.{Admits}
+use Rattle.steps_rwlock.specs.RwLockSteps.{wanted}
+use Rattle.steps_rwlock_fair.specs.declared.places.RwLockCallPlace.TheVariants.{Plain, Glance}
+use Rattle.steps_rwlock_fair.specs.declared.hand_over.HandOverAt.TheVariants as handing
+use Rattle.steps_rwlock_fair.specs.FairBegins.{call_first}
+use Rattle.steps_rwlock_fair.specs.FairDeeds.{call_doing}
+use Rattle.steps_rwlock_fair.specs.FairSteps.{enters_again, gives_way}
+use Rattle.spec_locks.specs.Locks.{IsLockState, LockState, Rights, Sort, Mutex as Mutual, Normal, Recursive, Semaphore, Once, Rules, IsBlocked, IsFree, MayEnter, Owns, count, is_recursive, one_if_some, readers, rights_of, with_right, Condvar}
+use Rattle.spec_locks.specs.Codes.{TellsTrue, bit, code, count_in, has_parked, has_writer, writers}
+use Rattle.spec_locks.specs.Purposes.{Bumps, rwlock_purpose}
+use Rattle.spec_locks.specs.Runs.{LocksState, IsRun, one_more_at, rules_at}
+use Rattle.spec_locks.specs.Sites.{Doing, Has, IsSite, Main, has_readers}
+use Rattle.spec_locks.proofs.CodeLaws.{rw_is, words_tell_true}
+use Rattle.spec_locks.proofs.Seen.{packed_writer}
+use Rattle.spec_locks.proofs.SiteFacts.{fewer_share}
 use Rattle.lot_steps.specs.declared.places.Place.TheVariants.{RwLock}
 use Rattle.lot_steps.specs.Steps.{act_of}
 use Rattle.lot_machine.specs.Machine.{Alone as Ran, State, after, after_steps, alone_after, go_of, place_at, queue_at, section_at, solo, step_outcome, step_outcomes, word_at}

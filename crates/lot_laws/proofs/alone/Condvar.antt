@@ -1,26 +1,26 @@
 -- A thread that steps alone in a call of a condition variable: where each of its acts leads it.
 use Rattle.std.proofs.Common.{ℕ, true, Option, Some, None, if◌then◌else◌, ◌≡◌, ◌⊎◌, ◌+◌, ◌*◌, ◌<◌, length, get_or-set_same, inl, inr, refl, sym, ◌∙◌, ap, subst, arith}
 use Rattle.std.proofs.lemmas.Bool.{lt-ltb}
-use Rattle.lot_base.specs.declared.ops.Op.{Op}
-use Rattle.lot_base.specs.Words.{apply}
-use Rattle.lot_calls.specs.declared.kinds.Kind.TheVariants as kind
-use Rattle.lot_calls.specs.declared.outcomes.Outcome.{Outcome}
-use Rattle.lot_calls.specs.declared.outcomes.Outcome.TheVariants as outcome
-use Rattle.lot_acts.specs.declared.acts.Act.TheVariants as act
-use Rattle.lot_acts.specs.declared.acts.Next.{Next}
-use Rattle.lot_acts.specs.declared.acts.Next.TheVariants as next
-use Rattle.lot_acts.specs.declared.acts.Reply.{Reply}
-use Rattle.lot_acts.specs.Acts.{outcome_of}
-use Rattle.lot_acts.specs.Stations.{Station, station_by}
-use Rattle.lot_condvar.specs.declared.places.CondvarPlace.{CondvarPlace}
-use Rattle.lot_condvar.specs.CondvarCalls.{IsReached}
-use Rattle.lot_condvar.specs.CondvarDeeds.{MayHear, after_all, condvar_deeds}
-use Rattle.lot_condvar.specs.CondvarProfiles.{condvar_profile, mutex_side}
-use Rattle.lot_condvar.specs.CondvarSteps.{condvar_act, condvar_next, mutex_beside}
+use Rattle.core_base.specs.declared.ops.Op.{Op}
+use Rattle.core_base.specs.Words.{apply}
+use Rattle.spec_locks.specs.declared.kinds.Kind.TheVariants as kind
+use Rattle.spec_locks.specs.declared.outcomes.Outcome.{Outcome}
+use Rattle.spec_locks.specs.declared.outcomes.Outcome.TheVariants as outcome
+use Rattle.steps_base.specs.declared.acts.Act.TheVariants as act
+use Rattle.steps_base.specs.declared.acts.Next.{Next}
+use Rattle.steps_base.specs.declared.acts.Next.TheVariants as next
+use Rattle.steps_base.specs.declared.acts.Reply.{Reply}
+use Rattle.steps_base.specs.Acts.{outcome_of}
+use Rattle.steps_base.specs.Stations.{Station, station_by}
+use Rattle.steps_condvar.specs.declared.places.CondvarPlace.{CondvarPlace}
+use Rattle.steps_condvar.specs.CondvarCalls.{IsReached}
+use Rattle.steps_condvar.specs.CondvarDeeds.{MayHear, after_all, condvar_deeds}
+use Rattle.steps_condvar.specs.CondvarProfiles.{condvar_profile, mutex_side}
+use Rattle.steps_condvar.specs.CondvarSteps.{condvar_act, condvar_next, mutex_beside}
 use Rattle.lot_steps.specs.declared.places.Place.{Place}
 use Rattle.lot_steps.specs.declared.places.Place.TheVariants.{Idle, Condvar}
 use Rattle.lot_steps.specs.Steps.{act_of, condvar_does, condvar_goes, next_act, next_place}
-use Rattle.abstract_locks.specs.Sites.{Line, Main}
+use Rattle.spec_locks.specs.Sites.{Line, Main}
 use Rattle.lot_machine.specs.Fits.{IsThere, PlaceFits, SameSize}
 use Rattle.lot_machine.specs.Machine.{State, after, can_do, go_of, go_outcome, going_outcome, is_possible, place_at, put, reply_to, section_at, state_after_act, state_after_go, state_after_going, step_outcome, unlocked, word_at}
 use Rattle.lot_machine.proofs.Shape.{after_size, performed_counts}
@@ -110,10 +110,6 @@ module _ (t l m : ℕ) (keeps : Keeps t) (w : State) (p : CondvarPlace) (g : Goe
         → word_at (after w (go_of t)) m ≡ apply x (word_at w m)
     word_then x beside is = so_then (λ s. word_at s m) (λ q. refl) ∙ ap (λ a. word_at (state_after_act w t (Condvar l p) a) m) is
         ∙ ap (λ y. y.word) (get_or-set_same w.locks m _ (unlocked kind.Mutex) (mutex_there beside))
-
-    -- the condition variable is as its deeds leave it
-    pub shown_then : (lock_state (after w (go_of t)) l).shown ≡ (after_all (condvar_deeds p told) (condvar_of w l) t).shown
-    shown_then = so_then (λ s. (lock_state s l).shown) (λ q. refl) ∙ (goes_led w t l p g.world.shaped g.world.steady g.place lock_there can).0
 
     pub queue_then : (lock_state (after w (go_of t)) l).queue ≡ (after_all (condvar_deeds p told) (condvar_of w l) t).waiters
     queue_then = so_then (λ s. (lock_state s l).queue) (λ q. refl) ∙ (goes_led w t l p g.world.shaped g.world.steady g.place lock_there can).1

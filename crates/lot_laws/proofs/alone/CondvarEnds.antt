@@ -1,21 +1,21 @@
 -- A call of a condition variable whose thread steps alone: from any place it ends or sleeps, and from its beginning it does what it is for.
 use Rattle.std.proofs.Common.{ℕ, Bool, Option, Some, None, ◌≡◌, ◌≢◌, ◌*◌, ◌<◌, length, refl, sym, ◌∙◌, ap, arith}
-use Rattle.lot_calls.specs.declared.calls.CondvarCall.{CondvarCall}
-use Rattle.lot_calls.specs.declared.calls.CondvarCall.TheVariants as condvar_call
-use Rattle.lot_calls.specs.declared.outcomes.Outcome.{Outcome}
-use Rattle.lot_acts.specs.declared.acts.Act.TheVariants as act
-use Rattle.lot_condvar.specs.declared.places.CondvarPlace.{CondvarPlace}
-use Rattle.lot_condvar.specs.declared.places.CondvarPlace.TheVariants.{Wait, Look, Notify}
-use Rattle.lot_condvar.specs.CondvarSteps.{condvar_act, condvar_first}
+use Rattle.spec_locks.specs.declared.calls.CondvarCall.{CondvarCall}
+use Rattle.spec_locks.specs.declared.calls.CondvarCall.TheVariants as condvar_call
+use Rattle.spec_locks.specs.declared.outcomes.Outcome.{Outcome}
+use Rattle.steps_base.specs.declared.acts.Act.TheVariants as act
+use Rattle.steps_condvar.specs.declared.places.CondvarPlace.{CondvarPlace}
+use Rattle.steps_condvar.specs.declared.places.CondvarPlace.TheVariants.{Wait, Look, Notify}
+use Rattle.steps_condvar.specs.CondvarSteps.{condvar_act, condvar_first}
 use Rattle.lot_steps.specs.declared.places.Place.TheVariants.{Condvar}
-use Rattle.abstract_locks.specs.Purposes.{condvar_purpose}
-use Rattle.abstract_locks.specs.Sites.{Line, Main}
+use Rattle.spec_locks.specs.Purposes.{condvar_purpose}
+use Rattle.spec_locks.specs.Sites.{Line, Main}
 use Rattle.lot_machine.specs.Machine.{State, place_at, section_at}
 use Rattle.lot_laws.specs.Refinement.{lock_state}
 use Rattle.lot_laws.specs.SitesOf.{IsWorld}
 use Rattle.lot_laws.specs.Solo.{EndsAlone, HasWhatItReads, IsOnly, Rests}
 use Rattle.lot_laws.specs.Stations.{station_at}
-use Rattle.lot_acts.specs.Stations.{Station}
+use Rattle.steps_base.specs.Stations.{Station}
 use Rattle.lot_laws.proofs.alone.Condvar.{GoesAlone, Keeps}
 use Rattle.lot_laws.proofs.condvar.Replies.{fits_here}
 use Rattle.lot_laws.proofs.condvar.Sites.{station_there}

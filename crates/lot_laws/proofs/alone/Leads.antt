@@ -1,10 +1,10 @@
 -- Some steps of a thread alone, and to where they lead.
 use Rattle.std.proofs.Common.{ℕ, zero, suc, Bool, true, false, Some, None, if◌then◌else◌, ◌&&◌, ◌≡◌, ◌+◌, ◌≤◌, ◌⊎◌, nat_lt, length, is_none, inl, inr, refl, sym, ◌∙◌, ap, subst, arith, slice_index_or}
-use Rattle.lot_base.specs.declared.keys.Keys.TheVariants.{One, Two}
-use Rattle.lot_acts.specs.declared.acts.Act.{Act}
-use Rattle.lot_acts.specs.declared.acts.Act.TheVariants as act
-use Rattle.lot_calls.specs.declared.outcomes.Outcome.{Outcome}
-use Rattle.lot_calls.specs.declared.outcomes.Outcome as outcome
+use Rattle.core_base.specs.declared.keys.Keys.TheVariants.{One, Two}
+use Rattle.steps_base.specs.declared.acts.Act.{Act}
+use Rattle.steps_base.specs.declared.acts.Act.TheVariants as act
+use Rattle.spec_locks.specs.declared.outcomes.Outcome.{Outcome}
+use Rattle.spec_locks.specs.declared.outcomes.Outcome as outcome
 use Rattle.lot_steps.specs.Steps.{act_of}
 use Rattle.lot_machine.specs.Machine.{State, after, can_do, go_of, go_outcome, place_at, section_at, solo, step_outcome}
 use Rattle.lot_laws.specs.SitesOf.{key_of}

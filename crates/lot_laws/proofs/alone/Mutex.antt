@@ -1,54 +1,54 @@
 -- A call of a mutex whose thread steps alone: from each place, where it ends or falls asleep.
 use Rattle.std.proofs.Common.{ℕ, zero, suc, Bool, true, false, Option, Some, None, if◌then◌else◌, ◌==◌, ◌&&◌, not, ◌≡◌, ◌≢◌, ◌+◌, ◌*◌, ◌≤◌, ◌<◌, inl, inr, List, [], ◌∷◌, ◌++◌, length, drop, map, refl, sym, ◌∙◌, ap, subst, arith}
 use Rattle.std.proofs.lemmas.Bool.{cases_eq, eqb-true}
-use Rattle.lot_base.specs.declared.notes.Note.TheVariants as note
-use Rattle.lot_base.specs.declared.ops.Op as op
-use Rattle.lot_base.specs.declared.wants.Waiter.{Waiter}
-use Rattle.lot_base.specs.declared.wants.Want.TheVariants.{Exclusive}
-use Rattle.lot_base.specs.Words.{apply}
-use Rattle.lot_base.specs.Lines.{waiter, without, first_of}
-use Rattle.lot_acts.specs.declared.acts.Act as act
-use Rattle.lot_acts.specs.declared.acts.Reply.TheVariants.{Value, Took, Removed}
-use Rattle.lot_acts.specs.declared.acts.Next as next
-use Rattle.lot_calls.specs.declared.outcomes.Answer as answer
-use Rattle.lot_calls.specs.declared.outcomes.Outcome.{Outcome}
-use Rattle.lot_calls.specs.declared.outcomes.Outcome as outcome
-use Rattle.lot_mutex.specs.declared.places.TheConstants.{NOT_PARKED}
-use Rattle.lot_mutex.specs.declared.lock.Entry.{Entry}
-use Rattle.lot_mutex.specs.declared.lock.Entry.TheVariants as entries
-use Rattle.lot_mutex.specs.declared.places.MutexPlace.TheVariants.{Lock, TryLock, Unlock, UnlockFair, Bump, HandOff}
-use Rattle.lot_mutex.specs.declared.lock.LockAt.{LockAt}
-use Rattle.lot_mutex.specs.declared.lock.LockAt.TheVariants.{First, Load, Decide, Check, Leave, Asleep, Taken, Handed, Accept, Remove, Clear, GiveUp}
-use Rattle.lot_mutex.specs.declared.unlock.UnlockAt.{UnlockAt}
-use Rattle.lot_mutex.specs.declared.unlock.UnlockAt.TheVariants as unlock
-use Rattle.lot_mutex.specs.declared.hand_off.HandOffAt.{HandOffAt}
-use Rattle.lot_mutex.specs.declared.hand_off.HandOffAt.TheVariants as hand_off
+use Rattle.core_base.specs.declared.notes.Note.TheVariants as note
+use Rattle.core_base.specs.declared.ops.Op as op
+use Rattle.core_base.specs.declared.wants.Waiter.{Waiter}
+use Rattle.core_base.specs.declared.wants.Want.TheVariants.{Exclusive}
+use Rattle.core_base.specs.Words.{apply}
+use Rattle.core_base.specs.Lines.{waiter, without, first_of}
+use Rattle.steps_base.specs.declared.acts.Act as act
+use Rattle.steps_base.specs.declared.acts.Reply.TheVariants.{Value, Took, Removed}
+use Rattle.steps_base.specs.declared.acts.Next as next
+use Rattle.spec_locks.specs.declared.outcomes.Answer as answer
+use Rattle.spec_locks.specs.declared.outcomes.Outcome.{Outcome}
+use Rattle.spec_locks.specs.declared.outcomes.Outcome as outcome
+use Rattle.steps_mutex.specs.declared.places.TheConstants.{NOT_PARKED}
+use Rattle.steps_mutex.specs.declared.lock.Entry.{Entry}
+use Rattle.steps_mutex.specs.declared.lock.Entry.TheVariants as entries
+use Rattle.steps_mutex.specs.declared.places.MutexPlace.TheVariants.{Lock, TryLock, Unlock, UnlockFair, Bump, HandOff}
+use Rattle.steps_mutex.specs.declared.lock.LockAt.{LockAt}
+use Rattle.steps_mutex.specs.declared.lock.LockAt.TheVariants.{First, Load, Decide, Check, Leave, Asleep, Taken, Handed, Accept, Remove, Clear, GiveUp}
+use Rattle.steps_mutex.specs.declared.unlock.UnlockAt.{UnlockAt}
+use Rattle.steps_mutex.specs.declared.unlock.UnlockAt.TheVariants as unlock
+use Rattle.steps_mutex.specs.declared.hand_off.HandOffAt.{HandOffAt}
+use Rattle.steps_mutex.specs.declared.hand_off.HandOffAt.TheVariants as hand_off
 use Rattle.lot_steps.specs.declared.places.Place.{Place}
 use Rattle.lot_steps.specs.declared.places.Place.TheVariants.{Mutex}
-use Rattle.lot_acts.specs.Acts.{outcome_of}
-use Rattle.lot_mutex.specs.MutexSteps.{is_locked, is_parked, entered, looked, hand_off_word, in_unlock}
+use Rattle.steps_base.specs.Acts.{outcome_of}
+use Rattle.steps_mutex.specs.MutexSteps.{is_locked, is_parked, entered, looked, hand_off_word, in_unlock}
 use Rattle.lot_steps.specs.Steps.{act_of, next_place, next_act, mutex_goes, mutex_does}
 use Rattle.lot_machine.specs.Machine.{State, place_at, word_at, queue_at, go_of, after, owners_handed_over, is_there}
 use Rattle.lot_laws.specs.MutexPromises.{IsMutexWord}
-use Rattle.abstract_locks.specs.Sites.{Site}
+use Rattle.spec_locks.specs.Sites.{Site}
 use Rattle.lot_laws.specs.MutexDeeds.{acts, takes, queued}
 use Rattle.lot_laws.specs.Stations.{Station, hand}
 use Rattle.lot_laws.specs.SitesOf.{IsSteady, Goes, hand_at}
 use Rattle.lot_laws.proofs.promises.ExclusiveOwners.{by_code, mutex_owner_after}
-use Rattle.abstract_locks.specs.Locks.{first_thread}
-use Rattle.abstract_locks.specs.Picks.{queued_of}
+use Rattle.spec_locks.specs.Locks.{first_thread}
+use Rattle.spec_locks.specs.Picks.{queued_of}
 use Rattle.lot_laws.specs.Refinement.{owner_at, taken_at}
 use Rattle.lot_laws.specs.Solo.{Rests}
-use Rattle.lot_mutex.proofs.MutexCalls.{decides}
+use Rattle.steps_mutex.proofs.MutexCalls.{decides}
 use Rattle.lot_laws.proofs.hands.Counts.{first_times}
 use Rattle.lot_laws.proofs.machine.Parts.{taken_held, put_here, own_stance, differ, aparts}
 use Rattle.lot_laws.proofs.hands.Handed.{successor_one, of_carries}
 use Rattle.lot_laws.proofs.promises.SitesPromise.{parked_at}
-use Rattle.lot_mutex.specs.declared.places.MutexPlace.{MutexPlace}
-use Rattle.lot_acts.specs.declared.acts.Whom as whoms
+use Rattle.steps_mutex.specs.declared.places.MutexPlace.{MutexPlace}
+use Rattle.steps_base.specs.declared.acts.Whom as whoms
 use Rattle.lot_laws.proofs.sites.SitesKept.{go_by, unshared_at, single_at, alone_at}
-use Rattle.lot_acts.specs.declared.owners.Owners.{Owners}
-use Rattle.lot_acts.specs.Owners.{with_exclusive}
+use Rattle.steps_base.specs.declared.owners.Owners.{Owners}
+use Rattle.steps_base.specs.Owners.{with_exclusive}
 use Rattle.lot_laws.proofs.mutex.Kept.{gone_goes}
 use Rattle.lot_laws.proofs.machine.AtPlaces.{coded_for, rules_for, owns}
 use Rattle.lot_laws.proofs.alone.Leads.{Leads, leads_rest, leads_step, leads_more, leads_so}

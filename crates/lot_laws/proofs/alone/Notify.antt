@@ -1,25 +1,25 @@
 -- A notification whose thread steps alone: from each place it ends, and has moved the first, or all, or nobody where its mutex is not shown.
 use Rattle.std.proofs.Common.{ℕ, Bool, true, false, if◌then◌else◌, ◌==◌, ◌&&◌, ◌≡◌, ◌+◌, ◌*◌, ◌≤◌, List, [], ◌∷◌, drop, length, nat_lt, not, inl, inr, refl, sym, ◌∙◌, ap, subst, arith}
-use Rattle.lot_base.specs.declared.ops.Op.{Op}
-use Rattle.lot_base.specs.declared.ops.Op.TheVariants as op
-use Rattle.lot_base.specs.Words.{apply}
-use Rattle.lot_base.specs.Lines.{first_of}
-use Rattle.lot_calls.specs.declared.outcomes.Outcome.{Outcome}
-use Rattle.lot_calls.specs.declared.outcomes.Outcome.TheVariants as outcome
-use Rattle.lot_acts.specs.declared.acts.Act.TheVariants as act
-use Rattle.lot_acts.specs.declared.acts.Next.TheVariants as next
-use Rattle.lot_acts.specs.declared.acts.Reply.{Reply}
-use Rattle.lot_acts.specs.declared.acts.Reply.TheVariants.{Requeued}
-use Rattle.lot_acts.specs.Acts.{outcome_of}
-use Rattle.lot_mutex.specs.MutexSteps.{is_locked}
-use Rattle.lot_condvar.specs.declared.notify.NotifyAt.{NotifyAt}
-use Rattle.lot_condvar.specs.declared.notify.NotifyAt.TheVariants as notify
-use Rattle.lot_condvar.specs.declared.places.CondvarPlace.TheVariants.{Notify}
-use Rattle.lot_condvar.specs.CondvarDeeds.{MayHear, after_all, condvar_deeds}
-use Rattle.lot_condvar.specs.CondvarSteps.{condvar_next, is_shown, marks, move_act, moved_one, notified, notify_act}
+use Rattle.core_base.specs.declared.ops.Op.{Op}
+use Rattle.core_base.specs.declared.ops.Op.TheVariants as op
+use Rattle.core_base.specs.Words.{apply}
+use Rattle.core_base.specs.Lines.{first_of}
+use Rattle.spec_locks.specs.declared.outcomes.Outcome.{Outcome}
+use Rattle.spec_locks.specs.declared.outcomes.Outcome.TheVariants as outcome
+use Rattle.steps_base.specs.declared.acts.Act.TheVariants as act
+use Rattle.steps_base.specs.declared.acts.Next.TheVariants as next
+use Rattle.steps_base.specs.declared.acts.Reply.{Reply}
+use Rattle.steps_base.specs.declared.acts.Reply.TheVariants.{Requeued}
+use Rattle.steps_base.specs.Acts.{outcome_of}
+use Rattle.steps_mutex.specs.MutexSteps.{is_locked}
+use Rattle.steps_condvar.specs.declared.notify.NotifyAt.{NotifyAt}
+use Rattle.steps_condvar.specs.declared.notify.NotifyAt.TheVariants as notify
+use Rattle.steps_condvar.specs.declared.places.CondvarPlace.TheVariants.{Notify}
+use Rattle.steps_condvar.specs.CondvarDeeds.{MayHear, after_all, condvar_deeds}
+use Rattle.steps_condvar.specs.CondvarSteps.{condvar_next, is_shown, marks, move_act, moved_one, notified, notify_act}
 use Rattle.lot_steps.specs.declared.places.Place.TheVariants.{Condvar}
-use Rattle.abstract_locks.specs.Condvars.{SeeAgain, MissIt}
-use Rattle.abstract_locks.specs.Locks.{Queued}
+use Rattle.spec_locks.specs.Condvars.{SeeAgain, MissIt}
+use Rattle.spec_locks.specs.Locks.{Queued}
 use Rattle.lot_machine.specs.Machine.{State, after, can_do, go_of, is_there, place_at, queue_at, reply_to, state_after_act, word_at}
 use Rattle.lot_laws.specs.Refinement.{lock_state}
 use Rattle.lot_laws.specs.SitesOf.{condvar_of}

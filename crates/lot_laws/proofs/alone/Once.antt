@@ -2,37 +2,37 @@
 use Rattle.std.proofs.lemmas.Bool.{eqb-true}
 use Rattle.std.proofs.Common.{ℕ, Bool, true, false, if◌then◌else◌, ◌==◌, ◌≡◌, ◌≢◌, ◌+◌, ◌*◌, List, refl, sym, ◌∙◌, ap, subst, arith}
 use Rattle.std.specs.Prelude.{◌&&◌, not}
-use Rattle.lot_base.specs.declared.ops.Op.{Op}
-use Rattle.lot_base.specs.declared.ops.Op.TheVariants as op
-use Rattle.lot_base.specs.declared.wants.Waiter.{Waiter}
-use Rattle.lot_base.specs.Words.{apply}
-use Rattle.lot_calls.specs.declared.calls.OnceCall.{OnceCall}
-use Rattle.lot_calls.specs.declared.calls.OnceCall.TheVariants.{CallOnce, Wait, WaitTimed}
-use Rattle.lot_calls.specs.declared.outcomes.Outcome.{Outcome}
-use Rattle.lot_calls.specs.declared.outcomes.Outcome.TheVariants as outcome
-use Rattle.lot_calls.specs.declared.outcomes.Answer.TheVariants as answer
-use Rattle.lot_acts.specs.declared.acts.Act.TheVariants as act
-use Rattle.lot_acts.specs.declared.acts.Next.TheVariants as next
-use Rattle.lot_acts.specs.declared.acts.Reply.TheVariants.{Value}
-use Rattle.lot_acts.specs.declared.acts.Wakes.TheVariants.{Nobody}
-use Rattle.lot_acts.specs.declared.acts.Whom.TheVariants as whom
-use Rattle.lot_base.specs.declared.notes.Note.TheVariants.{Normal}
-use Rattle.lot_acts.specs.Acts.{holds, outcome_of, wakes_taken}
-use Rattle.abstract_locks.specs.Codes.{is_marked, is_poisoned}
-use Rattle.abstract_locks.specs.Onces.{Phase, New, Poisoned, InProgress, Done as IsDone}
-use Rattle.abstract_locks.specs.Sites.{Line, Main}
-use Rattle.lot_once.specs.declared.give_up.GiveUpAt.{GiveUpAt}
-use Rattle.lot_once.specs.declared.give_up.GiveUpAt.TheVariants as give_up
-use Rattle.lot_once.specs.declared.places.TheConstants.{NOT_MARKED}
-use Rattle.lot_once.specs.declared.look.LookAt.{LookAt}
-use Rattle.lot_once.specs.declared.look.LookAt.TheVariants as look
-use Rattle.lot_once.specs.declared.look.Course.{Course}
-use Rattle.lot_once.specs.declared.look.Course.TheVariants.{Ends, Runs, Marks, Parks}
-use Rattle.lot_once.specs.declared.run.RunAt.{RunAt}
-use Rattle.lot_once.specs.declared.run.RunAt.TheVariants as run
-use Rattle.lot_once.specs.declared.places.OncePlace.{OncePlace}
-use Rattle.lot_once.specs.declared.places.OncePlace.TheVariants.{Look, Run, GiveUp}
-use Rattle.lot_once.specs.OnceSteps.{check_of, course_act, course_of, ended, in_look, in_run, is_forced, is_mark, is_run, looked, marked, once_next, started, want_of, word_behind, in_give_up}
+use Rattle.core_base.specs.declared.ops.Op.{Op}
+use Rattle.core_base.specs.declared.ops.Op.TheVariants as op
+use Rattle.core_base.specs.declared.wants.Waiter.{Waiter}
+use Rattle.core_base.specs.Words.{apply}
+use Rattle.spec_locks.specs.declared.calls.OnceCall.{OnceCall}
+use Rattle.spec_locks.specs.declared.calls.OnceCall.TheVariants.{CallOnce, Wait, WaitTimed}
+use Rattle.spec_locks.specs.declared.outcomes.Outcome.{Outcome}
+use Rattle.spec_locks.specs.declared.outcomes.Outcome.TheVariants as outcome
+use Rattle.spec_locks.specs.declared.outcomes.Answer.TheVariants as answer
+use Rattle.steps_base.specs.declared.acts.Act.TheVariants as act
+use Rattle.steps_base.specs.declared.acts.Next.TheVariants as next
+use Rattle.steps_base.specs.declared.acts.Reply.TheVariants.{Value}
+use Rattle.steps_base.specs.declared.acts.Wakes.TheVariants.{Nobody}
+use Rattle.steps_base.specs.declared.acts.Whom.TheVariants as whom
+use Rattle.core_base.specs.declared.notes.Note.TheVariants.{Normal}
+use Rattle.steps_base.specs.Acts.{holds, outcome_of, wakes_taken}
+use Rattle.spec_locks.specs.Codes.{is_marked, is_poisoned}
+use Rattle.spec_locks.specs.Onces.{Phase, New, Poisoned, InProgress, Done as IsDone}
+use Rattle.spec_locks.specs.Sites.{Line, Main}
+use Rattle.steps_once.specs.declared.give_up.GiveUpAt.{GiveUpAt}
+use Rattle.steps_once.specs.declared.give_up.GiveUpAt.TheVariants as give_up
+use Rattle.steps_once.specs.declared.places.TheConstants.{NOT_MARKED}
+use Rattle.steps_once.specs.declared.look.LookAt.{LookAt}
+use Rattle.steps_once.specs.declared.look.LookAt.TheVariants as look
+use Rattle.steps_once.specs.declared.look.Course.{Course}
+use Rattle.steps_once.specs.declared.look.Course.TheVariants.{Ends, Runs, Marks, Parks}
+use Rattle.steps_once.specs.declared.run.RunAt.{RunAt}
+use Rattle.steps_once.specs.declared.run.RunAt.TheVariants as run
+use Rattle.steps_once.specs.declared.places.OncePlace.{OncePlace}
+use Rattle.steps_once.specs.declared.places.OncePlace.TheVariants.{Look, Run, GiveUp}
+use Rattle.steps_once.specs.OnceSteps.{check_of, course_act, course_of, ended, in_look, in_run, is_forced, is_mark, is_run, looked, marked, once_next, started, want_of, word_behind, in_give_up}
 use Rattle.lot_steps.specs.declared.places.Place.TheVariants.{Once}
 use Rattle.lot_steps.specs.Steps.{act_of, once_does, once_goes}
 use Rattle.lot_machine.specs.Machine.{State, after, go_of, runs_closure, step_outcome}
@@ -63,10 +63,6 @@ module _ (t l : ℕ) where
   rests w o told h = leads_rest w t (λ v o. Rests o) o told h h
 
   -- ---------------------------------------------------------------- who runs
-
-  ended_rests : (b : Bool) → Rests (outcome.End (ended b))
-  ended_rests true = tt
-  ended_rests false = tt
 
   run_leaves : (forced b any : Bool) (v : ℕ) (w : State) (q : Queues) → Alone w (Run forced (run.Leave b any)) v q → RestsIn 1 w
   run_leaves forced b any v w q f = rests w (outcome.End (ended b)) (leave_comes w t l _ v q f Main (wakes_taken any Normal) refl).0 tt

@@ -1,34 +1,34 @@
 -- A call of a `Once` that steps alone from its beginning, and to what it comes.
 use Rattle.std.proofs.Common.{ℕ, Bool, true, false, Some, if◌then◌else◌, ◌≡◌, ◌+◌, ◌*◌, ◌≤◌, ◌⊎◌, ◌++◌, ◌∷◌, [], List, map, refl, sym, ◌∙◌, ap, subst, arith}
 use Rattle.std.specs.Prelude.{◌&&◌, not}
-use Rattle.lot_base.specs.declared.keys.Keys.TheVariants.{One}
-use Rattle.lot_base.specs.declared.ops.Op.TheVariants as op
-use Rattle.lot_base.specs.declared.wants.Waiter.{Waiter}
-use Rattle.lot_base.specs.Lines.{waiter}
-use Rattle.lot_base.specs.Words.{apply}
-use Rattle.lot_calls.specs.declared.calls.OnceCall.{OnceCall}
-use Rattle.lot_calls.specs.declared.calls.OnceCall.TheVariants.{CallOnce, Wait, WaitTimed}
-use Rattle.lot_calls.specs.declared.outcomes.Answer.{Answer}
-use Rattle.lot_calls.specs.declared.outcomes.Answer.TheVariants as answer
-use Rattle.lot_calls.specs.declared.outcomes.Outcome.{Outcome}
-use Rattle.lot_calls.specs.declared.outcomes.Outcome.TheVariants as outcome
-use Rattle.lot_acts.specs.declared.acts.Act.TheVariants as act
-use Rattle.lot_acts.specs.declared.acts.Next.{Next}
-use Rattle.lot_acts.specs.declared.acts.Next.TheVariants as next
-use Rattle.lot_acts.specs.declared.acts.Reply.TheVariants.{Value}
-use Rattle.lot_acts.specs.declared.acts.Wakes.TheVariants.{Nobody}
-use Rattle.lot_acts.specs.Acts.{holds, outcome_of}
-use Rattle.abstract_locks.specs.Onces.{Phase, New, Poisoned, InProgress, Done as IsDone}
-use Rattle.abstract_locks.specs.Picks.{queued_of}
-use Rattle.abstract_locks.specs.Purposes.{once_purpose}
-use Rattle.abstract_locks.specs.Sites.{Line, Main, Runs as Running, idle}
-use Rattle.lot_once.specs.declared.look.LookAt.TheVariants as look
-use Rattle.lot_once.specs.declared.run.RunAt.TheVariants as run
-use Rattle.lot_once.specs.declared.places.OncePlace.{OncePlace}
-use Rattle.lot_once.specs.declared.places.OncePlace.TheVariants.{Look, Run}
-use Rattle.lot_once.specs.OnceProfiles.{once_profile}
-use Rattle.lot_once.specs.OnceSteps.{check_of, in_look, is_forced, looked, once_act, once_first, once_next, state_before, want_of, when_done}
-use Rattle.lot_once.proofs.OnceWords as words
+use Rattle.core_base.specs.declared.keys.Keys.TheVariants.{One}
+use Rattle.core_base.specs.declared.ops.Op.TheVariants as op
+use Rattle.core_base.specs.declared.wants.Waiter.{Waiter}
+use Rattle.core_base.specs.Lines.{waiter}
+use Rattle.core_base.specs.Words.{apply}
+use Rattle.spec_locks.specs.declared.calls.OnceCall.{OnceCall}
+use Rattle.spec_locks.specs.declared.calls.OnceCall.TheVariants.{CallOnce, Wait, WaitTimed}
+use Rattle.spec_locks.specs.declared.outcomes.Answer.{Answer}
+use Rattle.spec_locks.specs.declared.outcomes.Answer.TheVariants as answer
+use Rattle.spec_locks.specs.declared.outcomes.Outcome.{Outcome}
+use Rattle.spec_locks.specs.declared.outcomes.Outcome.TheVariants as outcome
+use Rattle.steps_base.specs.declared.acts.Act.TheVariants as act
+use Rattle.steps_base.specs.declared.acts.Next.{Next}
+use Rattle.steps_base.specs.declared.acts.Next.TheVariants as next
+use Rattle.steps_base.specs.declared.acts.Reply.TheVariants.{Value}
+use Rattle.steps_base.specs.declared.acts.Wakes.TheVariants.{Nobody}
+use Rattle.steps_base.specs.Acts.{holds, outcome_of}
+use Rattle.spec_locks.specs.Onces.{Phase, New, Poisoned, InProgress, Done as IsDone}
+use Rattle.spec_locks.specs.Picks.{queued_of}
+use Rattle.spec_locks.specs.Purposes.{once_purpose}
+use Rattle.spec_locks.specs.Sites.{Line, Main, Runs as Running, idle}
+use Rattle.steps_once.specs.declared.look.LookAt.TheVariants as look
+use Rattle.steps_once.specs.declared.run.RunAt.TheVariants as run
+use Rattle.steps_once.specs.declared.places.OncePlace.{OncePlace}
+use Rattle.steps_once.specs.declared.places.OncePlace.TheVariants.{Look, Run}
+use Rattle.steps_once.specs.OnceProfiles.{once_profile}
+use Rattle.steps_once.specs.OnceSteps.{check_of, in_look, is_forced, looked, once_act, once_first, once_next, state_before, want_of, when_done}
+use Rattle.steps_once.proofs.OnceWords as words
 use Rattle.lot_steps.specs.declared.places.Place.TheVariants.{Once}
 use Rattle.lot_steps.specs.Steps.{once_does, once_goes}
 use Rattle.lot_machine.specs.Machine.{State, after, go_of, queue_at, solo, word_at}

@@ -1,48 +1,48 @@
 -- A call whose thread steps alone: from each place, where it ends or falls asleep.
 use Rattle.std.proofs.Common.{ℕ, Bool, true, false, Option, Some, None, if◌then◌else◌, ◌≡◌, ◌≢◌, ◌*◌, ◌≤◌, ◌<◌, ◌⊎◌, inl, inr, List, [], ◌∷◌, length, drop, map, refl, sym, ◌∙◌, ap, subst, arith}
-use Rattle.lot_base.specs.declared.wants.Waiter.{Waiter}
-use Rattle.lot_base.specs.declared.wants.Want.TheVariants.{Exclusive}
-use Rattle.lot_base.specs.Lines.{times, first_of}
-use Rattle.lot_acts.specs.declared.acts.Act as act
-use Rattle.lot_calls.specs.declared.outcomes.Answer as answer
-use Rattle.lot_calls.specs.declared.calls.Call.{Call}
-use Rattle.lot_calls.specs.declared.calls.Call as call
-use Rattle.lot_calls.specs.declared.calls.MutexCall.{MutexCall}
-use Rattle.lot_calls.specs.declared.calls.MutexCall as mutex_call
-use Rattle.lot_calls.specs.declared.kinds.Kind.{Kind}
-use Rattle.lot_calls.specs.declared.kinds.Kind.TheVariants as kinds
-use Rattle.lot_calls.specs.declared.outcomes.Outcome.{Outcome}
-use Rattle.lot_calls.specs.declared.outcomes.Outcome as outcome
-use Rattle.lot_mutex.specs.declared.lock.Entry.{Entry}
-use Rattle.lot_mutex.specs.declared.lock.Entry.TheVariants as entries
-use Rattle.lot_mutex.specs.declared.places.MutexPlace.TheVariants.{Lock, TryLock, Unlock, UnlockFair, Bump, HandOff}
-use Rattle.lot_calls.specs.declared.calls.CondvarCall.{CondvarCall}
-use Rattle.lot_calls.specs.declared.calls.OnceCall.{OnceCall}
-use Rattle.lot_condvar.specs.CondvarSteps.{condvar_first}
-use Rattle.lot_once.specs.OnceSteps.{once_first}
+use Rattle.core_base.specs.declared.wants.Waiter.{Waiter}
+use Rattle.core_base.specs.declared.wants.Want.TheVariants.{Exclusive}
+use Rattle.core_base.specs.Lines.{times, first_of}
+use Rattle.steps_base.specs.declared.acts.Act as act
+use Rattle.spec_locks.specs.declared.outcomes.Answer as answer
+use Rattle.spec_locks.specs.declared.calls.Call.{Call}
+use Rattle.spec_locks.specs.declared.calls.Call as call
+use Rattle.spec_locks.specs.declared.calls.MutexCall.{MutexCall}
+use Rattle.spec_locks.specs.declared.calls.MutexCall as mutex_call
+use Rattle.spec_locks.specs.declared.kinds.Kind.{Kind}
+use Rattle.spec_locks.specs.declared.kinds.Kind.TheVariants as kinds
+use Rattle.spec_locks.specs.declared.outcomes.Outcome.{Outcome}
+use Rattle.spec_locks.specs.declared.outcomes.Outcome as outcome
+use Rattle.steps_mutex.specs.declared.lock.Entry.{Entry}
+use Rattle.steps_mutex.specs.declared.lock.Entry.TheVariants as entries
+use Rattle.steps_mutex.specs.declared.places.MutexPlace.TheVariants.{Lock, TryLock, Unlock, UnlockFair, Bump, HandOff}
+use Rattle.spec_locks.specs.declared.calls.CondvarCall.{CondvarCall}
+use Rattle.spec_locks.specs.declared.calls.OnceCall.{OnceCall}
+use Rattle.steps_condvar.specs.CondvarSteps.{condvar_first}
+use Rattle.steps_once.specs.OnceSteps.{once_first}
 use Rattle.lot_laws.proofs.alone.OnceEnds.{once_alone}
 use Rattle.lot_laws.proofs.alone.Once.{once_rests}
 use Rattle.lot_steps.specs.declared.places.Place.{Place}
 use Rattle.lot_steps.specs.declared.places.Place.TheVariants.{Idle, Mutex, RwLock, Once, Condvar, Semaphore}
-use Rattle.lot_semaphore.specs.declared.places.SemaphorePlace.{SemaphorePlace}
-use Rattle.lot_calls.specs.declared.calls.SemaphoreCall.{SemaphoreCall}
-use Rattle.lot_semaphore.specs.SemaphoreSteps.{semaphore_first}
+use Rattle.steps_semaphore.specs.declared.places.SemaphorePlace.{SemaphorePlace}
+use Rattle.spec_locks.specs.declared.calls.SemaphoreCall.{SemaphoreCall}
+use Rattle.steps_semaphore.specs.SemaphoreSteps.{semaphore_first}
 use Rattle.lot_laws.proofs.alone.SemaphoreEnds.{semaphore_alone}
 use Rattle.lot_laws.proofs.alone.Semaphore.{semaphore_rests}
-use Rattle.lot_mutex.specs.MutexSteps.{mutex_first, is_locked}
-use Rattle.lot_calls.specs.Kinds.{is_fair}
-use Rattle.lot_calls.specs.Calls.{lock_in}
+use Rattle.steps_mutex.specs.MutexSteps.{mutex_first, is_locked}
+use Rattle.spec_locks.specs.Kinds.{is_fair}
+use Rattle.spec_locks.specs.Calls.{lock_in}
 use Rattle.lot_steps.specs.Steps.{act_of, first_place}
 use Rattle.lot_machine.specs.Machine.{State, place_at, word_at, kind_at, queue_at, section_at, go_of, after, runs_closure, solo}
 use Rattle.lot_machine.specs.Fits.{IsShaped, PlaceFits}
-use Rattle.abstract_locks.specs.Sites.{Main, has_readers}
+use Rattle.spec_locks.specs.Sites.{Main, has_readers}
 use Rattle.lot_laws.specs.Stations.{station, station_at}
 use Rattle.lot_laws.specs.SitesOf.{AreCondvars, AreCounted, IsSteady, IsWorld, RunsInClosures, key_of, FitsItsLock, is_mutex, rules_in}
-use Rattle.abstract_locks.specs.Locks.{readers, Rules, MayEnter, IsBlocked}
-use Rattle.abstract_locks.specs.Locks as locks
-use Rattle.abstract_locks.specs.Purposes.{Bumps, Patience, Patient, Purpose, Releases, Timed, Try, mutex_purpose, purpose_of, rules_of, rwlock_purpose}
-use Rattle.abstract_locks.specs.Runs.{IsFull, rules_at, purpose_at}
-use Rattle.abstract_locks.specs.Picks.{queued_of}
+use Rattle.spec_locks.specs.Locks.{readers, Rules, MayEnter, IsBlocked}
+use Rattle.spec_locks.specs.Locks as locks
+use Rattle.spec_locks.specs.Purposes.{Bumps, Patience, Patient, Purpose, Releases, Timed, Try, mutex_purpose, purpose_of, rules_of, rwlock_purpose}
+use Rattle.spec_locks.specs.Runs.{IsFull, rules_at, purpose_at}
+use Rattle.spec_locks.specs.Picks.{queued_of}
 use Rattle.lot_laws.specs.Refinement.{lock_state, locks_of, owner_at}
 use Rattle.lot_laws.specs.Solo.{BumpsAlone, EndsAlone, EntersAlone, HasItsWay, HasWhatItReads, IsBarred, IsOnly, IsUnderWay, OnlyTries, Rests, successor}
 use Rattle.lot_laws.proofs.alone.Mutex.{LockEnds, UnlockEnds, bump_leads, bump_rests, first_leads, hand_off_rests, lock_rests, subtract_leads, try_leads, unlock_fair_leads, unlock_fair_rests, unlock_rests}
@@ -53,19 +53,19 @@ use Rattle.lot_laws.proofs.calls.Tries.{first_busy, stands_there}
 use Rattle.lot_laws.proofs.calls.Begins.{purpose_is}
 use Rattle.lot_laws.proofs.hands.Counts.{first_times}
 use Rattle.lot_laws.proofs.machine.Parts.{IsSingle, nothing_at}
-use Rattle.lot_mutex.specs.declared.places.MutexPlace.{MutexPlace}
+use Rattle.steps_mutex.specs.declared.places.MutexPlace.{MutexPlace}
 use Rattle.lot_laws.proofs.sites.SitesKept.{mutex_unshared}
-use Rattle.lot_calls.specs.declared.calls.RwLockCall.{RwLockCall}
-use Rattle.lot_rwlock.specs.declared.places.Admission.{Admission}
+use Rattle.spec_locks.specs.declared.calls.RwLockCall.{RwLockCall}
+use Rattle.steps_rwlock.specs.declared.places.Admission.{Admission}
 use Rattle.lot_laws.proofs.alone.TwoLines.{StepsAlone}
 use Rattle.lot_laws.proofs.alone.Bump.{call_rests}
 use Rattle.lot_laws.proofs.alone.RwLock.{word_small}
 use Rattle.lot_laws.proofs.alone.BumpEnds.{rwlock_alone}
 use Rattle.lot_laws.proofs.alone.CondvarEnds.{condvar_alone, condvar_rests}
 use Rattle.lot_laws.proofs.alone.WorldRuns.{runs_alone, world_after}
-use Rattle.lot_rwlock.specs.RwLockBegins.{admission_of}
-use Rattle.lot_rwlock_fair.specs.declared.places.RwLockCallPlace.{RwLockCallPlace}
-use Rattle.lot_rwlock_fair.specs.FairBegins.{call_first}
+use Rattle.steps_rwlock.specs.RwLockBegins.{admission_of}
+use Rattle.steps_rwlock_fair.specs.declared.places.RwLockCallPlace.{RwLockCallPlace}
+use Rattle.steps_rwlock_fair.specs.FairBegins.{call_first}
 use Rattle.lot_laws.proofs.rwlock.Kept.{admits_by}
 use Rattle.lot_laws.proofs.machine.AtPlaces.{coded as words_coded, coded_for, absent}
 use Rattle.lot_laws.proofs.alone.Leads.{Leads, OrBarred, leads_more, leads_so, or_so}

@@ -1,52 +1,52 @@
 -- A call of a reader-writer lock whose thread steps alone: from each place, where it ends or falls asleep.
 use Rattle.std.proofs.Common.{ℕ, Bool, true, false, Option, Some, None, if◌then◌else◌, ◌==◌, ◌&&◌, not, ◌≡◌, ◌≢◌, ◌+◌, ◌-◌, ◌*◌, ◌%◌, ◌≤◌, ◌<◌, ◌^◌, nat_le, length, drop, List, [], ◌∷◌, ◌++◌, refl, sym, ◌∙◌, ap, subst, arith}
 use Rattle.std.proofs.lemmas.Bool.{eqb-true}
-use Rattle.lot_base.specs.declared.keys.Keys.TheVariants.{One}
-use Rattle.lot_base.specs.declared.ops.Op.TheVariants as op
-use Rattle.lot_base.specs.declared.wants.Waiter.{Waiter}
-use Rattle.lot_base.specs.declared.wants.Want.{Want}
-use Rattle.lot_base.specs.Words.{apply}
-use Rattle.lot_calls.specs.declared.calls.Access.{Access}
-use Rattle.lot_calls.specs.declared.calls.Access.TheVariants as access
-use Rattle.lot_calls.specs.declared.calls.Downgrade.{Downgrade}
-use Rattle.lot_calls.specs.declared.calls.Patience.{Patience}
-use Rattle.lot_calls.specs.declared.calls.Patience.TheVariants.{Patient, Timed, Try}
-use Rattle.lot_calls.specs.declared.outcomes.Answer.{Answer}
-use Rattle.lot_calls.specs.declared.outcomes.Answer.TheVariants as answer
-use Rattle.lot_calls.specs.declared.outcomes.Outcome.{Outcome}
-use Rattle.lot_calls.specs.declared.outcomes.Outcome.TheVariants as outcome
-use Rattle.lot_acts.specs.declared.acts.Act.TheVariants as act
-use Rattle.lot_acts.specs.declared.acts.Next.{Next}
-use Rattle.lot_acts.specs.declared.acts.Next.TheVariants.{At, End}
-use Rattle.lot_acts.specs.declared.acts.Reply.TheVariants.{Value}
-use Rattle.lot_acts.specs.declared.acts.Wakes.TheVariants as wakes
-use Rattle.lot_acts.specs.Acts.{holds, outcome_of}
-use Rattle.lot_acts.specs.declared.acts.Whom.TheVariants as whoms
-use Rattle.lot_base.specs.Lines.{waiter, first_of}
-use Rattle.lot_rwlock.specs.declared.places.Admission.{Admission}
-use Rattle.lot_rwlock.specs.declared.places.RwLockPlace.{RwLockPlace}
-use Rattle.lot_rwlock.specs.declared.purposes.RwLockPurpose.{RwLockPurpose}
-use Rattle.lot_rwlock.specs.declared.purposes.RwLockPurpose.TheVariants as purpose
-use Rattle.lot_rwlock.specs.declared.places.RwLockAt.{RwLockAt}
-use Rattle.lot_rwlock.specs.declared.places.RwLockAt.TheVariants as at
-use Rattle.lot_rwlock.specs.declared.enter.Decision.{Decision}
-use Rattle.lot_rwlock.specs.declared.enter.Decision.TheVariants as decisions
-use Rattle.lot_rwlock.specs.declared.park.ParkAt.{ParkAt}
-use Rattle.lot_rwlock.specs.declared.park.ParkAt.TheVariants as parking
-use Rattle.lot_rwlock.specs.declared.release.WakeAt.{WakeAt}
-use Rattle.lot_rwlock.specs.declared.release.WakeAt.TheVariants as waking
-use Rattle.lot_rwlock.specs.RwLockSteps.{act_at, park_act, wanted, access_of, patience_of, want_at, start_of, ends_with, entered, is_counted, decision, decided, decided_for, decided_act, exchanged_next, decision_blocked, waits, exchange, plus, word_taken, rwlock_act, rwlock_next, park_check, unparked, whom, counted, looked, looked_by, came_in, gave_way, parks_at, missed, took, clears, rollback_op, give_op}
-use Rattle.abstract_locks.specs.Codes.{bit, code, code_of, rw_code, writers, count_in, has_aside, has_parked, is_blocked, bars, leaves_readers}
-use Rattle.abstract_locks.specs.Sites.{Site, IsSite, has_readers, Line, Main, Second}
+use Rattle.core_base.specs.declared.keys.Keys.TheVariants.{One}
+use Rattle.core_base.specs.declared.ops.Op.TheVariants as op
+use Rattle.core_base.specs.declared.wants.Waiter.{Waiter}
+use Rattle.core_base.specs.declared.wants.Want.{Want}
+use Rattle.core_base.specs.Words.{apply}
+use Rattle.spec_locks.specs.declared.calls.Access.{Access}
+use Rattle.spec_locks.specs.declared.calls.Access.TheVariants as access
+use Rattle.spec_locks.specs.declared.calls.Downgrade.{Downgrade}
+use Rattle.spec_locks.specs.declared.calls.Patience.{Patience}
+use Rattle.spec_locks.specs.declared.calls.Patience.TheVariants.{Patient, Timed, Try}
+use Rattle.spec_locks.specs.declared.outcomes.Answer.{Answer}
+use Rattle.spec_locks.specs.declared.outcomes.Answer.TheVariants as answer
+use Rattle.spec_locks.specs.declared.outcomes.Outcome.{Outcome}
+use Rattle.spec_locks.specs.declared.outcomes.Outcome.TheVariants as outcome
+use Rattle.steps_base.specs.declared.acts.Act.TheVariants as act
+use Rattle.steps_base.specs.declared.acts.Next.{Next}
+use Rattle.steps_base.specs.declared.acts.Next.TheVariants.{At, End}
+use Rattle.steps_base.specs.declared.acts.Reply.TheVariants.{Value}
+use Rattle.steps_base.specs.declared.acts.Wakes.TheVariants as wakes
+use Rattle.steps_base.specs.Acts.{holds, outcome_of}
+use Rattle.steps_base.specs.declared.acts.Whom.TheVariants as whoms
+use Rattle.core_base.specs.Lines.{waiter, first_of}
+use Rattle.steps_rwlock.specs.declared.places.Admission.{Admission}
+use Rattle.steps_rwlock.specs.declared.places.RwLockPlace.{RwLockPlace}
+use Rattle.steps_rwlock.specs.declared.purposes.RwLockPurpose.{RwLockPurpose}
+use Rattle.steps_rwlock.specs.declared.purposes.RwLockPurpose.TheVariants as purpose
+use Rattle.steps_rwlock.specs.declared.places.RwLockAt.{RwLockAt}
+use Rattle.steps_rwlock.specs.declared.places.RwLockAt.TheVariants as at
+use Rattle.steps_rwlock.specs.declared.enter.Decision.{Decision}
+use Rattle.steps_rwlock.specs.declared.enter.Decision.TheVariants as decisions
+use Rattle.steps_rwlock.specs.declared.park.ParkAt.{ParkAt}
+use Rattle.steps_rwlock.specs.declared.park.ParkAt.TheVariants as parking
+use Rattle.steps_rwlock.specs.declared.release.WakeAt.{WakeAt}
+use Rattle.steps_rwlock.specs.declared.release.WakeAt.TheVariants as waking
+use Rattle.steps_rwlock.specs.RwLockSteps.{act_at, park_act, wanted, access_of, patience_of, want_at, start_of, ends_with, entered, is_counted, decision, decided, decided_for, decided_act, exchanged_next, decision_blocked, waits, exchange, plus, word_taken, rwlock_act, rwlock_next, park_check, unparked, whom, counted, looked, looked_by, came_in, gave_way, parks_at, missed, took, clears, rollback_op, give_op}
+use Rattle.spec_locks.specs.Codes.{bit, code, code_of, rw_code, writers, count_in, has_aside, has_parked, is_blocked, bars, leaves_readers}
+use Rattle.spec_locks.specs.Sites.{Site, IsSite, has_readers, Line, Main, Second}
 use Rattle.lot_steps.specs.declared.places.Place.TheVariants.{Idle, RwLock}
-use Rattle.lot_rwlock_fair.specs.declared.places.RwLockCallPlace.TheVariants.{Plain}
+use Rattle.steps_rwlock_fair.specs.declared.places.RwLockCallPlace.TheVariants.{Plain}
 use Rattle.lot_steps.specs.Steps.{act_of}
 use Rattle.lot_laws.proofs.calls.PlainCalls.{plain_goes, plain_does}
 use Rattle.lot_machine.specs.Machine.{State, word_at, queue_at, queues_without_first, state_after_taking, after, go_of}
-use Rattle.lot_rwlock.specs.RwLockCalls.{IsNoRefusal, MayStand, StandsAt, IsDecided}
-use Rattle.lot_rwlock.proofs.RwLockStands.{decides_to_park, aside_set}
+use Rattle.steps_rwlock.specs.RwLockCalls.{IsNoRefusal, MayStand, StandsAt, IsDecided}
+use Rattle.steps_rwlock.proofs.RwLockStands.{decides_to_park, aside_set}
 use Rattle.lot_laws.specs.SitesOf.{IsSteady, key_of, rules_in, site_of}
-use Rattle.abstract_locks.specs.Locks.{Rules, Sort, Mutex, Normal, Recursive, Semaphore, Once, count, one_if_some, Condvar}
+use Rattle.spec_locks.specs.Locks.{Rules, Sort, Mutex, Normal, Recursive, Semaphore, Once, count, one_if_some, Condvar}
 use Rattle.lot_laws.specs.Solo.{Rests}
 use Rattle.lot_laws.proofs.machine.Parts.{same}
 use Rattle.lot_laws.proofs.alone.Leads.{Leads, leads_rest, leads_step, leads_more, leads_so}

@@ -2,44 +2,44 @@
 use Rattle.std.proofs.lemmas.Bool.Decides.{nat_tests}
 use Rattle.std.proofs.Common.{ℕ, zero, suc, Bool, true, false, Option, Some, None, if◌then◌else◌, ◌==◌, ◌≡◌, ◌+◌, ◌-◌, ◌*◌, ◌<◌, ◌≤◌, ◌⊎◌, ◌++◌, ◌∷◌, [], List, length, map, replicate, refl, sym, ◌∙◌, ap, subst, arith}
 use Rattle.std.specs.Prelude.{◌&&◌, not}
-use Rattle.lot_base.specs.declared.keys.Keys.TheVariants.{One}
-use Rattle.lot_base.specs.declared.ops.Op.TheVariants as op
-use Rattle.lot_base.specs.declared.notes.Note.TheVariants.{Normal}
-use Rattle.lot_base.specs.declared.wants.Waiter.{Waiter}
-use Rattle.lot_base.specs.declared.wants.Want.TheVariants.{Shared, Upgradable}
-use Rattle.lot_base.specs.Lines.{first_of, waiter}
-use Rattle.lot_base.specs.Words.{apply}
-use Rattle.lot_calls.specs.declared.calls.Patience.{Patience}
-use Rattle.lot_calls.specs.declared.calls.Patience.TheVariants.{Patient, Timed, Try as OnlyTry}
-use Rattle.lot_calls.specs.declared.calls.SemaphoreCall.{SemaphoreCall}
-use Rattle.lot_calls.specs.declared.calls.SemaphoreCall.TheVariants as call
-use Rattle.lot_calls.specs.declared.outcomes.Answer.{Answer}
-use Rattle.lot_calls.specs.declared.outcomes.Answer.TheVariants as answer
-use Rattle.lot_calls.specs.declared.outcomes.Outcome.{Outcome}
-use Rattle.lot_calls.specs.declared.outcomes.Outcome.TheVariants as outcome
-use Rattle.lot_acts.specs.declared.acts.Act.TheVariants as act
-use Rattle.lot_acts.specs.declared.acts.Check.TheVariants.{WordIs}
-use Rattle.lot_acts.specs.declared.acts.Next.{Next}
-use Rattle.lot_acts.specs.declared.acts.Next.TheVariants as next
-use Rattle.lot_acts.specs.declared.acts.Reply.TheVariants.{Value}
-use Rattle.lot_acts.specs.declared.acts.Wakes.TheVariants.{Nobody}
-use Rattle.lot_acts.specs.declared.acts.Whom.TheVariants as whom
-use Rattle.lot_acts.specs.Acts.{outcome_of, wakes_taken}
-use Rattle.abstract_locks.specs.Codes.{has_parked}
-use Rattle.abstract_locks.specs.Locks.{IsBlocked, IsFree, IsFreeAt, Knows, LockState, Owns, Semaphore as OfSemaphores, one_if_some, readers, rights_of, with_right}
-use Rattle.abstract_locks.specs.Picks.{queued_of}
-use Rattle.abstract_locks.specs.Purposes.{Enters, semaphore_purpose}
-use Rattle.abstract_locks.specs.Runs.{IsFull}
-use Rattle.abstract_locks.specs.Sites.{Line, Main, has_readers}
-use Rattle.lot_semaphore.specs.declared.places.TheConstants.{NOT_PARKED}
-use Rattle.lot_semaphore.specs.declared.acquire.AcquireAt.TheVariants as acquire
-use Rattle.lot_semaphore.specs.declared.tries.TryAt.TheVariants as tries
-use Rattle.lot_semaphore.specs.declared.release.ReleaseAt.TheVariants as release
-use Rattle.lot_semaphore.specs.declared.places.SemaphorePlace.{SemaphorePlace}
-use Rattle.lot_semaphore.specs.declared.places.SemaphorePlace.TheVariants.{Acquire, Try, Release}
-use Rattle.lot_semaphore.specs.SemaphoreSteps.{acquired, decided, in_acquire, in_release, in_try, is_free, looked, semaphore_act, semaphore_first, semaphore_next}
-use Rattle.lot_semaphore.specs.SemaphoreProfiles.{semaphore_profile}
-use Rattle.lot_semaphore.proofs.SemaphoreWords as words
+use Rattle.core_base.specs.declared.keys.Keys.TheVariants.{One}
+use Rattle.core_base.specs.declared.ops.Op.TheVariants as op
+use Rattle.core_base.specs.declared.notes.Note.TheVariants.{Normal}
+use Rattle.core_base.specs.declared.wants.Waiter.{Waiter}
+use Rattle.core_base.specs.declared.wants.Want.TheVariants.{Shared, Upgradable}
+use Rattle.core_base.specs.Lines.{first_of, waiter}
+use Rattle.core_base.specs.Words.{apply}
+use Rattle.spec_locks.specs.declared.calls.Patience.{Patience}
+use Rattle.spec_locks.specs.declared.calls.Patience.TheVariants.{Patient, Timed, Try as OnlyTry}
+use Rattle.spec_locks.specs.declared.calls.SemaphoreCall.{SemaphoreCall}
+use Rattle.spec_locks.specs.declared.calls.SemaphoreCall.TheVariants as call
+use Rattle.spec_locks.specs.declared.outcomes.Answer.{Answer}
+use Rattle.spec_locks.specs.declared.outcomes.Answer.TheVariants as answer
+use Rattle.spec_locks.specs.declared.outcomes.Outcome.{Outcome}
+use Rattle.spec_locks.specs.declared.outcomes.Outcome.TheVariants as outcome
+use Rattle.steps_base.specs.declared.acts.Act.TheVariants as act
+use Rattle.steps_base.specs.declared.acts.Check.TheVariants.{WordIs}
+use Rattle.steps_base.specs.declared.acts.Next.{Next}
+use Rattle.steps_base.specs.declared.acts.Next.TheVariants as next
+use Rattle.steps_base.specs.declared.acts.Reply.TheVariants.{Value}
+use Rattle.steps_base.specs.declared.acts.Wakes.TheVariants.{Nobody}
+use Rattle.steps_base.specs.declared.acts.Whom.TheVariants as whom
+use Rattle.steps_base.specs.Acts.{outcome_of, wakes_taken}
+use Rattle.spec_locks.specs.Codes.{has_parked}
+use Rattle.spec_locks.specs.Locks.{IsBlocked, IsFree, IsFreeAt, Knows, LockState, Owns, Semaphore as OfSemaphores, one_if_some, readers, rights_of, with_right}
+use Rattle.spec_locks.specs.Picks.{queued_of}
+use Rattle.spec_locks.specs.Purposes.{Enters, semaphore_purpose}
+use Rattle.spec_locks.specs.Runs.{IsFull}
+use Rattle.spec_locks.specs.Sites.{Line, Main, has_readers}
+use Rattle.steps_semaphore.specs.declared.places.TheConstants.{NOT_PARKED}
+use Rattle.steps_semaphore.specs.declared.acquire.AcquireAt.TheVariants as acquire
+use Rattle.steps_semaphore.specs.declared.tries.TryAt.TheVariants as tries
+use Rattle.steps_semaphore.specs.declared.release.ReleaseAt.TheVariants as release
+use Rattle.steps_semaphore.specs.declared.places.SemaphorePlace.{SemaphorePlace}
+use Rattle.steps_semaphore.specs.declared.places.SemaphorePlace.TheVariants.{Acquire, Try, Release}
+use Rattle.steps_semaphore.specs.SemaphoreSteps.{acquired, decided, in_acquire, in_release, in_try, is_free, looked, semaphore_act, semaphore_first, semaphore_next}
+use Rattle.steps_semaphore.specs.SemaphoreProfiles.{semaphore_profile}
+use Rattle.steps_semaphore.proofs.SemaphoreWords as words
 use Rattle.lot_steps.specs.declared.places.Place.TheVariants.{Semaphore}
 use Rattle.lot_steps.specs.Steps.{semaphore_does, semaphore_goes}
 use Rattle.lot_machine.specs.Machine.{State, after, go_of, place_at, queue_at, queues_without_first, solo, state_after_taking, word_at}

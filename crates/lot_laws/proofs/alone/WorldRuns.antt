@@ -1,10 +1,10 @@
 -- Steps one after another, and steps of a thread alone, are a run of the world.
 use Rattle.std.proofs.Common.{ℕ, zero, suc, ◌≡◌, ◌≤◌, List, [], ◌∷◌, ◌++◌, length, replicate, refl, sym, ap, ◌∙◌, subst, arith}
-use Rattle.lot_calls.specs.declared.calls.Step.{Step}
-use Rattle.lot_calls.specs.declared.outcomes.Outcome.{Outcome}
-use Rattle.lot_calls.specs.declared.outcomes.Outcome as outcome
-use Rattle.abstract_locks.specs.Runs.{IsRun, LocksState}
-use Rattle.abstract_locks.specs.UserLaws.{OfEachStep}
+use Rattle.spec_locks.specs.declared.calls.Step.{Step}
+use Rattle.spec_locks.specs.declared.outcomes.Outcome.{Outcome}
+use Rattle.spec_locks.specs.declared.outcomes.Outcome as outcome
+use Rattle.spec_locks.specs.Runs.{IsRun, LocksState}
+use Rattle.spec_locks.specs.UserLaws.{OfEachStep}
 use Rattle.lot_machine.specs.Machine.{State, after, step_outcome, after_steps, step_outcomes, alone_after, go_of, solo}
 use Rattle.lot_laws.specs.Promises.{IsKept}
 use Rattle.lot_laws.specs.Refinement.{locks_of}

@@ -1,10 +1,10 @@
 -- A closure has answered: its thread goes on from behind it, as from any other place of its call.
 use Rattle.std.proofs.Common.{ℕ, Bool, true, ◌≡◌, ◌<◌, length, length-set, refl, ◌∙◌, ap}
 use Rattle.lot_machine.specs.Machine.{held_by}
-use Rattle.lot_acts.specs.declared.acts.Reply.TheVariants.{Closed}
-use Rattle.lot_acts.specs.Profiles.{hand_owner}
-use Rattle.lot_once.specs.declared.places.OncePlace.TheVariants.{Run}
-use Rattle.lot_once.specs.declared.run.RunAt.TheVariants as run
+use Rattle.steps_base.specs.declared.acts.Reply.TheVariants.{Closed}
+use Rattle.steps_base.specs.Profiles.{hand_owner}
+use Rattle.steps_once.specs.declared.places.OncePlace.TheVariants.{Run}
+use Rattle.steps_once.specs.declared.run.RunAt.TheVariants as run
 use Rattle.lot_steps.specs.declared.places.Place.{Place}
 use Rattle.lot_steps.specs.declared.places.Place.TheVariants.{Once}
 use Rattle.lot_steps.specs.Steps.{next_place, or_else}

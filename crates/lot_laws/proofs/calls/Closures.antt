@@ -1,9 +1,9 @@
 -- A thread that may end its closure runs one, and is told so.
 use Rattle.std.proofs.Common.{ℕ, Bool, true, ◌≡◌, refl}
-use Rattle.abstract_locks.specs.Runs.{is_closure}
-use Rattle.lot_acts.specs.Acts.{outcome_of}
-use Rattle.lot_acts.specs.declared.acts.Act as act
-use Rattle.lot_acts.specs.declared.acts.Act.{Act}
+use Rattle.spec_locks.specs.Runs.{is_closure}
+use Rattle.steps_base.specs.Acts.{outcome_of}
+use Rattle.steps_base.specs.declared.acts.Act as act
+use Rattle.steps_base.specs.declared.acts.Act.{Act}
 use Rattle.lot_steps.specs.Steps.{act_of}
 use Rattle.lot_machine.specs.Machine.{State, place_at, runs_closure, can_close, can_do, closed_place}
 use Rattle.lot_machine.proofs.Shape.{both}

@@ -1,15 +1,15 @@
 -- A property of each lock holds behind a step of the abstract locks, where it holds behind each case, and
 -- behind each move of a notification.
 use Rattle.std.proofs.Common.{ℕ, Bool, true, false, Option, Some, if◌then◌else◌, ◌==◌, ◌≡◌, ◌⊎◌, List, [], ◌∷◌, inl, inr, eqb-true, refl, sym, ◌∙◌, ap, subst}
-use Rattle.lot_calls.specs.declared.calls.Turn.{Turn}
-use Rattle.lot_calls.specs.declared.calls.Turn as turn
-use Rattle.lot_calls.specs.declared.outcomes.Outcome.{Outcome}
-use Rattle.abstract_locks.specs.Condvars.{moved_of, taken_of}
-use Rattle.abstract_locks.specs.Locks as locks
-use Rattle.abstract_locks.specs.Locks.{LockCase, LockState, Needs, Queued, Taken, left_behind, taking}
-use Rattle.abstract_locks.specs.Runs.{AtLock, CallState, Does, Event, GoesOn, LocksState, MayHappen, MayMove, Moves, Nothing, Stays, Turned, joined_by, locks_after, rules_at}
-use Rattle.abstract_locks.specs.Sites.{has_readers}
-use Rattle.abstract_locks.proofs.Runs.{needs_of}
+use Rattle.spec_locks.specs.declared.calls.Turn.{Turn}
+use Rattle.spec_locks.specs.declared.calls.Turn as turn
+use Rattle.spec_locks.specs.declared.outcomes.Outcome.{Outcome}
+use Rattle.spec_locks.specs.Condvars.{moved_of, taken_of}
+use Rattle.spec_locks.specs.Locks as locks
+use Rattle.spec_locks.specs.Locks.{LockCase, LockState, Needs, Queued, Taken, left_behind, taking}
+use Rattle.spec_locks.specs.Runs.{AtLock, CallState, Does, Event, GoesOn, LocksState, MayHappen, MayMove, Moves, Nothing, Stays, Turned, joined_by, locks_after, rules_at}
+use Rattle.spec_locks.specs.Sites.{has_readers}
+use Rattle.spec_locks.proofs.Runs.{needs_of}
 use Rattle.lot_laws.proofs.promises.RowPromises.{CallsOneLock}
 
 -- ---------------------------------------------------------------- a move

@@ -1,37 +1,37 @@
 -- A step of a thread is one event of the abstract locks, whatever lock it calls and wherever it stands: the
 -- one case of its deeds. Its call comes to what its rows say.
 use Rattle.std.proofs.Common.{ℕ, Bool, true, false, Option, Some, None, if◌then◌else◌, ◌==◌, ◌≡◌, ◌≢◌, ◌⊎◌, ◌≤◌, List, [], ◌∷◌, ◌++◌, inl, inr, refl, sym, ◌∙◌, ap, subst, arith}
-use Rattle.abstract_locks.specs.Condvars.{line_of, moved_of, taken_of}
-use Rattle.abstract_locks.specs.Runs.{Nothing, Moves, gives_up, joined_by}
-use Rattle.lot_acts.specs.Rows.{KnowsRights}
-use Rattle.abstract_locks.specs.Locks.{Once, OfOnce, Sort, CondvarCase, Look, Show, Hide}
-use Rattle.abstract_locks.specs.Purposes.{Enters, Releases, Converts, Bumps, CallsOnce, Awaits, lock_for, Recall, Blank, Saw, SawOwner, HasMoved, WasMoved, WasNotified, Waits, Notifies}
-use Rattle.abstract_locks.specs.Runs.{is_closure}
-use Rattle.abstract_locks.specs.Runs.{Begins}
+use Rattle.spec_locks.specs.Condvars.{line_of, moved_of, taken_of}
+use Rattle.spec_locks.specs.Runs.{Nothing, Moves, gives_up, joined_by}
+use Rattle.steps_base.specs.Rows.{KnowsRights}
+use Rattle.spec_locks.specs.Locks.{Once, OfOnce, Sort, CondvarCase, Look, Show, Hide}
+use Rattle.spec_locks.specs.Purposes.{Enters, Releases, Converts, Bumps, CallsOnce, Awaits, lock_for, Recall, Blank, Saw, SawOwner, HasMoved, WasMoved, WasNotified, Waits, Notifies}
+use Rattle.spec_locks.specs.Runs.{is_closure}
+use Rattle.spec_locks.specs.Runs.{Begins}
 use Rattle.std.proofs.lemmas.Bool.{cases_eq, eqb-true}
 use Rattle.std.proofs.lemmas.Bool.Decides.{nat_tests}
-use Rattle.lot_base.specs.declared.wants.Want.{Want}
-use Rattle.lot_calls.specs.declared.outcomes.Answer.{Answer}
-use Rattle.lot_calls.specs.declared.outcomes.Outcome.{Outcome}
-use Rattle.lot_calls.specs.declared.outcomes.Outcome as outcome
-use Rattle.lot_acts.specs.declared.acts.Next.{Next}
-use Rattle.lot_acts.specs.declared.acts.Next.TheVariants as next
-use Rattle.lot_acts.specs.Profiles.{Profile}
-use Rattle.lot_acts.specs.Calls.{call_by, MayCome, ComesTo, rights_where}
+use Rattle.core_base.specs.declared.wants.Want.{Want}
+use Rattle.spec_locks.specs.declared.outcomes.Answer.{Answer}
+use Rattle.spec_locks.specs.declared.outcomes.Outcome.{Outcome}
+use Rattle.spec_locks.specs.declared.outcomes.Outcome as outcome
+use Rattle.steps_base.specs.declared.acts.Next.{Next}
+use Rattle.steps_base.specs.declared.acts.Next.TheVariants as next
+use Rattle.steps_base.specs.Profiles.{Profile}
+use Rattle.steps_base.specs.Calls.{call_by, MayCome, ComesTo, rights_where}
 use Rattle.lot_steps.specs.Steps.{lock_of, profile}
 use Rattle.lot_steps.specs.declared.places.Place.{Place}
 use Rattle.lot_steps.specs.declared.places.Place.TheVariants.{Idle}
-use Rattle.abstract_locks.specs.Purposes.{Purpose, IsMadeOf, rules_of}
-use Rattle.abstract_locks.specs.Onces.{InProgress, OnceCase, Start, Finish, Fail, Rest, TakeAll}
-use Rattle.lot_calls.specs.declared.outcomes.OnceState.{OnceState}
-use Rattle.abstract_locks.specs.Locks as locks
-use Rattle.abstract_locks.specs.Locks.{LockState, Rules, Rights, LockCase, HandOff, HasTakenNobody, Queued, Needs, left_behind, putting, rights_of, standing}
-use Rattle.abstract_locks.specs.Runs.{LocksState, IsTimely, rules_at as locks_rules, CallState, Event, AtLock, MayHappen, Agrees, AnswerHolds, GoesOn, locks_after, going_on, woken, unless_ended}
-use Rattle.abstract_locks.specs.Sites.{Site, Deed, Begin, Bring, Send, after_deed}
-use Rattle.abstract_locks.specs.Deeds.{AreOneCase, KeepLock, case_of, event_by, event_of, EventNeeds, after_event}
-use Rattle.abstract_locks.specs.Deeds as deeds
-use Rattle.abstract_locks.proofs.Deeds.{deeds_lead, deeds_need, kept}
-use Rattle.abstract_locks.proofs.Rights.{others_keep}
+use Rattle.spec_locks.specs.Purposes.{Purpose, IsMadeOf, rules_of}
+use Rattle.spec_locks.specs.Onces.{InProgress, OnceCase, Start, Finish, Fail, Rest, TakeAll}
+use Rattle.spec_locks.specs.declared.outcomes.OnceState.{OnceState}
+use Rattle.spec_locks.specs.Locks as locks
+use Rattle.spec_locks.specs.Locks.{LockState, Rules, Rights, LockCase, HandOff, HasTakenNobody, Queued, Needs, left_behind, putting, rights_of, standing}
+use Rattle.spec_locks.specs.Runs.{LocksState, IsTimely, rules_at as locks_rules, CallState, Event, AtLock, MayHappen, Agrees, AnswerHolds, GoesOn, locks_after, going_on, woken, unless_ended}
+use Rattle.spec_locks.specs.Sites.{Site, Deed, Begin, Bring, Send, after_deed}
+use Rattle.spec_locks.specs.Deeds.{AreOneCase, case_of, event_by, event_of, EventNeeds, after_event}
+use Rattle.spec_locks.specs.Deeds as deeds
+use Rattle.spec_locks.proofs.Deeds.{deeds_lead, deeds_need}
+use Rattle.spec_locks.proofs.Rights.{others_keep}
 use Rattle.lot_machine.specs.Machine.{State, place_at, kind_at}
 use Rattle.lot_laws.specs.Refinement.{lock_state, call_at, call_state, locks_of}
 use Rattle.lot_laws.specs.MutexDeeds.{Act, acts}
@@ -142,20 +142,6 @@ happens w v t l hand ds claims steady goes begin one free = happens_at w v t l (
     (ap (λ (s : Site). s.lock) goes.follows.site ∙ deeds_then (rules_in w l) t ds claims (site_of w l) begin ∙ deeds_lead (rules_in w l) t l hand ds (site_of w l) free one)
     (λ k ne. ap (λ (s : Site). s.lock) (goes.follows.others k ne).0)
     (deeds_need (rules_in w l) t l hand ds (site_of w l) (needed_then (rules_in w l) t ds claims (site_of w l) goes.follows.needed) one)
-
--- a step of several locks, of which this one goes through the event of its deeds
-pub happens_all : (w v : State) (t l : ℕ) (hand : Option Bool) (all : ℕ → List Act) (ds : List Deed) (claims : List Act)
-    → IsSteady w → IsSteady v → FollowAll w v all
-    → all l ≡ acts t ds ++ claims → AreClaims claims → AreOneCase ds
-    → ((k : ℕ) → k ≢ l → (other : List Deed) × (all k ≡ acts t other) × KeepLock other)
-    → (hand ≢ Some false → HasTakenNobody (lock_state w l) t) → Happens w v t (event_of l hand ds)
-happens_all w v t l hand all ds claims before after f is begin one others free = happens_at w v t l (case_of hand ds) before after f.kinds
-    (locks_led l ∙ ap (λ done. (after_acts (rules_in w l) done (site_of w l)).lock) is ∙ deeds_then (rules_in w l) t ds claims (site_of w l) begin ∙ deeds_lead (rules_in w l) t l hand ds (site_of w l) free one)
-    (λ k ne. let o = others k ne in locks_led k ∙ ap (λ done. (after_acts (rules_in w k) done (site_of w k)).lock) o.1 ∙ deeds_by (rules_in w k) t o.0 (site_of w k) ∙ kept (rules_in w k) t o.0 (site_of w k) o.2)
-    (deeds_need (rules_in w l) t l hand ds (site_of w l) (needed_then (rules_in w l) t ds claims (site_of w l) (subst (λ done. ActsNeeded (rules_in w l) done (site_of w l)) is (f.needed l))) one)
-  where
-    locks_led : (k : ℕ) → lock_state v k ≡ (after_acts (rules_in w k) (all k) (site_of w k)).lock
-    locks_led k = ap (λ (s : Site). s.lock) (f.site k)
 
 -- or of which waiters of one go to the other
 pub happens_sending : (w v : State) (t c m : ℕ) (all owned : Bool) (number : ℕ) (ds : ℕ → List Act) → IsSteady w → IsSteady v

@@ -1,39 +1,39 @@
 -- The calls of the threads in a hand, as they are let go: they try again, or were handed the lock.
 use Rattle.std.proofs.Common.{ℕ, Bool, true, false, Option, Some, None, if◌then◌else◌, ◌==◌, ◌≡◌, ◌≢◌, ◌+◌, ◌-◌, ◌⊎◌, inl, inr, refl, sym, ◌∙◌, ap, arith}
-use Rattle.lot_acts.specs.Profiles.{Hand, Of, hand, taken_from}
-use Rattle.lot_base.specs.declared.wants.Want.{Want}
+use Rattle.steps_base.specs.Profiles.{Hand, Of, hand, taken_from}
+use Rattle.core_base.specs.declared.wants.Want.{Want}
 use Rattle.std.proofs.lemmas.Bool.{cases_eq, eqb-true}
-use Rattle.lot_base.specs.declared.notes.Note.TheVariants.{Normal}
-use Rattle.lot_base.specs.declared.wants.Want.{Want}
-use Rattle.lot_base.specs.declared.wants.Want.TheVariants.{Exclusive, Shared}
-use Rattle.lot_acts.specs.declared.acts.Reply.{Reply}
-use Rattle.lot_acts.specs.declared.acts.Reply.TheVariants.{TakenBy, HandedBy, Woken}
-use Rattle.lot_mutex.specs.declared.places.MutexPlace.TheVariants.{Lock}
-use Rattle.lot_mutex.specs.declared.lock.LockAt.TheVariants.{First, Taken}
+use Rattle.core_base.specs.declared.notes.Note.TheVariants.{Normal}
+use Rattle.core_base.specs.declared.wants.Want.{Want}
+use Rattle.core_base.specs.declared.wants.Want.TheVariants.{Exclusive, Shared}
+use Rattle.steps_base.specs.declared.acts.Reply.{Reply}
+use Rattle.steps_base.specs.declared.acts.Reply.TheVariants.{TakenBy, HandedBy, Woken}
+use Rattle.steps_mutex.specs.declared.places.MutexPlace.TheVariants.{Lock}
+use Rattle.steps_mutex.specs.declared.lock.LockAt.TheVariants.{First, Taken}
 use Rattle.lot_steps.specs.Steps.{next_place, profile, calls}
 use Rattle.lot_steps.specs.declared.places.Place.{Place}
 use Rattle.lot_steps.specs.declared.places.Place.TheVariants.{Idle, Mutex, RwLock, Once, Condvar, Semaphore}
-use Rattle.abstract_locks.specs.Locks.{LockState, Queued, Taken as LockTaken, Rights, Enter, Wake, HandOff as HandsOff, IsTaken, IsLockState, Knows, Needs, rights_of, with_right, without_right, is_thread, putting}
-use Rattle.abstract_locks.specs.Locks as locks
-use Rattle.abstract_locks.specs.Purposes.{Blank}
-use Rattle.abstract_locks.specs.Runs.{CallState, behind_wake, is_taken_by, AtLock, one_more_at, one_less_at}
+use Rattle.spec_locks.specs.Locks.{LockState, Queued, Taken as LockTaken, Rights, Wake, HandOff as HandsOff, IsTaken, IsLockState, Knows, rights_of, with_right, without_right, is_thread, putting}
+use Rattle.spec_locks.specs.Locks as locks
+use Rattle.spec_locks.specs.Purposes.{Blank}
+use Rattle.spec_locks.specs.Runs.{CallState, behind_wake, is_taken_by, AtLock, one_more_at, one_less_at}
 use Rattle.lot_machine.specs.Machine.{State, place_at}
 use Rattle.lot_laws.specs.Refinement.{owner_at, lock_state, taken_at, is_bump, before_entry, mutex_call_state, call_state}
 use Rattle.lot_laws.specs.MutexDeeds.{queued}
 use Rattle.lot_laws.specs.SitesOf.{rules_in}
 use Rattle.lot_laws.specs.SitesOf.{FitsItsLock}
 use Rattle.std.proofs.Common.{subst}
-use Rattle.abstract_locks.specs.Sites.{Doing, Has}
+use Rattle.spec_locks.specs.Sites.{Doing, Has}
 use Rattle.lot_laws.specs.Stations.{doing_on}
 use Rattle.lot_laws.proofs.condvar.WaiterCalls.{waiter_claims, waiter_does, waiter_handed, waiter_woken}
 use Rattle.lot_laws.proofs.mutex.Waiters.{calls_mutex_at}
-use Rattle.lot_condvar.specs.declared.places.CondvarPlace.{CondvarPlace}
-use Rattle.lot_condvar.specs.CondvarProfiles.{mutex_side}
+use Rattle.steps_condvar.specs.declared.places.CondvarPlace.{CondvarPlace}
+use Rattle.steps_condvar.specs.CondvarProfiles.{mutex_side}
 use Rattle.lot_laws.proofs.machine.Hearing.{TriesAgain, call_hears, mutex_hears, once_hears, semaphore_hears}
 use Rattle.lot_laws.proofs.machine.PlaceTest.{call_facts, mutex_row_facts, once_facts, semaphore_facts}
 use Rattle.lot_laws.proofs.machine.Parts.{IsTakenAt, put_same, same, IsMutexCall, taken_elsewhere, IsSingle, single_taken}
-use Rattle.lot_mutex.specs.MutexLaws.{heir}
-use Rattle.lot_mutex.proofs.HandOffRights.{got, neither}
+use Rattle.steps_mutex.specs.MutexLaws.{heir}
+use Rattle.steps_mutex.proofs.HandOffRights.{got, neither}
 use Rattle.lot_laws.proofs.mutex.Words.{mutex}
 use Rattle.lot_laws.proofs.calls.Events.{put_is, rights, rights_led, led_here, led_elsewhere, Happens, Others, OthersFollow}
 

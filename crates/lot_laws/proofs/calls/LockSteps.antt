@@ -3,74 +3,73 @@ use Rattle.std.proofs.Common.{◌≤◌, ◌++◌, arith, ℕ, Bool, true, false
 use Rattle.lot_laws.proofs.calls.Begins.{begin_goes, begin_possible}
 use Rattle.lot_laws.proofs.rwlock.Late.{call_late, late_row}
 use Rattle.lot_laws.proofs.machine.Possible.{begins_outside, closure_gone, late_outside}
-use Rattle.abstract_locks.specs.Runs.{AtLock}
-use Rattle.abstract_locks.specs.Codes.{is_marked}
+use Rattle.spec_locks.specs.Runs.{AtLock}
+use Rattle.spec_locks.specs.Codes.{is_marked}
 use Rattle.lot_laws.proofs.once.Steps.{closes_event, step_event}
 use Rattle.lot_laws.proofs.calls.Looking.{alike_event, closing_here, closing_steady, like}
 use Rattle.lot_laws.proofs.calls.Closings.{closing_shaped, closing_there, goes_there, is_behind, told_there}
 use Rattle.lot_laws.proofs.calls.OwnPlace.{gone, gone_told, goes_from_there, told_from_there}
-use Rattle.abstract_locks.specs.Locks.{OfOnce}
+use Rattle.spec_locks.specs.Locks.{OfOnce}
 use Rattle.lot_laws.proofs.calls.Closures.{RunsOne}
 use Rattle.lot_laws.proofs.calls.Closings.{closing}
 use Rattle.lot_machine.specs.Machine.{can_close, close_outcome, closed_place, runs_closure, state_after_close, state_after_going, can_go}
-use Rattle.lot_once.specs.declared.run.RunAt.TheVariants as run
-use Rattle.lot_once.specs.OnceDeeds.{end_of}
-use Rattle.abstract_locks.specs.Runs.{Closes}
-use Rattle.abstract_locks.specs.Locks.{Rules}
-use Rattle.abstract_locks.specs.Locks as locks
-use Rattle.lot_mutex.proofs.MutexRowCheck.{mutex_promises}
-use Rattle.lot_once.proofs.OnceRowCheck.{once_promises}
-use Rattle.abstract_locks.specs.Purposes.{Purpose, lock_for}
-use Rattle.lot_semaphore.proofs.SemaphoreRowCheck.{semaphore_promises}
+use Rattle.steps_once.specs.declared.run.RunAt.TheVariants as run
+use Rattle.steps_once.specs.OnceDeeds.{end_of}
+use Rattle.spec_locks.specs.Runs.{Closes}
+use Rattle.spec_locks.specs.Locks.{Rules}
+use Rattle.spec_locks.specs.Locks as locks
+use Rattle.steps_mutex.proofs.MutexRowCheck.{mutex_promises}
+use Rattle.steps_once.proofs.OnceRowCheck.{once_promises}
+use Rattle.spec_locks.specs.Purposes.{Purpose, lock_for}
+use Rattle.steps_semaphore.proofs.SemaphoreRowCheck.{semaphore_promises}
 use Rattle.lot_laws.proofs.rwlock.CallRows.{call_promises}
 use Rattle.lot_laws.proofs.promises.RowPromises.{RowPromises}
 use Rattle.lot_laws.proofs.calls.Events.{RunsNothing, begins_nothing, runs_nothing}
-use Rattle.abstract_locks.specs.Runs.{is_closure}
-use Rattle.lot_calls.specs.declared.calls.OnceCall.TheVariants as once_call
-use Rattle.lot_once.specs.declared.look.LookAt.TheVariants as look_at
-use Rattle.lot_once.specs.declared.places.OncePlace.TheVariants.{Look, Run, GiveUp}
-use Rattle.lot_once.specs.declared.places.OncePlace.{OncePlace}
-use Rattle.lot_once.specs.OnceProfiles.{once_profile}
+use Rattle.spec_locks.specs.Runs.{is_closure}
+use Rattle.spec_locks.specs.declared.calls.OnceCall.TheVariants as once_call
+use Rattle.steps_once.specs.declared.look.LookAt.TheVariants as look_at
+use Rattle.steps_once.specs.declared.places.OncePlace.TheVariants.{Look, Run, GiveUp}
+use Rattle.steps_once.specs.declared.places.OncePlace.{OncePlace}
+use Rattle.steps_once.specs.OnceProfiles.{once_profile}
 use Rattle.lot_laws.proofs.once.Owing.{late_place}
 use Rattle.lot_laws.proofs.once.Steps.{once_step}
 use Rattle.lot_laws.proofs.semaphore.Steps.{semaphore_step}
 use Rattle.lot_laws.proofs.semaphore.Owing.{late_place as semaphore_late_place}
-use Rattle.lot_semaphore.specs.declared.acquire.AcquireAt.TheVariants as acquire
-use Rattle.lot_semaphore.specs.declared.places.SemaphorePlace.{SemaphorePlace}
-use Rattle.lot_semaphore.specs.declared.places.SemaphorePlace.TheVariants.{Acquire}
-use Rattle.lot_semaphore.specs.SemaphoreProfiles.{semaphore_profile}
-use Rattle.lot_acts.specs.Profiles.{taken_from}
-use Rattle.lot_base.specs.Keys.{key_of}
-use Rattle.lot_base.specs.declared.keys.Line.{Line}
-use Rattle.abstract_locks.specs.Sites.{has_readers}
-use Rattle.abstract_locks.specs.Locks.{Mutex as Mutual}
+use Rattle.steps_semaphore.specs.declared.acquire.AcquireAt.TheVariants as acquire
+use Rattle.steps_semaphore.specs.declared.places.SemaphorePlace.{SemaphorePlace}
+use Rattle.steps_semaphore.specs.declared.places.SemaphorePlace.TheVariants.{Acquire}
+use Rattle.steps_semaphore.specs.SemaphoreProfiles.{semaphore_profile}
+use Rattle.steps_base.specs.Profiles.{taken_from}
+use Rattle.core_base.specs.Keys.{key_of}
+use Rattle.core_base.specs.declared.keys.Line.{Line}
+use Rattle.spec_locks.specs.Sites.{has_readers}
 use Rattle.std.proofs.lemmas.Bool.{ltb-true, lt-ltb}
-use Rattle.lot_base.specs.declared.keys.Keys.TheVariants.{One}
-use Rattle.lot_base.specs.declared.ops.Op as op
-use Rattle.lot_base.specs.declared.wants.Want.TheVariants.{Exclusive}
-use Rattle.lot_acts.specs.declared.acts.Act.{Act}
-use Rattle.lot_acts.specs.declared.acts.Act as act
-use Rattle.lot_acts.specs.declared.acts.Reply.TheVariants.{Value, Parked, HandedBy, Woken}
-use Rattle.lot_acts.specs.declared.acts.Reply.TheVariants as reply
-use Rattle.lot_calls.specs.declared.calls.Turn.{Turn}
-use Rattle.lot_calls.specs.declared.calls.Turn as turn
-use Rattle.lot_calls.specs.declared.calls.Step.{Step}
-use Rattle.lot_calls.specs.Calls.{lock_in}
-use Rattle.lot_calls.specs.declared.outcomes.Outcome as outcome
-use Rattle.lot_mutex.specs.declared.lock.Entry.{Entry}
-use Rattle.lot_mutex.specs.declared.lock.Entry.TheVariants as entries
-use Rattle.lot_base.specs.declared.notes.Note.TheVariants as note
-use Rattle.lot_mutex.specs.declared.places.MutexPlace.TheVariants.{Lock, TryLock, Unlock, UnlockFair, Bump, HandOff}
-use Rattle.lot_mutex.specs.declared.lock.LockAt.{LockAt}
-use Rattle.lot_mutex.specs.declared.lock.LockAt.TheVariants.{First, Load, Decide, Check, Leave, Asleep, Taken, Handed, Accept, Remove, Clear, GiveUp}
-use Rattle.lot_mutex.specs.declared.unlock.UnlockAt.{UnlockAt}
-use Rattle.lot_mutex.specs.declared.unlock.UnlockAt.TheVariants as unlock
-use Rattle.lot_mutex.specs.declared.hand_off.HandOffAt.{HandOffAt}
-use Rattle.lot_mutex.specs.declared.hand_off.HandOffAt.TheVariants as hand_off
+use Rattle.core_base.specs.declared.keys.Keys.TheVariants.{One}
+use Rattle.core_base.specs.declared.ops.Op as op
+use Rattle.core_base.specs.declared.wants.Want.TheVariants.{Exclusive}
+use Rattle.steps_base.specs.declared.acts.Act.{Act}
+use Rattle.steps_base.specs.declared.acts.Act as act
+use Rattle.steps_base.specs.declared.acts.Reply.TheVariants.{Value, Parked, HandedBy, Woken}
+use Rattle.steps_base.specs.declared.acts.Reply.TheVariants as reply
+use Rattle.spec_locks.specs.declared.calls.Turn.{Turn}
+use Rattle.spec_locks.specs.declared.calls.Turn as turn
+use Rattle.spec_locks.specs.declared.calls.Step.{Step}
+use Rattle.spec_locks.specs.Calls.{lock_in}
+use Rattle.spec_locks.specs.declared.outcomes.Outcome as outcome
+use Rattle.steps_mutex.specs.declared.lock.Entry.{Entry}
+use Rattle.steps_mutex.specs.declared.lock.Entry.TheVariants as entries
+use Rattle.core_base.specs.declared.notes.Note.TheVariants as note
+use Rattle.steps_mutex.specs.declared.places.MutexPlace.TheVariants.{Lock, TryLock, Unlock, UnlockFair, Bump, HandOff}
+use Rattle.steps_mutex.specs.declared.lock.LockAt.{LockAt}
+use Rattle.steps_mutex.specs.declared.lock.LockAt.TheVariants.{First, Load, Decide, Check, Leave, Asleep, Taken, Handed, Accept, Remove, Clear, GiveUp}
+use Rattle.steps_mutex.specs.declared.unlock.UnlockAt.{UnlockAt}
+use Rattle.steps_mutex.specs.declared.unlock.UnlockAt.TheVariants as unlock
+use Rattle.steps_mutex.specs.declared.hand_off.HandOffAt.{HandOffAt}
+use Rattle.steps_mutex.specs.declared.hand_off.HandOffAt.TheVariants as hand_off
 use Rattle.lot_steps.specs.declared.places.Place.{Place}
 use Rattle.lot_steps.specs.declared.places.Place.TheVariants.{Idle, Mutex, RwLock, Once, Condvar, Semaphore}
-use Rattle.lot_acts.specs.Acts.{outcome_of}
-use Rattle.lot_mutex.specs.MutexSteps.{is_locked, is_parked, lock_act, unlock_act, hand_off_word, hand_off_act}
+use Rattle.steps_base.specs.Acts.{outcome_of}
+use Rattle.steps_mutex.specs.MutexSteps.{is_locked, is_parked, lock_act, unlock_act, hand_off_word, hand_off_act}
 use Rattle.lot_steps.specs.Steps.{act_of, next_place, next_act, mutex_goes, mutex_does, looking, late_key, first_place, rwlock_goes, key_in, calls}
 use Rattle.lot_machine.specs.Machine.{unshared_then, hand_over_told, State, place_at, word_at, kind_at, section_at, put, state_after_act, go_reply, state_after_operation, state_after_hand_over, state_with_sections, reply_to, can_do, state_after_look, look_outcome, state_after_go, state_after_going, go_outcome, going_outcome, state_after_late_on, is_free_under, can_turn, state_after_turn, turn_outcome, is_possible, after, step_outcome}
 use Rattle.lot_machine.specs.Fits.{IsShaped, SameSize, PlaceFits, GivesUpTimed}
@@ -81,32 +80,32 @@ use Rattle.lot_laws.proofs.hands.CountsPut.{looking_counted}
 use Rattle.lot_laws.proofs.calls.Looking.{here, looks_now, looking_steady, goes_as_before, stays_as_before}
 use Rattle.lot_laws.proofs.calls.Closures.{closes_one, closure_told, mutex_runs_none, runs_one}
 use Rattle.lot_laws.specs.SitesOf.{site_of, AreCondvars, AreCounted, FitsCondvar, IsSteady, Goes, FitsItsLock, rules_in, carried_at}
-use Rattle.abstract_locks.specs.Sites.{IsSite, Deed, Main, Mark, End, Case}
-use Rattle.abstract_locks.specs.Locks.{LockCase, Wake, Leave as GivesBack, HandOff as HandsOff, Rights, rights_of, standing}
-use Rattle.abstract_locks.specs.Runs.{GoesOn, Stays, Looks, IsOfMutex, Does, SectionChanges, MayTurn, Turned, IsStep, Nothing}
+use Rattle.spec_locks.specs.Sites.{IsSite, Deed, Main, Mark, End, Case}
+use Rattle.spec_locks.specs.Locks.{LockCase, Wake, Leave as GivesBack, HandOff as HandsOff, Rights, rights_of, standing}
+use Rattle.spec_locks.specs.Runs.{GoesOn, Stays, Looks, IsOfMutex, Does, SectionChanges, MayTurn, Turned, IsStep, Nothing}
 use Rattle.lot_laws.specs.MutexDeeds.{mutex_row, mutex_station, mutex_deeds, lock_deeds, enters, hands_over, acts}
 use Rattle.lot_laws.specs.MutexDeeds as of_mutex
-use Rattle.lot_acts.specs.Calls.{ComesTo}
-use Rattle.abstract_locks.specs.Deeds.{AllNeeded, case_of, event_by, after_event}
+use Rattle.steps_base.specs.Calls.{ComesTo}
+use Rattle.spec_locks.specs.Deeds.{AllNeeded, case_of, event_by, after_event}
 use Rattle.lot_laws.specs.Stations.{hand}
 use Rattle.lot_laws.specs.Refinement.{owner_at, lock_state, taken_at, call_state, locks_of, sleeps}
 use Rattle.lot_laws.proofs.machine.KindsStay.{after_kinds}
 use Rattle.lot_laws.proofs.condvar.Begins.{condvar_is_late}
 use Rattle.lot_laws.proofs.machine.PlacesAlone.{placed}
 use Rattle.lot_laws.proofs.rwlock.Events.{rwlock_step}
-use Rattle.lot_rwlock_fair.specs.declared.places.RwLockCallPlace.{RwLockCallPlace}
-use Rattle.lot_rwlock_fair.specs.declared.places.RwLockCallPlace.TheVariants.{Handed}
-use Rattle.lot_rwlock_fair.specs.FairCalls.{CallStands}
-use Rattle.lot_rwlock_fair.specs.FairProfiles.{call_profile}
-use Rattle.lot_rwlock_fair.proofs.FairSleepers.{fair_sleepers_hear}
-use Rattle.lot_acts.specs.declared.acts.Reply.{Reply}
-use Rattle.lot_mutex.specs.declared.places.MutexPlace.{MutexPlace}
-use Rattle.lot_mutex.specs.MutexSteps.{mutex_act, mutex_next}
-use Rattle.lot_acts.specs.declared.acts.Next.{Next}
-use Rattle.lot_acts.specs.declared.acts.Next.TheVariants as next
-use Rattle.lot_acts.specs.declared.acts.Whom.TheVariants as whoms
-use Rattle.lot_condvar.specs.declared.places.CondvarPlace.{CondvarPlace}
-use Rattle.lot_condvar.specs.declared.places.CondvarPlace.TheVariants as condvars
+use Rattle.steps_rwlock_fair.specs.declared.places.RwLockCallPlace.{RwLockCallPlace}
+use Rattle.steps_rwlock_fair.specs.declared.places.RwLockCallPlace.TheVariants.{Handed}
+use Rattle.steps_rwlock_fair.specs.FairCalls.{CallStands}
+use Rattle.steps_rwlock_fair.specs.FairProfiles.{call_profile}
+use Rattle.steps_rwlock_fair.proofs.FairSleepers.{fair_sleepers_hear}
+use Rattle.steps_base.specs.declared.acts.Reply.{Reply}
+use Rattle.steps_mutex.specs.declared.places.MutexPlace.{MutexPlace}
+use Rattle.steps_mutex.specs.MutexSteps.{mutex_act, mutex_next}
+use Rattle.steps_base.specs.declared.acts.Next.{Next}
+use Rattle.steps_base.specs.declared.acts.Next.TheVariants as next
+use Rattle.steps_base.specs.declared.acts.Whom.TheVariants as whoms
+use Rattle.steps_condvar.specs.declared.places.CondvarPlace.{CondvarPlace}
+use Rattle.steps_condvar.specs.declared.places.CondvarPlace.TheVariants as condvars
 use Rattle.lot_laws.proofs.machine.Parts.{IsSingle, own_stance, single_or_two}
 use Rattle.lot_laws.proofs.condvar.ActsRefine.{condvar_on}
 use Rattle.lot_laws.proofs.condvar.SameCondvars.{looking_condvars}
@@ -120,9 +119,9 @@ use Rattle.lot_laws.proofs.promises.PlacePromises.{standing_by}
 use Rattle.lot_laws.proofs.calls.Events.{put_is, rights, Others, OthersFollow, Happens, LeadsTo, happens, needed_then, others_follow, goes_by}
 use Rattle.lot_laws.proofs.calls.LockEvents.{Befalls, wakes_others, hands_others}
 use Rattle.lot_laws.proofs.calls.OtherCalls.{IsLonely, IsCalm, lonely, takes, calm, befalls, befalls_nobody, no_hand_off, tells_handed}
-use Rattle.lot_mutex.proofs.MutexCalls.{Tells, Rests}
-use Rattle.lot_mutex.specs.MutexLaws.{next_row}
-use Rattle.lot_mutex.proofs.MutexTells.{Hears, mutex_tells}
+use Rattle.steps_mutex.proofs.MutexCalls.{Tells, Rests}
+use Rattle.steps_mutex.specs.MutexLaws.{next_row}
+use Rattle.steps_mutex.proofs.MutexTells.{Hears, mutex_tells}
 use Rattle.lot_laws.proofs.mutex.Events.{owned_word, claims_at, deeds_are, are_claims}
 
 -- ---------------------------------------------------------------- a thread goes on

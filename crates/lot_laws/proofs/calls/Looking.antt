@@ -1,54 +1,54 @@
 -- A thread that looks at the word once more goes on from another place of its call. Standing there changes nothing that locks and calls see.
 use Rattle.std.proofs.Common.{false, ◌==◌, ◌&&◌, not, ℕ, zero, suc, List, set, true, Option, Some, None, if◌then◌else◌, ◌≡◌, ◌<◌, inl, inr, [], ◌∷◌, length, replicate, refl, sym, ◌∙◌, ap, subst, get_or-set_other, get_or-set_same, length-set, get_or}
-use Rattle.abstract_locks.specs.Runs.{Event, Stance, MayHappen, Nothing, AtLock, Moves}
+use Rattle.spec_locks.specs.Runs.{Event, Stance, MayHappen, Nothing, AtLock, Moves}
 use Rattle.std.proofs.Common.{Bool}
-use Rattle.lot_condvar.specs.declared.places.CondvarPlace.{CondvarPlace}
-use Rattle.lot_condvar.specs.declared.places.CondvarPlace.TheVariants.{Wait}
-use Rattle.lot_condvar.specs.declared.wait.WaitAt.TheVariants as wait
-use Rattle.lot_condvar.specs.CondvarCalls.{IsReached, IsRelock}
-use Rattle.lot_condvar.specs.CondvarSteps.{condvar_looking, in_lock, mutex_beside}
-use Rattle.lot_mutex.specs.declared.lock.Entry.{Entry}
-use Rattle.lot_mutex.specs.declared.lock.Entry.TheVariants as entry
-use Rattle.lot_mutex.specs.declared.lock.LockAt.TheVariants as lock
-use Rattle.lot_mutex.specs.declared.places.MutexPlace.TheVariants as mutex
+use Rattle.steps_condvar.specs.declared.places.CondvarPlace.{CondvarPlace}
+use Rattle.steps_condvar.specs.declared.places.CondvarPlace.TheVariants.{Wait}
+use Rattle.steps_condvar.specs.declared.wait.WaitAt.TheVariants as wait
+use Rattle.steps_condvar.specs.CondvarCalls.{IsReached, IsRelock}
+use Rattle.steps_condvar.specs.CondvarSteps.{condvar_looking, in_lock, mutex_beside}
+use Rattle.steps_mutex.specs.declared.lock.Entry.{Entry}
+use Rattle.steps_mutex.specs.declared.lock.Entry.TheVariants as entry
+use Rattle.steps_mutex.specs.declared.lock.LockAt.TheVariants as lock
+use Rattle.steps_mutex.specs.declared.places.MutexPlace.TheVariants as mutex
 use Rattle.lot_steps.specs.Steps.{in_condvar}
 use Rattle.lot_laws.proofs.calls.Closures.{RunsOne}
 use Rattle.lot_machine.specs.Machine.{closed_place}
 use Rattle.lot_steps.specs.Steps.{next_place, beside_of, profile_beside, is_lock}
-use Rattle.lot_acts.specs.declared.acts.Reply.TheVariants.{Closed}
+use Rattle.steps_base.specs.declared.acts.Reply.TheVariants.{Closed}
 use Rattle.lot_steps.specs.Steps.{in_once}
-use Rattle.lot_once.specs.OnceSteps.{once_looking}
-use Rattle.lot_once.specs.declared.places.OncePlace.{OncePlace}
-use Rattle.lot_semaphore.specs.declared.places.SemaphorePlace.{SemaphorePlace}
-use Rattle.lot_semaphore.specs.SemaphoreSteps.{semaphore_looking}
-use Rattle.lot_rwlock_fair.specs.declared.places.RwLockCallPlace.{RwLockCallPlace}
-use Rattle.lot_rwlock_fair.proofs.FairSleepers.{fair_looks_stand}
-use Rattle.lot_rwlock_fair.specs.FairProfiles.{call_looking}
+use Rattle.steps_once.specs.OnceSteps.{once_looking}
+use Rattle.steps_once.specs.declared.places.OncePlace.{OncePlace}
+use Rattle.steps_semaphore.specs.declared.places.SemaphorePlace.{SemaphorePlace}
+use Rattle.steps_semaphore.specs.SemaphoreSteps.{semaphore_looking}
+use Rattle.steps_rwlock_fair.specs.declared.places.RwLockCallPlace.{RwLockCallPlace}
+use Rattle.steps_rwlock_fair.proofs.FairSleepers.{fair_looks_stand}
+use Rattle.steps_rwlock_fair.specs.FairProfiles.{call_looking}
 use Rattle.lot_steps.specs.Steps.{in_rwlock}
 use Rattle.std.proofs.lemmas.Bool.{cases_eq}
-use Rattle.lot_base.specs.declared.ops.Op.TheVariants.{Load}
-use Rattle.lot_calls.specs.declared.kinds.Kind as kind
-use Rattle.lot_acts.specs.declared.acts.Act.{Act}
-use Rattle.lot_acts.specs.declared.acts.Act.TheVariants.{Word}
-use Rattle.lot_calls.specs.declared.outcomes.Outcome.{Outcome}
-use Rattle.lot_acts.specs.Profiles.{taken_from}
-use Rattle.lot_mutex.specs.declared.places.MutexPlace.{MutexPlace}
+use Rattle.core_base.specs.declared.ops.Op.TheVariants.{Load}
+use Rattle.spec_locks.specs.declared.kinds.Kind as kind
+use Rattle.steps_base.specs.declared.acts.Act.{Act}
+use Rattle.steps_base.specs.declared.acts.Act.TheVariants.{Word}
+use Rattle.spec_locks.specs.declared.outcomes.Outcome.{Outcome}
+use Rattle.steps_base.specs.Profiles.{taken_from}
+use Rattle.steps_mutex.specs.declared.places.MutexPlace.{MutexPlace}
 use Rattle.lot_steps.specs.declared.places.Place.{Place}
 use Rattle.lot_steps.specs.declared.places.Place.TheVariants.{Idle, Mutex, RwLock, Once, Condvar, Semaphore}
 use Rattle.lot_steps.specs.Steps.{act_of, looking, lock_of, profile, in_mutex, is_lock, in_semaphore}
-use Rattle.lot_mutex.specs.MutexSteps.{mutex_looking}
+use Rattle.steps_mutex.specs.MutexSteps.{mutex_looking}
 use Rattle.lot_machine.specs.Machine.{State, unlocked, place_at, put, can_go, state_after_act, state_after_go}
 use Rattle.lot_machine.proofs.Looks.{IsLook, look}
-use Rattle.lot_acts.specs.Profiles.{Profile}
-use Rattle.abstract_locks.specs.Locks.{Rights, rights_of}
-use Rattle.abstract_locks.specs.Runs.{LocksState, GoesOn, Stays}
-use Rattle.abstract_locks.specs.Sites.{idle}
+use Rattle.steps_base.specs.Profiles.{Profile}
+use Rattle.spec_locks.specs.Locks.{Rights, rights_of}
+use Rattle.spec_locks.specs.Runs.{LocksState, GoesOn, Stays}
+use Rattle.spec_locks.specs.Sites.{idle}
 use Rattle.lot_laws.specs.Refinement.{lock_state, locks_of, call_on_both, stance_of}
 use Rattle.lot_laws.specs.Stations.{nowhere, station_by}
 use Rattle.lot_laws.specs.WorldRuns.{IsUntouched}
 use Rattle.lot_laws.specs.SitesOf.{FitsCondvar, FitsItsLock, Goes, IsSteady, rules_in}
 use Rattle.lot_laws.proofs.calls.Beside.{looks_beside}
-use Rattle.lot_laws.proofs.machine.Parts.{IsLock, parts_at}
+use Rattle.lot_laws.proofs.machine.Parts.{parts_at}
 use Rattle.lot_laws.proofs.sites.OneStep.{steps_by}
 use Rattle.lot_laws.proofs.sites.ActsAt.{place_goes}
 use Rattle.lot_laws.proofs.sites.Following.{goes_steady}
@@ -67,9 +67,6 @@ set_keeps f (x ∷ xs) (suc i) (suc k) y d e = set_keeps f xs i k y d e
 load_untouched : (w : State) (t l : ℕ) (p : Place) (a : Act) → a ≡ Word l Load → IsUntouched w (state_after_act w t p a)
 load_untouched w t l p a loads = subst (λ x. IsUntouched w (state_after_act w t p x)) (sym loads)
     ((λ k. set_keeps (λ x. x.word) w.locks l k _ (unlocked kind.TheVariants.Mutex) refl), λ key. refl)
-
-of_lock : (l : ℕ) (o : Option ℕ) → o ≡ Some l → IsLock l o
-of_lock l o e = rw e refl
 
 -- it has come on in the same call, beside the same mutex
 pub fits_on : (w : State) (l : ℕ) (at at2 : CondvarPlace) → FitsCondvar w l at → IsReached at2

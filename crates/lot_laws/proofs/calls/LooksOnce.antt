@@ -1,40 +1,40 @@
 -- A thread may look at a word once more only in place of an act that leads to sleep.
 use Rattle.std.proofs.Common.{ℕ, Bool, true, false, Option, Some, None, if◌then◌else◌, ◌==◌, ◌&&◌, not, ◌≡◌, ◌+◌, ◌*◌, ◌⊎◌, is_some, inl, inr, refl, sym, ap, subst}
 use Rattle.std.proofs.lemmas.Bool.{eqb-true}
-use Rattle.abstract_locks.specs.Codes.{has_aside, is_running}
-use Rattle.abstract_locks.specs.Locks.{Rules, Sort}
-use Rattle.abstract_locks.specs.Locks as locks
-use Rattle.abstract_locks.specs.Sites.{has_readers}
-use Rattle.lot_semaphore.specs.declared.places.SemaphorePlace.TheVariants as semaphore
-use Rattle.lot_semaphore.specs.declared.acquire.AcquireAt.TheVariants as acquire
-use Rattle.lot_semaphore.specs.SemaphoreSteps.{semaphore_act}
-use Rattle.lot_base.specs.declared.keys.Keys.TheVariants.{One}
-use Rattle.lot_acts.specs.declared.acts.Act.{Act}
-use Rattle.lot_acts.specs.declared.acts.Act.TheVariants as act
-use Rattle.lot_mutex.specs.declared.places.MutexPlace.{MutexPlace}
-use Rattle.lot_mutex.specs.declared.places.MutexPlace.TheVariants as mutex
-use Rattle.lot_mutex.specs.declared.lock.LockAt.TheVariants as lock
-use Rattle.lot_mutex.specs.MutexSteps.{decided, mutex_act, mutex_looking}
-use Rattle.lot_once.specs.declared.places.OncePlace.{OncePlace}
-use Rattle.lot_once.specs.declared.places.OncePlace.TheVariants as once
-use Rattle.lot_once.specs.declared.look.Course.{Course}
-use Rattle.lot_once.specs.declared.look.Course.TheVariants as course
-use Rattle.lot_once.specs.declared.look.LookAt.TheVariants as look
-use Rattle.lot_once.specs.OnceSteps.{course_act, course_of}
-use Rattle.lot_once.specs.OnceSteps as steps
-use Rattle.lot_rwlock.specs.declared.places.Admission.{Admission}
-use Rattle.lot_rwlock.specs.declared.places.RwLockPlace.{RwLockPlace}
-use Rattle.lot_rwlock.specs.declared.places.RwLockAt.{RwLockAt}
-use Rattle.lot_rwlock.specs.declared.places.RwLockAt.TheVariants as at
-use Rattle.lot_rwlock.specs.declared.enter.Decision.{Decision}
-use Rattle.lot_rwlock.specs.declared.enter.Decision.TheVariants as decisions
-use Rattle.lot_rwlock.specs.RwLockSteps.{act_at, count_act, decided as decides, decided_act, exchange, plus}
-use Rattle.lot_rwlock.specs.RwLockProfiles.{gone_to, is_mark, looking_at}
-use Rattle.lot_rwlock_fair.specs.FairProfiles.{in_call}
-use Rattle.lot_condvar.specs.CondvarSteps.{in_lock}
-use Rattle.lot_rwlock_fair.specs.declared.places.RwLockCallPlace.TheVariants as fair
-use Rattle.lot_condvar.specs.declared.places.CondvarPlace.TheVariants as condvar
-use Rattle.lot_condvar.specs.declared.wait.WaitAt.TheVariants as wait
+use Rattle.spec_locks.specs.Codes.{has_aside, is_running}
+use Rattle.spec_locks.specs.Locks.{Rules, Sort}
+use Rattle.spec_locks.specs.Locks as locks
+use Rattle.spec_locks.specs.Sites.{has_readers}
+use Rattle.steps_semaphore.specs.declared.places.SemaphorePlace.TheVariants as semaphore
+use Rattle.steps_semaphore.specs.declared.acquire.AcquireAt.TheVariants as acquire
+use Rattle.steps_semaphore.specs.SemaphoreSteps.{semaphore_act}
+use Rattle.core_base.specs.declared.keys.Keys.TheVariants.{One}
+use Rattle.steps_base.specs.declared.acts.Act.{Act}
+use Rattle.steps_base.specs.declared.acts.Act.TheVariants as act
+use Rattle.steps_mutex.specs.declared.places.MutexPlace.{MutexPlace}
+use Rattle.steps_mutex.specs.declared.places.MutexPlace.TheVariants as mutex
+use Rattle.steps_mutex.specs.declared.lock.LockAt.TheVariants as lock
+use Rattle.steps_mutex.specs.MutexSteps.{decided, mutex_act, mutex_looking}
+use Rattle.steps_once.specs.declared.places.OncePlace.{OncePlace}
+use Rattle.steps_once.specs.declared.places.OncePlace.TheVariants as once
+use Rattle.steps_once.specs.declared.look.Course.{Course}
+use Rattle.steps_once.specs.declared.look.Course.TheVariants as course
+use Rattle.steps_once.specs.declared.look.LookAt.TheVariants as look
+use Rattle.steps_once.specs.OnceSteps.{course_act, course_of}
+use Rattle.steps_once.specs.OnceSteps as steps
+use Rattle.steps_rwlock.specs.declared.places.Admission.{Admission}
+use Rattle.steps_rwlock.specs.declared.places.RwLockPlace.{RwLockPlace}
+use Rattle.steps_rwlock.specs.declared.places.RwLockAt.{RwLockAt}
+use Rattle.steps_rwlock.specs.declared.places.RwLockAt.TheVariants as at
+use Rattle.steps_rwlock.specs.declared.enter.Decision.{Decision}
+use Rattle.steps_rwlock.specs.declared.enter.Decision.TheVariants as decisions
+use Rattle.steps_rwlock.specs.RwLockSteps.{act_at, count_act, decided as decides, decided_act, exchange, plus}
+use Rattle.steps_rwlock.specs.RwLockProfiles.{gone_to, is_mark, looking_at}
+use Rattle.steps_rwlock_fair.specs.FairProfiles.{in_call}
+use Rattle.steps_condvar.specs.CondvarSteps.{in_lock}
+use Rattle.steps_rwlock_fair.specs.declared.places.RwLockCallPlace.TheVariants as fair
+use Rattle.steps_condvar.specs.declared.places.CondvarPlace.TheVariants as condvar
+use Rattle.steps_condvar.specs.declared.wait.WaitAt.TheVariants as wait
 use Rattle.lot_steps.specs.declared.places.Place.{Place}
 use Rattle.lot_steps.specs.declared.places.Place.TheVariants.{Idle, Mutex, RwLock, Once, Condvar, Semaphore}
 use Rattle.lot_steps.specs.Steps.{act_of, in_condvar, in_mutex, in_once, in_rwlock, looking, in_semaphore}

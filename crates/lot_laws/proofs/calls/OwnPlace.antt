@@ -1,7 +1,7 @@
 -- In a call of one lock a thread that tells others something hears nothing of it: its act leaves it where it stands.
 use Rattle.std.proofs.Common.{ℕ, true, ◌≡◌, ◌<◌, length, get_or-set_same, refl, ap, ◌∙◌}
-use Rattle.lot_acts.specs.Acts.{outcome_of}
-use Rattle.lot_acts.specs.declared.acts.Reply.{Reply}
+use Rattle.steps_base.specs.Acts.{outcome_of}
+use Rattle.steps_base.specs.declared.acts.Reply.{Reply}
 use Rattle.lot_steps.specs.declared.places.Place.{Place}
 use Rattle.lot_steps.specs.declared.places.Place.TheVariants.{Idle, Mutex, RwLock, Once, Condvar, Semaphore}
 use Rattle.lot_steps.specs.Steps.{act_of, next_act, next_place}

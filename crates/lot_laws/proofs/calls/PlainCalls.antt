@@ -1,34 +1,26 @@
 -- A thread in a call of a reader-writer lock that hands nothing over, and is handed nothing, goes where its call does.
 use Rattle.std.proofs.Common.{ℕ, Bool, false, Option, None, ◌≡◌, refl, ap}
-use Rattle.lot_acts.specs.declared.acts.Act.{Act}
-use Rattle.lot_acts.specs.declared.acts.Act.TheVariants as act
-use Rattle.lot_acts.specs.declared.acts.Whom.TheVariants as whom
-use Rattle.lot_acts.specs.declared.acts.Next.{Next}
-use Rattle.lot_acts.specs.declared.acts.Next.TheVariants as next
-use Rattle.lot_acts.specs.declared.acts.Reply.{Reply}
-use Rattle.lot_acts.specs.Moves.{row_of}
-use Rattle.lot_rwlock.specs.declared.places.Admission.{Admission}
-use Rattle.lot_rwlock.specs.declared.places.RwLockPlace.{RwLockPlace}
-use Rattle.lot_rwlock.specs.RwLockSteps.{rwlock_next}
-use Rattle.lot_rwlock.specs.RwLockCalls.{next_row}
-use Rattle.lot_rwlock_fair.specs.declared.places.RwLockCallPlace.{RwLockCallPlace}
-use Rattle.lot_rwlock_fair.specs.declared.places.RwLockCallPlace.TheVariants.{Plain}
-use Rattle.lot_rwlock_fair.specs.FairSteps.{given, plain_next, unless_given}
+use Rattle.steps_base.specs.declared.acts.Act.{Act}
+use Rattle.steps_base.specs.declared.acts.Act.TheVariants as act
+use Rattle.steps_base.specs.declared.acts.Whom.TheVariants as whom
+use Rattle.steps_base.specs.declared.acts.Next.{Next}
+use Rattle.steps_base.specs.declared.acts.Reply.{Reply}
+use Rattle.steps_rwlock.specs.declared.places.Admission.{Admission}
+use Rattle.steps_rwlock.specs.declared.places.RwLockPlace.{RwLockPlace}
+use Rattle.steps_rwlock.specs.RwLockSteps.{rwlock_next}
+use Rattle.steps_rwlock_fair.specs.declared.places.RwLockCallPlace.{RwLockCallPlace}
+use Rattle.steps_rwlock_fair.specs.declared.places.RwLockCallPlace.TheVariants.{Plain}
+use Rattle.steps_rwlock_fair.specs.FairSteps.{given, plain_next, unless_given}
 use Rattle.lot_steps.specs.declared.places.Place.{Place}
 use Rattle.lot_steps.specs.declared.places.Place.TheVariants.{RwLock}
 use Rattle.lot_machine.specs.Machine.{State, reply_to}
-use Rattle.lot_steps.specs.Steps.{next_act, next_place, profile, rwlock_does, rwlock_goes}
+use Rattle.lot_steps.specs.Steps.{next_act, next_place, rwlock_does, rwlock_goes}
 
 abbrev pub plain_goes : ℕ → Admission → Next RwLockPlace → Place
 plain_goes l a n = rwlock_goes l a (plain_next n)
 
 abbrev pub plain_does : ℕ → Admission → Next RwLockPlace → Act
 plain_does l a n = rwlock_does l a (plain_next n)
-
--- where a place leads, its row does
-pub next_is : (l : ℕ) (a : Admission) (n : Next RwLockPlace) → profile (plain_goes l a n) ≡ row_of (next_row a n)
-next_is l a (next.At p) = refl
-next_is l a (next.End answer) = refl
 
 pub plain_leads : (l : ℕ) (a : Admission) (p : RwLockPlace) (told : Reply) → given false p told ≡ None
     → next_place (RwLock l a (Plain p)) told ≡ plain_goes l a (rwlock_next a p told)

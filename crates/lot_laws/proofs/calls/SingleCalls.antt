@@ -1,7 +1,7 @@
 -- The call of a place of one lock, by that lock and the row there alone.
 use Rattle.std.proofs.Common.{ℕ, Some, None, ◌≡◌, ◌∙◌, ap}
-use Rattle.abstract_locks.specs.Locks.{Rights}
-use Rattle.abstract_locks.specs.Runs.{no_call}
+use Rattle.spec_locks.specs.Locks.{Rights}
+use Rattle.spec_locks.specs.Runs.{no_call}
 use Rattle.lot_steps.specs.declared.places.Place.{Place}
 use Rattle.lot_steps.specs.Steps.{lock_of, profile, profile_beside}
 use Rattle.lot_laws.specs.Refinement.{call_by, call_on, call_on_both, call_state}

@@ -1,27 +1,27 @@
 -- A try neither sleeps nor enters a section.
 use Rattle.std.proofs.Common.{ℕ, Bool, true, false, if◌then◌else◌, ◌&&◌, nat_le, ◌==◌, ◌≡◌, refl}
-use Rattle.lot_calls.specs.declared.calls.Access.{Access}
-use Rattle.lot_calls.specs.declared.calls.Access.TheVariants as access
-use Rattle.lot_calls.specs.declared.calls.Patience.{Patience}
-use Rattle.lot_calls.specs.declared.calls.Patience.TheVariants.{Patient, Timed, Try}
-use Rattle.lot_calls.specs.declared.outcomes.Answer.TheVariants as answer
-use Rattle.lot_rwlock.specs.declared.places.Admission.{Admission}
-use Rattle.lot_rwlock.specs.declared.places.RwLockAt.{RwLockAt}
-use Rattle.lot_rwlock.specs.declared.places.RwLockAt.TheVariants as at
-use Rattle.lot_rwlock.specs.declared.enter.Decision.{Decision}
-use Rattle.lot_rwlock.specs.declared.enter.Decision.TheVariants as decisions
-use Rattle.lot_rwlock.specs.declared.purposes.RwLockPurpose.{RwLockPurpose}
-use Rattle.lot_rwlock.specs.declared.purposes.RwLockPurpose.TheVariants as purpose
-use Rattle.lot_base.specs.declared.keys.Line.TheVariants.{Main, Second}
-use Rattle.lot_rwlock.specs.RwLockSteps.{decided_act, decided_for, is_counted, wanted}
-use Rattle.lot_rwlock.specs.RwLockCalls.{IsDecided, IsNoRefusal, StandsAt}
-use Rattle.abstract_locks.specs.Codes.{count_in, is_blocked}
-use Rattle.abstract_locks.specs.Locks.{Rights}
-use Rattle.lot_rwlock_fair.specs.declared.places.RwLockCallPlace.{RwLockCallPlace}
-use Rattle.lot_rwlock_fair.specs.declared.places.RwLockCallPlace.TheVariants as fair
-use Rattle.lot_rwlock_fair.specs.FairCalls.{CallStands, WaitsFor}
-use Rattle.lot_rwlock_fair.specs.declared.handed.HandedAt.{HandedAt}
-use Rattle.lot_condvar.specs.declared.places.CondvarPlace.TheVariants as condvar
+use Rattle.spec_locks.specs.declared.calls.Access.{Access}
+use Rattle.spec_locks.specs.declared.calls.Access.TheVariants as access
+use Rattle.spec_locks.specs.declared.calls.Patience.{Patience}
+use Rattle.spec_locks.specs.declared.calls.Patience.TheVariants.{Patient, Timed, Try}
+use Rattle.spec_locks.specs.declared.outcomes.Answer.TheVariants as answer
+use Rattle.steps_rwlock.specs.declared.places.Admission.{Admission}
+use Rattle.steps_rwlock.specs.declared.places.RwLockAt.{RwLockAt}
+use Rattle.steps_rwlock.specs.declared.places.RwLockAt.TheVariants as at
+use Rattle.steps_rwlock.specs.declared.enter.Decision.{Decision}
+use Rattle.steps_rwlock.specs.declared.enter.Decision.TheVariants as decisions
+use Rattle.steps_rwlock.specs.declared.purposes.RwLockPurpose.{RwLockPurpose}
+use Rattle.steps_rwlock.specs.declared.purposes.RwLockPurpose.TheVariants as purpose
+use Rattle.core_base.specs.declared.keys.Line.TheVariants.{Main, Second}
+use Rattle.steps_rwlock.specs.RwLockSteps.{decided_act, decided_for, is_counted, wanted}
+use Rattle.steps_rwlock.specs.RwLockCalls.{IsDecided, IsNoRefusal, StandsAt}
+use Rattle.spec_locks.specs.Codes.{count_in, is_blocked}
+use Rattle.spec_locks.specs.Locks.{Rights}
+use Rattle.steps_rwlock_fair.specs.declared.places.RwLockCallPlace.{RwLockCallPlace}
+use Rattle.steps_rwlock_fair.specs.declared.places.RwLockCallPlace.TheVariants as fair
+use Rattle.steps_rwlock_fair.specs.FairCalls.{CallStands, WaitsFor}
+use Rattle.steps_rwlock_fair.specs.declared.handed.HandedAt.{HandedAt}
+use Rattle.steps_condvar.specs.declared.places.CondvarPlace.TheVariants as condvar
 use Rattle.lot_steps.specs.declared.places.Place.{Place}
 use Rattle.lot_steps.specs.declared.places.Place.TheVariants.{Idle, Mutex, RwLock, Once, Condvar, Semaphore}
 use Rattle.lot_steps.specs.Steps.{act_of}

@@ -1,20 +1,20 @@
 -- A thread that goes on in a call of a condition variable leads it where its deeds do.
 use Rattle.std.proofs.Common.{ℕ, Option, Some, None, ◌≡◌, ◌≢◌, ◌↔◌, List, [], ◌∷◌, inl, inr, refl, sym, ◌∙◌, ap, subst}
 use Rattle.std.proofs.lemmas.Bool.{cases_eq}
-use Rattle.lot_acts.specs.declared.acts.Next.{Next}
-use Rattle.lot_acts.specs.declared.acts.Next.TheVariants as next
-use Rattle.lot_acts.specs.declared.acts.Reply.{Reply}
-use Rattle.lot_condvar.specs.declared.places.CondvarPlace.{CondvarPlace}
-use Rattle.lot_condvar.specs.CondvarProfiles.{condvar_row}
-use Rattle.lot_condvar.specs.CondvarSteps.{condvar_next}
-use Rattle.lot_condvar.specs.CondvarDeeds.{AllNeeded, Follows, IsAtNext, IsAtStage, MayHear, after_all, condvar_deeds}
-use Rattle.lot_condvar.proofs.CondvarFit.{condvar_steps_follow}
+use Rattle.steps_base.specs.declared.acts.Next.{Next}
+use Rattle.steps_base.specs.declared.acts.Next.TheVariants as next
+use Rattle.steps_base.specs.declared.acts.Reply.{Reply}
+use Rattle.steps_condvar.specs.declared.places.CondvarPlace.{CondvarPlace}
+use Rattle.steps_condvar.specs.CondvarProfiles.{condvar_row}
+use Rattle.steps_condvar.specs.CondvarSteps.{condvar_next}
+use Rattle.steps_condvar.specs.CondvarDeeds.{AllNeeded, Follows, IsAtNext, IsAtStage, MayHear, after_all, condvar_deeds}
+use Rattle.steps_condvar.proofs.CondvarFit.{condvar_steps_follow}
 use Rattle.lot_steps.specs.declared.places.Place.TheVariants.{Idle, Condvar}
 use Rattle.lot_steps.specs.Steps.{condvar_goes, profile_at}
-use Rattle.abstract_locks.specs.Condvars.{CondvarDeed, BeginsWait, EndsWait, GoesIn, GoesOut, Show, SeeOther, StandLast, SeeAgain, MissIt, Hide, MoveFirst, MoveAll, LeaveList, Clear, CondvarNeeded, CondvarSite, Inside, IsCondvar, IsInsideNot, MayGoOut, Stage, condvar_leads}
-use Rattle.abstract_locks.specs.Runs.{SectionChanges}
-use Rattle.abstract_locks.specs.Sites.{Line, Main}
-use Rattle.abstract_locks.proofs.CondvarKeeps.{condvar_deed_keeps}
+use Rattle.spec_locks.specs.Condvars.{CondvarDeed, BeginsWait, EndsWait, GoesIn, GoesOut, Show, SeeOther, StandLast, SeeAgain, MissIt, Hide, MoveFirst, MoveAll, LeaveList, Clear, CondvarNeeded, CondvarSite, Inside, IsCondvar, IsInsideNot, MayGoOut, Stage, condvar_leads}
+use Rattle.spec_locks.specs.Runs.{SectionChanges}
+use Rattle.spec_locks.specs.Sites.{Line, Main}
+use Rattle.spec_locks.proofs.CondvarKeeps.{condvar_deed_keeps}
 use Rattle.lot_machine.specs.Machine.{State, place_at, section_at}
 use Rattle.lot_laws.specs.Refinement.{lock_state}
 use Rattle.lot_laws.specs.Stations.{station_at}

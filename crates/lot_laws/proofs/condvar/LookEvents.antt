@@ -1,22 +1,22 @@
 -- The first step of a notification, which looks at the mutex that is shown, changes no lock, and its call goes on by what it sees.
 use Rattle.std.proofs.Common.{ℕ, Bool, true, false, Option, Some, None, if◌then◌else◌, ◌==◌, ◌≡◌, ◌+◌, ◌-◌, List, [], inl, refl, sym, ◌∙◌, ap, subst, arith}
-use Rattle.lot_acts.specs.Acts.{outcome_of}
-use Rattle.lot_acts.specs.Calls.{rights_where}
-use Rattle.lot_acts.specs.declared.acts.Next.TheVariants as next
-use Rattle.lot_acts.specs.declared.acts.Reply.TheVariants.{Value}
-use Rattle.lot_condvar.specs.declared.notify.NotifyAt.TheVariants as notify
-use Rattle.lot_condvar.specs.declared.places.CondvarPlace.TheVariants as places
-use Rattle.lot_condvar.specs.CondvarCalls as calls
-use Rattle.lot_condvar.specs.CondvarCalls.{CallFollows, look_event}
-use Rattle.lot_condvar.specs.CondvarDeeds.{word_of}
-use Rattle.lot_condvar.specs.CondvarSteps.{condvar_next, mutex_shown, notified}
-use Rattle.lot_condvar.proofs.NotifyTells.{looks_tell}
+use Rattle.steps_base.specs.Acts.{outcome_of}
+use Rattle.steps_base.specs.Calls.{rights_where}
+use Rattle.steps_base.specs.declared.acts.Next.TheVariants as next
+use Rattle.steps_base.specs.declared.acts.Reply.TheVariants.{Value}
+use Rattle.steps_condvar.specs.declared.notify.NotifyAt.TheVariants as notify
+use Rattle.steps_condvar.specs.declared.places.CondvarPlace.TheVariants as places
+use Rattle.steps_condvar.specs.CondvarCalls as calls
+use Rattle.steps_condvar.specs.CondvarCalls.{CallFollows, look_event}
+use Rattle.steps_condvar.specs.CondvarDeeds.{word_of}
+use Rattle.steps_condvar.specs.CondvarSteps.{condvar_next, mutex_shown, notified}
+use Rattle.steps_condvar.proofs.NotifyTells.{looks_tell}
 use Rattle.lot_steps.specs.declared.places.Place.TheVariants.{Condvar}
 use Rattle.lot_steps.specs.Steps.{condvar_does, condvar_goes}
-use Rattle.abstract_locks.specs.Locks as locks
-use Rattle.abstract_locks.specs.Locks.{LockState, OfCondvar, rights_of}
-use Rattle.abstract_locks.specs.Runs.{AtLock, Event, GoesOn, Moves, Nothing, is_taken_by}
-use Rattle.abstract_locks.specs.Sites.{Site}
+use Rattle.spec_locks.specs.Locks as locks
+use Rattle.spec_locks.specs.Locks.{LockState, OfCondvar, rights_of}
+use Rattle.spec_locks.specs.Runs.{AtLock, Event, GoesOn, Moves, Nothing, is_taken_by}
+use Rattle.spec_locks.specs.Sites.{Site}
 use Rattle.lot_machine.specs.Machine.{State, place_at}
 use Rattle.lot_laws.specs.MutexDeeds as deeds
 use Rattle.lot_laws.specs.Refinement.{call_at, call_state, lock_state, locks_of, taken_at}

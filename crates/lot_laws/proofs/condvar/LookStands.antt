@@ -3,19 +3,19 @@ use Rattle.std.proofs.Common.{ℕ, Bool, true, false, None, ◌==◌, ◌||◌, 
 use Rattle.std.proofs.lemmas.Bool.{cases_eq}
 use Rattle.std.proofs.Math.Bool.{or-false}
 use Rattle.std.specs.Prelude.{nat_le, ◌&&◌}
-use Rattle.lot_base.specs.declared.ops.Op.TheVariants as op
-use Rattle.lot_acts.specs.declared.acts.Act.TheVariants as act
-use Rattle.lot_acts.specs.declared.acts.Reply.TheVariants.{Value}
-use Rattle.lot_acts.specs.Stations.{nowhere}
+use Rattle.core_base.specs.declared.ops.Op.TheVariants as op
+use Rattle.steps_base.specs.declared.acts.Act.TheVariants as act
+use Rattle.steps_base.specs.declared.acts.Reply.TheVariants.{Value}
+use Rattle.steps_base.specs.Stations.{nowhere}
 use Rattle.lot_steps.specs.declared.places.Place.{Place}
 use Rattle.lot_steps.specs.declared.places.Place.TheVariants.{Condvar}
 use Rattle.lot_steps.specs.Steps.{condvar_goes}
-use Rattle.lot_condvar.specs.declared.notify.NotifyAt.TheVariants as notify
-use Rattle.lot_condvar.specs.declared.places.CondvarPlace.TheVariants.{Look, Notify}
-use Rattle.lot_condvar.specs.CondvarSteps.{condvar_next, look_next, mutex_shown}
-use Rattle.abstract_locks.specs.Codes.{count_in, code}
-use Rattle.abstract_locks.specs.Locks as locks
-use Rattle.abstract_locks.specs.Sites.{has_readers, idle}
+use Rattle.steps_condvar.specs.declared.notify.NotifyAt.TheVariants as notify
+use Rattle.steps_condvar.specs.declared.places.CondvarPlace.TheVariants.{Look, Notify}
+use Rattle.steps_condvar.specs.CondvarSteps.{condvar_next, look_next, mutex_shown}
+use Rattle.spec_locks.specs.Codes.{count_in, code}
+use Rattle.spec_locks.specs.Locks as locks
+use Rattle.spec_locks.specs.Sites.{has_readers, idle}
 use Rattle.lot_machine.specs.Machine.{State, filled_at, place_at, put, state_after_act, word_at}
 use Rattle.lot_laws.specs.MutexDeeds.{acts}
 use Rattle.lot_laws.specs.Refinement.{taken_at}
@@ -26,7 +26,7 @@ use Rattle.lot_laws.proofs.sites.OneStep.{steps_by, same_word}
 use Rattle.lot_laws.proofs.sites.StandsKept.{Alike}
 use Rattle.lot_laws.proofs.sites.Following.{lock_by, operated}
 use Rattle.lot_laws.proofs.sites.ActsAt as acting
-use Rattle.abstract_locks.specs.Locks.{putting}
+use Rattle.spec_locks.specs.Locks.{putting}
 
 -- a place at which its thread stands nowhere
 abbrev IsOut : Place → ℕ → Type 0

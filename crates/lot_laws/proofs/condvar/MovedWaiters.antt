@@ -1,29 +1,29 @@
 -- A waiter of a condition variable is taken by a notification, or moved to its mutex: where it goes, at
 -- both locks.
 use Rattle.std.proofs.Common.{ℕ, Bool, true, false, Option, Some, None, ◌≡◌, ◌≢◌, ◌*◌, ◌≤◌, refl, sym, ◌∙◌, ap, subst, arith}
-use Rattle.lot_base.specs.declared.wants.Want.TheVariants.{Exclusive}
-use Rattle.lot_base.specs.Lines.{times}
-use Rattle.lot_acts.specs.declared.acts.Next.TheVariants.{At}
-use Rattle.lot_acts.specs.Profiles.{Profile, hand, taken_from}
-use Rattle.lot_acts.specs.Stations.{Station, station_by}
+use Rattle.core_base.specs.declared.wants.Want.TheVariants.{Exclusive}
+use Rattle.core_base.specs.Lines.{times}
+use Rattle.steps_base.specs.declared.acts.Next.TheVariants.{At}
+use Rattle.steps_base.specs.Profiles.{Profile, hand, taken_from}
+use Rattle.steps_base.specs.Stations.{Station, station_by}
 use Rattle.lot_steps.specs.declared.places.Place.TheVariants.{Condvar}
 use Rattle.lot_steps.specs.Steps.{profile_at, next_place}
-use Rattle.lot_mutex.specs.declared.places.MutexPlace.TheVariants as mutex
-use Rattle.lot_mutex.specs.declared.unlock.UnlockAt.{UnlockAt}
-use Rattle.lot_condvar.specs.declared.notify.NotifyAt.TheVariants as notify
-use Rattle.lot_condvar.specs.declared.places.CondvarPlace.{CondvarPlace}
-use Rattle.lot_condvar.specs.declared.places.CondvarPlace.TheVariants.{Look, Notify, Wait}
-use Rattle.lot_condvar.specs.declared.wait.Stands.TheVariants as stands
-use Rattle.lot_condvar.specs.declared.wait.WaitAt.{WaitAt}
-use Rattle.lot_condvar.specs.declared.wait.WaitAt.TheVariants as wait
-use Rattle.lot_condvar.specs.CondvarCalls.{IsReached}
-use Rattle.lot_condvar.specs.CondvarMoves.{row_beside, row_there}
-use Rattle.lot_condvar.specs.CondvarProfiles.{condvar_profile, condvar_row, wait_row}
-use Rattle.abstract_locks.specs.Condvars as condvars
-use Rattle.abstract_locks.specs.Condvars.{AllOf, IsCondvar, moving}
-use Rattle.abstract_locks.specs.Locks as locks
-use Rattle.abstract_locks.specs.Locks.{Taken, Rights}
-use Rattle.abstract_locks.specs.Sites.{Main}
+use Rattle.steps_mutex.specs.declared.places.MutexPlace.TheVariants as mutex
+use Rattle.steps_mutex.specs.declared.unlock.UnlockAt.{UnlockAt}
+use Rattle.steps_condvar.specs.declared.notify.NotifyAt.TheVariants as notify
+use Rattle.steps_condvar.specs.declared.places.CondvarPlace.{CondvarPlace}
+use Rattle.steps_condvar.specs.declared.places.CondvarPlace.TheVariants.{Look, Notify, Wait}
+use Rattle.steps_condvar.specs.declared.wait.Stands.TheVariants as stands
+use Rattle.steps_condvar.specs.declared.wait.WaitAt.{WaitAt}
+use Rattle.steps_condvar.specs.declared.wait.WaitAt.TheVariants as wait
+use Rattle.steps_condvar.specs.CondvarCalls.{IsReached}
+use Rattle.steps_condvar.specs.CondvarMoves.{row_beside, row_there}
+use Rattle.steps_condvar.specs.CondvarProfiles.{condvar_profile, condvar_row, wait_row}
+use Rattle.spec_locks.specs.Condvars as condvars
+use Rattle.spec_locks.specs.Condvars.{AllOf, IsCondvar, moving}
+use Rattle.spec_locks.specs.Locks as locks
+use Rattle.spec_locks.specs.Locks.{Taken, Rights}
+use Rattle.spec_locks.specs.Sites.{Main}
 use Rattle.lot_machine.specs.Machine.{State, place_at, queue_at, section_at}
 use Rattle.lot_laws.specs.Refinement.{lock_state, call_state}
 use Rattle.lot_laws.specs.Stations.{station_at}
@@ -35,11 +35,11 @@ use Rattle.lot_laws.proofs.condvar.TwoParts.{doing_beside, doing_there, nothing_
 use Rattle.lot_laws.proofs.condvar.Promises.{unlisted}
 use Rattle.lot_laws.proofs.condvar.Sites.{at_place}
 use Rattle.lot_laws.proofs.condvar.WaitersAside.{waits_there}
-use Rattle.lot_acts.specs.declared.acts.Reply.{Reply}
-use Rattle.abstract_locks.specs.Purposes.{WasMoved}
-use Rattle.lot_condvar.proofs.WaitTells.{waiters_are_told}
+use Rattle.steps_base.specs.declared.acts.Reply.{Reply}
+use Rattle.spec_locks.specs.Purposes.{WasMoved}
+use Rattle.steps_condvar.proofs.WaitTells.{waiters_are_told}
 use Rattle.lot_steps.specs.declared.places.Place.{Place}
-use Rattle.lot_acts.specs.declared.acts.Reply.TheVariants.{MovedTo, TakenBy}
+use Rattle.steps_base.specs.declared.acts.Reply.TheVariants.{MovedTo, TakenBy}
 
 module _ (w : State) (l m : ℕ) (apart : m ≢ l) (timed : Bool) where
   abbrev waits : WaitAt → CondvarPlace

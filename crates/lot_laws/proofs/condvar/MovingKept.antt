@@ -1,15 +1,15 @@
 -- A notification moves waiters of a condition variable to its mutex: both are sites again, and every other lock is as it was.
 use Rattle.std.proofs.Common.{◌||◌, ℕ, Bool, true, false, Option, Some, None, if◌then◌else◌, ◌==◌, ◌≡◌, ◌≢◌, ◌+◌, ◌<◌, ◌≤◌, ◌⊎◌, List, [], ◌∷◌, ◌++◌, length, map, replicate, get_or, drop, inl, inr, refl, sym, ◌∙◌, ap, subst, arith}
-use Rattle.lot_base.specs.declared.wants.Waiter.{Waiter}
-use Rattle.lot_base.specs.declared.wants.Want.TheVariants.{Exclusive}
-use Rattle.lot_base.specs.Lines.{times}
-use Rattle.lot_calls.specs.declared.kinds.Kind as kind
+use Rattle.core_base.specs.declared.wants.Waiter.{Waiter}
+use Rattle.core_base.specs.declared.wants.Want.TheVariants.{Exclusive}
+use Rattle.core_base.specs.Lines.{times}
+use Rattle.spec_locks.specs.declared.kinds.Kind as kind
 use Rattle.lot_steps.specs.declared.places.Place.{Place}
-use Rattle.abstract_locks.specs.Condvars.{line_of, moved_of, taken_of}
-use Rattle.abstract_locks.specs.Locks as locks
-use Rattle.abstract_locks.specs.Picks.{queued_of}
-use Rattle.abstract_locks.specs.Sites.{Bring, Deed, Main, Second, Send, Site, has_readers, bringing}
-use Rattle.abstract_locks.specs.Codes.{code}
+use Rattle.spec_locks.specs.Condvars.{line_of, moved_of, taken_of}
+use Rattle.spec_locks.specs.Locks as locks
+use Rattle.spec_locks.specs.Picks.{queued_of}
+use Rattle.spec_locks.specs.Sites.{Bring, Deed, Main, Second, Send, Site, has_readers, bringing}
+use Rattle.spec_locks.specs.Codes.{code}
 use Rattle.lot_machine.specs.Machine.{State, kind_at, moved_under, place_at, queue_at, unlocked}
 use Rattle.lot_laws.specs.Refinement.{taken_at}
 use Rattle.lot_laws.specs.MutexDeeds.{acts}

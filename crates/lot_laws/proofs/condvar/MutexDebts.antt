@@ -3,33 +3,33 @@
 -- one that it wakes.
 use Rattle.std.proofs.Common.{ℕ, Bool, true, false, Option, Some, None, if◌then◌else◌, ◌==◌, ◌≡◌, ◌≢◌, ◌⊎◌, inl, inr, refl, sym, ◌∙◌, ap, subst}
 use Rattle.std.proofs.lemmas.Bool.{eqb-true}
-use Rattle.lot_base.specs.declared.wants.Want.TheVariants.{Exclusive}
-use Rattle.lot_acts.specs.declared.acts.Act.TheVariants.{Sleep}
-use Rattle.lot_acts.specs.Profiles.{in_line}
-use Rattle.lot_mutex.specs.declared.places.MutexPlace.TheVariants as mutex
-use Rattle.lot_mutex.specs.declared.lock.Entry.TheVariants as entry
-use Rattle.lot_mutex.specs.declared.lock.LockAt.{LockAt}
-use Rattle.lot_mutex.specs.declared.lock.LockAt.TheVariants as lock
-use Rattle.lot_mutex.specs.declared.unlock.UnlockAt.TheVariants as unlock
-use Rattle.lot_mutex.specs.MutexProfiles.{inside, mutex_profile}
-use Rattle.lot_mutex.specs.MutexSteps.{is_locked}
-use Rattle.lot_condvar.specs.declared.notify.NotifyAt.{NotifyAt}
-use Rattle.lot_condvar.specs.declared.notify.NotifyAt.TheVariants as notify
-use Rattle.lot_condvar.specs.declared.places.CondvarPlace.{CondvarPlace}
-use Rattle.lot_condvar.specs.declared.places.CondvarPlace.TheVariants.{Wait, Look, Notify}
-use Rattle.lot_condvar.specs.declared.wait.Stands.{Stands}
-use Rattle.lot_condvar.specs.declared.wait.Stands.TheVariants as stands
-use Rattle.lot_condvar.specs.declared.wait.WaitAt.{WaitAt}
-use Rattle.lot_condvar.specs.declared.wait.WaitAt.TheVariants as wait
-use Rattle.lot_condvar.specs.CondvarCalls.{IsLockOf, IsReached}
-use Rattle.lot_condvar.specs.CondvarProfiles.{condvar_profile, condvar_purpose, condvar_recalls, condvar_released, condvar_row, has_moved, has_mutex, is_main}
-use Rattle.lot_condvar.specs.CondvarSteps.{condvar_act, mutex_beside}
+use Rattle.core_base.specs.declared.wants.Want.TheVariants.{Exclusive}
+use Rattle.steps_base.specs.declared.acts.Act.TheVariants.{Sleep}
+use Rattle.steps_base.specs.Profiles.{in_line}
+use Rattle.steps_mutex.specs.declared.places.MutexPlace.TheVariants as mutex
+use Rattle.steps_mutex.specs.declared.lock.Entry.TheVariants as entry
+use Rattle.steps_mutex.specs.declared.lock.LockAt.{LockAt}
+use Rattle.steps_mutex.specs.declared.lock.LockAt.TheVariants as lock
+use Rattle.steps_mutex.specs.declared.unlock.UnlockAt.TheVariants as unlock
+use Rattle.steps_mutex.specs.MutexProfiles.{inside, mutex_profile}
+use Rattle.steps_mutex.specs.MutexSteps.{is_locked}
+use Rattle.steps_condvar.specs.declared.notify.NotifyAt.{NotifyAt}
+use Rattle.steps_condvar.specs.declared.notify.NotifyAt.TheVariants as notify
+use Rattle.steps_condvar.specs.declared.places.CondvarPlace.{CondvarPlace}
+use Rattle.steps_condvar.specs.declared.places.CondvarPlace.TheVariants.{Wait, Look, Notify}
+use Rattle.steps_condvar.specs.declared.wait.Stands.{Stands}
+use Rattle.steps_condvar.specs.declared.wait.Stands.TheVariants as stands
+use Rattle.steps_condvar.specs.declared.wait.WaitAt.{WaitAt}
+use Rattle.steps_condvar.specs.declared.wait.WaitAt.TheVariants as wait
+use Rattle.steps_condvar.specs.CondvarCalls.{IsLockOf, IsReached}
+use Rattle.steps_condvar.specs.CondvarProfiles.{condvar_profile, condvar_purpose, condvar_recalls, condvar_released, condvar_row, has_moved, has_mutex, is_main}
+use Rattle.steps_condvar.specs.CondvarSteps.{condvar_act, mutex_beside}
 use Rattle.lot_steps.specs.declared.places.Place.TheVariants.{Condvar}
 use Rattle.lot_steps.specs.Steps.{is_lock, line_owed, or_else}
-use Rattle.abstract_locks.specs.Locks.{Rights, Sort}
-use Rattle.abstract_locks.specs.Locks as sorts
-use Rattle.abstract_locks.specs.Purposes.{HasMoved, Saw}
-use Rattle.abstract_locks.specs.Sites.{Doing, Has, Line, Main, Second, counts_some, idle}
+use Rattle.spec_locks.specs.Locks.{Rights, Sort}
+use Rattle.spec_locks.specs.Locks as sorts
+use Rattle.spec_locks.specs.Purposes.{HasMoved, Saw}
+use Rattle.spec_locks.specs.Sites.{Doing, Has, Line, Main, Second, counts_some, idle}
 use Rattle.lot_laws.specs.Promises.{HasReleased, WakesWaiters, mutex_seen, want_of}
 use Rattle.lot_laws.specs.Refinement.{call_state}
 use Rattle.lot_laws.specs.Stations.{doing_on}

@@ -3,32 +3,32 @@
 use Rattle.std.proofs.Common.{ℕ, Bool, true, false, Option, Some, None, if◌then◌else◌, ◌||◌, ◌≡◌, ◌≢◌, ◌+◌, ◌*◌, ◌≤◌, ◌<◌, List, [], ◌∷◌, length, map, refl, sym, ◌∙◌, ap, subst, arith, inl, inr}
 use Rattle.std.proofs.lemmas.Bool.{cases_eq}
 use Rattle.std.proofs.Math.Bool.{or-false}
-use Rattle.lot_base.specs.declared.keys.Keys.TheVariants.{One}
-use Rattle.lot_base.specs.declared.ops.Op.{Op}
-use Rattle.lot_base.specs.declared.wants.Want.TheVariants.{Wait as WaitHere}
-use Rattle.lot_base.specs.Lines.{first_of, times, without}
-use Rattle.lot_base.specs.Words.{apply}
-use Rattle.lot_acts.specs.declared.acts.Act.TheVariants as act
-use Rattle.lot_acts.specs.declared.acts.Next.TheVariants as next
-use Rattle.lot_acts.specs.declared.acts.Reply.{Reply}
-use Rattle.lot_acts.specs.declared.acts.Reply.TheVariants.{Value}
-use Rattle.lot_acts.specs.declared.owners.Owners.{Owners}
-use Rattle.lot_acts.specs.Stations.{Station}
-use Rattle.lot_acts.specs.Moves.{inside_of}
+use Rattle.core_base.specs.declared.keys.Keys.TheVariants.{One}
+use Rattle.core_base.specs.declared.ops.Op.{Op}
+use Rattle.core_base.specs.declared.wants.Want.TheVariants.{Wait as WaitHere}
+use Rattle.core_base.specs.Lines.{first_of, times, without}
+use Rattle.core_base.specs.Words.{apply}
+use Rattle.steps_base.specs.declared.acts.Act.TheVariants as act
+use Rattle.steps_base.specs.declared.acts.Next.TheVariants as next
+use Rattle.steps_base.specs.declared.acts.Reply.{Reply}
+use Rattle.steps_base.specs.declared.acts.Reply.TheVariants.{Value}
+use Rattle.steps_base.specs.declared.owners.Owners.{Owners}
+use Rattle.steps_base.specs.Stations.{Station}
+use Rattle.steps_base.specs.Moves.{inside_of}
 use Rattle.lot_steps.specs.declared.places.Place.{Place}
 use Rattle.lot_steps.specs.declared.places.Place.TheVariants.{Condvar}
 use Rattle.lot_steps.specs.Steps.{condvar_goes}
-use Rattle.lot_condvar.specs.declared.places.CondvarPlace.{CondvarPlace}
-use Rattle.lot_condvar.specs.CondvarSteps.{condvar_act, condvar_next, condvar_owners, mutex_beside}
-use Rattle.lot_condvar.specs.CondvarDeeds.{Follows, condvar_deeds, word_of}
-use Rattle.lot_condvar.specs.CondvarDeeds as condvar
-use Rattle.lot_condvar.specs.CondvarMoves.{there, there_then}
-use Rattle.abstract_locks.specs.Codes.{shown_code, word_by, parked_in, aside_in, count_in}
-use Rattle.abstract_locks.specs.Condvars.{CondvarDeed, CondvarSite}
-use Rattle.abstract_locks.specs.Condvars as condvars
-use Rattle.abstract_locks.specs.Locks.{OfCondvar, Rules, Park, putting, standing, keep_from, IsBlocked, IsFreeAt, one_if_some, Knows}
-use Rattle.abstract_locks.specs.Locks as locks
-use Rattle.abstract_locks.specs.Sites.{Case, Deed, Doing, In, LeaveLine, Line, Main, Out, Second, Send, Site, IsSite, has_readers, idle, wakened, leaves, StandsIn}
+use Rattle.steps_condvar.specs.declared.places.CondvarPlace.{CondvarPlace}
+use Rattle.steps_condvar.specs.CondvarSteps.{condvar_act, condvar_next, condvar_owners, mutex_beside}
+use Rattle.steps_condvar.specs.CondvarDeeds.{Follows, condvar_deeds, word_of}
+use Rattle.steps_condvar.specs.CondvarDeeds as condvar
+use Rattle.steps_condvar.specs.CondvarMoves.{there, there_then}
+use Rattle.spec_locks.specs.Codes.{shown_code, word_by, parked_in, aside_in, count_in}
+use Rattle.spec_locks.specs.Condvars.{CondvarDeed, CondvarSite}
+use Rattle.spec_locks.specs.Condvars as condvars
+use Rattle.spec_locks.specs.Locks.{OfCondvar, Rules, Park, putting, standing, keep_from, IsBlocked, IsFreeAt, one_if_some, Knows}
+use Rattle.spec_locks.specs.Locks as locks
+use Rattle.spec_locks.specs.Sites.{Case, Deed, Doing, In, LeaveLine, Line, Main, Out, Second, Send, Site, IsSite, has_readers, idle, wakened, leaves, StandsIn}
 use Rattle.lot_machine.specs.Machine.{State, owners_at, place_at, put, queue_at, section_at, shares_at, state_after_operation, state_with_sections, queues_with_last, queues_without, word_at, filled_at}
 use Rattle.lot_laws.specs.Refinement.{taken_at, lock_seen}
 use Rattle.lot_laws.specs.MutexDeeds.{acts}
@@ -40,9 +40,9 @@ use Rattle.lot_laws.proofs.sites.StandsKept.{Alike, AlikeBeside}
 use Rattle.lot_laws.proofs.sites.Following.{lock_by, operated, parks, with_line, NoHandOff}
 use Rattle.lot_laws.proofs.sites.ActsAt as acting
 use Rattle.lot_laws.proofs.sites.WakesAt.{leaving_by}
-use Rattle.abstract_locks.specs.Picks.{queued_of}
+use Rattle.spec_locks.specs.Picks.{queued_of}
 use Rattle.lot_laws.proofs.machine.Parts as glue
-use Rattle.lot_condvar.proofs.CondvarFit.{condvar_owners_follow, condvar_steps_code}
+use Rattle.steps_condvar.proofs.CondvarFit.{condvar_owners_follow, condvar_steps_code}
 use Rattle.std.specs.Prelude.{nat_le, ◌&&◌}
 use Rattle.lot_laws.proofs.condvar.TwoParts.{Beside, doing_of_row, doing_there, nothing_else, station_there, taken_there, nothing_there}
 use Rattle.lot_laws.proofs.hands.Counts.{first_out, aside_kept}

@@ -1,26 +1,26 @@
 -- A notification goes into both its sections, or out of them where it has nobody in hand: both locks are sites again.
 use Rattle.std.proofs.Common.{ℕ, Bool, true, false, Option, Some, None, if◌then◌else◌, ◌==◌, ◌≡◌, ◌≢◌, ◌*◌, ◌<◌, [], ◌∷◌, length, set, refl, sym, ◌∙◌, ap, subst, is_none, inl, inr, length-set, get_or-set_same, get_or-set_other}
 use Rattle.std.proofs.lemmas.Bool.{cases_eq}
-use Rattle.lot_base.specs.declared.keys.Keys.TheVariants.{Two}
-use Rattle.lot_acts.specs.declared.acts.Next.{Next}
-use Rattle.lot_acts.specs.declared.acts.Next.TheVariants.{At, End as Over}
-use Rattle.lot_acts.specs.declared.acts.Reply.TheVariants.{Done}
-use Rattle.lot_acts.specs.Stations.{Station, station_by}
+use Rattle.core_base.specs.declared.keys.Keys.TheVariants.{Two}
+use Rattle.steps_base.specs.declared.acts.Next.{Next}
+use Rattle.steps_base.specs.declared.acts.Next.TheVariants.{At, End as Over}
+use Rattle.steps_base.specs.declared.acts.Reply.TheVariants.{Done}
+use Rattle.steps_base.specs.Stations.{Station, station_by}
 use Rattle.lot_steps.specs.declared.places.Place.{Place}
 use Rattle.lot_steps.specs.declared.places.Place.TheVariants.{Condvar, Idle}
 use Rattle.lot_steps.specs.Steps.{condvar_goes}
-use Rattle.lot_condvar.specs.declared.notify.NotifyAt.{NotifyAt}
-use Rattle.lot_condvar.specs.declared.notify.NotifyAt.TheVariants as notify
-use Rattle.lot_condvar.specs.declared.places.CondvarPlace.{CondvarPlace}
-use Rattle.lot_condvar.specs.declared.places.CondvarPlace.TheVariants.{Notify}
-use Rattle.lot_condvar.specs.CondvarMoves.{row_beside}
-use Rattle.lot_condvar.specs.CondvarMutex.{FollowsBeside}
-use Rattle.lot_condvar.specs.CondvarSteps.{notified, notify_act}
-use Rattle.lot_condvar.proofs.NotifierFit.{notifiers_follow}
-use Rattle.abstract_locks.specs.Condvars.{IsCondvar, WaitsAside}
-use Rattle.abstract_locks.specs.Locks as locks
-use Rattle.abstract_locks.specs.Locks.{keep_from, putting}
-use Rattle.abstract_locks.specs.Sites.{End, In, Main, Out, Site, has_readers}
+use Rattle.steps_condvar.specs.declared.notify.NotifyAt.{NotifyAt}
+use Rattle.steps_condvar.specs.declared.notify.NotifyAt.TheVariants as notify
+use Rattle.steps_condvar.specs.declared.places.CondvarPlace.{CondvarPlace}
+use Rattle.steps_condvar.specs.declared.places.CondvarPlace.TheVariants.{Notify}
+use Rattle.steps_condvar.specs.CondvarMoves.{row_beside}
+use Rattle.steps_condvar.specs.CondvarMutex.{FollowsBeside}
+use Rattle.steps_condvar.specs.CondvarSteps.{notified, notify_act}
+use Rattle.steps_condvar.proofs.NotifierFit.{notifiers_follow}
+use Rattle.spec_locks.specs.Condvars.{IsCondvar, WaitsAside}
+use Rattle.spec_locks.specs.Locks as locks
+use Rattle.spec_locks.specs.Locks.{keep_from, putting}
+use Rattle.spec_locks.specs.Sites.{End, In, Main, Out, Site, has_readers}
 use Rattle.lot_machine.specs.Machine.{State, can_do, place_at, put, queue_at, section_at, state_with_sections}
 use Rattle.lot_laws.specs.MutexDeeds.{acts}
 use Rattle.lot_laws.specs.Refinement.{taken_at}
@@ -35,11 +35,11 @@ use Rattle.lot_laws.proofs.condvar.TwoParts.{Beside, doing_beside, nothing_else,
 use Rattle.lot_laws.proofs.condvar.Replies as hears
 use Rattle.lot_laws.proofs.condvar.Replies.{notifier_hears, none_so}
 use Rattle.lot_laws.proofs.condvar.MutexUntouched.{in_steps, out_steps, then_is, was}
-use Rattle.lot_condvar.specs.CondvarProfiles.{has_moved, notify_row}
-use Rattle.lot_mutex.specs.MutexProfiles.{inside}
+use Rattle.steps_condvar.specs.CondvarProfiles.{has_moved, notify_row}
+use Rattle.steps_mutex.specs.MutexProfiles.{inside}
 use Rattle.lot_laws.proofs.sites.LawsKept.{after_same, needed_same}
 use Rattle.lot_laws.proofs.sites.WakesAt.{leaving_by}
-use Rattle.lot_acts.specs.Profiles.{hand}
+use Rattle.steps_base.specs.Profiles.{hand}
 
 module _ (w : State) (t l m : ℕ) (all : Bool) (steady : IsSteady w) (is_there : t < length w.places) (apart : m ≢ l)
     (sort_l : (rules_in w l).sort ≡ locks.Condvar) (sort_m : (rules_in w m).sort ≡ locks.Mutex)

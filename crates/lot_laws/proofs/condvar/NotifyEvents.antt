@@ -4,38 +4,38 @@ use Rattle.std.proofs.Common.{ℕ, Bool, true, false, Option, Some, None, if◌t
 use Rattle.std.specs.Prelude.{is_some}
 use Rattle.std.proofs.lemmas.Bool.{cases_eq, eqb-true}
 use Rattle.std.proofs.lemmas.Bool.Decides.{nat_tests}
-use Rattle.lot_calls.specs.declared.outcomes.Outcome as outcome
-use Rattle.lot_acts.specs.Acts.{outcome_of}
-use Rattle.lot_acts.specs.Calls.{rights_where}
-use Rattle.lot_acts.specs.Stations.{Station}
-use Rattle.lot_acts.specs.Profiles.{blank, in_hand}
-use Rattle.lot_acts.specs.declared.acts.Next.{Next}
-use Rattle.lot_acts.specs.declared.acts.Next.TheVariants as next
-use Rattle.lot_acts.specs.declared.acts.Reply.{Reply}
-use Rattle.lot_mutex.specs.MutexSteps.{is_locked}
-use Rattle.lot_condvar.specs.declared.notify.NotifyAt.{NotifyAt}
-use Rattle.lot_condvar.specs.declared.notify.NotifyAt.TheVariants as notify
-use Rattle.lot_condvar.specs.declared.places.CondvarPlace.{CondvarPlace}
-use Rattle.lot_condvar.specs.declared.places.CondvarPlace.TheVariants.{Wait, Look, Notify}
-use Rattle.lot_condvar.specs.CondvarCalls.{CallFollows, IsReached, MayComeOfTwo, marked_event, notify_event, or_else}
-use Rattle.lot_condvar.specs.CondvarDeeds.{IsListed, condvar_deeds, notify_deeds}
-use Rattle.lot_condvar.specs.CondvarDeeds as condvar
-use Rattle.lot_condvar.specs.CondvarMutex.{beside_deeds}
-use Rattle.lot_condvar.specs.CondvarProfiles.{condvar_profile, condvar_row, mutex_side, notify_carries, notify_recalls}
-use Rattle.lot_condvar.specs.CondvarSteps.{condvar_next, in_notify, is_shown, move_act, next_notify, notify_act}
-use Rattle.lot_condvar.proofs.NotifyTells.{notifies_tell}
+use Rattle.spec_locks.specs.declared.outcomes.Outcome as outcome
+use Rattle.steps_base.specs.Acts.{outcome_of}
+use Rattle.steps_base.specs.Calls.{rights_where}
+use Rattle.steps_base.specs.Stations.{Station}
+use Rattle.steps_base.specs.Profiles.{blank, in_hand}
+use Rattle.steps_base.specs.declared.acts.Next.{Next}
+use Rattle.steps_base.specs.declared.acts.Next.TheVariants as next
+use Rattle.steps_base.specs.declared.acts.Reply.{Reply}
+use Rattle.steps_mutex.specs.MutexSteps.{is_locked}
+use Rattle.steps_condvar.specs.declared.notify.NotifyAt.{NotifyAt}
+use Rattle.steps_condvar.specs.declared.notify.NotifyAt.TheVariants as notify
+use Rattle.steps_condvar.specs.declared.places.CondvarPlace.{CondvarPlace}
+use Rattle.steps_condvar.specs.declared.places.CondvarPlace.TheVariants.{Wait, Look, Notify}
+use Rattle.steps_condvar.specs.CondvarCalls.{CallFollows, IsReached, MayComeOfTwo, marked_event, notify_event, or_else}
+use Rattle.steps_condvar.specs.CondvarDeeds.{IsListed, condvar_deeds, notify_deeds}
+use Rattle.steps_condvar.specs.CondvarDeeds as condvar
+use Rattle.steps_condvar.specs.CondvarMutex.{beside_deeds}
+use Rattle.steps_condvar.specs.CondvarProfiles.{condvar_profile, condvar_row, mutex_side, notify_carries, notify_recalls}
+use Rattle.steps_condvar.specs.CondvarSteps.{condvar_next, in_notify, is_shown, move_act, next_notify, notify_act}
+use Rattle.steps_condvar.proofs.NotifyTells.{notifies_tell}
 use Rattle.lot_steps.specs.declared.places.Place.{Place}
 use Rattle.lot_steps.specs.declared.places.Place.TheVariants.{Condvar}
 use Rattle.lot_steps.specs.Steps.{condvar_does, condvar_goes, is_lock, profile_at}
-use Rattle.abstract_locks.specs.Condvars.{IsCondvar, MissIt, MoveFits, SeeAgain, WaitsAside, moved_of}
-use Rattle.abstract_locks.specs.Purposes.{Waits}
-use Rattle.abstract_locks.proofs.CondvarKeeps.{moved_fewer}
-use Rattle.abstract_locks.specs.Deeds.{KeepLock, after_all, event_by}
-use Rattle.abstract_locks.specs.Locks as locks
-use Rattle.abstract_locks.specs.Locks.{HasTakenNobody, LockCase, LockState, OfCondvar, SeeOwner, Wake, rights_of}
-use Rattle.abstract_locks.specs.Runs.{MayHappen, is_among, AtLock, Event, GoesOn, MayMove, Moves, Nothing, is_taken_by}
-use Rattle.abstract_locks.specs.Sites.{Case, Deed, End, In, Main, MarkBrought, MarkOwned, Out}
-use Rattle.abstract_locks.proofs.Deeds.{kept}
+use Rattle.spec_locks.specs.Condvars.{IsCondvar, MissIt, MoveFits, SeeAgain, WaitsAside, moved_of}
+use Rattle.spec_locks.specs.Purposes.{Waits}
+use Rattle.spec_locks.proofs.CondvarKeeps.{moved_fewer}
+use Rattle.spec_locks.specs.Deeds.{KeepLock, after_all, event_by}
+use Rattle.spec_locks.specs.Locks as locks
+use Rattle.spec_locks.specs.Locks.{HasTakenNobody, LockCase, LockState, OfCondvar, SeeOwner, Wake, rights_of}
+use Rattle.spec_locks.specs.Runs.{MayHappen, is_among, AtLock, Event, GoesOn, MayMove, Moves, Nothing, is_taken_by}
+use Rattle.spec_locks.specs.Sites.{Case, Deed, End, In, Main, MarkBrought, MarkOwned, Out}
+use Rattle.spec_locks.proofs.Deeds.{kept}
 use Rattle.lot_machine.specs.Machine.{State, can_do, kind_at, place_at, queue_at, reply_to, word_at}
 use Rattle.lot_laws.specs.MutexPromises.{IsMutexWord}
 use Rattle.lot_laws.specs.MutexDeeds.{acts}

@@ -1,20 +1,20 @@
 -- A notification goes on: by each of its acts both its locks are sites again, as the deeds of its place say.
 use Rattle.std.proofs.Common.{ℕ, Bool, true, false, ◌≡◌, ◌≢◌, ◌<◌, List, [], ◌∷◌, length, refl, sym, subst}
-use Rattle.lot_acts.specs.declared.acts.Reply.{Reply}
+use Rattle.steps_base.specs.declared.acts.Reply.{Reply}
 use Rattle.lot_steps.specs.declared.places.Place.{Place}
 use Rattle.lot_steps.specs.declared.places.Place.TheVariants.{Condvar}
 use Rattle.lot_steps.specs.Steps.{condvar_goes, next_place}
-use Rattle.lot_condvar.specs.declared.notify.NotifyAt.{NotifyAt}
-use Rattle.lot_condvar.specs.declared.notify.NotifyAt.TheVariants as notify
-use Rattle.lot_condvar.specs.declared.places.CondvarPlace.{CondvarPlace}
-use Rattle.lot_condvar.specs.declared.places.CondvarPlace.TheVariants.{Notify}
-use Rattle.lot_condvar.specs.CondvarCalls.{IsReached}
-use Rattle.lot_condvar.specs.CondvarDeeds.{notify_deeds}
-use Rattle.lot_condvar.specs.CondvarMutex.{beside_deeds, brings}
-use Rattle.lot_condvar.specs.CondvarSteps.{condvar_next, move_act, notify_act}
-use Rattle.abstract_locks.specs.Condvars.{IsCondvar, WaitsAside}
-use Rattle.abstract_locks.specs.Locks as locks
-use Rattle.abstract_locks.specs.Sites.{Deed, Main, Send}
+use Rattle.steps_condvar.specs.declared.notify.NotifyAt.{NotifyAt}
+use Rattle.steps_condvar.specs.declared.notify.NotifyAt.TheVariants as notify
+use Rattle.steps_condvar.specs.declared.places.CondvarPlace.{CondvarPlace}
+use Rattle.steps_condvar.specs.declared.places.CondvarPlace.TheVariants.{Notify}
+use Rattle.steps_condvar.specs.CondvarCalls.{IsReached}
+use Rattle.steps_condvar.specs.CondvarDeeds.{notify_deeds}
+use Rattle.steps_condvar.specs.CondvarMutex.{beside_deeds, brings}
+use Rattle.steps_condvar.specs.CondvarSteps.{condvar_next, move_act, notify_act}
+use Rattle.spec_locks.specs.Condvars.{IsCondvar, WaitsAside}
+use Rattle.spec_locks.specs.Locks as locks
+use Rattle.spec_locks.specs.Sites.{Deed, Main, Send}
 use Rattle.lot_machine.specs.Machine.{State, can_do, place_at, put, reply_to, state_after_act}
 use Rattle.lot_laws.specs.MutexDeeds.{acts}
 use Rattle.lot_laws.specs.MutexDeeds as deeds

@@ -1,36 +1,36 @@
 -- A notification moves waiters of its condition variable to the mutex, or takes the first of them: both locks are sites again.
 use Rattle.std.proofs.Common.{ℕ, Bool, true, false, Some, None, if◌then◌else◌, ◌==◌, ◌≡◌, ◌≢◌, ◌+◌, ◌*◌, ◌≤◌, ◌<◌, List, [], ◌∷◌, ◌++◌, length, map, drop, take, get_or, set, not, refl, sym, ◌∙◌, ap, subst, arith, inl, inr, length-set, get_or-set_same, get_or-set_other}
 use Rattle.std.proofs.lemmas.Bool.Decides.{nat_tests}
-use Rattle.lot_base.specs.declared.requeues.Requeue.{Requeue}
-use Rattle.lot_base.specs.declared.requeues.Requeue.TheVariants as requeue
-use Rattle.lot_base.specs.declared.wants.Waiter.{Waiter}
-use Rattle.lot_base.specs.declared.wants.Want.TheVariants.{Exclusive}
-use Rattle.lot_base.specs.Lines.{first_of, threads_of, times}
-use Rattle.lot_base.specs.Requeues.{moved_by, taken_by}
-use Rattle.lot_acts.specs.declared.acts.Next.{Next}
-use Rattle.lot_acts.specs.declared.acts.Next.TheVariants.{At, End as Over}
-use Rattle.lot_acts.specs.declared.acts.Reply.{Reply}
-use Rattle.lot_acts.specs.declared.acts.Reply.TheVariants.{MovedTo, TakenBy, Took}
-use Rattle.lot_acts.specs.Moves.{inside_of}
-use Rattle.lot_acts.specs.Profiles.{in_hand, taken_from}
-use Rattle.lot_acts.specs.Stations.{Station}
+use Rattle.core_base.specs.declared.requeues.Requeue.{Requeue}
+use Rattle.core_base.specs.declared.requeues.Requeue.TheVariants as requeue
+use Rattle.core_base.specs.declared.wants.Waiter.{Waiter}
+use Rattle.core_base.specs.declared.wants.Want.TheVariants.{Exclusive}
+use Rattle.core_base.specs.Lines.{first_of, threads_of, times}
+use Rattle.core_base.specs.Requeues.{moved_by, taken_by}
+use Rattle.steps_base.specs.declared.acts.Next.{Next}
+use Rattle.steps_base.specs.declared.acts.Next.TheVariants.{At, End as Over}
+use Rattle.steps_base.specs.declared.acts.Reply.{Reply}
+use Rattle.steps_base.specs.declared.acts.Reply.TheVariants.{MovedTo, TakenBy, Took}
+use Rattle.steps_base.specs.Moves.{inside_of}
+use Rattle.steps_base.specs.Profiles.{in_hand, taken_from}
+use Rattle.steps_base.specs.Stations.{Station}
 use Rattle.lot_steps.specs.declared.places.Place.{Place}
 use Rattle.lot_steps.specs.declared.places.Place.TheVariants.{Condvar, Idle}
 use Rattle.lot_steps.specs.Steps.{condvar_goes, next_place}
-use Rattle.lot_condvar.specs.declared.notify.NotifyAt.{NotifyAt}
-use Rattle.lot_condvar.specs.declared.notify.NotifyAt.TheVariants as notify
-use Rattle.lot_condvar.specs.declared.places.CondvarPlace.{CondvarPlace}
-use Rattle.lot_condvar.specs.declared.places.CondvarPlace.TheVariants.{Notify}
-use Rattle.lot_condvar.specs.CondvarMoves.{MovesWaiters, row_beside, there}
-use Rattle.lot_condvar.specs.CondvarMutex.{FollowsBeside, MayHearBeside, beside_deeds, doing_next}
-use Rattle.lot_condvar.specs.CondvarSteps.{condvar_next, in_notify, move_act, next_notify}
-use Rattle.lot_condvar.proofs.NotifierFit.{notifiers_follow}
-use Rattle.abstract_locks.specs.Condvars.{IsCondvar, WaitsAside, in_line, line_of, moved_of, taken_of}
-use Rattle.abstract_locks.specs.Deeds as laws
-use Rattle.abstract_locks.specs.Locks as locks
-use Rattle.abstract_locks.specs.Locks.{putting, Rights}
-use Rattle.abstract_locks.specs.Picks.{queued_of}
-use Rattle.abstract_locks.specs.Sites.{Bring, Deed, Doing, bringing, Main, Send, has_readers, idle}
+use Rattle.steps_condvar.specs.declared.notify.NotifyAt.{NotifyAt}
+use Rattle.steps_condvar.specs.declared.notify.NotifyAt.TheVariants as notify
+use Rattle.steps_condvar.specs.declared.places.CondvarPlace.{CondvarPlace}
+use Rattle.steps_condvar.specs.declared.places.CondvarPlace.TheVariants.{Notify}
+use Rattle.steps_condvar.specs.CondvarMoves.{MovesWaiters, row_beside, there}
+use Rattle.steps_condvar.specs.CondvarMutex.{FollowsBeside, MayHearBeside, beside_deeds, doing_next}
+use Rattle.steps_condvar.specs.CondvarSteps.{condvar_next, in_notify, move_act, next_notify}
+use Rattle.steps_condvar.proofs.NotifierFit.{notifiers_follow}
+use Rattle.spec_locks.specs.Condvars.{IsCondvar, WaitsAside, in_line, line_of, moved_of, taken_of}
+use Rattle.spec_locks.specs.Deeds as laws
+use Rattle.spec_locks.specs.Locks as locks
+use Rattle.spec_locks.specs.Locks.{putting, Rights}
+use Rattle.spec_locks.specs.Picks.{queued_of}
+use Rattle.spec_locks.specs.Sites.{Bring, Deed, Doing, bringing, Main, Send, has_readers, idle}
 use Rattle.lot_machine.specs.Machine.{State, left_behind, listed, moved_threads, moved_under, place_at, places_told, put, queue_at, state_after_requeue, queues_without_first, state_after_taking, reply_to, state_after_act}
 use Rattle.lot_laws.specs.MutexDeeds.{acts}
 use Rattle.lot_laws.specs.Refinement.{taken_at, call_state}
@@ -47,11 +47,11 @@ use Rattle.lot_laws.proofs.condvar.MovingKept.{moves_kept}
 use Rattle.lot_laws.proofs.condvar.Moving.{WaitsAcross, places_across, goes}
 use Rattle.lot_laws.proofs.sites.TakesAt.{member, at_most_one, member_times, told_once, told_places, stranger_times, only_member}
 use Rattle.lot_machine.proofs.QueueLemmas.{told_count}
-use Rattle.lot_condvar.proofs.CondvarActs.{notifies_move}
+use Rattle.steps_condvar.proofs.CondvarActs.{notifies_move}
 use Rattle.lot_laws.proofs.condvar.Replies.{notifier_hears}
 use Rattle.std.specs.Prelude.{nat_le}
-use Rattle.abstract_locks.specs.Purposes.{WasMoved}
-use Rattle.abstract_locks.specs.Runs.{if_moved}
+use Rattle.spec_locks.specs.Purposes.{WasMoved}
+use Rattle.spec_locks.specs.Runs.{if_moved}
 use Rattle.lot_laws.proofs.sites.OneStep.{queued_times}
 
 -- ---------------------------------------------------------------- the lists

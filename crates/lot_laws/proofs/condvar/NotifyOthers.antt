@@ -2,24 +2,24 @@
 -- woken tries the mutex again.
 use Rattle.std.proofs.Common.{ℕ, Bool, true, false, None, if◌then◌else◌, ◌==◌, ◌≡◌, ◌≢◌, ◌*◌, ◌<◌, length, refl, sym, ◌∙◌, ap, subst, inl, inr}
 use Rattle.std.proofs.lemmas.Bool.{cases_eq}
-use Rattle.lot_base.specs.declared.keys.Keys.TheVariants.{Two}
-use Rattle.lot_acts.specs.declared.acts.Next.TheVariants.{At}
-use Rattle.lot_acts.specs.Stations.{Station}
+use Rattle.core_base.specs.declared.keys.Keys.TheVariants.{Two}
+use Rattle.steps_base.specs.declared.acts.Next.TheVariants.{At}
+use Rattle.steps_base.specs.Stations.{Station}
 use Rattle.lot_steps.specs.declared.places.Place.{Place}
 use Rattle.lot_steps.specs.declared.places.Place.TheVariants.{Condvar}
 use Rattle.lot_steps.specs.Steps.{condvar_goes}
-use Rattle.lot_mutex.specs.MutexSteps.{is_locked}
-use Rattle.lot_condvar.specs.declared.notify.NotifyAt.{NotifyAt}
-use Rattle.lot_condvar.specs.declared.notify.NotifyAt.TheVariants as notify
-use Rattle.lot_condvar.specs.declared.places.CondvarPlace.{CondvarPlace}
-use Rattle.lot_condvar.specs.declared.places.CondvarPlace.TheVariants.{Notify}
-use Rattle.lot_condvar.specs.CondvarCalls.{notify_event}
-use Rattle.lot_condvar.specs.CondvarSteps.{condvar_next, move_act, notify_act}
-use Rattle.abstract_locks.specs.Condvars.{IsCondvar, WaitsAside, moved_of}
-use Rattle.abstract_locks.specs.Locks as locks
-use Rattle.abstract_locks.specs.Locks.{Rights, rights_of, LockState, putting}
-use Rattle.abstract_locks.specs.Runs.{AtLock, Event, Moves, Nothing, if_moved}
-use Rattle.abstract_locks.specs.Sites.{Main}
+use Rattle.steps_mutex.specs.MutexSteps.{is_locked}
+use Rattle.steps_condvar.specs.declared.notify.NotifyAt.{NotifyAt}
+use Rattle.steps_condvar.specs.declared.notify.NotifyAt.TheVariants as notify
+use Rattle.steps_condvar.specs.declared.places.CondvarPlace.{CondvarPlace}
+use Rattle.steps_condvar.specs.declared.places.CondvarPlace.TheVariants.{Notify}
+use Rattle.steps_condvar.specs.CondvarCalls.{notify_event}
+use Rattle.steps_condvar.specs.CondvarSteps.{condvar_next, move_act, notify_act}
+use Rattle.spec_locks.specs.Condvars.{IsCondvar, WaitsAside, moved_of}
+use Rattle.spec_locks.specs.Locks as locks
+use Rattle.spec_locks.specs.Locks.{Rights, rights_of, LockState, putting}
+use Rattle.spec_locks.specs.Runs.{AtLock, Event, Moves, Nothing, if_moved}
+use Rattle.spec_locks.specs.Sites.{Main}
 use Rattle.lot_machine.specs.Machine.{State, place_at, put, reply_to, state_after_act, state_with_sections, word_at}
 use Rattle.lot_laws.specs.Refinement.{call_state, lock_state}
 use Rattle.lot_laws.specs.SitesOf.{FitsItsLock, IsSteady, carried_at, condvar_of, key_of, rules_in, site_of}

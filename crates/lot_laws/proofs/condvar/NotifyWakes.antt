@@ -2,27 +2,27 @@
 use Rattle.std.proofs.Common.{ℕ, Bool, true, false, Option, Some, None, if◌then◌else◌, ◌==◌, ◌≡◌, ◌≢◌, ◌<◌, [], ◌∷◌, length, map, get_or, replicate, refl, sym, ◌∙◌, ap, subst, inl, inr, length-set}
 use Rattle.std.proofs.lemmas.Bool.{cases_eq}
 use Rattle.std.proofs.lemmas.List.{length-map}
-use Rattle.lot_base.specs.declared.notes.Note.TheVariants.{Normal}
-use Rattle.lot_acts.specs.declared.acts.Next.TheVariants.{At, End as Over}
-use Rattle.lot_acts.specs.declared.acts.Reply.TheVariants.{Done, Woken}
-use Rattle.lot_acts.specs.Owners.{is_thread}
-use Rattle.lot_acts.specs.Profiles.{hand, Hand}
-use Rattle.lot_acts.specs.Stations.{Station, nowhere, station_by}
+use Rattle.core_base.specs.declared.notes.Note.TheVariants.{Normal}
+use Rattle.steps_base.specs.declared.acts.Next.TheVariants.{At, End as Over}
+use Rattle.steps_base.specs.declared.acts.Reply.TheVariants.{Done, Woken}
+use Rattle.steps_base.specs.Owners.{is_thread}
+use Rattle.steps_base.specs.Profiles.{hand, Hand}
+use Rattle.steps_base.specs.Stations.{Station, nowhere, station_by}
 use Rattle.lot_steps.specs.declared.places.Place.{Place}
 use Rattle.lot_steps.specs.declared.places.Place.TheVariants.{Condvar, Idle}
 use Rattle.lot_steps.specs.Steps.{taker}
-use Rattle.lot_condvar.specs.declared.notify.NotifyAt.{NotifyAt}
-use Rattle.lot_condvar.specs.declared.notify.NotifyAt.TheVariants as notify
-use Rattle.lot_condvar.specs.declared.places.CondvarPlace.{CondvarPlace}
-use Rattle.lot_condvar.specs.declared.places.CondvarPlace.TheVariants.{Notify}
-use Rattle.lot_condvar.specs.CondvarMutex.{FollowsBeside}
-use Rattle.lot_condvar.specs.CondvarProfiles.{condvar_profile, mutex_side}
-use Rattle.lot_condvar.proofs.NotifierFit.{notifiers_follow}
-use Rattle.abstract_locks.specs.Codes.{code}
-use Rattle.abstract_locks.specs.Condvars.{IsCondvar, WaitsAside}
-use Rattle.abstract_locks.specs.Locks as locks
-use Rattle.abstract_locks.specs.Locks.{keep_from}
-use Rattle.abstract_locks.specs.Sites.{End, Main, Out, Site, has_readers}
+use Rattle.steps_condvar.specs.declared.notify.NotifyAt.{NotifyAt}
+use Rattle.steps_condvar.specs.declared.notify.NotifyAt.TheVariants as notify
+use Rattle.steps_condvar.specs.declared.places.CondvarPlace.{CondvarPlace}
+use Rattle.steps_condvar.specs.declared.places.CondvarPlace.TheVariants.{Notify}
+use Rattle.steps_condvar.specs.CondvarMutex.{FollowsBeside}
+use Rattle.steps_condvar.specs.CondvarProfiles.{condvar_profile, mutex_side}
+use Rattle.steps_condvar.proofs.NotifierFit.{notifiers_follow}
+use Rattle.spec_locks.specs.Codes.{code}
+use Rattle.spec_locks.specs.Condvars.{IsCondvar, WaitsAside}
+use Rattle.spec_locks.specs.Locks as locks
+use Rattle.spec_locks.specs.Locks.{keep_from}
+use Rattle.spec_locks.specs.Sites.{End, Main, Out, Site, has_readers}
 use Rattle.lot_machine.specs.Machine.{State, place_after_telling, place_at, put, queue_at, section_at, state_after_telling}
 use Rattle.lot_laws.specs.MutexDeeds.{acts}
 use Rattle.lot_laws.specs.Refinement.{taken_at}
@@ -48,7 +48,7 @@ use Rattle.lot_laws.proofs.condvar.NotifyEnters as both
 use Rattle.lot_laws.proofs.mutex.Waiters.{IsHeldThere, calls_mutex_at, held_there, holds_here}
 use Rattle.lot_laws.proofs.sites.WakesAt as waking
 use Rattle.lot_laws.proofs.sites.WakesAt.{IsWokenAt, leaving_by}
-use Rattle.lot_condvar.specs.CondvarSteps.{notified}
+use Rattle.steps_condvar.specs.CondvarSteps.{notified}
 
 module _ (w : State) (t l m : ℕ) (all : Bool) (steady : IsSteady w) (is_there : t < length w.places) (apart : m ≢ l)
     (sort_l : (rules_in w l).sort ≡ locks.Condvar) (sort_m : (rules_in w m).sort ≡ locks.Mutex)

@@ -1,39 +1,39 @@
 -- Each step of a notification on a word, of its condition variable or of the mutex beside it: every lock is a site again.
 use Rattle.std.proofs.Common.{ℕ, Bool, true, false, None, if◌then◌else◌, ◌==◌, ◌≡◌, ◌≢◌, ◌<◌, List, [], ◌∷◌, length, not, refl, sym, ◌∙◌, ap, subst, inl, inr}
 use Rattle.std.proofs.lemmas.Bool.{cases_eq}
-use Rattle.lot_base.specs.declared.ops.Op.{Op}
-use Rattle.lot_base.specs.declared.ops.Op.TheVariants as op
-use Rattle.lot_base.specs.Words.{apply}
-use Rattle.lot_acts.specs.declared.acts.Act.{Act}
-use Rattle.lot_acts.specs.declared.acts.Act.TheVariants as act
-use Rattle.lot_acts.specs.declared.acts.Next.{Next}
-use Rattle.lot_acts.specs.declared.acts.Next.TheVariants.{At}
-use Rattle.lot_acts.specs.declared.acts.Reply.TheVariants.{Value}
-use Rattle.lot_acts.specs.Owners.{with_exclusive}
-use Rattle.lot_acts.specs.Moves.{inside_of}
-use Rattle.lot_acts.specs.Profiles.{taken_from}
-use Rattle.lot_acts.specs.Stations.{station_by}
+use Rattle.core_base.specs.declared.ops.Op.{Op}
+use Rattle.core_base.specs.declared.ops.Op.TheVariants as op
+use Rattle.core_base.specs.Words.{apply}
+use Rattle.steps_base.specs.declared.acts.Act.{Act}
+use Rattle.steps_base.specs.declared.acts.Act.TheVariants as act
+use Rattle.steps_base.specs.declared.acts.Next.{Next}
+use Rattle.steps_base.specs.declared.acts.Next.TheVariants.{At}
+use Rattle.steps_base.specs.declared.acts.Reply.TheVariants.{Value}
+use Rattle.steps_base.specs.Owners.{with_exclusive}
+use Rattle.steps_base.specs.Moves.{inside_of}
+use Rattle.steps_base.specs.Profiles.{taken_from}
+use Rattle.steps_base.specs.Stations.{station_by}
 use Rattle.lot_steps.specs.declared.places.Place.{Place}
 use Rattle.lot_steps.specs.declared.places.Place.TheVariants.{Condvar}
 use Rattle.lot_steps.specs.Steps.{condvar_goes}
-use Rattle.lot_mutex.specs.MutexSteps.{is_locked}
-use Rattle.lot_condvar.specs.declared.notify.NotifyAt.{NotifyAt}
-use Rattle.lot_condvar.specs.declared.notify.NotifyAt.TheVariants as notify
-use Rattle.lot_condvar.specs.declared.places.CondvarPlace.{CondvarPlace}
-use Rattle.lot_condvar.specs.declared.places.CondvarPlace.TheVariants.{Notify}
-use Rattle.lot_condvar.specs.CondvarDeeds.{MayHear, condvar_deeds}
-use Rattle.lot_condvar.specs.CondvarMoves.{row_beside, row_there, there}
-use Rattle.lot_condvar.specs.CondvarMutex.{FollowsBeside, MayHearBeside, beside_deeds, doing_next}
-use Rattle.lot_condvar.specs.CondvarSteps.{condvar_next, condvar_owners, in_notify, is_shown, marks, next_notify, notify_act}
-use Rattle.lot_condvar.proofs.CondvarFit.{condvar_steps_follow}
-use Rattle.lot_condvar.proofs.NotifierFit.{notifiers_code, notifiers_follow}
-use Rattle.abstract_locks.specs.Codes.{code}
-use Rattle.abstract_locks.specs.Condvars as condvars
-use Rattle.abstract_locks.specs.Condvars.{IsCondvar, WaitsAside}
-use Rattle.abstract_locks.specs.Deeds as laws
-use Rattle.abstract_locks.specs.Locks as locks
-use Rattle.abstract_locks.specs.Locks.{Rules}
-use Rattle.abstract_locks.specs.Sites.{Deed, Main, MarkOwned, Site}
+use Rattle.steps_mutex.specs.MutexSteps.{is_locked}
+use Rattle.steps_condvar.specs.declared.notify.NotifyAt.{NotifyAt}
+use Rattle.steps_condvar.specs.declared.notify.NotifyAt.TheVariants as notify
+use Rattle.steps_condvar.specs.declared.places.CondvarPlace.{CondvarPlace}
+use Rattle.steps_condvar.specs.declared.places.CondvarPlace.TheVariants.{Notify}
+use Rattle.steps_condvar.specs.CondvarDeeds.{MayHear, condvar_deeds}
+use Rattle.steps_condvar.specs.CondvarMoves.{row_beside, row_there, there}
+use Rattle.steps_condvar.specs.CondvarMutex.{FollowsBeside, MayHearBeside, beside_deeds, doing_next}
+use Rattle.steps_condvar.specs.CondvarSteps.{condvar_next, condvar_owners, in_notify, is_shown, marks, next_notify, notify_act}
+use Rattle.steps_condvar.proofs.CondvarFit.{condvar_steps_follow}
+use Rattle.steps_condvar.proofs.NotifierFit.{notifiers_code, notifiers_follow}
+use Rattle.spec_locks.specs.Codes.{code}
+use Rattle.spec_locks.specs.Condvars as condvars
+use Rattle.spec_locks.specs.Condvars.{IsCondvar, WaitsAside}
+use Rattle.spec_locks.specs.Deeds as laws
+use Rattle.spec_locks.specs.Locks as locks
+use Rattle.spec_locks.specs.Locks.{Rules}
+use Rattle.spec_locks.specs.Sites.{Deed, Main, MarkOwned, Site}
 use Rattle.lot_machine.specs.Machine.{State, can_do, owners_at, place_at, put, reply_to, state_after_act, word_at}
 use Rattle.lot_laws.specs.MutexDeeds.{acts}
 use Rattle.lot_laws.specs.Refinement.{taken_at}

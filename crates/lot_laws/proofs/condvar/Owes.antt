@@ -1,40 +1,40 @@
 -- A thread that has gone on in a call of a condition variable owes by the section that it is inside, and on
 -- its mutex where its release has just seen the parked bit.
 use Rattle.std.proofs.Common.{ℕ, Bool, true, false, Option, Some, None, if◌then◌else◌, ◌==◌, ◌≡◌, ◌<◌, ◌⊎◌, ◌↔◌, ◌||◌, inl, inr, length, refl, sym, ◌∙◌, ap, subst}
-use Rattle.lot_base.specs.declared.keys.Keys.TheVariants.{One}
-use Rattle.lot_base.specs.declared.notes.Note.TheVariants as note
-use Rattle.lot_calls.specs.declared.calls.CondvarCall.{CondvarCall}
-use Rattle.lot_calls.specs.declared.calls.CondvarCall.TheVariants as call
-use Rattle.lot_calls.specs.declared.outcomes.Answer.TheVariants as answer
-use Rattle.lot_calls.specs.declared.outcomes.Outcome.{Outcome}
-use Rattle.lot_calls.specs.declared.outcomes.Outcome.TheVariants as told
-use Rattle.lot_acts.specs.Acts.{outcome_of}
-use Rattle.lot_acts.specs.declared.acts.Act.TheVariants.{Enter}
-use Rattle.lot_acts.specs.declared.acts.Next.{Next}
-use Rattle.lot_acts.specs.declared.acts.Reply.TheVariants.{Late}
-use Rattle.lot_acts.specs.declared.acts.Next.TheVariants.{At, End as Over}
-use Rattle.lot_mutex.specs.declared.places.MutexPlace.{MutexPlace}
-use Rattle.lot_mutex.specs.declared.places.MutexPlace.TheVariants as mutex
-use Rattle.lot_mutex.specs.declared.unlock.UnlockAt.TheVariants as unlock
-use Rattle.lot_mutex.specs.MutexSteps.{in_unlock, is_parked, mutex_act, mutex_next}
-use Rattle.lot_condvar.specs.declared.notify.NotifyAt.{NotifyAt}
-use Rattle.lot_condvar.specs.declared.notify.NotifyAt.TheVariants as notify
-use Rattle.lot_condvar.specs.declared.places.CondvarPlace.{CondvarPlace}
-use Rattle.lot_condvar.specs.declared.places.CondvarPlace.TheVariants.{Wait, Look, Notify}
-use Rattle.lot_condvar.specs.declared.wait.Stands.{Stands}
-use Rattle.lot_condvar.specs.declared.wait.Stands.TheVariants as stands
-use Rattle.lot_condvar.specs.declared.wait.WaitAt.{WaitAt}
-use Rattle.lot_condvar.specs.declared.wait.WaitAt.TheVariants as wait
-use Rattle.lot_condvar.specs.CondvarCalls.{IsReached}
-use Rattle.lot_condvar.specs.CondvarProfiles.{has_given_up, has_released}
-use Rattle.lot_condvar.specs.CondvarSteps.{behind, condvar_act, condvar_first, condvar_next, in_notify, in_wait, is_shown, mutex_beside, mutex_shown, next_notify, notified, notify_act, released, relocked}
+use Rattle.core_base.specs.declared.keys.Keys.TheVariants.{One}
+use Rattle.core_base.specs.declared.notes.Note.TheVariants as note
+use Rattle.spec_locks.specs.declared.calls.CondvarCall.{CondvarCall}
+use Rattle.spec_locks.specs.declared.calls.CondvarCall.TheVariants as call
+use Rattle.spec_locks.specs.declared.outcomes.Answer.TheVariants as answer
+use Rattle.spec_locks.specs.declared.outcomes.Outcome.{Outcome}
+use Rattle.spec_locks.specs.declared.outcomes.Outcome.TheVariants as told
+use Rattle.steps_base.specs.Acts.{outcome_of}
+use Rattle.steps_base.specs.declared.acts.Act.TheVariants.{Enter}
+use Rattle.steps_base.specs.declared.acts.Next.{Next}
+use Rattle.steps_base.specs.declared.acts.Reply.TheVariants.{Late}
+use Rattle.steps_base.specs.declared.acts.Next.TheVariants.{At, End as Over}
+use Rattle.steps_mutex.specs.declared.places.MutexPlace.{MutexPlace}
+use Rattle.steps_mutex.specs.declared.places.MutexPlace.TheVariants as mutex
+use Rattle.steps_mutex.specs.declared.unlock.UnlockAt.TheVariants as unlock
+use Rattle.steps_mutex.specs.MutexSteps.{in_unlock, is_parked, mutex_act, mutex_next}
+use Rattle.steps_condvar.specs.declared.notify.NotifyAt.{NotifyAt}
+use Rattle.steps_condvar.specs.declared.notify.NotifyAt.TheVariants as notify
+use Rattle.steps_condvar.specs.declared.places.CondvarPlace.{CondvarPlace}
+use Rattle.steps_condvar.specs.declared.places.CondvarPlace.TheVariants.{Wait, Look, Notify}
+use Rattle.steps_condvar.specs.declared.wait.Stands.{Stands}
+use Rattle.steps_condvar.specs.declared.wait.Stands.TheVariants as stands
+use Rattle.steps_condvar.specs.declared.wait.WaitAt.{WaitAt}
+use Rattle.steps_condvar.specs.declared.wait.WaitAt.TheVariants as wait
+use Rattle.steps_condvar.specs.CondvarCalls.{IsReached}
+use Rattle.steps_condvar.specs.CondvarProfiles.{has_given_up, has_released}
+use Rattle.steps_condvar.specs.CondvarSteps.{behind, condvar_act, condvar_first, condvar_next, in_notify, in_wait, is_shown, mutex_beside, mutex_shown, next_notify, notified, notify_act, released, relocked}
 use Rattle.lot_steps.specs.declared.places.Place.TheVariants.{Condvar}
 use Rattle.lot_steps.specs.Steps.{act_of, condvar_does, condvar_goes, late_key, line_owed, next_act}
-use Rattle.abstract_locks.specs.Locks as locks
-use Rattle.abstract_locks.specs.Locks.{Rights, Sort}
-use Rattle.abstract_locks.specs.Purposes.{Waits}
-use Rattle.abstract_locks.specs.Runs.{CallState}
-use Rattle.abstract_locks.specs.Sites.{Line, Main, has_readers}
+use Rattle.spec_locks.specs.Locks as locks
+use Rattle.spec_locks.specs.Locks.{Rights, Sort}
+use Rattle.spec_locks.specs.Purposes.{Waits}
+use Rattle.spec_locks.specs.Runs.{CallState}
+use Rattle.spec_locks.specs.Sites.{Line, Main, has_readers}
 use Rattle.lot_machine.specs.Machine.{State, going_outcome, place_at, reply_to, state_after_act, state_after_going, word_at}
 use Rattle.lot_laws.specs.Refinement.{call_at, call_state}
 use Rattle.lot_laws.specs.SitesOf.{FitsCondvar, IsSteady, key_of}

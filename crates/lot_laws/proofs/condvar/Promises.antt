@@ -1,31 +1,31 @@
 -- The promises of a thread in a call of a condition variable, by its rows at both its locks.
 use Rattle.std.proofs.Common.{ℕ, Bool, true, false, Some, None, if◌then◌else◌, ◌==◌, ◌&&◌, ◌||◌, not, ◌≡◌, ◌≢◌, ◌⊎◌, ◌↔◌, inl, inr, refl, sym, ◌∙◌, ap, subst}
 use Rattle.std.proofs.lemmas.Bool.{eqb-true}
-use Rattle.lot_acts.specs.Profiles.{in_line, taken_from}
+use Rattle.steps_base.specs.Profiles.{in_line, taken_from}
 use Rattle.lot_steps.specs.declared.places.Place.{Place}
 use Rattle.lot_steps.specs.declared.places.Place.TheVariants.{Condvar}
 use Rattle.lot_steps.specs.Steps.{is_lock, line_owed, or_else, retries_on}
-use Rattle.lot_condvar.specs.declared.notify.NotifyAt.{NotifyAt}
-use Rattle.lot_condvar.specs.declared.places.CondvarPlace.{CondvarPlace}
-use Rattle.lot_condvar.specs.declared.places.CondvarPlace.TheVariants.{Wait, Look, Notify}
-use Rattle.lot_condvar.specs.declared.wait.WaitAt.{WaitAt}
-use Rattle.lot_condvar.specs.CondvarSteps.{mutex_beside}
-use Rattle.lot_condvar.specs.CondvarCalls.{IsReached}
-use Rattle.lot_condvar.specs.declared.notify.NotifyAt.TheVariants as notify
-use Rattle.lot_condvar.specs.declared.wait.Stands.TheVariants as stands
-use Rattle.lot_condvar.specs.declared.wait.WaitAt.TheVariants as wait
-use Rattle.lot_mutex.specs.declared.places.MutexPlace.TheVariants as mutex
-use Rattle.lot_mutex.specs.declared.unlock.UnlockAt.TheVariants as unlock
-use Rattle.lot_condvar.specs.CondvarProfiles.{condvar_row, condvar_purpose, mutex_side, notify_row, wait_row}
-use Rattle.abstract_locks.specs.Locks.{Rights, Rules}
-use Rattle.abstract_locks.specs.Purposes.{MayWait}
-use Rattle.abstract_locks.specs.Sites.{Main, Second}
+use Rattle.steps_condvar.specs.declared.notify.NotifyAt.{NotifyAt}
+use Rattle.steps_condvar.specs.declared.places.CondvarPlace.{CondvarPlace}
+use Rattle.steps_condvar.specs.declared.places.CondvarPlace.TheVariants.{Wait, Look, Notify}
+use Rattle.steps_condvar.specs.declared.wait.WaitAt.{WaitAt}
+use Rattle.steps_condvar.specs.CondvarSteps.{mutex_beside}
+use Rattle.steps_condvar.specs.CondvarCalls.{IsReached}
+use Rattle.steps_condvar.specs.declared.notify.NotifyAt.TheVariants as notify
+use Rattle.steps_condvar.specs.declared.wait.Stands.TheVariants as stands
+use Rattle.steps_condvar.specs.declared.wait.WaitAt.TheVariants as wait
+use Rattle.steps_mutex.specs.declared.places.MutexPlace.TheVariants as mutex
+use Rattle.steps_mutex.specs.declared.unlock.UnlockAt.TheVariants as unlock
+use Rattle.steps_condvar.specs.CondvarProfiles.{condvar_row, condvar_purpose, mutex_side, notify_row, wait_row}
+use Rattle.spec_locks.specs.Locks.{Rights, Rules}
+use Rattle.spec_locks.specs.Purposes.{MayWait}
+use Rattle.spec_locks.specs.Sites.{Main, Second}
 use Rattle.lot_machine.specs.Machine.{State, kind_at}
 use Rattle.lot_laws.specs.Refinement.{call_state, taken_at}
 use Rattle.lot_laws.specs.Stations.{nowhere, station, station_at, station_by}
 use Rattle.lot_laws.specs.SitesOf.{FitsItsLock}
 use Rattle.lot_laws.specs.Owing.{sort_at}
-use Rattle.lot_acts.specs.Rows.{KnowsRights}
+use Rattle.steps_base.specs.Rows.{KnowsRights}
 use Rattle.lot_laws.proofs.machine.Parts.{condvar_apart, differ, plain_rules, same}
 use Rattle.lot_laws.proofs.mutex.Waiters.{notifier_stands}
 
@@ -122,12 +122,6 @@ module _ (k : ℕ) where
       by_lock false true a true h = cc
       by_lock false true a false h = cc
       by_lock false false a b h = cc
-
-  -- whoever stands at a lock, or is taken there, may wait for it: it is in a wait, of the condition variable or with the mutex
-  taken_here : (at : CondvarPlace) (l : ℕ)
-      → taken_at (Condvar k at) l
-      ≡ (if is_lock l (mutex_beside at) && not (k == l) then taken_from (mutex_side at).hand (mutex_side at).wants true else None)
-  taken_here at l = refl
 
   out_of_both : (at : CondvarPlace) (l : ℕ) → (k == l) ≡ false → is_lock l (mutex_beside at) ≡ false → StandsAt (Condvar k at) l
       → ⊥

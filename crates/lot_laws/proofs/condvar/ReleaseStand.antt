@@ -2,27 +2,27 @@
 use Rattle.std.proofs.Common.{ℕ, Bool, true, false, if◌then◌else◌, ◌==◌, ◌≡◌, ◌≢◌, ◌⊎◌, ◌*◌, ◌<◌, List, [], ◌∷◌, length, drop, get_or, set, get_or-set_other, get_or-set_same, inl, inr, refl, sym, ◌∙◌, ap, subst}
 use Rattle.std.proofs.Math.ListN.{get_or-map}
 use Rattle.std.proofs.lemmas.Bool.{cases_eq}
-use Rattle.lot_base.specs.declared.notes.Note.TheVariants as note
-use Rattle.lot_base.specs.declared.wants.Waiter.{Waiter}
-use Rattle.lot_base.specs.Lines.{first_of}
-use Rattle.lot_acts.specs.declared.acts.Reply.TheVariants.{TakenBy, Took, Woken}
-use Rattle.lot_acts.specs.Owners.{is_thread}
-use Rattle.lot_mutex.specs.declared.places.MutexPlace.TheVariants as mutex
-use Rattle.lot_mutex.specs.declared.unlock.UnlockAt.{UnlockAt}
-use Rattle.lot_mutex.specs.declared.unlock.UnlockAt.TheVariants as unlock
-use Rattle.lot_mutex.specs.MutexSteps.{unlock_act}
-use Rattle.lot_condvar.specs.declared.places.CondvarPlace.TheVariants.{Wait}
-use Rattle.lot_condvar.specs.declared.wait.Stands.{Stands}
-use Rattle.lot_condvar.specs.declared.wait.Stands.TheVariants as stands
-use Rattle.lot_condvar.specs.declared.wait.WaitAt.{WaitAt}
-use Rattle.lot_condvar.specs.declared.wait.WaitAt.TheVariants as wait
-use Rattle.lot_acts.specs.Profiles.{hand}
-use Rattle.lot_condvar.specs.CondvarProfiles.{hand_of, taker_of}
+use Rattle.core_base.specs.declared.notes.Note.TheVariants as note
+use Rattle.core_base.specs.declared.wants.Waiter.{Waiter}
+use Rattle.core_base.specs.Lines.{first_of}
+use Rattle.steps_base.specs.declared.acts.Reply.TheVariants.{TakenBy, Took, Woken}
+use Rattle.steps_base.specs.Owners.{is_thread}
+use Rattle.steps_mutex.specs.declared.places.MutexPlace.TheVariants as mutex
+use Rattle.steps_mutex.specs.declared.unlock.UnlockAt.{UnlockAt}
+use Rattle.steps_mutex.specs.declared.unlock.UnlockAt.TheVariants as unlock
+use Rattle.steps_mutex.specs.MutexSteps.{unlock_act}
+use Rattle.steps_condvar.specs.declared.places.CondvarPlace.TheVariants.{Wait}
+use Rattle.steps_condvar.specs.declared.wait.Stands.{Stands}
+use Rattle.steps_condvar.specs.declared.wait.Stands.TheVariants as stands
+use Rattle.steps_condvar.specs.declared.wait.WaitAt.{WaitAt}
+use Rattle.steps_condvar.specs.declared.wait.WaitAt.TheVariants as wait
+use Rattle.steps_base.specs.Profiles.{hand}
+use Rattle.steps_condvar.specs.CondvarProfiles.{hand_of, taker_of}
 use Rattle.lot_steps.specs.declared.places.Place.{Place}
 use Rattle.lot_steps.specs.declared.places.Place.TheVariants.{Condvar, Idle}
 use Rattle.lot_steps.specs.Steps.{next_place}
-use Rattle.abstract_locks.specs.Locks as locks
-use Rattle.abstract_locks.specs.Sites.{Main}
+use Rattle.spec_locks.specs.Locks as locks
+use Rattle.spec_locks.specs.Sites.{Main}
 use Rattle.lot_machine.specs.Machine.{State, is_there, place_after_telling, place_at, queue_at, queues_without_first, reply_to, state_after_act, state_after_taking}
 use Rattle.lot_laws.specs.SitesOf.{IsSteady, key_of, rules_in}
 use Rattle.lot_laws.proofs.machine.Parts as glue

@@ -2,47 +2,47 @@
 -- it: at the condition variable, and at the mutex beside it.
 use Rattle.std.proofs.Common.{ℕ, suc, Bool, true, false, Option, Some, None, if◌then◌else◌, ◌==◌, ◌≡◌, ◌≢◌, ◌+◌, ◌*◌, ◌≤◌, List, [], ◌∷◌, map, drop, length, not, refl, sym, ◌∙◌, ap, subst, arith}
 use Rattle.std.specs.Prelude.{is_none}
-use Rattle.lot_base.specs.declared.keys.Keys.TheVariants.{One}
-use Rattle.lot_base.specs.declared.requeues.Requeue.TheVariants as requeue
-use Rattle.lot_base.specs.declared.wants.Waiter.{Waiter}
-use Rattle.lot_base.specs.Lines.{first_of, times, without}
-use Rattle.lot_base.specs.Requeues.{moved_by, taken_by}
-use Rattle.lot_acts.specs.declared.acts.Act.{Act}
-use Rattle.lot_acts.specs.declared.acts.Act.TheVariants as act
-use Rattle.lot_acts.specs.Profiles.{taken_from}
-use Rattle.lot_acts.specs.Stations.{Station, station_by}
-use Rattle.lot_mutex.specs.declared.lock.LockAt.{LockAt}
-use Rattle.lot_mutex.specs.declared.lock.LockAt.TheVariants as lock
-use Rattle.lot_mutex.specs.declared.lock.Entry.TheVariants as entry
-use Rattle.lot_mutex.specs.declared.places.MutexPlace.TheVariants as mutex
-use Rattle.lot_mutex.specs.declared.unlock.UnlockAt.{UnlockAt}
-use Rattle.lot_mutex.specs.declared.unlock.UnlockAt.TheVariants as unlock
-use Rattle.lot_mutex.specs.MutexProfiles.{mutex_profile}
-use Rattle.lot_mutex.specs.MutexSteps.{is_locked, lock_act, unlock_act}
-use Rattle.lot_base.specs.declared.ops.Op.TheVariants as op
+use Rattle.core_base.specs.declared.keys.Keys.TheVariants.{One}
+use Rattle.core_base.specs.declared.requeues.Requeue.TheVariants as requeue
+use Rattle.core_base.specs.declared.wants.Waiter.{Waiter}
+use Rattle.core_base.specs.Lines.{first_of, times, without}
+use Rattle.core_base.specs.Requeues.{moved_by, taken_by}
+use Rattle.steps_base.specs.declared.acts.Act.{Act}
+use Rattle.steps_base.specs.declared.acts.Act.TheVariants as act
+use Rattle.steps_base.specs.Profiles.{taken_from}
+use Rattle.steps_base.specs.Stations.{Station, station_by}
+use Rattle.steps_mutex.specs.declared.lock.LockAt.{LockAt}
+use Rattle.steps_mutex.specs.declared.lock.LockAt.TheVariants as lock
+use Rattle.steps_mutex.specs.declared.lock.Entry.TheVariants as entry
+use Rattle.steps_mutex.specs.declared.places.MutexPlace.TheVariants as mutex
+use Rattle.steps_mutex.specs.declared.unlock.UnlockAt.{UnlockAt}
+use Rattle.steps_mutex.specs.declared.unlock.UnlockAt.TheVariants as unlock
+use Rattle.steps_mutex.specs.MutexProfiles.{mutex_profile}
+use Rattle.steps_mutex.specs.MutexSteps.{is_locked, lock_act, unlock_act}
+use Rattle.core_base.specs.declared.ops.Op.TheVariants as op
 use Rattle.lot_steps.specs.declared.places.Place.TheVariants.{Condvar}
 use Rattle.lot_steps.specs.Steps.{profile_at}
-use Rattle.lot_condvar.specs.declared.notify.NotifyAt.{NotifyAt}
-use Rattle.lot_condvar.specs.declared.notify.NotifyAt.TheVariants as notify
-use Rattle.lot_condvar.specs.declared.places.CondvarPlace.{CondvarPlace}
-use Rattle.lot_condvar.specs.declared.places.CondvarPlace.TheVariants.{Wait, Look, Notify}
-use Rattle.lot_condvar.specs.declared.wait.Stands.{Stands}
-use Rattle.lot_condvar.specs.declared.wait.WaitAt.{WaitAt}
-use Rattle.lot_condvar.specs.declared.wait.WaitAt.TheVariants as wait
-use Rattle.lot_condvar.specs.CondvarSteps.{befalls, condvar_act, move_act, mutex_beside, notify_act, wait_act}
-use Rattle.lot_condvar.specs.CondvarProfiles.{condvar_row, has_mutex, mutex_side, notify_row}
-use Rattle.lot_condvar.specs.CondvarCalls.{IsLockOf, IsReached}
-use Rattle.lot_condvar.specs.CondvarDeeds.{IsAt, MayHear, MayHearNotifying, MayHearWaiting, word_of}
-use Rattle.lot_condvar.specs.CondvarMutex.{MayHearBeside}
-use Rattle.lot_condvar.specs.CondvarWaits.{MayHearLocking, MayHearReleasing, MayHearWaiter, TakesFirst}
-use Rattle.lot_condvar.proofs.CondvarFit.{condvar_moves_fit}
-use Rattle.abstract_locks.specs.Codes.{code, shown_code, word_by}
-use Rattle.abstract_locks.specs.Condvars.{CondvarSite, IsCondvar, MoveFits, WaitsAside, moved_of}
-use Rattle.abstract_locks.specs.Locks as locks
-use Rattle.abstract_locks.specs.Locks.{HasTakenNobody, one_if_some, Taken, keep_from, Rules, first_thread, standing}
-use Rattle.abstract_locks.specs.Picks.{queued_of}
-use Rattle.abstract_locks.specs.Sites.{Line, Main, Second, Site, is_empty}
-use Rattle.lot_acts.specs.Moves.{IsFree}
+use Rattle.steps_condvar.specs.declared.notify.NotifyAt.{NotifyAt}
+use Rattle.steps_condvar.specs.declared.notify.NotifyAt.TheVariants as notify
+use Rattle.steps_condvar.specs.declared.places.CondvarPlace.{CondvarPlace}
+use Rattle.steps_condvar.specs.declared.places.CondvarPlace.TheVariants.{Wait, Look, Notify}
+use Rattle.steps_condvar.specs.declared.wait.Stands.{Stands}
+use Rattle.steps_condvar.specs.declared.wait.WaitAt.{WaitAt}
+use Rattle.steps_condvar.specs.declared.wait.WaitAt.TheVariants as wait
+use Rattle.steps_condvar.specs.CondvarSteps.{befalls, condvar_act, move_act, mutex_beside, notify_act, wait_act}
+use Rattle.steps_condvar.specs.CondvarProfiles.{condvar_row, has_mutex, mutex_side, notify_row}
+use Rattle.steps_condvar.specs.CondvarCalls.{IsLockOf, IsReached}
+use Rattle.steps_condvar.specs.CondvarDeeds.{IsAt, MayHear, MayHearNotifying, MayHearWaiting, word_of}
+use Rattle.steps_condvar.specs.CondvarMutex.{MayHearBeside}
+use Rattle.steps_condvar.specs.CondvarWaits.{MayHearLocking, MayHearReleasing, MayHearWaiter, TakesFirst}
+use Rattle.steps_condvar.proofs.CondvarFit.{condvar_moves_fit}
+use Rattle.spec_locks.specs.Codes.{code, shown_code, word_by}
+use Rattle.spec_locks.specs.Condvars.{CondvarSite, IsCondvar, MoveFits, WaitsAside, moved_of}
+use Rattle.spec_locks.specs.Locks as locks
+use Rattle.spec_locks.specs.Locks.{HasTakenNobody, one_if_some, Taken, keep_from, Rules, first_thread, standing}
+use Rattle.spec_locks.specs.Picks.{queued_of}
+use Rattle.spec_locks.specs.Sites.{Line, Main, Second, Site, is_empty}
+use Rattle.steps_base.specs.Moves.{IsFree}
 use Rattle.lot_machine.specs.Machine.{State, is_there, kind_at, listed, can_do, is_free, place_at, queue_at, reply_to, section_at, word_at}
 use Rattle.lot_laws.specs.Refinement.{lock_state, taken_at}
 use Rattle.lot_laws.specs.Stations.{station_at}
@@ -65,10 +65,6 @@ dropped_queue n (x ∷ q) = refl
 
 left_alone : (q : List Waiter) → (length (drop 1 q) == 0) ≡ is_empty (drop 1 (map queued_of q))
 left_alone q = sym (empty_line (drop 1 q)) ∙ ap is_empty (dropped_queue 0 q)
-
-first_queued : (q : List Waiter) → first_of q ≡ first_thread (map queued_of q)
-first_queued [] = refl
-first_queued (x ∷ q) = refl
 
 length_queued : (q : List Waiter) → length q ≡ length (map queued_of q)
 length_queued [] = refl

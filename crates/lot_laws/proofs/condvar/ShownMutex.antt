@@ -1,16 +1,16 @@
 -- While nobody is inside its section, a condition variable shows a mutex exactly while somebody waits, and all wait with that one.
 use Rattle.std.proofs.Common.{ℕ, Bool, true, false, Option, Some, None, if◌then◌else◌, ◌==◌, ◌≡◌, refl, sym, ◌∙◌, ap, subst, eqb-true}
-use Rattle.lot_condvar.specs.declared.places.CondvarPlace.TheVariants.{Look, Notify, Wait}
-use Rattle.lot_condvar.specs.declared.notify.NotifyAt.{NotifyAt}
-use Rattle.lot_condvar.specs.declared.notify.NotifyAt.TheVariants as notify
-use Rattle.lot_condvar.specs.CondvarProfiles.{notify_row}
+use Rattle.steps_condvar.specs.declared.places.CondvarPlace.TheVariants.{Look, Notify, Wait}
+use Rattle.steps_condvar.specs.declared.notify.NotifyAt.{NotifyAt}
+use Rattle.steps_condvar.specs.declared.notify.NotifyAt.TheVariants as notify
+use Rattle.steps_condvar.specs.CondvarProfiles.{notify_row}
 use Rattle.lot_steps.specs.declared.places.Place.{Place}
 use Rattle.lot_steps.specs.declared.places.Place.TheVariants.{Condvar, Idle, Mutex, Once, RwLock, Semaphore}
 use Rattle.lot_steps.specs.Steps.{profile_at}
-use Rattle.abstract_locks.specs.Condvars.{Inside, IsAsInside, IsCondvar, IsSettled, IsSettledAt}
-use Rattle.abstract_locks.specs.Locks.{Rights}
-use Rattle.abstract_locks.specs.Purposes.{Waits}
-use Rattle.abstract_locks.specs.Sites.{Main}
+use Rattle.spec_locks.specs.Condvars.{Inside, IsAsInside, IsCondvar, IsSettled, IsSettledAt}
+use Rattle.spec_locks.specs.Locks.{Rights}
+use Rattle.spec_locks.specs.Purposes.{Waits}
+use Rattle.spec_locks.specs.Sites.{Main}
 use Rattle.lot_machine.specs.Machine.{State, place_at, section_at}
 use Rattle.lot_laws.specs.Promises.{ShowsItsWaiters}
 use Rattle.lot_laws.specs.Refinement.{call_state, lock_state}

@@ -1,14 +1,14 @@
 -- Condition variables of a world: each thread in a call of one is where the row of its place says, and who waits stands nowhere at its mutex.
 use Rattle.std.proofs.Common.{ℕ, Bool, true, false, Option, Some, None, if◌then◌else◌, ◌≡◌, ◌*◌, refl, sym, ◌∙◌, ap}
-use Rattle.lot_acts.specs.Profiles.{Profile}
-use Rattle.lot_acts.specs.Stations.{Station, station_by}
+use Rattle.steps_base.specs.Profiles.{Profile}
+use Rattle.steps_base.specs.Stations.{Station, station_by}
 use Rattle.lot_steps.specs.declared.places.Place.TheVariants.{Condvar}
 use Rattle.lot_steps.specs.Steps.{profile_at}
-use Rattle.lot_condvar.specs.declared.places.CondvarPlace.{CondvarPlace}
-use Rattle.lot_condvar.specs.CondvarProfiles.{condvar_profile, condvar_row, section_in}
-use Rattle.lot_condvar.specs.CondvarDeeds.{IsAt, IsAtStage, IsListed}
-use Rattle.abstract_locks.specs.Condvars.{IsInsideNot, Stage}
-use Rattle.abstract_locks.specs.Sites.{Line, Main}
+use Rattle.steps_condvar.specs.declared.places.CondvarPlace.{CondvarPlace}
+use Rattle.steps_condvar.specs.CondvarProfiles.{condvar_profile, condvar_row, section_in}
+use Rattle.steps_condvar.specs.CondvarDeeds.{IsAt, IsAtStage, IsListed}
+use Rattle.spec_locks.specs.Condvars.{IsInsideNot, Stage}
+use Rattle.spec_locks.specs.Sites.{Line, Main}
 use Rattle.lot_machine.specs.Machine.{State, place_at, queue_at, section_at}
 use Rattle.lot_laws.specs.Stations.{station_at}
 use Rattle.lot_laws.specs.SitesOf.{Stands, condvar_of, inside_as, key_of, stage_or, stood_in}

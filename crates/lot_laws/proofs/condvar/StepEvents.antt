@@ -2,33 +2,33 @@
 -- between them. Its call is made of that event, and comes to what the next place says.
 use Rattle.std.proofs.Common.{ℕ, Bool, false, Option, Some, None, if◌then◌else◌, ◌≡◌, ◌≢◌, ◌⊎◌, List, [], ◌∷◌, append-nil, inl, inr, refl, sym, ◌∙◌, ap, subst}
 use Rattle.std.proofs.lemmas.Bool.{cases_eq}
-use Rattle.lot_calls.specs.declared.outcomes.Outcome.{Outcome}
-use Rattle.lot_calls.specs.declared.outcomes.Outcome as outcome
-use Rattle.lot_acts.specs.declared.acts.Next.{Next}
-use Rattle.lot_acts.specs.declared.acts.Next.TheVariants as next
-use Rattle.lot_acts.specs.declared.acts.Reply.{Reply}
-use Rattle.lot_condvar.specs.declared.places.CondvarPlace.{CondvarPlace}
-use Rattle.lot_condvar.specs.declared.places.CondvarPlace.TheVariants.{Wait, Look, Notify}
-use Rattle.lot_condvar.specs.declared.wait.WaitAt.{WaitAt}
-use Rattle.lot_condvar.specs.CondvarCalls as calls
-use Rattle.lot_condvar.specs.CondvarCalls.{MayComeOfTwo, case_there, heard, or_else, wait_event}
-use Rattle.lot_condvar.specs.CondvarDeeds.{wait_deeds}
-use Rattle.lot_condvar.specs.CondvarProfiles.{condvar_profile, mutex_side, wait_carries}
-use Rattle.lot_condvar.specs.CondvarSteps.{condvar_act, mutex_beside}
-use Rattle.lot_condvar.specs.CondvarWaits.{waiter_deeds}
+use Rattle.spec_locks.specs.declared.outcomes.Outcome.{Outcome}
+use Rattle.spec_locks.specs.declared.outcomes.Outcome as outcome
+use Rattle.steps_base.specs.declared.acts.Next.{Next}
+use Rattle.steps_base.specs.declared.acts.Next.TheVariants as next
+use Rattle.steps_base.specs.declared.acts.Reply.{Reply}
+use Rattle.steps_condvar.specs.declared.places.CondvarPlace.{CondvarPlace}
+use Rattle.steps_condvar.specs.declared.places.CondvarPlace.TheVariants.{Wait, Look, Notify}
+use Rattle.steps_condvar.specs.declared.wait.WaitAt.{WaitAt}
+use Rattle.steps_condvar.specs.CondvarCalls as calls
+use Rattle.steps_condvar.specs.CondvarCalls.{MayComeOfTwo, case_there, heard, or_else, wait_event}
+use Rattle.steps_condvar.specs.CondvarDeeds.{wait_deeds}
+use Rattle.steps_condvar.specs.CondvarProfiles.{condvar_profile, mutex_side, wait_carries}
+use Rattle.steps_condvar.specs.CondvarSteps.{condvar_act, mutex_beside}
+use Rattle.steps_condvar.specs.CondvarWaits.{waiter_deeds}
 use Rattle.lot_steps.specs.declared.places.Place.TheVariants.{Condvar}
 use Rattle.lot_steps.specs.Steps.{condvar_does, condvar_goes}
-use Rattle.lot_acts.specs.Calls.{rights_where}
-use Rattle.lot_acts.specs.Acts.{outcome_of}
-use Rattle.abstract_locks.specs.Condvars.{CondvarDeed, moved_of}
-use Rattle.abstract_locks.specs.Condvars as condvars
-use Rattle.abstract_locks.specs.Deeds.{AreOneCase, EventNeeds, after_event, case_of, event_by}
-use Rattle.abstract_locks.specs.Onces.{Start}
-use Rattle.abstract_locks.specs.Purposes.{WasMoved}
-use Rattle.abstract_locks.specs.Locks.{HandOff, OfOnce, Wake, HasTakenNobody, LockCase, LockState}
-use Rattle.abstract_locks.specs.Runs.{AnswerHolds, AtLock, Begins, LocksState, is_among, is_closure, is_taken_by, CallState, Event, GoesOn, MayHappen, MayMove, Moves, Nothing, going_on, woken}
-use Rattle.abstract_locks.specs.Sites.{Deed, Site}
-use Rattle.abstract_locks.proofs.Deeds.{deeds_lead, deeds_need}
+use Rattle.steps_base.specs.Calls.{rights_where}
+use Rattle.steps_base.specs.Acts.{outcome_of}
+use Rattle.spec_locks.specs.Condvars.{CondvarDeed, moved_of}
+use Rattle.spec_locks.specs.Condvars as condvars
+use Rattle.spec_locks.specs.Deeds.{AreOneCase, EventNeeds, after_event, case_of, event_by}
+use Rattle.spec_locks.specs.Onces.{Start}
+use Rattle.spec_locks.specs.Purposes.{WasMoved}
+use Rattle.spec_locks.specs.Locks.{HandOff, OfOnce, Wake, HasTakenNobody, LockCase, LockState}
+use Rattle.spec_locks.specs.Runs.{AnswerHolds, AtLock, Begins, LocksState, is_among, is_closure, is_taken_by, CallState, Event, GoesOn, MayHappen, MayMove, Moves, Nothing, going_on, woken}
+use Rattle.spec_locks.specs.Sites.{Deed, Site}
+use Rattle.spec_locks.proofs.Deeds.{deeds_lead, deeds_need}
 use Rattle.lot_machine.specs.Machine.{State, kind_at, place_at}
 use Rattle.lot_laws.specs.MutexDeeds.{Act, acts}
 use Rattle.lot_laws.specs.Refinement.{call_at, call_on_both, call_state, lock_state, locks_of, taken_at}

@@ -1,25 +1,25 @@
 -- A thread that goes on in a call of a condition variable does so in the abstract locks, where its step has led both locks as its deeds say, and the
 -- others' calls follow.
 use Rattle.std.proofs.Common.{ℕ, Bool, true, false, Option, Some, None, if◌then◌else◌, ◌==◌, ◌&&◌, ◌≡◌, ◌≢◌, ◌<◌, List, [], length, not, refl, sym, ◌∙◌, ap, subst}
-use Rattle.lot_acts.specs.Acts.{outcome_of}
-use Rattle.lot_acts.specs.Profiles.{Hand, taken_from}
-use Rattle.lot_acts.specs.declared.acts.Next.TheVariants as next
-use Rattle.lot_acts.specs.declared.acts.Reply.TheVariants.{Value}
-use Rattle.lot_condvar.specs.declared.notify.NotifyAt.{NotifyAt}
-use Rattle.lot_condvar.specs.declared.notify.NotifyAt.TheVariants as notify
-use Rattle.lot_condvar.specs.declared.places.CondvarPlace.TheVariants.{Wait, Look, Notify}
-use Rattle.lot_condvar.specs.declared.wait.WaitAt.{WaitAt}
-use Rattle.lot_condvar.specs.CondvarCalls.{call_at, look_event, notify_event, wait_event}
-use Rattle.lot_condvar.specs.CondvarDeeds.{notify_deeds, wait_deeds, word_of}
-use Rattle.lot_condvar.specs.CondvarMutex.{beside_deeds}
-use Rattle.lot_condvar.specs.CondvarProfiles.{condvar_profile, mutex_side, notify_row}
-use Rattle.lot_condvar.specs.CondvarSteps.{condvar_act, condvar_next, next_wait, notify_act, wait_act}
-use Rattle.lot_condvar.specs.CondvarWaits.{waiter_deeds}
+use Rattle.steps_base.specs.Acts.{outcome_of}
+use Rattle.steps_base.specs.Profiles.{Hand, taken_from}
+use Rattle.steps_base.specs.declared.acts.Next.TheVariants as next
+use Rattle.steps_base.specs.declared.acts.Reply.TheVariants.{Value}
+use Rattle.steps_condvar.specs.declared.notify.NotifyAt.{NotifyAt}
+use Rattle.steps_condvar.specs.declared.notify.NotifyAt.TheVariants as notify
+use Rattle.steps_condvar.specs.declared.places.CondvarPlace.TheVariants.{Wait, Look, Notify}
+use Rattle.steps_condvar.specs.declared.wait.WaitAt.{WaitAt}
+use Rattle.steps_condvar.specs.CondvarCalls.{call_at, look_event, notify_event, wait_event}
+use Rattle.steps_condvar.specs.CondvarDeeds.{notify_deeds, wait_deeds, word_of}
+use Rattle.steps_condvar.specs.CondvarMutex.{beside_deeds}
+use Rattle.steps_condvar.specs.CondvarProfiles.{condvar_profile, mutex_side, notify_row}
+use Rattle.steps_condvar.specs.CondvarSteps.{condvar_act, condvar_next, next_wait, notify_act, wait_act}
+use Rattle.steps_condvar.specs.CondvarWaits.{waiter_deeds}
 use Rattle.lot_steps.specs.declared.places.Place.TheVariants.{Condvar}
 use Rattle.lot_steps.specs.Steps.{condvar_does, condvar_goes, is_lock}
-use Rattle.abstract_locks.specs.Condvars.{IsCondvar}
-use Rattle.abstract_locks.specs.Locks.{Rights}
-use Rattle.abstract_locks.specs.Runs.{CallState, Event, GoesOn, going_on, is_taken_by, woken}
+use Rattle.spec_locks.specs.Condvars.{IsCondvar}
+use Rattle.spec_locks.specs.Locks.{Rights}
+use Rattle.spec_locks.specs.Runs.{CallState, Event, GoesOn, going_on, is_taken_by, woken}
 use Rattle.lot_machine.specs.Fits.{IsShaped}
 use Rattle.lot_machine.specs.Machine.{State, can_do, place_at, reply_to, state_after_going, word_at}
 use Rattle.lot_laws.specs.MutexDeeds.{acts}

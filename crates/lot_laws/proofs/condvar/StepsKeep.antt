@@ -1,34 +1,34 @@
 -- Each step of a thread in a call of a condition variable keeps what holds of it.
 use Rattle.std.proofs.Common.{ℕ, Bool, true, false, Option, Some, None, if◌then◌else◌, ◌==◌, ◌≡◌, ◌≢◌, ◌⊎◌, ◌*◌, ◌<◌, length, nat_lt, is_some, inl, inr, refl, sym, ◌∙◌, ap, subst, length-set, get_or-set_other, get_or-set_same}
 use Rattle.std.proofs.lemmas.Bool.{cases_eq, ltb-true}
-use Rattle.lot_calls.specs.declared.calls.CondvarCall.{CondvarCall}
-use Rattle.lot_calls.specs.declared.calls.CondvarCall.TheVariants as calls
-use Rattle.lot_calls.specs.Calls.{lock_in}
-use Rattle.lot_calls.specs.declared.calls.Call.{Call}
-use Rattle.lot_calls.specs.declared.calls.Call.TheVariants as call
-use Rattle.lot_calls.specs.declared.calls.Step.{Step}
-use Rattle.lot_calls.specs.declared.calls.Turn.{Turn}
-use Rattle.lot_calls.specs.declared.calls.Turn as turn
-use Rattle.lot_acts.specs.declared.acts.Reply.TheVariants.{Late}
-use Rattle.lot_mutex.specs.declared.places.MutexPlace.TheVariants as mutex
-use Rattle.lot_mutex.specs.declared.lock.LockAt.TheVariants as lock
-use Rattle.lot_condvar.specs.declared.places.CondvarPlace.{CondvarPlace}
-use Rattle.lot_condvar.specs.declared.places.CondvarPlace.TheVariants.{Wait, Look, Notify}
-use Rattle.lot_condvar.specs.declared.wait.Stands.TheVariants as stands
-use Rattle.lot_condvar.specs.declared.wait.WaitAt.{WaitAt}
-use Rattle.lot_condvar.specs.declared.wait.WaitAt.TheVariants as wait
-use Rattle.lot_condvar.specs.CondvarDeeds.{MayHear, after_all, condvar_deeds}
-use Rattle.lot_condvar.specs.CondvarSteps.{condvar_act, condvar_first, condvar_next, in_lock}
+use Rattle.spec_locks.specs.declared.calls.CondvarCall.{CondvarCall}
+use Rattle.spec_locks.specs.declared.calls.CondvarCall.TheVariants as calls
+use Rattle.spec_locks.specs.Calls.{lock_in}
+use Rattle.spec_locks.specs.declared.calls.Call.{Call}
+use Rattle.spec_locks.specs.declared.calls.Call.TheVariants as call
+use Rattle.spec_locks.specs.declared.calls.Step.{Step}
+use Rattle.spec_locks.specs.declared.calls.Turn.{Turn}
+use Rattle.spec_locks.specs.declared.calls.Turn as turn
+use Rattle.steps_base.specs.declared.acts.Reply.TheVariants.{Late}
+use Rattle.steps_mutex.specs.declared.places.MutexPlace.TheVariants as mutex
+use Rattle.steps_mutex.specs.declared.lock.LockAt.TheVariants as lock
+use Rattle.steps_condvar.specs.declared.places.CondvarPlace.{CondvarPlace}
+use Rattle.steps_condvar.specs.declared.places.CondvarPlace.TheVariants.{Wait, Look, Notify}
+use Rattle.steps_condvar.specs.declared.wait.Stands.TheVariants as stands
+use Rattle.steps_condvar.specs.declared.wait.WaitAt.{WaitAt}
+use Rattle.steps_condvar.specs.declared.wait.WaitAt.TheVariants as wait
+use Rattle.steps_condvar.specs.CondvarDeeds.{MayHear, after_all, condvar_deeds}
+use Rattle.steps_condvar.specs.CondvarSteps.{condvar_act, condvar_first, condvar_next, in_lock}
 use Rattle.lot_steps.specs.declared.places.Place.{Place}
 use Rattle.lot_steps.specs.declared.places.Place.TheVariants.{Idle, Mutex, RwLock, Once, Condvar, Semaphore}
 use Rattle.lot_steps.specs.Steps.{act_of, first_place, in_condvar, is_idle, late_key, lock_of, looking, next_place, profile_at}
-use Rattle.abstract_locks.specs.Condvars.{BeginsWait, IsCondvar, IsInsideNot, condvar_leads}
-use Rattle.abstract_locks.specs.Locks as locks
-use Rattle.abstract_locks.specs.Locks.{Rules, putting, times}
-use Rattle.abstract_locks.specs.Purposes.{rules_of}
-use Rattle.abstract_locks.proofs.CondvarKeeps.{condvar_deed_keeps}
-use Rattle.abstract_locks.specs.Runs.{IsStep, SectionChanges}
-use Rattle.abstract_locks.specs.Sites.{Line, Main, has_readers}
+use Rattle.spec_locks.specs.Condvars.{BeginsWait, IsCondvar, IsInsideNot, condvar_leads}
+use Rattle.spec_locks.specs.Locks as locks
+use Rattle.spec_locks.specs.Locks.{Rules, putting, times}
+use Rattle.spec_locks.specs.Purposes.{rules_of}
+use Rattle.spec_locks.proofs.CondvarKeeps.{condvar_deed_keeps}
+use Rattle.spec_locks.specs.Runs.{IsStep, SectionChanges}
+use Rattle.spec_locks.specs.Sites.{Line, Main, has_readers}
 use Rattle.lot_machine.specs.Fits.{IsShaped, PlaceFits}
 use Rattle.lot_machine.specs.Machine.{State, after, can_do, can_turn, is_free_under, is_open_to, is_possible, kind_at, place_at, put, queue_at, reply_to, runs_closure, section_at, state_after_going, state_after_late_on, state_after_look, state_after_turn, step_outcome}
 use Rattle.lot_machine.proofs.Shape.{both, looking_shaped}

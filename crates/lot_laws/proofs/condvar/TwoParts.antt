@@ -1,16 +1,16 @@
 -- Each lock sees of a place in a call of a condition variable, and of the next one, its own part: the row
 -- there, the row beside, or nothing.
 use Rattle.std.proofs.Common.{ℕ, true, false, Some, None, ◌==◌, ◌≡◌, ◌≢◌, refl, sym, ◌∙◌, ap}
-use Rattle.lot_acts.specs.declared.acts.Next.{Next}
-use Rattle.lot_acts.specs.declared.acts.Next.TheVariants.{At, End as Over}
-use Rattle.lot_acts.specs.Profiles.{taken_from}
-use Rattle.lot_acts.specs.Stations.{Station, nowhere, station_by}
+use Rattle.steps_base.specs.declared.acts.Next.{Next}
+use Rattle.steps_base.specs.declared.acts.Next.TheVariants.{At, End as Over}
+use Rattle.steps_base.specs.Profiles.{taken_from}
+use Rattle.steps_base.specs.Stations.{Station, nowhere, station_by}
 use Rattle.lot_steps.specs.declared.places.Place.{Place}
 use Rattle.lot_steps.specs.Steps.{condvar_goes}
-use Rattle.lot_condvar.specs.declared.places.CondvarPlace.{CondvarPlace}
-use Rattle.lot_condvar.specs.CondvarSteps.{mutex_beside}
-use Rattle.lot_condvar.specs.CondvarMoves.{row_beside, row_there}
-use Rattle.abstract_locks.specs.Sites.{idle}
+use Rattle.steps_condvar.specs.declared.places.CondvarPlace.{CondvarPlace}
+use Rattle.steps_condvar.specs.CondvarSteps.{mutex_beside}
+use Rattle.steps_condvar.specs.CondvarMoves.{row_beside, row_there}
+use Rattle.spec_locks.specs.Sites.{idle}
 use Rattle.lot_laws.specs.Refinement.{taken_at}
 use Rattle.lot_laws.specs.Stations.{doing_on, station_at}
 use Rattle.lot_laws.proofs.machine.Parts.{differ, same}

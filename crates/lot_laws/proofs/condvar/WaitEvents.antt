@@ -1,43 +1,43 @@
 -- A step of a wait is one event of its condition variable or of its mutex, and its call goes on by it.
 use Rattle.std.proofs.Common.{ℕ, Bool, true, false, Option, Some, None, if◌then◌else◌, ◌==◌, ◌||◌, ◌≡◌, ◌≢◌, ◌⊎◌, ◌*◌, ◌+◌, List, [], ◌∷◌, not, inl, inr, refl, sym, ◌∙◌, ap, subst}
 use Rattle.std.proofs.lemmas.Bool.{cases_eq}
-use Rattle.lot_base.specs.declared.keys.Keys.TheVariants.{One}
-use Rattle.lot_base.specs.declared.ops.Op as op
-use Rattle.lot_acts.specs.Acts.{outcome_of}
-use Rattle.lot_acts.specs.declared.acts.Act.{Act}
-use Rattle.lot_acts.specs.declared.acts.Act.TheVariants as act
-use Rattle.lot_acts.specs.declared.acts.Next.{Next}
-use Rattle.lot_acts.specs.declared.acts.Next.TheVariants as next
-use Rattle.lot_acts.specs.declared.acts.Reply.{Reply}
-use Rattle.lot_acts.specs.declared.acts.Reply.TheVariants.{Done, Value, Parked}
-use Rattle.lot_acts.specs.declared.acts.Whom.TheVariants as whoms
-use Rattle.lot_mutex.specs.declared.places.MutexPlace.{MutexPlace}
-use Rattle.lot_mutex.specs.declared.places.MutexPlace.TheVariants as mutex
-use Rattle.lot_mutex.specs.declared.lock.Entry.TheVariants as entry
-use Rattle.lot_mutex.specs.declared.lock.LockAt.{LockAt}
-use Rattle.lot_mutex.specs.declared.lock.LockAt.TheVariants as lock
-use Rattle.lot_mutex.specs.declared.unlock.UnlockAt.TheVariants as unlock
-use Rattle.lot_mutex.specs.MutexDeeds.{enters, takes}
-use Rattle.lot_mutex.specs.MutexSteps.{is_locked, is_parked, lock_act, mutex_next}
-use Rattle.lot_condvar.specs.declared.places.CondvarPlace.TheVariants.{Wait}
-use Rattle.lot_condvar.specs.declared.wait.WaitAt.{WaitAt}
-use Rattle.lot_condvar.specs.declared.wait.WaitAt.TheVariants as wait
-use Rattle.lot_condvar.specs.CondvarCalls as calls
-use Rattle.lot_condvar.specs.CondvarCalls.{BecomesOfTwo, CallFollows, IsLockOf, IsReached, case_there, heard, or_else, wait_event}
-use Rattle.lot_condvar.specs.CondvarDeeds.{condvar_deeds, relocked_deeds, wait_deeds}
-use Rattle.lot_condvar.specs.CondvarDeeds as condvar
-use Rattle.lot_condvar.proofs.WaitTells.{waits_tell}
-use Rattle.lot_condvar.specs.CondvarProfiles.{wait_carries}
-use Rattle.lot_condvar.specs.CondvarSteps.{condvar_next, in_wait, is_shown, next_wait, wait_act}
-use Rattle.lot_condvar.specs.CondvarWaits.{unended, waiter_deeds}
-use Rattle.abstract_locks.specs.Condvars.{CondvarDeed, IsCondvar, SeeOther, Show}
-use Rattle.abstract_locks.specs.Deeds.{AreOneCase, KeepLock, after_all, case_of, event_by}
-use Rattle.abstract_locks.specs.Locks.{HasTakenNobody, LockCase, LockState, Rights, Rules, rights_of}
-use Rattle.abstract_locks.specs.Runs.{CallState, Event, GoesOn, MayHappen, Moves, going_on, woken}
-use Rattle.abstract_locks.specs.Sites.{End, Main, Mark, Site}
+use Rattle.core_base.specs.declared.keys.Keys.TheVariants.{One}
+use Rattle.core_base.specs.declared.ops.Op as op
+use Rattle.steps_base.specs.Acts.{outcome_of}
+use Rattle.steps_base.specs.declared.acts.Act.{Act}
+use Rattle.steps_base.specs.declared.acts.Act.TheVariants as act
+use Rattle.steps_base.specs.declared.acts.Next.{Next}
+use Rattle.steps_base.specs.declared.acts.Next.TheVariants as next
+use Rattle.steps_base.specs.declared.acts.Reply.{Reply}
+use Rattle.steps_base.specs.declared.acts.Reply.TheVariants.{Done, Value, Parked}
+use Rattle.steps_base.specs.declared.acts.Whom.TheVariants as whoms
+use Rattle.steps_mutex.specs.declared.places.MutexPlace.{MutexPlace}
+use Rattle.steps_mutex.specs.declared.places.MutexPlace.TheVariants as mutex
+use Rattle.steps_mutex.specs.declared.lock.Entry.TheVariants as entry
+use Rattle.steps_mutex.specs.declared.lock.LockAt.{LockAt}
+use Rattle.steps_mutex.specs.declared.lock.LockAt.TheVariants as lock
+use Rattle.steps_mutex.specs.declared.unlock.UnlockAt.TheVariants as unlock
+use Rattle.steps_mutex.specs.MutexDeeds.{enters, takes}
+use Rattle.steps_mutex.specs.MutexSteps.{is_locked, is_parked, lock_act, mutex_next}
+use Rattle.steps_condvar.specs.declared.places.CondvarPlace.TheVariants.{Wait}
+use Rattle.steps_condvar.specs.declared.wait.WaitAt.{WaitAt}
+use Rattle.steps_condvar.specs.declared.wait.WaitAt.TheVariants as wait
+use Rattle.steps_condvar.specs.CondvarCalls as calls
+use Rattle.steps_condvar.specs.CondvarCalls.{BecomesOfTwo, CallFollows, IsLockOf, IsReached, case_there, heard, or_else, wait_event}
+use Rattle.steps_condvar.specs.CondvarDeeds.{condvar_deeds, relocked_deeds, wait_deeds}
+use Rattle.steps_condvar.specs.CondvarDeeds as condvar
+use Rattle.steps_condvar.proofs.WaitTells.{waits_tell}
+use Rattle.steps_condvar.specs.CondvarProfiles.{wait_carries}
+use Rattle.steps_condvar.specs.CondvarSteps.{condvar_next, in_wait, is_shown, next_wait, wait_act}
+use Rattle.steps_condvar.specs.CondvarWaits.{unended, waiter_deeds}
+use Rattle.spec_locks.specs.Condvars.{CondvarDeed, IsCondvar, SeeOther, Show}
+use Rattle.spec_locks.specs.Deeds.{AreOneCase, KeepLock, after_all, case_of, event_by}
+use Rattle.spec_locks.specs.Locks.{HasTakenNobody, LockCase, LockState, Rights, Rules, rights_of}
+use Rattle.spec_locks.specs.Runs.{CallState, Event, GoesOn, MayHappen, Moves, going_on, woken}
+use Rattle.spec_locks.specs.Sites.{End, Main, Mark, Site}
 use Rattle.lot_machine.specs.Machine.{State, can_do, place_at, reply_to, word_at}
-use Rattle.lot_acts.specs.Calls.{rights_where}
-use Rattle.lot_acts.specs.Stations.{Station}
+use Rattle.steps_base.specs.Calls.{rights_where}
+use Rattle.steps_base.specs.Stations.{Station}
 use Rattle.lot_steps.specs.declared.places.Place.TheVariants.{Condvar}
 use Rattle.lot_steps.specs.Steps.{condvar_does, condvar_goes}
 use Rattle.lot_laws.specs.MutexDeeds.{acts}

@@ -1,19 +1,19 @@
 -- A wait with another mutex than the one that is shown goes out of the section of its condition variable, and is over: both locks are sites again.
 use Rattle.std.proofs.Common.{ℕ, Bool, false, None, ◌≡◌, ◌≢◌, ◌<◌, [], ◌∷◌, length, refl, sym, ◌∙◌, ap, subst, inl, inr, get_or-set_same, get_or-set_other}
 use Rattle.std.proofs.lemmas.Bool.{cases_eq}
-use Rattle.lot_base.specs.declared.keys.Keys.TheVariants.{One}
-use Rattle.lot_acts.specs.declared.acts.Next.TheVariants.{At, End as Over}
-use Rattle.lot_acts.specs.declared.acts.Reply.TheVariants.{Done}
-use Rattle.lot_acts.specs.Stations.{Station, nowhere}
-use Rattle.lot_calls.specs.declared.outcomes.Answer.TheVariants as answer
+use Rattle.core_base.specs.declared.keys.Keys.TheVariants.{One}
+use Rattle.steps_base.specs.declared.acts.Next.TheVariants.{At, End as Over}
+use Rattle.steps_base.specs.declared.acts.Reply.TheVariants.{Done}
+use Rattle.steps_base.specs.Stations.{Station, nowhere}
+use Rattle.spec_locks.specs.declared.outcomes.Answer.TheVariants as answer
 use Rattle.lot_steps.specs.declared.places.Place.TheVariants.{Condvar, Idle}
-use Rattle.lot_condvar.specs.declared.places.CondvarPlace.{CondvarPlace}
-use Rattle.lot_condvar.specs.declared.places.CondvarPlace.TheVariants.{Wait}
-use Rattle.lot_condvar.specs.declared.wait.WaitAt.TheVariants as wait
-use Rattle.lot_condvar.specs.CondvarWaits.{WaiterFollows}
-use Rattle.abstract_locks.specs.Locks as locks
-use Rattle.abstract_locks.specs.Locks.{putting}
-use Rattle.abstract_locks.specs.Sites.{End, Main, Out, has_readers}
+use Rattle.steps_condvar.specs.declared.places.CondvarPlace.{CondvarPlace}
+use Rattle.steps_condvar.specs.declared.places.CondvarPlace.TheVariants.{Wait}
+use Rattle.steps_condvar.specs.declared.wait.WaitAt.TheVariants as wait
+use Rattle.steps_condvar.specs.CondvarWaits.{WaiterFollows}
+use Rattle.spec_locks.specs.Locks as locks
+use Rattle.spec_locks.specs.Locks.{putting}
+use Rattle.spec_locks.specs.Sites.{End, Main, Out, has_readers}
 use Rattle.lot_machine.specs.Machine.{State, place_at, put, queue_at, section_at, state_with_sections}
 use Rattle.lot_laws.specs.MutexDeeds.{acts}
 use Rattle.lot_laws.specs.Refinement.{taken_at}

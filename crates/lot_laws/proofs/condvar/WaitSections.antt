@@ -1,39 +1,39 @@
 -- Each step of a wait in the section and the line of its mutex, as it releases it and locks it again: every lock is a site again.
 use Rattle.std.proofs.Common.{ℕ, Bool, true, false, Some, None, if◌then◌else◌, ◌≡◌, ◌≢◌, ◌*◌, ◌<◌, List, [], ◌∷◌, length, refl, sym, ◌∙◌, ap, subst, inl, inr}
 use Rattle.std.proofs.lemmas.Bool.{cases_eq}
-use Rattle.lot_base.specs.declared.keys.Keys.TheVariants.{One}
-use Rattle.lot_base.specs.declared.wants.Want.TheVariants.{Exclusive}
-use Rattle.lot_acts.specs.declared.acts.Act.{Act}
-use Rattle.lot_acts.specs.declared.acts.Act.TheVariants as act
-use Rattle.lot_acts.specs.declared.acts.Next.{Next}
-use Rattle.lot_acts.specs.declared.acts.Next.TheVariants.{At}
-use Rattle.lot_acts.specs.declared.acts.Reply.{Reply}
-use Rattle.lot_acts.specs.declared.acts.Reply.TheVariants.{Done, Parked}
-use Rattle.lot_acts.specs.declared.acts.Wakes.TheVariants.{Nobody}
-use Rattle.lot_acts.specs.Profiles.{taken_from}
-use Rattle.lot_acts.specs.Stations.{Station, station_by}
+use Rattle.core_base.specs.declared.keys.Keys.TheVariants.{One}
+use Rattle.core_base.specs.declared.wants.Want.TheVariants.{Exclusive}
+use Rattle.steps_base.specs.declared.acts.Act.{Act}
+use Rattle.steps_base.specs.declared.acts.Act.TheVariants as act
+use Rattle.steps_base.specs.declared.acts.Next.{Next}
+use Rattle.steps_base.specs.declared.acts.Next.TheVariants.{At}
+use Rattle.steps_base.specs.declared.acts.Reply.{Reply}
+use Rattle.steps_base.specs.declared.acts.Reply.TheVariants.{Done, Parked}
+use Rattle.steps_base.specs.declared.acts.Wakes.TheVariants.{Nobody}
+use Rattle.steps_base.specs.Profiles.{taken_from}
+use Rattle.steps_base.specs.Stations.{Station, station_by}
 use Rattle.lot_steps.specs.declared.places.Place.{Place}
 use Rattle.lot_steps.specs.declared.places.Place.TheVariants.{Condvar}
 use Rattle.lot_steps.specs.Steps.{condvar_goes}
-use Rattle.lot_mutex.specs.declared.lock.Entry.TheVariants as entry
-use Rattle.lot_mutex.specs.declared.lock.LockAt.{LockAt}
-use Rattle.lot_mutex.specs.declared.lock.LockAt.TheVariants as lock
-use Rattle.lot_mutex.specs.declared.places.MutexPlace.TheVariants as mutex
-use Rattle.lot_mutex.specs.declared.unlock.UnlockAt.{UnlockAt}
-use Rattle.lot_mutex.specs.declared.unlock.UnlockAt.TheVariants as unlock
-use Rattle.lot_mutex.specs.MutexSteps.{in_lock, still_retries}
-use Rattle.lot_condvar.specs.declared.places.CondvarPlace.{CondvarPlace}
-use Rattle.lot_condvar.specs.declared.places.CondvarPlace.TheVariants.{Wait}
-use Rattle.lot_condvar.specs.declared.wait.Stands.{Stands}
-use Rattle.lot_condvar.specs.declared.wait.WaitAt.{WaitAt}
-use Rattle.lot_condvar.specs.declared.wait.WaitAt.TheVariants as wait
-use Rattle.lot_condvar.specs.CondvarSteps.{condvar_next, in_wait, next_wait, relocked, wait_act}
-use Rattle.lot_condvar.specs.CondvarMoves.{row_beside, there}
-use Rattle.lot_condvar.specs.CondvarWaits.{MayHearWaiter, WaiterFollows, itself_woken, waiter_deeds, waiter_next}
-use Rattle.abstract_locks.specs.Deeds as laws
-use Rattle.abstract_locks.specs.Locks as locks
-use Rattle.abstract_locks.specs.Locks.{Park, Rules, keep_from}
-use Rattle.abstract_locks.specs.Sites.{Case, Deed, Doing, End, In, Main, Out, Site, wakened}
+use Rattle.steps_mutex.specs.declared.lock.Entry.TheVariants as entry
+use Rattle.steps_mutex.specs.declared.lock.LockAt.{LockAt}
+use Rattle.steps_mutex.specs.declared.lock.LockAt.TheVariants as lock
+use Rattle.steps_mutex.specs.declared.places.MutexPlace.TheVariants as mutex
+use Rattle.steps_mutex.specs.declared.unlock.UnlockAt.{UnlockAt}
+use Rattle.steps_mutex.specs.declared.unlock.UnlockAt.TheVariants as unlock
+use Rattle.steps_mutex.specs.MutexSteps.{in_lock, still_retries}
+use Rattle.steps_condvar.specs.declared.places.CondvarPlace.{CondvarPlace}
+use Rattle.steps_condvar.specs.declared.places.CondvarPlace.TheVariants.{Wait}
+use Rattle.steps_condvar.specs.declared.wait.Stands.{Stands}
+use Rattle.steps_condvar.specs.declared.wait.WaitAt.{WaitAt}
+use Rattle.steps_condvar.specs.declared.wait.WaitAt.TheVariants as wait
+use Rattle.steps_condvar.specs.CondvarSteps.{condvar_next, in_wait, next_wait, relocked, wait_act}
+use Rattle.steps_condvar.specs.CondvarMoves.{row_beside, there}
+use Rattle.steps_condvar.specs.CondvarWaits.{MayHearWaiter, WaiterFollows, itself_woken, waiter_deeds, waiter_next}
+use Rattle.spec_locks.specs.Deeds as laws
+use Rattle.spec_locks.specs.Locks as locks
+use Rattle.spec_locks.specs.Locks.{Park, Rules, keep_from}
+use Rattle.spec_locks.specs.Sites.{Case, Deed, Doing, End, In, Main, Out, Site, wakened}
 use Rattle.lot_machine.specs.Machine.{State, can_do, place_at, put, reply_to, section_at, state_after_act, word_at, queues_with_last}
 use Rattle.lot_laws.specs.MutexDeeds.{acts}
 use Rattle.lot_laws.specs.Refinement.{taken_at}
@@ -45,8 +45,8 @@ use Rattle.lot_laws.proofs.condvar.Replies.{taken_by_wait, waiter_hears, none_so
 use Rattle.lot_laws.proofs.condvar.WaitWords as beside
 use Rattle.lot_laws.proofs.condvar.WaitWords.{StaysThere}
 use Rattle.lot_laws.proofs.mutex.Acts.{accepts_at, goes_in_at, goes_out_at, leaves_line_at, stands_at}
-use Rattle.lot_acts.specs.declared.acts.Check.TheVariants.{WordIs}
-use Rattle.lot_acts.specs.Acts.{holds}
+use Rattle.steps_base.specs.declared.acts.Check.TheVariants.{WordIs}
+use Rattle.steps_base.specs.Acts.{holds}
 use Rattle.lot_laws.proofs.sites.ActsAt.{place_goes}
 use Rattle.lot_laws.proofs.sites.OneStep.{steps_by}
 use Rattle.lot_laws.proofs.machine.Parts.{parts_at}

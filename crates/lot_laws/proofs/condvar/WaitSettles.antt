@@ -1,39 +1,39 @@
 -- A wait's own step never leads it to sleep where it was handed its mutex: whoever hands it over is inside the section of the mutex till it has told so.
 use Rattle.std.proofs.Common.{ℕ, Bool, true, false, Some, if◌then◌else◌, ◌==◌, ◌≡◌, ◌≢◌, ◌+◌, ◌*◌, not, refl, sym, ◌∙◌, ap}
 use Rattle.std.proofs.lemmas.Bool.{eqb-true}
-use Rattle.lot_base.specs.declared.keys.Keys.TheVariants.{One}
-use Rattle.lot_base.specs.declared.notes.Note.TheVariants as note
-use Rattle.lot_base.specs.declared.ops.Op as op
-use Rattle.lot_acts.specs.Profiles.{hand}
-use Rattle.lot_acts.specs.Stations.{Station, nowhere, station_by}
-use Rattle.lot_acts.specs.declared.acts.Act.TheVariants as act
-use Rattle.lot_calls.specs.declared.outcomes.Answer.TheVariants as answer
-use Rattle.lot_acts.specs.declared.acts.Next.{Next}
-use Rattle.lot_acts.specs.declared.acts.Next.TheVariants as next
-use Rattle.lot_mutex.specs.declared.places.MutexPlace.{MutexPlace}
-use Rattle.lot_mutex.specs.declared.places.MutexPlace.TheVariants as mutex
-use Rattle.lot_mutex.specs.declared.hand_off.HandOffAt.TheVariants as hand_off
-use Rattle.lot_mutex.specs.declared.lock.Entry.TheVariants as entry
-use Rattle.lot_mutex.specs.declared.lock.LockAt.{LockAt}
-use Rattle.lot_mutex.specs.declared.lock.LockAt.TheVariants as lock
-use Rattle.lot_mutex.specs.declared.unlock.UnlockAt.TheVariants as unlock
-use Rattle.lot_mutex.specs.MutexProfiles.{mutex_profile}
-use Rattle.lot_mutex.specs.MutexSteps.{entered, in_lock, in_unlock, is_locked, is_parked, lock_act, mutex_next}
-use Rattle.lot_condvar.specs.declared.notify.NotifyAt.TheVariants as notify
-use Rattle.lot_condvar.specs.declared.places.CondvarPlace.{CondvarPlace}
-use Rattle.lot_condvar.specs.declared.places.CondvarPlace.TheVariants.{Wait, Look, Notify}
-use Rattle.lot_condvar.specs.declared.wait.Stands.{Stands}
-use Rattle.lot_condvar.specs.declared.wait.Stands.TheVariants as stands
-use Rattle.lot_condvar.specs.declared.wait.WaitAt.{WaitAt}
-use Rattle.lot_condvar.specs.declared.wait.WaitAt.TheVariants as wait
-use Rattle.lot_condvar.specs.CondvarCalls.{IsLockOf, IsReached}
-use Rattle.lot_condvar.specs.CondvarProfiles.{has_mutex, carries_beside, condvar_profile, mutex_side}
-use Rattle.lot_condvar.specs.CondvarSteps.{behind, mutex_beside, next_wait, released, relocked, wait_act}
+use Rattle.core_base.specs.declared.keys.Keys.TheVariants.{One}
+use Rattle.core_base.specs.declared.notes.Note.TheVariants as note
+use Rattle.core_base.specs.declared.ops.Op as op
+use Rattle.steps_base.specs.Profiles.{hand}
+use Rattle.steps_base.specs.Stations.{Station, nowhere, station_by}
+use Rattle.steps_base.specs.declared.acts.Act.TheVariants as act
+use Rattle.spec_locks.specs.declared.outcomes.Answer.TheVariants as answer
+use Rattle.steps_base.specs.declared.acts.Next.{Next}
+use Rattle.steps_base.specs.declared.acts.Next.TheVariants as next
+use Rattle.steps_mutex.specs.declared.places.MutexPlace.{MutexPlace}
+use Rattle.steps_mutex.specs.declared.places.MutexPlace.TheVariants as mutex
+use Rattle.steps_mutex.specs.declared.hand_off.HandOffAt.TheVariants as hand_off
+use Rattle.steps_mutex.specs.declared.lock.Entry.TheVariants as entry
+use Rattle.steps_mutex.specs.declared.lock.LockAt.{LockAt}
+use Rattle.steps_mutex.specs.declared.lock.LockAt.TheVariants as lock
+use Rattle.steps_mutex.specs.declared.unlock.UnlockAt.TheVariants as unlock
+use Rattle.steps_mutex.specs.MutexProfiles.{mutex_profile}
+use Rattle.steps_mutex.specs.MutexSteps.{entered, in_lock, in_unlock, is_locked, is_parked, lock_act, mutex_next}
+use Rattle.steps_condvar.specs.declared.notify.NotifyAt.TheVariants as notify
+use Rattle.steps_condvar.specs.declared.places.CondvarPlace.{CondvarPlace}
+use Rattle.steps_condvar.specs.declared.places.CondvarPlace.TheVariants.{Wait, Look, Notify}
+use Rattle.steps_condvar.specs.declared.wait.Stands.{Stands}
+use Rattle.steps_condvar.specs.declared.wait.Stands.TheVariants as stands
+use Rattle.steps_condvar.specs.declared.wait.WaitAt.{WaitAt}
+use Rattle.steps_condvar.specs.declared.wait.WaitAt.TheVariants as wait
+use Rattle.steps_condvar.specs.CondvarCalls.{IsLockOf, IsReached}
+use Rattle.steps_condvar.specs.CondvarProfiles.{has_mutex, carries_beside, condvar_profile, mutex_side}
+use Rattle.steps_condvar.specs.CondvarSteps.{behind, mutex_beside, next_wait, released, relocked, wait_act}
 use Rattle.lot_steps.specs.declared.places.Place.{Place}
 use Rattle.lot_steps.specs.declared.places.Place.TheVariants.{Idle, Mutex, RwLock, Once, Condvar, Semaphore}
 use Rattle.lot_steps.specs.Steps.{is_lock}
-use Rattle.abstract_locks.specs.Locks as locks
-use Rattle.abstract_locks.specs.Sites.{Main, has_readers}
+use Rattle.spec_locks.specs.Locks as locks
+use Rattle.spec_locks.specs.Sites.{Main, has_readers}
 use Rattle.lot_machine.specs.Machine.{State, can_do, place_at, reply_to, section_at, word_at}
 use Rattle.lot_laws.specs.Stations.{station, station_at}
 use Rattle.lot_laws.specs.SitesOf.{FitsItsLock, IsSteady, carried_at, key_of, rules_in}

@@ -1,35 +1,35 @@
 -- A wait that releases its mutex takes the first of its line, itself too where a notification brought it there: every lock is a site again.
 use Rattle.std.proofs.Common.{ℕ, Bool, true, false, Option, Some, None, if◌then◌else◌, ◌==◌, ◌||◌, ◌≡◌, ◌≢◌, ◌*◌, ◌≤◌, ◌<◌, List, [], ◌∷◌, length, map, drop, get_or, set, refl, sym, ◌∙◌, ap, subst, inl, inr, arith, get_or-set_same, get_or-set_other}
 use Rattle.std.proofs.lemmas.Bool.{cases_eq}
-use Rattle.lot_base.specs.declared.wants.Waiter.{Waiter}
-use Rattle.lot_base.specs.declared.wants.Want.TheVariants.{Exclusive}
-use Rattle.lot_base.specs.Lines.{first_of, times}
-use Rattle.lot_acts.specs.declared.acts.Next.TheVariants.{At}
-use Rattle.lot_acts.specs.declared.acts.Reply.{Reply}
-use Rattle.lot_acts.specs.declared.acts.Reply.TheVariants.{Took, TakenBy}
-use Rattle.lot_acts.specs.Profiles.{taken_from}
-use Rattle.lot_acts.specs.Stations.{Station, station_by}
+use Rattle.core_base.specs.declared.wants.Waiter.{Waiter}
+use Rattle.core_base.specs.declared.wants.Want.TheVariants.{Exclusive}
+use Rattle.core_base.specs.Lines.{first_of, times}
+use Rattle.steps_base.specs.declared.acts.Next.TheVariants.{At}
+use Rattle.steps_base.specs.declared.acts.Reply.{Reply}
+use Rattle.steps_base.specs.declared.acts.Reply.TheVariants.{Took, TakenBy}
+use Rattle.steps_base.specs.Profiles.{taken_from}
+use Rattle.steps_base.specs.Stations.{Station, station_by}
 use Rattle.lot_steps.specs.declared.places.Place.{Place}
 use Rattle.lot_steps.specs.declared.places.Place.TheVariants.{Condvar, Idle}
 use Rattle.lot_steps.specs.Steps.{next_place}
-use Rattle.lot_mutex.specs.declared.places.MutexPlace.TheVariants as mutex
-use Rattle.lot_mutex.specs.declared.unlock.UnlockAt.{UnlockAt}
-use Rattle.lot_mutex.specs.declared.unlock.UnlockAt.TheVariants as unlock
-use Rattle.lot_condvar.specs.declared.places.CondvarPlace.{CondvarPlace}
-use Rattle.lot_condvar.specs.declared.places.CondvarPlace.TheVariants.{Wait}
-use Rattle.lot_condvar.specs.declared.wait.Stands.{Stands}
-use Rattle.lot_condvar.specs.declared.wait.Stands.TheVariants as stands
-use Rattle.lot_condvar.specs.declared.wait.WaitAt.{WaitAt}
-use Rattle.lot_condvar.specs.declared.wait.WaitAt.TheVariants as wait
-use Rattle.lot_condvar.specs.CondvarSteps.{released}
-use Rattle.lot_mutex.specs.MutexSteps.{in_unlock}
-use Rattle.lot_condvar.specs.CondvarMoves.{row_beside, row_there, there}
-use Rattle.lot_condvar.specs.CondvarProfiles.{wait_row}
-use Rattle.lot_condvar.specs.CondvarWaits.{WaiterFollows, waiter_deeds}
-use Rattle.abstract_locks.specs.Locks as locks
-use Rattle.abstract_locks.specs.Locks.{TakeFirst, Taken, first_thread}
-use Rattle.abstract_locks.specs.Picks.{queued_of}
-use Rattle.abstract_locks.specs.Sites.{Case, Deed, IsSite, Main, Site}
+use Rattle.steps_mutex.specs.declared.places.MutexPlace.TheVariants as mutex
+use Rattle.steps_mutex.specs.declared.unlock.UnlockAt.{UnlockAt}
+use Rattle.steps_mutex.specs.declared.unlock.UnlockAt.TheVariants as unlock
+use Rattle.steps_condvar.specs.declared.places.CondvarPlace.{CondvarPlace}
+use Rattle.steps_condvar.specs.declared.places.CondvarPlace.TheVariants.{Wait}
+use Rattle.steps_condvar.specs.declared.wait.Stands.{Stands}
+use Rattle.steps_condvar.specs.declared.wait.Stands.TheVariants as stands
+use Rattle.steps_condvar.specs.declared.wait.WaitAt.{WaitAt}
+use Rattle.steps_condvar.specs.declared.wait.WaitAt.TheVariants as wait
+use Rattle.steps_condvar.specs.CondvarSteps.{released}
+use Rattle.steps_mutex.specs.MutexSteps.{in_unlock}
+use Rattle.steps_condvar.specs.CondvarMoves.{row_beside, row_there, there}
+use Rattle.steps_condvar.specs.CondvarProfiles.{wait_row}
+use Rattle.steps_condvar.specs.CondvarWaits.{WaiterFollows, waiter_deeds}
+use Rattle.spec_locks.specs.Locks as locks
+use Rattle.spec_locks.specs.Locks.{TakeFirst, Taken, first_thread}
+use Rattle.spec_locks.specs.Picks.{queued_of}
+use Rattle.spec_locks.specs.Sites.{Case, Deed, IsSite, Main, Site}
 use Rattle.lot_machine.specs.Machine.{State, is_there, place_at, put, queue_at, queues_without_first, section_at, state_after_taking}
 use Rattle.lot_laws.specs.MutexDeeds.{acts, queued}
 use Rattle.lot_laws.specs.Refinement.{taken_at}

@@ -3,35 +3,35 @@
 use Rattle.std.proofs.Common.{ℕ, Bool, true, false, Option, Some, None, if◌then◌else◌, ◌==◌, ◌≡◌, ◌≢◌, ◌⊎◌, ◌*◌, ◌<◌, [], ◌∷◌, length, refl, sym, ◌∙◌, ap, subst, inl, inr}
 use Rattle.std.proofs.lemmas.Bool.{cases_eq}
 use Rattle.std.proofs.Math.ListN.{get_or-map}
-use Rattle.lot_base.specs.declared.keys.Keys.TheVariants.{One}
-use Rattle.lot_base.specs.declared.notes.Note.TheVariants as note
-use Rattle.lot_acts.specs.declared.acts.Act.{Act}
-use Rattle.lot_acts.specs.declared.acts.Act.TheVariants as act
-use Rattle.lot_acts.specs.declared.acts.Next.TheVariants.{At}
-use Rattle.lot_acts.specs.declared.acts.Reply.TheVariants.{Done, Woken}
-use Rattle.lot_acts.specs.Acts.{wakes_taken}
-use Rattle.lot_acts.specs.Owners.{is_thread}
-use Rattle.lot_acts.specs.Profiles.{hand, taken_from, in_hand}
-use Rattle.lot_acts.specs.Stations.{Station, station_by}
+use Rattle.core_base.specs.declared.keys.Keys.TheVariants.{One}
+use Rattle.core_base.specs.declared.notes.Note.TheVariants as note
+use Rattle.steps_base.specs.declared.acts.Act.{Act}
+use Rattle.steps_base.specs.declared.acts.Act.TheVariants as act
+use Rattle.steps_base.specs.declared.acts.Next.TheVariants.{At}
+use Rattle.steps_base.specs.declared.acts.Reply.TheVariants.{Done, Woken}
+use Rattle.steps_base.specs.Acts.{wakes_taken}
+use Rattle.steps_base.specs.Owners.{is_thread}
+use Rattle.steps_base.specs.Profiles.{hand, taken_from, in_hand}
+use Rattle.steps_base.specs.Stations.{Station, station_by}
 use Rattle.lot_steps.specs.declared.places.Place.{Place}
 use Rattle.lot_steps.specs.declared.places.Place.TheVariants.{Condvar, Idle}
 use Rattle.lot_steps.specs.Steps.{next_place, taker}
-use Rattle.lot_mutex.specs.declared.places.MutexPlace.TheVariants as mutex
-use Rattle.lot_mutex.specs.declared.unlock.UnlockAt.TheVariants as unlock
-use Rattle.lot_condvar.specs.declared.places.CondvarPlace.{CondvarPlace}
-use Rattle.lot_condvar.specs.declared.places.CondvarPlace.TheVariants.{Wait}
-use Rattle.lot_condvar.specs.declared.wait.Stands.{Stands}
-use Rattle.lot_condvar.specs.declared.wait.Stands.TheVariants as stands
-use Rattle.lot_condvar.specs.declared.wait.WaitAt.{WaitAt}
-use Rattle.lot_condvar.specs.declared.wait.WaitAt.TheVariants as wait
-use Rattle.lot_condvar.specs.CondvarSteps.{behind}
-use Rattle.lot_condvar.specs.CondvarMoves.{row_beside, row_there, there}
-use Rattle.lot_condvar.specs.CondvarProfiles.{hand_of, taker_of, wait_row}
-use Rattle.lot_condvar.specs.CondvarWaits.{WaiterFollows}
-use Rattle.abstract_locks.specs.Deeds as laws
-use Rattle.abstract_locks.specs.Locks as locks
-use Rattle.abstract_locks.specs.Locks.{Taken, keep_from}
-use Rattle.abstract_locks.specs.Sites.{Doing, Main, Out, Site, wakened}
+use Rattle.steps_mutex.specs.declared.places.MutexPlace.TheVariants as mutex
+use Rattle.steps_mutex.specs.declared.unlock.UnlockAt.TheVariants as unlock
+use Rattle.steps_condvar.specs.declared.places.CondvarPlace.{CondvarPlace}
+use Rattle.steps_condvar.specs.declared.places.CondvarPlace.TheVariants.{Wait}
+use Rattle.steps_condvar.specs.declared.wait.Stands.{Stands}
+use Rattle.steps_condvar.specs.declared.wait.Stands.TheVariants as stands
+use Rattle.steps_condvar.specs.declared.wait.WaitAt.{WaitAt}
+use Rattle.steps_condvar.specs.declared.wait.WaitAt.TheVariants as wait
+use Rattle.steps_condvar.specs.CondvarSteps.{behind}
+use Rattle.steps_condvar.specs.CondvarMoves.{row_beside, row_there, there}
+use Rattle.steps_condvar.specs.CondvarProfiles.{hand_of, taker_of, wait_row}
+use Rattle.steps_condvar.specs.CondvarWaits.{WaiterFollows}
+use Rattle.spec_locks.specs.Deeds as laws
+use Rattle.spec_locks.specs.Locks as locks
+use Rattle.spec_locks.specs.Locks.{Taken, keep_from}
+use Rattle.spec_locks.specs.Sites.{Doing, Main, Out, Site, wakened}
 use Rattle.lot_machine.specs.Machine.{State, place_after_telling, place_at, put, state_after_act, state_after_telling, state_with_sections}
 use Rattle.lot_laws.specs.MutexDeeds.{acts}
 use Rattle.lot_laws.specs.Refinement.{taken_at}

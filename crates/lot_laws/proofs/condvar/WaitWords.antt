@@ -1,46 +1,46 @@
 -- Each step of a wait on the word of its mutex, as it releases it and locks it again: every lock is a site again.
 use Rattle.std.proofs.Common.{ℕ, Bool, true, false, Option, Some, None, if◌then◌else◌, ◌==◌, ◌&&◌, ◌≡◌, ◌≢◌, ◌<◌, List, [], ◌∷◌, length, not, refl, sym, ◌∙◌, ap, subst, inl, inr}
 use Rattle.std.proofs.lemmas.Bool.{cases_eq}
-use Rattle.lot_base.specs.declared.ops.Op.{Op}
-use Rattle.lot_base.specs.declared.ops.Op.TheVariants as op
-use Rattle.lot_base.specs.declared.wants.Want.TheVariants.{Exclusive}
-use Rattle.lot_base.specs.declared.notes.Note.TheVariants as note
-use Rattle.lot_base.specs.Words.{apply}
-use Rattle.lot_acts.specs.declared.acts.Act.TheVariants as act
-use Rattle.lot_acts.specs.declared.acts.Next.{Next}
-use Rattle.lot_acts.specs.declared.acts.Next.TheVariants.{At, End as Over}
-use Rattle.lot_acts.specs.declared.acts.Reply.{Reply}
-use Rattle.lot_acts.specs.declared.acts.Reply.TheVariants.{Value}
-use Rattle.lot_acts.specs.declared.owners.Owners.{Owners}
-use Rattle.lot_acts.specs.Owners.{with_exclusive}
-use Rattle.lot_acts.specs.Profiles.{taken_from}
-use Rattle.lot_acts.specs.Stations.{nowhere, station_by}
+use Rattle.core_base.specs.declared.ops.Op.{Op}
+use Rattle.core_base.specs.declared.ops.Op.TheVariants as op
+use Rattle.core_base.specs.declared.wants.Want.TheVariants.{Exclusive}
+use Rattle.core_base.specs.declared.notes.Note.TheVariants as note
+use Rattle.core_base.specs.Words.{apply}
+use Rattle.steps_base.specs.declared.acts.Act.TheVariants as act
+use Rattle.steps_base.specs.declared.acts.Next.{Next}
+use Rattle.steps_base.specs.declared.acts.Next.TheVariants.{At, End as Over}
+use Rattle.steps_base.specs.declared.acts.Reply.{Reply}
+use Rattle.steps_base.specs.declared.acts.Reply.TheVariants.{Value}
+use Rattle.steps_base.specs.declared.owners.Owners.{Owners}
+use Rattle.steps_base.specs.Owners.{with_exclusive}
+use Rattle.steps_base.specs.Profiles.{taken_from}
+use Rattle.steps_base.specs.Stations.{nowhere, station_by}
 use Rattle.lot_steps.specs.declared.places.Place.TheVariants.{Condvar}
 use Rattle.lot_steps.specs.Steps.{condvar_goes}
-use Rattle.lot_mutex.specs.declared.lock.Entry.TheVariants as entry
-use Rattle.lot_mutex.specs.declared.lock.LockAt.{LockAt}
-use Rattle.lot_mutex.specs.declared.lock.LockAt.TheVariants as lock
-use Rattle.lot_mutex.specs.declared.places.MutexPlace.TheVariants as mutex
-use Rattle.lot_mutex.specs.declared.unlock.UnlockAt.{UnlockAt}
-use Rattle.lot_mutex.specs.declared.unlock.UnlockAt.TheVariants as unlock
-use Rattle.lot_mutex.specs.MutexDeeds.{enters}
-use Rattle.lot_mutex.specs.MutexSteps.{is_locked, is_parked, in_lock, in_unlock, unlock_act}
-use Rattle.lot_condvar.specs.declared.places.CondvarPlace.{CondvarPlace}
-use Rattle.lot_condvar.specs.declared.places.CondvarPlace.TheVariants.{Wait}
-use Rattle.lot_condvar.specs.declared.wait.Stands.{Stands}
-use Rattle.lot_condvar.specs.declared.wait.Stands.TheVariants as stands
-use Rattle.lot_condvar.specs.declared.wait.WaitAt.{WaitAt}
-use Rattle.lot_condvar.specs.declared.wait.WaitAt.TheVariants as wait
-use Rattle.lot_condvar.specs.CondvarSteps.{condvar_next, condvar_owners, in_wait, next_wait, relocked, released, wait_act, behind}
-use Rattle.lot_condvar.specs.CondvarMoves.{row_beside, row_there, there}
-use Rattle.lot_condvar.specs.CondvarWaits.{LeavesMutex, MayHearWaiter, WaiterFollows, itself_woken, unended, waiter_deeds, waiter_next}
-use Rattle.lot_condvar.proofs.WaiterFit.{waiters_code, waiters_follow}
-use Rattle.lot_calls.specs.declared.outcomes.Answer.TheVariants as answer
-use Rattle.abstract_locks.specs.Codes.{code}
-use Rattle.abstract_locks.specs.Deeds as laws
-use Rattle.abstract_locks.specs.Locks as locks
-use Rattle.abstract_locks.specs.Locks.{Enter, Leave, Rules}
-use Rattle.abstract_locks.specs.Sites.{Case, Clear, Deed, Doing, End, Main, Mark, MarkBrought, MarkOwned, Site}
+use Rattle.steps_mutex.specs.declared.lock.Entry.TheVariants as entry
+use Rattle.steps_mutex.specs.declared.lock.LockAt.{LockAt}
+use Rattle.steps_mutex.specs.declared.lock.LockAt.TheVariants as lock
+use Rattle.steps_mutex.specs.declared.places.MutexPlace.TheVariants as mutex
+use Rattle.steps_mutex.specs.declared.unlock.UnlockAt.{UnlockAt}
+use Rattle.steps_mutex.specs.declared.unlock.UnlockAt.TheVariants as unlock
+use Rattle.steps_mutex.specs.MutexDeeds.{enters}
+use Rattle.steps_mutex.specs.MutexSteps.{is_locked, is_parked, in_lock, in_unlock, unlock_act}
+use Rattle.steps_condvar.specs.declared.places.CondvarPlace.{CondvarPlace}
+use Rattle.steps_condvar.specs.declared.places.CondvarPlace.TheVariants.{Wait}
+use Rattle.steps_condvar.specs.declared.wait.Stands.{Stands}
+use Rattle.steps_condvar.specs.declared.wait.Stands.TheVariants as stands
+use Rattle.steps_condvar.specs.declared.wait.WaitAt.{WaitAt}
+use Rattle.steps_condvar.specs.declared.wait.WaitAt.TheVariants as wait
+use Rattle.steps_condvar.specs.CondvarSteps.{condvar_next, condvar_owners, in_wait, next_wait, relocked, released, wait_act, behind}
+use Rattle.steps_condvar.specs.CondvarMoves.{row_beside, row_there, there}
+use Rattle.steps_condvar.specs.CondvarWaits.{LeavesMutex, MayHearWaiter, WaiterFollows, itself_woken, unended, waiter_deeds, waiter_next}
+use Rattle.steps_condvar.proofs.WaiterFit.{waiters_code, waiters_follow}
+use Rattle.spec_locks.specs.declared.outcomes.Answer.TheVariants as answer
+use Rattle.spec_locks.specs.Codes.{code}
+use Rattle.spec_locks.specs.Deeds as laws
+use Rattle.spec_locks.specs.Locks as locks
+use Rattle.spec_locks.specs.Locks.{Enter, Leave, Rules}
+use Rattle.spec_locks.specs.Sites.{Case, Clear, Deed, Doing, End, Main, Mark, MarkBrought, MarkOwned, Site}
 use Rattle.lot_machine.specs.Machine.{State, can_do, owners_at, place_at, put, reply_to, state_after_operation, word_at, state_after_act}
 use Rattle.lot_laws.specs.MutexDeeds.{acts}
 use Rattle.lot_laws.specs.Refinement.{taken_at}
@@ -51,7 +51,7 @@ use Rattle.lot_laws.proofs.condvar.TwoParts.{Beside, alike_there, doing_beside, 
 use Rattle.lot_laws.proofs.condvar.Replies as hears
 use Rattle.lot_laws.proofs.condvar.Replies.{taken_by_wait, waiter_hears}
 use Rattle.lot_laws.proofs.mutex.Acts.{IsOfWord, works_at}
-use Rattle.lot_acts.specs.declared.acts.Act.{Act}
+use Rattle.steps_base.specs.declared.acts.Act.{Act}
 
 module _ (w : State) (t l m : ℕ) (timed : Bool) (steady : IsSteady w) (is_there : t < length w.places) (apart : m ≢ l)
     (sort : (rules_in w m).sort ≡ locks.Mutex) where

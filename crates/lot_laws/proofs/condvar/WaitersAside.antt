@@ -2,23 +2,23 @@
 -- again.
 use Rattle.std.proofs.Common.{ℕ, Bool, true, false, Option, Some, None, if◌then◌else◌, ◌==◌, ◌≡◌, ◌≢◌, ◌+◌, ◌*◌, ◌≤◌, refl, sym, ◌∙◌, ap, subst, arith}
 use Rattle.std.proofs.lemmas.Bool.{eqb-true}
-use Rattle.lot_calls.specs.declared.kinds.Kind.{Kind}
-use Rattle.lot_calls.specs.declared.kinds.Kind.TheVariants as kind
-use Rattle.lot_calls.specs.Kinds.{is_plain_mutex}
-use Rattle.lot_acts.specs.Profiles.{Hand, Profile, taken_from}
-use Rattle.lot_acts.specs.Stations.{Station, nowhere, station_by}
-use Rattle.lot_condvar.specs.declared.places.CondvarPlace.{CondvarPlace}
-use Rattle.lot_condvar.specs.declared.places.CondvarPlace.TheVariants.{Wait, Look, Notify}
-use Rattle.lot_condvar.specs.CondvarProfiles.{condvar_profile, condvar_row, mutex_side}
-use Rattle.lot_condvar.specs.CondvarSteps.{mutex_beside}
+use Rattle.spec_locks.specs.declared.kinds.Kind.{Kind}
+use Rattle.spec_locks.specs.declared.kinds.Kind.TheVariants as kind
+use Rattle.spec_locks.specs.Kinds.{is_plain_mutex}
+use Rattle.steps_base.specs.Profiles.{Hand, Profile, taken_from}
+use Rattle.steps_base.specs.Stations.{Station, nowhere, station_by}
+use Rattle.steps_condvar.specs.declared.places.CondvarPlace.{CondvarPlace}
+use Rattle.steps_condvar.specs.declared.places.CondvarPlace.TheVariants.{Wait, Look, Notify}
+use Rattle.steps_condvar.specs.CondvarProfiles.{condvar_profile, condvar_row, mutex_side}
+use Rattle.steps_condvar.specs.CondvarSteps.{mutex_beside}
 use Rattle.lot_steps.specs.declared.places.Place.{Place}
 use Rattle.lot_steps.specs.declared.places.Place.TheVariants.{Idle, Mutex, RwLock, Once, Condvar, Semaphore}
 use Rattle.lot_steps.specs.Steps.{is_lock, profile_at}
-use Rattle.abstract_locks.specs.Condvars.{WaitsAside}
-use Rattle.abstract_locks.specs.Locks as locks
-use Rattle.abstract_locks.specs.Locks.{Rules, Sort, one_if_some, standing}
-use Rattle.abstract_locks.specs.Purposes.{rules_of}
-use Rattle.abstract_locks.specs.Sites.{Main, Second, has_readers}
+use Rattle.spec_locks.specs.Condvars.{WaitsAside}
+use Rattle.spec_locks.specs.Locks as locks
+use Rattle.spec_locks.specs.Locks.{Rules, Sort, one_if_some, standing}
+use Rattle.spec_locks.specs.Purposes.{rules_of}
+use Rattle.spec_locks.specs.Sites.{Main, Second, has_readers}
 use Rattle.lot_machine.specs.Machine.{State, kind_at, place_at, queue_at}
 use Rattle.lot_laws.specs.Refinement.{lock_state, taken_at}
 use Rattle.lot_laws.specs.Stations.{doing_on, station, station_at}

@@ -1,13 +1,13 @@
 -- Whether a take has picked anybody, by how many want to share and what the one wants who wants more, is whether anybody is in the hand of its thread.
 use Rattle.std.proofs.Common.{ℕ, zero, suc, Bool, true, false, Option, Some, None, if◌then◌else◌, ◌==◌, ◌&&◌, ◌||◌, not, cond, ◌≡◌, ◌⊎◌, List, [], ◌∷◌, length, get_or, inl, inr, refl, sym, ◌∙◌, ap, arith}
 use Rattle.std.proofs.Math.Bool.{or-true}
-use Rattle.lot_base.specs.declared.wants.Want.{Want}
-use Rattle.lot_acts.specs.Acts.{is_there, any_picked}
-use Rattle.lot_acts.specs.Owners.{is_thread}
+use Rattle.core_base.specs.declared.wants.Want.{Want}
+use Rattle.steps_base.specs.Acts.{is_there, any_picked}
+use Rattle.steps_base.specs.Owners.{is_thread}
 use Rattle.lot_steps.specs.declared.places.Place.{Place}
 use Rattle.lot_steps.specs.declared.places.Place.TheVariants.{Idle}
 use Rattle.lot_steps.specs.Steps.{taker, wants}
-use Rattle.abstract_locks.specs.Locks.{wants_shared}
+use Rattle.spec_locks.specs.Locks.{wants_shared}
 use Rattle.lot_machine.specs.declared.hands.Successor.{Successor}
 use Rattle.lot_machine.specs.Machine.{held, held_by, shares_in_hand, sharers, wants_more_in_hand, successor_or, successor_from, want_of_successor}
 use Rattle.lot_laws.proofs.machine.Parts.{differ}

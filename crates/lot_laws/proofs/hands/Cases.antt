@@ -3,12 +3,12 @@
 use Rattle.std.proofs.Common.{ℕ, zero, suc, Bool, true, false, Option, Some, None, if◌then◌else◌, ◌==◌, ◌≡◌, ◌≢◌, ◌+◌, ◌≤◌, ◌⊎◌, inl, inr, List, [], ◌∷◌, refl, sym, ◌∙◌, ap, arith}
 use Rattle.std.proofs.lemmas.Bool.{eqb-true}
 use Rattle.std.proofs.lemmas.Bool.Decides.{nat_tests}
-use Rattle.lot_base.specs.declared.wants.Want.{Want}
-use Rattle.lot_base.specs.declared.wants.Want.TheVariants.{Exclusive, Upgradable, Shared, Wait, CallOnce}
-use Rattle.abstract_locks.specs.Locks.{LockState, Rules, Queued, Taken, LockCase, Once, OfOnce, Enter, Pend, Settle, Leave, Convert, Park, Aside, TakeFirst, TakeAside, TakePicked, Wake, HandOff, Late, Rollback, Needs, HasTakenNobody, IsLockState, keep_from, one_if_some, picked, putting, standing, taking, times, unpicked, wants_shared}
-use Rattle.abstract_locks.specs.Onces.{OnceCase, Start, Finish, Fail, Rest, TakeAll}
-use Rattle.abstract_locks.specs.Locks as locks
-use Rattle.abstract_locks.proofs.Hands.{is_handed, kept_by, taking_by, taking_others, times_picked}
+use Rattle.core_base.specs.declared.wants.Want.{Want}
+use Rattle.core_base.specs.declared.wants.Want.TheVariants.{Exclusive, Upgradable, Shared, Wait, CallOnce}
+use Rattle.spec_locks.specs.Locks.{LockState, Rules, Queued, Taken, LockCase, Once, OfOnce, Enter, Pend, Settle, Leave, Convert, Park, Aside, TakeFirst, TakeAside, TakePicked, Wake, HandOff, Late, Rollback, Needs, HasTakenNobody, IsLockState, keep_from, one_if_some, picked, putting, standing, taking, times, unpicked, wants_shared}
+use Rattle.spec_locks.specs.Onces.{OnceCase, Start, Finish, Fail, Rest, TakeAll}
+use Rattle.spec_locks.specs.Locks as locks
+use Rattle.spec_locks.proofs.Hands.{is_handed, kept_by, taking_by, taking_others, times_picked}
 use Rattle.lot_laws.proofs.machine.Parts.{differ}
 use Rattle.lot_laws.proofs.hands.InHand.{wanted_of}
 

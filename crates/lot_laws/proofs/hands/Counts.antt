@@ -1,17 +1,13 @@
 -- The changes of a line, and its counts.
-use Rattle.std.proofs.Common.{ℕ, Bool, true, false, Option, Some, None, cond, if◌then◌else◌, ◌≡◌, ◌+◌, ◌≤◌, List, [], ◌∷◌, ◌==◌, refl, arith, drop}
+use Rattle.std.proofs.Common.{ℕ, Bool, true, false, Option, Some, None, if◌then◌else◌, ◌≡◌, ◌+◌, ◌≤◌, List, [], ◌∷◌, ◌==◌, refl, arith}
 use Rattle.std.proofs.lemmas.Bool.Decides.{nat_tests}
-use Rattle.lot_base.specs.declared.wants.Waiter.{Waiter}
-use Rattle.lot_base.specs.Lines.{without, times, first_of}
-use Rattle.abstract_locks.specs.Locks as locks
+use Rattle.core_base.specs.declared.wants.Waiter.{Waiter}
+use Rattle.core_base.specs.Lines.{without, times, first_of}
+use Rattle.spec_locks.specs.Locks as locks
 
 pub without_absent : (t : ℕ) (q : List Waiter) → times t q ≡ 0 → without t q ≡ q
 without_absent t [] h = refl
 without_absent t (x ∷ q) h = grind (arith, nat_tests, without_absent t q)
-
-pub times_first : (s u : ℕ) (q : List Waiter) → first_of q ≡ Some u → times s (drop 1 q) + cond (u == s) 1 0 ≡ times s q
-times_first s u [] h = absurd cc
-times_first s u (y ∷ q) h = grind (arith, nat_tests)
 
 pub first_times : (u : ℕ) (q : List Waiter) → first_of q ≡ Some u → 1 ≤ times u q
 first_times u [] h = absurd cc

@@ -1,50 +1,50 @@
 -- The counts that a call has made of the threads in its hand stay true, whatever any thread does. As long
 -- as it hasn't handed the lock over, no other thread brings anybody into its hand or lets anybody go.
 use Rattle.std.proofs.Common.{ℕ, Bool, true, false, Option, Some, None, if◌then◌else◌, ◌==◌, ◌≡◌, ◌≢◌, ◌<◌, inl, inr, length, nat_lt, refl, sym, ◌∙◌, ap, subst, get_or, get_or-set_same, length-set, set}
-use Rattle.lot_semaphore.specs.SemaphoreSteps.{semaphore_act, semaphore_next}
+use Rattle.steps_semaphore.specs.SemaphoreSteps.{semaphore_act, semaphore_next}
 use Rattle.lot_laws.proofs.machine.Parts.{IsOfTwo, IsSingle, fits_two, single_or_two}
 use Rattle.lot_laws.proofs.hands.Counting.{once_counted, condvar_counted}
-use Rattle.lot_once.specs.OnceSteps.{once_next}
-use Rattle.lot_once.specs.declared.run.RunAt.TheVariants as run
-use Rattle.lot_once.specs.declared.places.OncePlace.TheVariants.{Run}
+use Rattle.steps_once.specs.OnceSteps.{once_next}
+use Rattle.steps_once.specs.declared.run.RunAt.TheVariants as run
+use Rattle.steps_once.specs.declared.places.OncePlace.TheVariants.{Run}
 use Rattle.lot_machine.specs.Machine.{reply_to, state_after_close, state_after_go, state_after_going}
-use Rattle.abstract_locks.specs.Sites.{has_readers}
+use Rattle.spec_locks.specs.Sites.{has_readers}
 use Rattle.lot_laws.proofs.calls.Closures.{RunsOne, closes_one}
 use Rattle.lot_laws.proofs.calls.Closings.{closing, closing_there, is_behind}
 use Rattle.lot_laws.proofs.calls.OwnPlace.{gone, gone_place}
 use Rattle.std.proofs.lemmas.Bool.{cases_eq, ltb-true}
-use Rattle.lot_base.specs.declared.ops.Op.{Op}
-use Rattle.lot_base.specs.declared.ops.Op.TheVariants as operation
-use Rattle.lot_calls.specs.Calls.{lock_in}
-use Rattle.lot_calls.specs.declared.calls.Access.{Access}
-use Rattle.lot_calls.specs.declared.calls.Access.TheVariants as access
-use Rattle.lot_calls.specs.declared.calls.Turn.{Turn}
-use Rattle.lot_calls.specs.declared.calls.Turn as turn
-use Rattle.lot_calls.specs.declared.calls.Step.{Step}
-use Rattle.lot_calls.specs.declared.outcomes.Outcome.{Outcome}
-use Rattle.lot_acts.specs.declared.acts.Act.{Act}
-use Rattle.lot_acts.specs.declared.acts.Act.TheVariants as act
-use Rattle.lot_acts.specs.declared.acts.Next.{Next}
-use Rattle.lot_acts.specs.declared.acts.Next.TheVariants as next
-use Rattle.lot_acts.specs.declared.acts.Reply.{Reply}
-use Rattle.lot_acts.specs.declared.acts.Reply.TheVariants.{Late}
-use Rattle.lot_mutex.specs.MutexSteps.{mutex_act, mutex_next}
-use Rattle.lot_rwlock.specs.declared.places.Admission.{Admission}
-use Rattle.lot_rwlock_fair.specs.declared.places.RwLockCallPlace.{RwLockCallPlace}
-use Rattle.lot_rwlock_fair.specs.declared.places.RwLockCallPlace.TheVariants.{Plain, Glance, HandOver, Bump, Handed}
-use Rattle.lot_rwlock_fair.specs.declared.hand_over.Taken.{Taken as Counted}
-use Rattle.lot_rwlock_fair.specs.declared.hand_over.HandOverAt.{HandOverAt}
-use Rattle.lot_rwlock_fair.specs.declared.hand_over.HandOverAt.TheVariants as handing
-use Rattle.lot_rwlock_fair.specs.FairCalls.{in_hand_of}
-use Rattle.lot_rwlock_fair.specs.FairSteps.{any_taken, call_act, call_next, freed_next, has_room, hand_over_act, hand_over_next, looked, parked_as, released, with_taken, without}
-use Rattle.abstract_locks.specs.Codes.{has_parked}
-use Rattle.lot_once.specs.OnceSteps.{once_act, once_next}
-use Rattle.lot_condvar.specs.CondvarSteps.{condvar_act, condvar_next}
+use Rattle.core_base.specs.declared.ops.Op.{Op}
+use Rattle.core_base.specs.declared.ops.Op.TheVariants as operation
+use Rattle.spec_locks.specs.Calls.{lock_in}
+use Rattle.spec_locks.specs.declared.calls.Access.{Access}
+use Rattle.spec_locks.specs.declared.calls.Access.TheVariants as access
+use Rattle.spec_locks.specs.declared.calls.Turn.{Turn}
+use Rattle.spec_locks.specs.declared.calls.Turn as turn
+use Rattle.spec_locks.specs.declared.calls.Step.{Step}
+use Rattle.spec_locks.specs.declared.outcomes.Outcome.{Outcome}
+use Rattle.steps_base.specs.declared.acts.Act.{Act}
+use Rattle.steps_base.specs.declared.acts.Act.TheVariants as act
+use Rattle.steps_base.specs.declared.acts.Next.{Next}
+use Rattle.steps_base.specs.declared.acts.Next.TheVariants as next
+use Rattle.steps_base.specs.declared.acts.Reply.{Reply}
+use Rattle.steps_base.specs.declared.acts.Reply.TheVariants.{Late}
+use Rattle.steps_mutex.specs.MutexSteps.{mutex_act, mutex_next}
+use Rattle.steps_rwlock.specs.declared.places.Admission.{Admission}
+use Rattle.steps_rwlock_fair.specs.declared.places.RwLockCallPlace.{RwLockCallPlace}
+use Rattle.steps_rwlock_fair.specs.declared.places.RwLockCallPlace.TheVariants.{Plain, Glance, HandOver, Bump, Handed}
+use Rattle.steps_rwlock_fair.specs.declared.hand_over.Taken.{Taken as Counted}
+use Rattle.steps_rwlock_fair.specs.declared.hand_over.HandOverAt.{HandOverAt}
+use Rattle.steps_rwlock_fair.specs.declared.hand_over.HandOverAt.TheVariants as handing
+use Rattle.steps_rwlock_fair.specs.FairCalls.{in_hand_of}
+use Rattle.steps_rwlock_fair.specs.FairSteps.{any_taken, call_act, call_next, freed_next, has_room, hand_over_act, hand_over_next, looked, parked_as, released, with_taken, without}
+use Rattle.spec_locks.specs.Codes.{has_parked}
+use Rattle.steps_once.specs.OnceSteps.{once_act, once_next}
+use Rattle.steps_condvar.specs.CondvarSteps.{condvar_act, condvar_next}
 use Rattle.lot_steps.specs.declared.places.Place.{Place}
 use Rattle.lot_steps.specs.declared.places.Place.TheVariants.{Idle, Mutex, RwLock, Once, Condvar, Semaphore}
 use Rattle.lot_steps.specs.Steps.{act_of, first_place, late_key, looking, next_place, rwlock_goes}
-use Rattle.abstract_locks.specs.Locks.{LockState}
-use Rattle.abstract_locks.specs.Runs.{IsStep, Turned}
+use Rattle.spec_locks.specs.Locks.{LockState}
+use Rattle.spec_locks.specs.Runs.{IsStep, Turned}
 use Rattle.lot_machine.specs.Machine.{State, after, can_turn, go_reply, held, is_possible, kind_at, place_at, put, state_after_act, state_after_hand_over_by, state_after_late_on, state_after_look, state_after_operation, state_after_turn, step_outcome, word_at}
 use Rattle.lot_machine.specs.Fits.{IsShaped}
 use Rattle.lot_machine.proofs.Shape.{after_size, both}

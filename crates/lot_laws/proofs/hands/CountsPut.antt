@@ -1,8 +1,8 @@
 -- A thread stands elsewhere in its call: who counted whom it has in hand has counted them still.
 use Rattle.std.proofs.Common.{ℕ, Some, None, ◌≡◌, ◌<◌, List, inl, inr, length, length-set, get_or-set_other, get_or-set_same, sym, ◌∙◌, ap}
 use Rattle.std.proofs.lemmas.Bool.{cases_eq}
-use Rattle.lot_calls.specs.declared.kinds.Kind.{Kind}
-use Rattle.lot_acts.specs.Profiles.{hand_owner}
+use Rattle.spec_locks.specs.declared.kinds.Kind.{Kind}
+use Rattle.steps_base.specs.Profiles.{hand_owner}
 use Rattle.lot_steps.specs.declared.places.Place.{Place}
 use Rattle.lot_steps.specs.declared.places.Place.TheVariants.{Idle}
 use Rattle.lot_steps.specs.Steps.{looking, or_else}

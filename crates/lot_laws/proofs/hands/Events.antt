@@ -1,15 +1,15 @@
 -- A right is handed over to many at once: it is one case of the lock, and the calls of all who were handed it go on with what they wanted.
 use Rattle.std.proofs.Common.{ℕ, zero, suc, Bool, true, false, Option, Some, None, if◌then◌else◌, ◌==◌, ◌≡◌, ◌<◌, List, [], ◌∷◌, ◌++◌, length, inl, inr, refl, sym, ◌∙◌, ap, arith}
 use Rattle.std.proofs.lemmas.Bool.{cases_lt, eqb-true}
-use Rattle.lot_base.specs.declared.wants.Want.{Want}
-use Rattle.lot_acts.specs.Moves.{claim_handed}
-use Rattle.abstract_locks.specs.Sites.{Begin}
-use Rattle.lot_acts.specs.declared.acts.Reply.TheVariants.{HandedBy}
+use Rattle.core_base.specs.declared.wants.Want.{Want}
+use Rattle.steps_base.specs.Moves.{claim_handed}
+use Rattle.spec_locks.specs.Sites.{Begin}
+use Rattle.steps_base.specs.declared.acts.Reply.TheVariants.{HandedBy}
 use Rattle.lot_steps.specs.declared.places.Place.{Place}
 use Rattle.lot_steps.specs.declared.places.Place.TheVariants.{Idle}
 use Rattle.lot_steps.specs.Steps.{next_place}
-use Rattle.abstract_locks.specs.Locks.{Queued, Rights, Taken, HandOff, IsTaken, handed, putting, readers, rights_of}
-use Rattle.abstract_locks.specs.Runs.{AtLock, behind_wake, is_taken_by}
+use Rattle.spec_locks.specs.Locks.{Queued, Rights, Taken, HandOff, IsTaken, handed, putting, readers, rights_of}
+use Rattle.spec_locks.specs.Runs.{AtLock, behind_wake, is_taken_by}
 use Rattle.lot_machine.specs.Machine.{State, place_at}
 use Rattle.lot_laws.specs.Refinement.{call_state, lock_state, taken_at}
 use Rattle.lot_laws.specs.MutexDeeds.{Act}

@@ -1,22 +1,22 @@
 -- A thread that has somebody in hand at one lock alone: each thread in its hand is so there, and one at
 -- most where that lock lets one go at a time. Its leaving and its hand-over empty the hand.
 use Rattle.std.proofs.Common.{ℕ, Bool, true, false, Option, Some, None, if◌then◌else◌, ◌==◌, ◌≡◌, ◌≢◌, ◌+◌, List, inl, inr, refl, ◌∙◌, ap, subst, arith}
-use Rattle.abstract_locks.proofs.LockKeeps.{sharing_same}
-use Rattle.abstract_locks.specs.Locks.{IsLockState}
+use Rattle.spec_locks.proofs.LockKeeps.{sharing_same}
+use Rattle.spec_locks.specs.Locks.{IsLockState}
 use Rattle.std.proofs.lemmas.Bool.{cases_eq}
-use Rattle.lot_base.specs.declared.wants.Waiter.{Waiter}
-use Rattle.lot_base.specs.declared.wants.Want.TheVariants.{Exclusive}
-use Rattle.lot_acts.specs.declared.owners.Owners.{Owners}
+use Rattle.core_base.specs.declared.wants.Waiter.{Waiter}
+use Rattle.core_base.specs.declared.wants.Want.TheVariants.{Exclusive}
+use Rattle.steps_base.specs.declared.owners.Owners.{Owners}
 use Rattle.lot_steps.specs.declared.places.Place.{Place}
-use Rattle.lot_acts.specs.declared.acts.Reply.{Reply}
+use Rattle.steps_base.specs.declared.acts.Reply.{Reply}
 use Rattle.lot_steps.specs.Steps.{taker}
-use Rattle.abstract_locks.specs.Locks.{Queued, let_go, putting}
+use Rattle.spec_locks.specs.Locks.{let_go, putting}
 use Rattle.std.specs.Prelude.{sum}
-use Rattle.lot_acts.specs.Owners.{is_thread, with_exclusive}
-use Rattle.abstract_locks.specs.Locks as locks
+use Rattle.steps_base.specs.Owners.{is_thread, with_exclusive}
+use Rattle.spec_locks.specs.Locks as locks
 use Rattle.lot_machine.specs.Machine.{State, place_at, shares_at, state_after_telling, held, pending_for, owners_of_successor, shares_handed_over, owners_handed_over, state_after_reply}
 use Rattle.lot_laws.specs.Refinement.{lock_seen, taken_at}
-pub use Rattle.lot_mutex.specs.MutexLaws.{heir}
+pub use Rattle.steps_mutex.specs.MutexLaws.{heir}
 use Rattle.lot_laws.specs.Stations.{Station, hand}
 use Rattle.lot_laws.specs.SitesOf.{carried_at, hand_at, Hands}
 use Rattle.lot_laws.proofs.machine.Parts.{mutex, put_other, stays, untaken, IsOf, station_elsewhere, WantsAlone, none_given, IsApart, held_tells, in_hand_where, Base, LetGo, IsInHandOf, successor_in, successor_is, told_in}

@@ -2,53 +2,53 @@
 use Rattle.std.proofs.Common.{◌+◌, ◌*◌, ◌-◌, ℕ, Bool, true, false, Option, Some, None, if◌then◌else◌, ◌==◌, ◌≡◌, ◌≢◌, ◌^◌, ◌<◌, ◌≤◌, ◌⊎◌, inl, inr, List, [], ◌∷◌, ◌++◌, length, refl, sym, ◌∙◌, ap, subst, arith}
 use Rattle.lot_laws.proofs.rwlock.Kept.{beside_no_call, of_no_once}
 use Rattle.std.proofs.lemmas.Bool.{eqb-true}
-use Rattle.lot_base.specs.declared.ops.Op.{Op}
-use Rattle.lot_base.specs.declared.ops.Op.TheVariants as operation
-use Rattle.lot_base.specs.declared.wants.Want.{Want}
-use Rattle.lot_base.specs.declared.wants.Want.TheVariants.{Exclusive, Upgradable, Shared}
-use Rattle.lot_base.specs.declared.wants.Waiter.{Waiter}
-use Rattle.lot_base.specs.Words.{apply}
-use Rattle.lot_calls.specs.declared.calls.Access.TheVariants as access
-use Rattle.lot_acts.specs.declared.acts.Act.TheVariants as act
-use Rattle.lot_acts.specs.declared.acts.Reply.TheVariants.{HandedBy, Value}
-use Rattle.lot_acts.specs.declared.owners.Owners.{Owners}
-use Rattle.lot_acts.specs.Acts.{takes_effect}
-use Rattle.lot_acts.specs.Moves.{HandsOver, bit_left, claim_handed, heir_of}
-use Rattle.lot_acts.specs.Owners.{lock_seen, shares_then}
-use Rattle.lot_acts.specs.Profiles.{Profile, hand, in_hand}
-use Rattle.lot_acts.specs.Stations.{Station, nowhere, station_by}
-use Rattle.lot_rwlock.specs.declared.places.Admission.{Admission}
-use Rattle.lot_rwlock.specs.declared.places.RwLockPlace.{RwLockPlace}
-use Rattle.lot_rwlock.specs.declared.places.RwLockAt.{RwLockAt}
-use Rattle.lot_rwlock.specs.declared.places.RwLockAt.TheVariants as at
-use Rattle.lot_rwlock.specs.declared.park.ParkAt.TheVariants as parking
-use Rattle.lot_rwlock.specs.RwLockDeeds.{doing_at, again_of}
-use Rattle.lot_rwlock.specs.RwLockProfiles.{hand_at as place_hand}
-use Rattle.lot_rwlock_fair.specs.declared.places.RwLockCallPlace.{RwLockCallPlace}
-use Rattle.lot_rwlock_fair.specs.declared.places.RwLockCallPlace.TheVariants.{Plain, Glance, HandOver, Bump, Handed}
-use Rattle.lot_rwlock_fair.specs.declared.hand_over.Taken.{Taken as Counted}
-use Rattle.lot_rwlock_fair.specs.declared.hand_over.HandOverAt.TheVariants as handing
-use Rattle.lot_rwlock_fair.specs.declared.handed.HandedAt.TheVariants as handed
-use Rattle.lot_rwlock_fair.specs.FairCalls.{CallStands, in_hand_of}
-use Rattle.lot_rwlock_fair.specs.FairDeeds.{call_deeds, hands_over}
-use Rattle.lot_rwlock_fair.specs.FairLaws.{CallTells, HandsOver as Hands}
-use Rattle.lot_rwlock_fair.specs.FairMoves.{call_move}
-use Rattle.lot_rwlock_fair.specs.FairProfiles.{call_profile}
-use Rattle.lot_rwlock_fair.specs.FairSteps.{call_act, call_next, call_owners, call_shares, has_room, parked_as, tokens, with_taken, without}
-use Rattle.lot_rwlock_fair.proofs.FairActs.{fair_sleepers_move}
-use Rattle.lot_rwlock_fair.proofs.FairMoves.{hand_overs_move, handed_move}
-use Rattle.lot_rwlock_fair.proofs.FairOwners.{givers_keep}
-use Rattle.lot_rwlock_fair.proofs.FairStands.{fair_calls_stand}
-use Rattle.lot_rwlock_fair.proofs.FairTells.{hand_overs_tell}
-use Rattle.lot_rwlock_fair.proofs.HandOverCodes.{hand_overs_code}
-use Rattle.lot_rwlock_fair.proofs.HandOverFit.{hand_overs_follow}
+use Rattle.core_base.specs.declared.ops.Op.{Op}
+use Rattle.core_base.specs.declared.ops.Op.TheVariants as operation
+use Rattle.core_base.specs.declared.wants.Want.{Want}
+use Rattle.core_base.specs.declared.wants.Want.TheVariants.{Exclusive, Upgradable, Shared}
+use Rattle.core_base.specs.declared.wants.Waiter.{Waiter}
+use Rattle.core_base.specs.Words.{apply}
+use Rattle.spec_locks.specs.declared.calls.Access.TheVariants as access
+use Rattle.steps_base.specs.declared.acts.Act.TheVariants as act
+use Rattle.steps_base.specs.declared.acts.Reply.TheVariants.{HandedBy, Value}
+use Rattle.steps_base.specs.declared.owners.Owners.{Owners}
+use Rattle.steps_base.specs.Acts.{takes_effect}
+use Rattle.steps_base.specs.Moves.{HandsOver, bit_left, claim_handed, heir_of}
+use Rattle.steps_base.specs.Owners.{lock_seen, shares_then}
+use Rattle.steps_base.specs.Profiles.{Profile, hand, in_hand}
+use Rattle.steps_base.specs.Stations.{Station, nowhere, station_by}
+use Rattle.steps_rwlock.specs.declared.places.Admission.{Admission}
+use Rattle.steps_rwlock.specs.declared.places.RwLockPlace.{RwLockPlace}
+use Rattle.steps_rwlock.specs.declared.places.RwLockAt.{RwLockAt}
+use Rattle.steps_rwlock.specs.declared.places.RwLockAt.TheVariants as at
+use Rattle.steps_rwlock.specs.declared.park.ParkAt.TheVariants as parking
+use Rattle.steps_rwlock.specs.RwLockDeeds.{doing_at, again_of}
+use Rattle.steps_rwlock.specs.RwLockProfiles.{hand_at as place_hand}
+use Rattle.steps_rwlock_fair.specs.declared.places.RwLockCallPlace.{RwLockCallPlace}
+use Rattle.steps_rwlock_fair.specs.declared.places.RwLockCallPlace.TheVariants.{Plain, Glance, HandOver, Bump, Handed}
+use Rattle.steps_rwlock_fair.specs.declared.hand_over.Taken.{Taken as Counted}
+use Rattle.steps_rwlock_fair.specs.declared.hand_over.HandOverAt.TheVariants as handing
+use Rattle.steps_rwlock_fair.specs.declared.handed.HandedAt.TheVariants as handed
+use Rattle.steps_rwlock_fair.specs.FairCalls.{CallStands, in_hand_of}
+use Rattle.steps_rwlock_fair.specs.FairDeeds.{call_deeds, hands_over}
+use Rattle.steps_rwlock_fair.specs.FairLaws.{CallTells, HandsOver as Hands}
+use Rattle.steps_rwlock_fair.specs.FairMoves.{call_move}
+use Rattle.steps_rwlock_fair.specs.FairProfiles.{call_profile}
+use Rattle.steps_rwlock_fair.specs.FairSteps.{call_act, call_next, call_owners, call_shares, has_room, parked_as, tokens, with_taken, without}
+use Rattle.steps_rwlock_fair.proofs.FairActs.{fair_sleepers_move}
+use Rattle.steps_rwlock_fair.proofs.FairMoves.{hand_overs_move, handed_move}
+use Rattle.steps_rwlock_fair.proofs.FairOwners.{givers_keep}
+use Rattle.steps_rwlock_fair.proofs.FairStands.{fair_calls_stand}
+use Rattle.steps_rwlock_fair.proofs.FairTells.{hand_overs_tell}
+use Rattle.steps_rwlock_fair.proofs.HandOverCodes.{hand_overs_code}
+use Rattle.steps_rwlock_fair.proofs.HandOverFit.{hand_overs_follow}
 use Rattle.lot_steps.specs.declared.places.Place.{Place}
 use Rattle.lot_steps.specs.declared.places.Place.TheVariants.{Idle, Mutex, RwLock, Once, Condvar, Semaphore}
 use Rattle.lot_steps.specs.Steps.{next_place, profile}
-use Rattle.abstract_locks.specs.Locks.{LockState, Rules, Taken, HandOff, IsLockState, Owns, Queued, without_owner}
-use Rattle.abstract_locks.specs.Sites.{Case, Doing, Pends, Site, has_readers}
-use Rattle.abstract_locks.specs.Codes.{HasLimit, code}
-use Rattle.abstract_locks.specs.Deeds as laws
+use Rattle.spec_locks.specs.Locks.{LockState, Rules, Taken, HandOff, IsLockState, Owns, Queued, without_owner}
+use Rattle.spec_locks.specs.Sites.{Case, Doing, Pends, Site, has_readers}
+use Rattle.spec_locks.specs.Codes.{HasLimit, code}
+use Rattle.spec_locks.specs.Deeds as laws
 use Rattle.lot_machine.specs.Machine.{State, owners_at, place_at, put, queue_at, share_at, shares_at, sharers, state_after_act, successor_from, unshared_then, word_at}
 use Rattle.lot_machine.specs.Fits.{IsShaped}
 use Rattle.lot_laws.specs.Refinement.{taken_at}
@@ -56,7 +56,7 @@ use Rattle.lot_laws.specs.MutexDeeds.{acts}
 use Rattle.lot_laws.specs.SitesOf.{FitsItsLock, Goes, HasRoom, IsCounted, IsSteady, carried_at, hand_at, rules_in}
 use Rattle.lot_laws.specs.Stations.{doing_on, station}
 use Rattle.lot_laws.proofs.sites.ActsKept.{lock_by}
-use Rattle.lot_acts.specs.Profiles.{Hand}
+use Rattle.steps_base.specs.Profiles.{Hand}
 use Rattle.lot_laws.proofs.machine.Parts.{free_of, IsOf, doing_here, next_of, station_here, of_single, condvar_unheld}
 use Rattle.lot_laws.proofs.hands.Counted.{few_sharers, has_in_hand}
 use Rattle.lot_laws.proofs.hands.Kept.{IsGiven, claims_given, given_of}

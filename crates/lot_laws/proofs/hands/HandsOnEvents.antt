@@ -3,36 +3,36 @@ use Rattle.std.proofs.Common.{ℕ, Bool, true, false, Option, Some, None, if◌t
 use Rattle.lot_laws.proofs.rwlock.Kept.{beside_no_call, of_no_once}
 use Rattle.std.proofs.lemmas.Bool.{eqb-true}
 use Rattle.std.proofs.Math.ListN.{get_or-map}
-use Rattle.lot_base.specs.declared.ops.Op.{Op}
-use Rattle.lot_base.specs.declared.wants.Want.{Want}
-use Rattle.lot_base.specs.declared.wants.Want.TheVariants.{Exclusive, Upgradable, Shared, Wait, CallOnce}
-use Rattle.lot_acts.specs.declared.acts.Act.TheVariants as act
-use Rattle.lot_acts.specs.declared.acts.Next.{Next}
-use Rattle.lot_acts.specs.declared.acts.Next.TheVariants as next
-use Rattle.lot_acts.specs.declared.acts.Reply.TheVariants.{HandedBy, Value}
-use Rattle.lot_acts.specs.Acts.{takes_effect}
-use Rattle.lot_acts.specs.Moves.{claim_handed, heir_of, row_of}
-use Rattle.lot_acts.specs.Owners.{is_thread}
-use Rattle.lot_acts.specs.Profiles.{Hand, Of, Profile, hand, taken_from}
-use Rattle.lot_acts.specs.Stations.{Station, nowhere, station_by}
-use Rattle.lot_rwlock.specs.declared.places.Admission.{Admission}
-use Rattle.lot_rwlock_fair.specs.declared.places.RwLockCallPlace.{RwLockCallPlace}
-use Rattle.lot_rwlock_fair.specs.declared.hand_over.Taken.{Taken as Counted}
-use Rattle.lot_rwlock_fair.specs.FairCalls.{in_hand_of}
-use Rattle.lot_rwlock_fair.specs.FairDeeds.{call_deeds}
-use Rattle.lot_rwlock_fair.specs.FairLaws.{next_rows, with_claim}
-use Rattle.lot_rwlock_fair.specs.FairMoves.{call_move}
-use Rattle.lot_rwlock_fair.specs.FairProfiles.{call_profile}
-use Rattle.lot_rwlock_fair.specs.FairSteps.{call_act, call_next}
-use Rattle.lot_rwlock_fair.proofs.FairMoves.{handed_move}
-use Rattle.lot_rwlock_fair.proofs.FairSleepers.{fair_sleepers_hear}
+use Rattle.core_base.specs.declared.ops.Op.{Op}
+use Rattle.core_base.specs.declared.wants.Want.{Want}
+use Rattle.core_base.specs.declared.wants.Want.TheVariants.{Exclusive, Upgradable, Shared, Wait, CallOnce}
+use Rattle.steps_base.specs.declared.acts.Act.TheVariants as act
+use Rattle.steps_base.specs.declared.acts.Next.{Next}
+use Rattle.steps_base.specs.declared.acts.Next.TheVariants as next
+use Rattle.steps_base.specs.declared.acts.Reply.TheVariants.{HandedBy, Value}
+use Rattle.steps_base.specs.Acts.{takes_effect}
+use Rattle.steps_base.specs.Moves.{claim_handed, heir_of, row_of}
+use Rattle.steps_base.specs.Owners.{is_thread}
+use Rattle.steps_base.specs.Profiles.{Hand, Of, Profile, hand, taken_from}
+use Rattle.steps_base.specs.Stations.{Station, nowhere, station_by}
+use Rattle.steps_rwlock.specs.declared.places.Admission.{Admission}
+use Rattle.steps_rwlock_fair.specs.declared.places.RwLockCallPlace.{RwLockCallPlace}
+use Rattle.steps_rwlock_fair.specs.declared.hand_over.Taken.{Taken as Counted}
+use Rattle.steps_rwlock_fair.specs.FairCalls.{in_hand_of}
+use Rattle.steps_rwlock_fair.specs.FairDeeds.{call_deeds}
+use Rattle.steps_rwlock_fair.specs.FairLaws.{next_rows, with_claim}
+use Rattle.steps_rwlock_fair.specs.FairMoves.{call_move}
+use Rattle.steps_rwlock_fair.specs.FairProfiles.{call_profile}
+use Rattle.steps_rwlock_fair.specs.FairSteps.{call_act, call_next}
+use Rattle.steps_rwlock_fair.proofs.FairMoves.{handed_move}
+use Rattle.steps_rwlock_fair.proofs.FairSleepers.{fair_sleepers_hear}
 use Rattle.lot_steps.specs.declared.places.Place.{Place}
 use Rattle.lot_steps.specs.declared.places.Place.TheVariants.{Idle, Mutex, RwLock, Once, Condvar, Semaphore}
 use Rattle.lot_steps.specs.Steps.{calls, next_place, profile, rwlock_goes, taker}
-use Rattle.abstract_locks.specs.Deeds.{case_of, event_by}
-use Rattle.abstract_locks.specs.Locks.{HandOff, IsTaken, Queued, Rights, Taken, putting}
-use Rattle.abstract_locks.specs.Runs.{AtLock, Event, is_taken_by}
-use Rattle.abstract_locks.specs.Sites.{Deed}
+use Rattle.spec_locks.specs.Deeds.{case_of, event_by}
+use Rattle.spec_locks.specs.Locks.{HandOff, IsTaken, Queued, Rights, Taken, putting}
+use Rattle.spec_locks.specs.Runs.{AtLock, Event, is_taken_by}
+use Rattle.spec_locks.specs.Sites.{Deed}
 use Rattle.lot_machine.specs.Fits.{IsShaped}
 use Rattle.lot_machine.specs.Machine.{State, place_after_telling, place_at, put, state_after_act, state_after_hand_over_by, unshared_then, word_at}
 use Rattle.lot_laws.specs.MutexDeeds.{acts}

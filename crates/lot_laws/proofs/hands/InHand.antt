@@ -5,9 +5,9 @@ use Rattle.std.specs.Prelude.{sum}
 use Rattle.std.specs.List.{filter}
 use Rattle.std.proofs.lemmas.Bool.{eqb-true}
 use Rattle.std.proofs.lemmas.Bool.Decides.{nat_tests}
-use Rattle.lot_base.specs.declared.wants.Want.{Want}
-use Rattle.abstract_locks.specs.Locks.{Taken, shares_handed, sharing_from, wants_shared}
-use Rattle.abstract_locks.proofs.HandLimits.{sum_cons}
+use Rattle.core_base.specs.declared.wants.Want.{Want}
+use Rattle.spec_locks.specs.Locks.{Taken, shares_handed, sharing_from, wants_shared}
+use Rattle.spec_locks.proofs.HandLimits.{sum_cons}
 use Rattle.lot_steps.specs.declared.places.Place.{Place}
 use Rattle.lot_steps.specs.declared.places.Place.TheVariants.{Idle}
 use Rattle.lot_machine.specs.declared.hands.Successor.{Successor}

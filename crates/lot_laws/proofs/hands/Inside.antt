@@ -1,9 +1,9 @@
 -- A thread that has taken others is inside the section from whose line it took them. One that is yet to set a parked bit beside waiters is inside
 -- too, or has ended its run of a `Once` and owes them their wake.
 use Rattle.std.proofs.Common.{ℕ, Bool, true, false, Some, None, if◌then◌else◌, ◌≡◌, inl, inr, sym, ◌∙◌, ap, subst}
-use Rattle.abstract_locks.specs.Locks.{Taken}
-use Rattle.abstract_locks.specs.Sites.{Doing, Line, Main, idle}
-use Rattle.lot_condvar.specs.declared.places.CondvarPlace.{CondvarPlace}
+use Rattle.spec_locks.specs.Locks.{Taken}
+use Rattle.spec_locks.specs.Sites.{Doing, Line, Main, idle}
+use Rattle.steps_condvar.specs.declared.places.CondvarPlace.{CondvarPlace}
 use Rattle.lot_steps.specs.declared.places.Place.{Place}
 use Rattle.lot_steps.specs.declared.places.Place.TheVariants.{Condvar}
 use Rattle.lot_steps.specs.Steps.{beside_of, calls, is_lock, line_owed, or_else, profile, profile_beside}

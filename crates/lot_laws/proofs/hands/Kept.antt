@@ -5,28 +5,28 @@ use Rattle.std.specs.Prelude.{sum}
 use Rattle.std.proofs.lemmas.Bool.{cases_eq, cases_lt, eqb-true}
 use Rattle.std.proofs.lemmas.Bool.Decides.{nat_tests}
 use Rattle.std.proofs.lemmas.List.{length-map}
-use Rattle.lot_base.specs.declared.ops.Op.{Op}
-use Rattle.lot_base.specs.declared.wants.Waiter.{Waiter}
-use Rattle.lot_base.specs.declared.wants.Want.{Want}
-use Rattle.lot_base.specs.declared.wants.Want.TheVariants.{Exclusive, Upgradable, Shared, Wait, CallOnce}
-use Rattle.lot_base.specs.Words.{apply}
-use Rattle.lot_calls.specs.declared.kinds.Kind as kind
-use Rattle.lot_acts.specs.declared.owners.Owners.{Owners}
-use Rattle.lot_acts.specs.declared.acts.Reply.TheVariants.{HandedBy}
-use Rattle.lot_acts.specs.Moves.{claim_handed, bit_left}
-use Rattle.lot_acts.specs.Owners.{is_thread, lock_seen, with_exclusive}
-use Rattle.lot_acts.specs.Profiles.{hand, Hand, Of, in_hand as in_hand_if, taken_from}
+use Rattle.core_base.specs.declared.ops.Op.{Op}
+use Rattle.core_base.specs.declared.wants.Waiter.{Waiter}
+use Rattle.core_base.specs.declared.wants.Want.{Want}
+use Rattle.core_base.specs.declared.wants.Want.TheVariants.{Exclusive, Upgradable, Shared, Wait, CallOnce}
+use Rattle.core_base.specs.Words.{apply}
+use Rattle.spec_locks.specs.declared.kinds.Kind as kind
+use Rattle.steps_base.specs.declared.owners.Owners.{Owners}
+use Rattle.steps_base.specs.declared.acts.Reply.TheVariants.{HandedBy}
+use Rattle.steps_base.specs.Moves.{claim_handed, bit_left}
+use Rattle.steps_base.specs.Owners.{is_thread, lock_seen, with_exclusive}
+use Rattle.steps_base.specs.Profiles.{hand, Hand, Of, in_hand as in_hand_if, taken_from}
 use Rattle.lot_steps.specs.declared.places.Place.{Place}
 use Rattle.lot_steps.specs.declared.places.Place.TheVariants.{Idle}
 use Rattle.lot_steps.specs.Steps.{calls, next_place, owners_after, profile, taker, wants}
-use Rattle.abstract_locks.specs.Locks.{LockState, Queued, Taken, Rules, Sort, Mutex, Normal, Recursive, Semaphore, Once, HandOff, IsSuccessor, Knows, keep_from, let_go, putting, sharing_from, sharing_handed, shares_handed, succeeding, wants_shared, with_owner, with_successor, without_owner, handed, readers}
-use Rattle.abstract_locks.specs.Locks as locks
-use Rattle.abstract_locks.specs.Sites.{Doing, Site, IsSite, Deed, Has, Begin, Case, Holds, has_readers, is_full, after_deed}
-use Rattle.abstract_locks.specs.Codes.{code, code_of, fills, has_aside, has_parked, HasLimit, TellsTrue}
-use Rattle.abstract_locks.specs.Deeds as laws
-use Rattle.abstract_locks.proofs.CodeLaws.{words_tell_true}
-use Rattle.abstract_locks.proofs.HandLimits.{handed_limit, sum_cons, unshared_successor}
-use Rattle.abstract_locks.proofs.Hands.{has_upgradable_handed, has_exclusive_handed, pends_handed, shares_handed_on}
+use Rattle.spec_locks.specs.Locks.{LockState, Queued, Taken, Rules, Sort, Mutex, Normal, Recursive, Semaphore, Once, HandOff, IsSuccessor, Knows, keep_from, let_go, putting, sharing_from, sharing_handed, shares_handed, succeeding, wants_shared, with_owner, with_successor, without_owner, handed, readers}
+use Rattle.spec_locks.specs.Locks as locks
+use Rattle.spec_locks.specs.Sites.{Doing, Site, IsSite, Deed, Has, Begin, Case, Holds, has_readers, is_full, after_deed}
+use Rattle.spec_locks.specs.Codes.{code, code_of, fills, has_aside, has_parked, HasLimit, TellsTrue}
+use Rattle.spec_locks.specs.Deeds as laws
+use Rattle.spec_locks.proofs.CodeLaws.{words_tell_true}
+use Rattle.spec_locks.proofs.HandLimits.{handed_limit, sum_cons, unshared_successor}
+use Rattle.spec_locks.proofs.Hands.{has_upgradable_handed, has_exclusive_handed, pends_handed, shares_handed_on}
 use Rattle.lot_machine.specs.declared.hands.Successor.{Successor}
 use Rattle.lot_machine.specs.declared.locks.Lock.{Lock}
 use Rattle.lot_machine.specs.Machine.{State, place_at, word_at, owners_at, shares_at, filled_at, kind_at, queue_at, section_at, unlocked, put, state_after_hand_over, state_after_telling, place_after_telling, hand_over_told, unshared_then, held, held_by, shares_in_hand, shares_given, shares_handed_over, with_share, successor_from, owners_of_successor, owners_handed_over, pending_for}

@@ -1,24 +1,24 @@
 -- A thread goes on by the act that hands its right over, at a lock that is shared: where the operation takes effect all whom it has in hand own, and else
 -- nothing changes. No place is named, as in `MovesKept`.
 use Rattle.std.proofs.Common.{ℕ, Bool, true, false, Option, Some, None, ◌≡◌, ◌+◌, ◌*◌, ◌<◌, List, [], ◌∷◌, ◌++◌, length, refl, sym, ◌∙◌, ap, subst}
-use Rattle.lot_base.specs.declared.ops.Op.{Op}
-use Rattle.lot_base.specs.Words.{apply}
-use Rattle.lot_acts.specs.declared.acts.Act.TheVariants as act
-use Rattle.lot_acts.specs.declared.acts.Reply.TheVariants.{Done, Value}
-use Rattle.lot_acts.specs.declared.acts.Wakes.{Wakes}
-use Rattle.lot_base.specs.declared.keys.Keys.TheVariants.{One}
-use Rattle.lot_base.specs.declared.notes.Note.TheVariants.{HandOff as HandOffNote}
-use Rattle.lot_acts.specs.Acts.{takes_effect, wakes_taken}
-use Rattle.lot_acts.specs.Moves.{Move, Hears, Accepts, HandsOver, TellsHanded, bit_left, heir_of, inside_of}
-use Rattle.lot_acts.specs.Owners.{lock_seen}
-use Rattle.lot_acts.specs.Profiles.{Profile, in_hand}
-use Rattle.lot_acts.specs.Stations.{Station, station_by, nowhere}
+use Rattle.core_base.specs.declared.ops.Op.{Op}
+use Rattle.core_base.specs.Words.{apply}
+use Rattle.steps_base.specs.declared.acts.Act.TheVariants as act
+use Rattle.steps_base.specs.declared.acts.Reply.TheVariants.{Done, Value}
+use Rattle.steps_base.specs.declared.acts.Wakes.{Wakes}
+use Rattle.core_base.specs.declared.keys.Keys.TheVariants.{One}
+use Rattle.core_base.specs.declared.notes.Note.TheVariants.{HandOff as HandOffNote}
+use Rattle.steps_base.specs.Acts.{takes_effect, wakes_taken}
+use Rattle.steps_base.specs.Moves.{Move, Hears, Accepts, HandsOver, TellsHanded, bit_left, heir_of, inside_of}
+use Rattle.steps_base.specs.Owners.{lock_seen}
+use Rattle.steps_base.specs.Profiles.{Profile, in_hand}
+use Rattle.steps_base.specs.Stations.{Station, station_by, nowhere}
 use Rattle.lot_steps.specs.declared.places.Place.{Place}
 use Rattle.lot_steps.specs.Steps.{owners_after, profile}
-use Rattle.abstract_locks.specs.Locks.{Rules, HandOff, without_owner}
-use Rattle.abstract_locks.specs.Sites.{Site, Deed, Case, End, Main, has_readers}
-use Rattle.abstract_locks.specs.Codes.{code}
-use Rattle.abstract_locks.specs.Deeds as laws
+use Rattle.spec_locks.specs.Locks.{Rules, HandOff, without_owner}
+use Rattle.spec_locks.specs.Sites.{Site, Deed, Case, End, Main, has_readers}
+use Rattle.spec_locks.specs.Codes.{code}
+use Rattle.spec_locks.specs.Deeds as laws
 use Rattle.lot_machine.specs.declared.hands.Successor.{Successor}
 use Rattle.lot_machine.specs.Machine.{State, place_at, word_at, owners_at, shares_at, queue_at, put, state_after_act, state_after_leave, state_after_hand_over_by, successor_from, unshared_then, want_of_successor}
 use Rattle.lot_laws.specs.Refinement.{taken_at}

@@ -1,18 +1,15 @@
 -- A thread at a place, between steps: the section that it is inside, the lines in which it stands, and its
 -- rights.
-use Rattle.std.proofs.Common.{ℕ, Bool, true, false, Option, Some, None, if◌then◌else◌, ◌==◌, ◌≡◌, ◌*◌, ◌≤◌, ◌<◌, List, [], length, get_or, map, refl, sym, ◌∙◌, ap, arith, inl, inr}
-use Rattle.std.proofs.lemmas.Bool.{cases_lt}
-use Rattle.std.proofs.lemmas.List.{get_or_past}
+use Rattle.std.proofs.Common.{ℕ, Bool, true, false, Option, Some, None, if◌then◌else◌, ◌==◌, ◌≡◌, ◌*◌, ◌≤◌, ◌<◌, [], get_or, map, refl, sym, ◌∙◌, ap}
 use Rattle.std.proofs.Math.ListN.{get_or-map}
-use Rattle.lot_base.specs.declared.wants.Want.TheVariants.{Exclusive}
-use Rattle.lot_base.specs.Lines.{without, times}
-use Rattle.lot_steps.specs.declared.places.Place.{Place}
-use Rattle.lot_steps.specs.declared.places.Place.TheVariants.{Idle, Mutex}
-use Rattle.lot_mutex.specs.declared.places.MutexPlace.{MutexPlace}
-use Rattle.abstract_locks.specs.Locks.{Taken, HasTakenNobody, keep_from}
-use Rattle.abstract_locks.specs.Locks as locks
-use Rattle.abstract_locks.specs.Runs.{is_taken_by}
-use Rattle.abstract_locks.specs.Sites.{Line, Main, Has}
+use Rattle.core_base.specs.declared.wants.Want.TheVariants.{Exclusive}
+use Rattle.core_base.specs.Lines.{without, times}
+use Rattle.lot_steps.specs.declared.places.Place.TheVariants.{Mutex}
+use Rattle.steps_mutex.specs.declared.places.MutexPlace.{MutexPlace}
+use Rattle.spec_locks.specs.Locks.{Taken, HasTakenNobody, keep_from}
+use Rattle.spec_locks.specs.Locks as locks
+use Rattle.spec_locks.specs.Runs.{is_taken_by}
+use Rattle.spec_locks.specs.Sites.{Main, Has}
 use Rattle.lot_machine.specs.Machine.{State, place_at, word_at, owners_at, kind_at, queue_at}
 use Rattle.lot_laws.specs.Refinement.{lock_state, taken_at}
 use Rattle.lot_laws.specs.MutexPromises.{IsMutexWord}
@@ -24,14 +21,6 @@ use Rattle.lot_laws.proofs.machine.Parts.{IsSingle, same, doing_here, nothing_at
 use Rattle.lot_laws.proofs.mutex.Words.{mutex, queued_times}
 use Rattle.lot_laws.proofs.sites.StandsMoved.{mutex_rules}
 use Rattle.lot_laws.proofs.promises.SitesPromise.{coded_at}
-
--- whoever stands in a line is there
-pub stood : (places : List Place) (u l : ℕ) (m : Line) → 1 ≤ stood_in (station_at (get_or places u Idle) l).stands m
-    → u < length places
-stood places u l m h = elim (cases_lt u (length places)) [
-  | inl lt ↦ lt
-  | inr ge ↦ absurd (let none : stood_in (station_at (get_or places u Idle) l).stands m ≡ 0 = ap (λ p. stood_in (station_at p l).stands m) (get_or_past places u Idle ge) in omega arith)
-]
 
 module _ (w : State) (steady : IsSteady w) where
   -- the word says whether the mutex is owned

@@ -1,12 +1,12 @@
 -- A thread keeps, whatever befalls it, all that no wake, take or hand-over changes, as long as its own turn
 -- doesn't come.
 use Rattle.std.proofs.Common.{ℕ, Bool, true, false, Option, Some, None, if◌then◌else◌, ◌≡◌, ◌≢◌, refl, ◌∙◌, ap, get_or-set_other}
-use Rattle.lot_base.specs.declared.keys.Keys.TheVariants.{One}
-use Rattle.lot_calls.specs.declared.calls.Turn.{Turn}
-use Rattle.lot_calls.specs.declared.calls.Turn as turn
-use Rattle.lot_calls.specs.declared.calls.Step.{Step}
-use Rattle.lot_acts.specs.declared.acts.Act.{Act}
-use Rattle.lot_acts.specs.declared.acts.Reply.{Reply}
+use Rattle.core_base.specs.declared.keys.Keys.TheVariants.{One}
+use Rattle.spec_locks.specs.declared.calls.Turn.{Turn}
+use Rattle.spec_locks.specs.declared.calls.Turn as turn
+use Rattle.spec_locks.specs.declared.calls.Step.{Step}
+use Rattle.steps_base.specs.declared.acts.Act.{Act}
+use Rattle.steps_base.specs.declared.acts.Reply.{Reply}
 use Rattle.lot_steps.specs.declared.places.Place.{Place}
 use Rattle.lot_steps.specs.declared.places.Place.TheVariants.{Idle}
 use Rattle.lot_steps.specs.Steps.{act_of, late_key, looking, next_place}

@@ -1,19 +1,19 @@
 -- An act enters a section of the lock that its thread calls, or of the mutex beside.
 use Rattle.std.proofs.Common.{ℕ, Bool, true, false, Some, ◌≡◌, ◌⊎◌, ◌*◌, inl, inr, refl, sym, ◌∙◌, ap, subst, arith}
-use Rattle.lot_base.specs.declared.keys.Keys.TheVariants.{One, Two}
-use Rattle.lot_acts.specs.declared.acts.Act.{Act}
-use Rattle.lot_acts.specs.declared.acts.Act.TheVariants as act
-use Rattle.lot_acts.specs.Stations.{Station}
-use Rattle.lot_condvar.specs.declared.places.CondvarPlace.{CondvarPlace}
-use Rattle.lot_condvar.specs.declared.places.CondvarPlace.TheVariants as condvar
-use Rattle.lot_condvar.specs.declared.wait.WaitAt.TheVariants as wait
-use Rattle.lot_condvar.specs.declared.notify.NotifyAt.TheVariants as notify
-use Rattle.lot_condvar.specs.CondvarSteps.{condvar_act, mutex_beside, move_act}
+use Rattle.core_base.specs.declared.keys.Keys.TheVariants.{One, Two}
+use Rattle.steps_base.specs.declared.acts.Act.{Act}
+use Rattle.steps_base.specs.declared.acts.Act.TheVariants as act
+use Rattle.steps_base.specs.Stations.{Station}
+use Rattle.steps_condvar.specs.declared.places.CondvarPlace.{CondvarPlace}
+use Rattle.steps_condvar.specs.declared.places.CondvarPlace.TheVariants as condvar
+use Rattle.steps_condvar.specs.declared.wait.WaitAt.TheVariants as wait
+use Rattle.steps_condvar.specs.declared.notify.NotifyAt.TheVariants as notify
+use Rattle.steps_condvar.specs.CondvarSteps.{condvar_act, mutex_beside, move_act}
 use Rattle.lot_steps.specs.declared.places.Place.{Place}
 use Rattle.lot_steps.specs.declared.places.Place.TheVariants.{Idle, Mutex, RwLock, Once, Condvar, Semaphore}
 use Rattle.lot_steps.specs.Steps.{act_of, beside_of, lock_of}
-use Rattle.abstract_locks.specs.Sites.{Line, Main, Second, has_readers}
-use Rattle.abstract_locks.specs.Purposes.{rules_of}
+use Rattle.spec_locks.specs.Sites.{Line, Main, Second, has_readers}
+use Rattle.spec_locks.specs.Purposes.{rules_of}
 use Rattle.lot_machine.specs.Machine.{State, kind_at, place_at}
 use Rattle.lot_laws.specs.SitesOf.{FitsItsLock, IsWorld, key_of, rules_in}
 use Rattle.lot_laws.specs.Solo.{EntersAt, HasLine, IsBarred}

@@ -1,6 +1,6 @@
 -- A thread that is inside a section is awake, in no closure, and enters no other section.
 use Rattle.std.proofs.Common.{ℕ, Bool, true, false, Some, if◌then◌else◌, ◌≡◌, ◌∙◌}
-use Rattle.abstract_locks.specs.Sites.{Line, idle}
+use Rattle.spec_locks.specs.Sites.{Line, idle}
 use Rattle.lot_steps.specs.declared.places.Place.{Place}
 use Rattle.lot_steps.specs.Steps.{act_of, beside_of, calls, is_lock, profile, profile_beside}
 use Rattle.lot_machine.specs.Machine.{State, place_at}

@@ -1,38 +1,30 @@
 -- Locks stay of their kinds.
 use Rattle.std.proofs.Common.{ℕ, Bool, true, false, Option, Some, None, if◌then◌else◌, ◌||◌, ◌≡◌, length, replicate, get_or, set, refl, ap, ◌∙◌}
-use Rattle.lot_base.specs.declared.ops.Op.{Op}
-use Rattle.lot_calls.specs.declared.kinds.Kind.{Kind}
-use Rattle.lot_calls.specs.declared.kinds.Kind as kind
-use Rattle.lot_calls.specs.declared.calls.Call as call
-use Rattle.abstract_locks.specs.Sites.{has_readers}
-use Rattle.abstract_locks.specs.Purposes.{rules_of}
-use Rattle.lot_calls.specs.declared.calls.MutexCall.{MutexCall}
-use Rattle.lot_calls.specs.declared.calls.RwLockCall.{RwLockCall}
-use Rattle.lot_calls.specs.declared.calls.Turn.{Turn}
-use Rattle.lot_calls.specs.declared.calls.Turn as turn
-use Rattle.lot_calls.specs.declared.calls.Step.{Step}
-use Rattle.lot_calls.specs.declared.calls.CondvarCall.{CondvarCall}
-use Rattle.lot_calls.specs.declared.calls.OnceCall.{OnceCall}
-use Rattle.lot_calls.specs.declared.calls.SemaphoreCall.{SemaphoreCall}
+use Rattle.core_base.specs.declared.ops.Op.{Op}
+use Rattle.spec_locks.specs.declared.kinds.Kind.{Kind}
+use Rattle.spec_locks.specs.declared.kinds.Kind as kind
+use Rattle.spec_locks.specs.declared.calls.Call as call
+use Rattle.spec_locks.specs.Sites.{has_readers}
+use Rattle.spec_locks.specs.Purposes.{rules_of}
+use Rattle.spec_locks.specs.declared.calls.MutexCall.{MutexCall}
+use Rattle.spec_locks.specs.declared.calls.RwLockCall.{RwLockCall}
+use Rattle.spec_locks.specs.declared.calls.Turn.{Turn}
+use Rattle.spec_locks.specs.declared.calls.Turn as turn
+use Rattle.spec_locks.specs.declared.calls.Step.{Step}
+use Rattle.spec_locks.specs.declared.calls.CondvarCall.{CondvarCall}
+use Rattle.spec_locks.specs.declared.calls.OnceCall.{OnceCall}
+use Rattle.spec_locks.specs.declared.calls.SemaphoreCall.{SemaphoreCall}
 use Rattle.lot_steps.specs.declared.places.Place.{Place}
-use Rattle.lot_calls.specs.Kinds.{has_call}
+use Rattle.spec_locks.specs.Kinds.{has_call}
 use Rattle.lot_steps.specs.Steps.{act_of, looking, late_key}
-use Rattle.lot_machine.specs.Machine.{State, shares_handed_over, unlocked, place_at, word_at, shares_at, filled_at, kind_at, state_after_operation, state_after_hand_over, state_after_look, put, state_after_late_on, state_after_turn, closed_place, is_possible, after}
-use Rattle.lot_base.specs.Words.{apply}
-use Rattle.abstract_locks.specs.Locks as locks
-use Rattle.abstract_locks.specs.Codes.{fills}
-use Rattle.abstract_locks.specs.Purposes.{rules_of}
+use Rattle.lot_machine.specs.Machine.{State, shares_handed_over, unlocked, place_at, word_at, shares_at, filled_at, kind_at, state_after_hand_over, state_after_look, put, state_after_late_on, state_after_turn, closed_place, is_possible, after}
+use Rattle.core_base.specs.Words.{apply}
+use Rattle.spec_locks.specs.Locks as locks
+use Rattle.spec_locks.specs.Codes.{fills}
+use Rattle.spec_locks.specs.Purposes.{rules_of}
 use Rattle.std.proofs.Math.Bool.{or-false}
 pub use Rattle.lot_machine.proofs.KindsStay.{set_field, operated_kinds, given_kinds, performed_kinds}
 use Rattle.lot_laws.specs.SitesOf.{is_mutex}
-
--- who shares what, where none of it changes
-pub shares_kept : (w : State) (n : ℕ) → n ≡ length w.places → (k : ℕ) → get_or w.shares k (replicate n 0) ≡ shares_at w k
-shares_kept w n threads k = ap (λ m. get_or w.shares k (replicate m 0)) threads
-
--- a lock that nobody shares is not filled by an operation
-pub operated_filled : (w : State) (t : ℕ) (p : Place) (l : ℕ) (f : Op) → rules_of (kind_at w l) ≡ record { sort = locks.Mutex; limit = 0 } → (k : ℕ) → filled_at (state_after_operation w t p l f) k ≡ filled_at w k
-operated_filled w t p l f rules k = set_field (λ x. x.filled) w.locks l _ (unlocked kind.TheVariants.Mutex) (ap (λ r. filled_at w l || fills r (apply f (word_at w l))) rules ∙ or-false (filled_at w l)) k
 
 pub given_filled : (w : State) (t : ℕ) (p : Place) (l : ℕ) (f : Op) → rules_of (kind_at w l) ≡ record { sort = locks.Mutex; limit = 0 } → (k : ℕ) → filled_at (state_after_hand_over w t p l f) k ≡ filled_at w k
 given_filled w t p l f rules k = set_field (λ x. x.filled) w.locks l _ (unlocked kind.TheVariants.Mutex) (ap (λ r. filled_at w l || fills r (apply f (word_at w l))) rules ∙ or-false (filled_at w l)) k

@@ -1,28 +1,28 @@
 -- A step changes one word at most, or queues whose sections its thread is in.
 use Rattle.std.proofs.Common.{subst, sym, ℕ, Bool, true, false, Option, Some, None, if◌then◌else◌, ◌≡◌, ◌<◌, ◌⊎◌, inl, inr, List, [], ◌∷◌, ◌++◌, get_or, set, map, drop, refl, ◌∙◌, ap, get_or-set_other}
-use Rattle.lot_acts.specs.declared.acts.Reply.TheVariants.{Value}
-use Rattle.lot_once.specs.OnceSteps.{word_behind}
+use Rattle.steps_base.specs.declared.acts.Reply.TheVariants.{Value}
+use Rattle.steps_once.specs.OnceSteps.{word_behind}
 use Rattle.lot_machine.specs.Machine.{state_after_close, state_after_operation, closed_place}
 use Rattle.lot_laws.proofs.calls.Closures.{RunsOne, closes_one}
 use Rattle.lot_laws.proofs.calls.Closings.{behind, closing, goes_there, is_behind}
 use Rattle.lot_laws.proofs.calls.Looking.{closing_here}
 use Rattle.lot_laws.proofs.calls.OwnPlace.{goes_from_there}
 use Rattle.std.proofs.lemmas.Bool.{cases_eq, ltb-true}
-use Rattle.lot_base.specs.declared.keys.Keys.{Keys}
-use Rattle.lot_base.specs.declared.keys.Keys.TheVariants.{One, Two}
-use Rattle.lot_base.specs.declared.ops.Op as op
-use Rattle.lot_base.specs.Lines.{waiter, without, first_of}
-use Rattle.lot_calls.specs.declared.kinds.Kind as kind
-use Rattle.lot_acts.specs.declared.acts.Act.{Act}
-use Rattle.lot_acts.specs.declared.acts.Act as act
-use Rattle.lot_acts.specs.declared.acts.Wakes.{Wakes}
-use Rattle.lot_acts.specs.declared.acts.Wakes as wakes
-use Rattle.lot_acts.specs.declared.acts.Reply.TheVariants.{Late}
-use Rattle.lot_calls.specs.declared.calls.Turn.{Turn}
-use Rattle.lot_calls.specs.declared.calls.Turn as turn
-use Rattle.lot_calls.specs.declared.calls.Step.{Step}
+use Rattle.core_base.specs.declared.keys.Keys.{Keys}
+use Rattle.core_base.specs.declared.keys.Keys.TheVariants.{One, Two}
+use Rattle.core_base.specs.declared.ops.Op as op
+use Rattle.core_base.specs.Lines.{waiter, without, first_of}
+use Rattle.spec_locks.specs.declared.kinds.Kind as kind
+use Rattle.steps_base.specs.declared.acts.Act.{Act}
+use Rattle.steps_base.specs.declared.acts.Act as act
+use Rattle.steps_base.specs.declared.acts.Wakes.{Wakes}
+use Rattle.steps_base.specs.declared.acts.Wakes as wakes
+use Rattle.steps_base.specs.declared.acts.Reply.TheVariants.{Late}
+use Rattle.spec_locks.specs.declared.calls.Turn.{Turn}
+use Rattle.spec_locks.specs.declared.calls.Turn as turn
+use Rattle.spec_locks.specs.declared.calls.Step.{Step}
 use Rattle.lot_steps.specs.declared.places.Place.{Place}
-use Rattle.lot_calls.specs.Calls.{lock_in}
+use Rattle.spec_locks.specs.Calls.{lock_in}
 use Rattle.lot_steps.specs.Steps.{act_of, lock_of, next_place, first_place, looking, late_key}
 use Rattle.lot_machine.specs.Machine.{state_after_hand_over_by, State, left_behind, state_after_requeue, state_after_take, can_turn, unlocked, place_at, word_at, queue_at, section_at, put, state_after_operation, state_with_sections, queues_with_last, queues_without_first, state_after_taking, state_after_wake, state_after_act, state_after_look, state_after_late_on, go_reply, state_after_turn, is_possible, after, kind_at}
 use Rattle.lot_laws.proofs.calls.Looking.{looks_untouched}
@@ -31,18 +31,18 @@ use Rattle.std.specs.Prelude.{nat_lt, length}
 use Rattle.lot_laws.specs.Stations.{station}
 use Rattle.lot_laws.specs.SitesOf.{FitsItsLock, IsSteady}
 use Rattle.lot_laws.proofs.condvar.Sections.{IsActOfTwo, condvar_lines, holds_key, left_at}
-use Rattle.lot_condvar.specs.declared.places.CondvarPlace.{CondvarPlace}
+use Rattle.steps_condvar.specs.declared.places.CondvarPlace.{CondvarPlace}
 use Rattle.lot_steps.specs.declared.places.Place.TheVariants.{Condvar}
-use Rattle.lot_base.specs.declared.requeues.Requeue.{Requeue}
+use Rattle.core_base.specs.declared.requeues.Requeue.{Requeue}
 use Rattle.lot_laws.proofs.machine.Parts.{IsOf, IsOfTwo, IsSingle, calls_none, fits_two, of_own, single_or_two}
 use Rattle.lot_laws.proofs.promises.LineActs.{line_act, holds_line, removed_at}
 use Rattle.lot_laws.proofs.machine.PlaceTest.{IsLineAct}
-use Rattle.lot_base.specs.declared.wants.Want.{Want}
-use Rattle.lot_base.specs.declared.wants.Waiter.{Waiter}
-use Rattle.lot_base.specs.Picks.{without_lock_picked}
-use Rattle.lot_acts.specs.declared.acts.Whom.{Whom}
-use Rattle.lot_acts.specs.declared.acts.Whom.TheVariants as whom
-use Rattle.lot_acts.specs.Acts.{takes_effect, holds}
+use Rattle.core_base.specs.declared.wants.Want.{Want}
+use Rattle.core_base.specs.declared.wants.Waiter.{Waiter}
+use Rattle.core_base.specs.Picks.{without_lock_picked}
+use Rattle.steps_base.specs.declared.acts.Whom.{Whom}
+use Rattle.steps_base.specs.declared.acts.Whom.TheVariants as whom
+use Rattle.steps_base.specs.Acts.{takes_effect, holds}
 use Rattle.lot_laws.specs.Refinement.{ChangesOneThing}
 use Rattle.lot_laws.specs.WorldRuns.{IsUntouched, TouchesOnlyByGoing}
 

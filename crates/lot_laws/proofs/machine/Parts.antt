@@ -1,51 +1,50 @@
 -- The state of a world by its parts, as total functions, and what each act does to a lock and to what the threads do about it.
 use Rattle.std.proofs.Common.{ℕ, zero, suc, Bool, true, false, Option, Some, None, if◌then◌else◌, ◌==◌, ◌||◌, ◌≡◌, ◌≢◌, ◌+◌, ◌*◌, ◌≤◌, ◌⊎◌, List, [], ◌∷◌, map, length, get_or, set, inl, inr, refl, sym, ◌∙◌, ap, subst, arith, length-set, get_or-set_same, get_or-set_other, not}
-use Rattle.abstract_locks.specs.Locks.{wants_shared}
+use Rattle.spec_locks.specs.Locks.{wants_shared}
 use Rattle.std.proofs.lemmas.Bool.{cases_eq, cases_lt, eqb-true}
 use Rattle.std.proofs.lemmas.Bool.Decides.{nat_tests}
-use Rattle.lot_base.specs.declared.wants.Waiter.{Waiter}
-use Rattle.lot_base.specs.declared.wants.Want.TheVariants.{Exclusive}
-use Rattle.lot_acts.specs.declared.owners.Owners.{Owners}
-use Rattle.lot_once.specs.declared.places.OncePlace.{OncePlace}
-use Rattle.lot_semaphore.specs.declared.places.SemaphorePlace.{SemaphorePlace}
-use Rattle.lot_semaphore.specs.SemaphoreSteps.{semaphore_next}
-use Rattle.lot_once.specs.OnceSteps.{once_next}
-use Rattle.lot_condvar.specs.declared.places.CondvarPlace.{CondvarPlace}
-use Rattle.lot_condvar.specs.declared.places.CondvarPlace.TheVariants.{Wait, Look, Notify}
-use Rattle.lot_condvar.specs.CondvarSteps.{mutex_beside}
-use Rattle.lot_condvar.specs.CondvarProfiles.{mutex_side}
-use Rattle.lot_calls.specs.declared.kinds.Kind.{Kind}
-use Rattle.lot_calls.specs.declared.kinds.Kind as kind
-use Rattle.lot_calls.specs.Kinds.{is_plain_mutex}
-use Rattle.abstract_locks.specs.Purposes.{rules_of}
+use Rattle.core_base.specs.declared.wants.Waiter.{Waiter}
+use Rattle.core_base.specs.declared.wants.Want.TheVariants.{Exclusive}
+use Rattle.steps_base.specs.declared.owners.Owners.{Owners}
+use Rattle.steps_once.specs.declared.places.OncePlace.{OncePlace}
+use Rattle.steps_semaphore.specs.declared.places.SemaphorePlace.{SemaphorePlace}
+use Rattle.steps_semaphore.specs.SemaphoreSteps.{semaphore_next}
+use Rattle.steps_once.specs.OnceSteps.{once_next}
+use Rattle.steps_condvar.specs.declared.places.CondvarPlace.{CondvarPlace}
+use Rattle.steps_condvar.specs.declared.places.CondvarPlace.TheVariants.{Wait, Look, Notify}
+use Rattle.steps_condvar.specs.CondvarSteps.{mutex_beside}
+use Rattle.steps_condvar.specs.CondvarProfiles.{mutex_side}
+use Rattle.spec_locks.specs.declared.kinds.Kind.{Kind}
+use Rattle.spec_locks.specs.declared.kinds.Kind as kind
+use Rattle.spec_locks.specs.Kinds.{is_plain_mutex}
+use Rattle.spec_locks.specs.Purposes.{rules_of}
 use Rattle.lot_steps.specs.declared.places.Place.{Place}
 use Rattle.lot_steps.specs.declared.places.Place.TheVariants.{Idle, Mutex, RwLock, Once, Condvar, Semaphore}
-use Rattle.lot_mutex.specs.declared.lock.Entry.{Entry}
-use Rattle.lot_mutex.specs.declared.places.MutexPlace.{MutexPlace}
-use Rattle.lot_mutex.specs.declared.places.MutexPlace.TheVariants.{Lock}
-use Rattle.lot_mutex.specs.declared.lock.LockAt.TheVariants as lock
-use Rattle.lot_acts.specs.declared.acts.Reply.{Reply}
-use Rattle.abstract_locks.specs.Codes.{parked_in, aside_in}
-use Rattle.lot_mutex.specs.MutexSteps.{is_parked}
-use Rattle.lot_acts.specs.declared.acts.Next.{Next}
-use Rattle.lot_rwlock_fair.specs.declared.places.RwLockCallPlace.{RwLockCallPlace}
-use Rattle.lot_rwlock_fair.specs.FairSteps.{call_next}
-use Rattle.lot_acts.specs.declared.acts.Next as next
-use Rattle.lot_mutex.specs.MutexSteps.{mutex_next}
-use Rattle.lot_base.specs.declared.wants.Want.{Want}
-use Rattle.lot_acts.specs.Profiles.{Hand, Of, hand_owner, taken_from, Profile, blank}
+use Rattle.steps_mutex.specs.declared.lock.Entry.{Entry}
+use Rattle.steps_mutex.specs.declared.places.MutexPlace.{MutexPlace}
+use Rattle.steps_mutex.specs.declared.places.MutexPlace.TheVariants.{Lock}
+use Rattle.steps_mutex.specs.declared.lock.LockAt.TheVariants as lock
+use Rattle.steps_base.specs.declared.acts.Reply.{Reply}
+use Rattle.spec_locks.specs.Codes.{parked_in, aside_in}
+use Rattle.steps_base.specs.declared.acts.Next.{Next}
+use Rattle.steps_rwlock_fair.specs.declared.places.RwLockCallPlace.{RwLockCallPlace}
+use Rattle.steps_rwlock_fair.specs.FairSteps.{call_next}
+use Rattle.steps_base.specs.declared.acts.Next as next
+use Rattle.steps_mutex.specs.MutexSteps.{mutex_next}
+use Rattle.core_base.specs.declared.wants.Want.{Want}
+use Rattle.steps_base.specs.Profiles.{Hand, Of, hand_owner, taken_from, Profile, blank}
 use Rattle.lot_steps.specs.Steps.{next_place, taker, mutex_goes, rwlock_goes, once_goes, semaphore_goes, lock_of, profile, wants, is_lock, calls, beside_of, or_else, profile_beside, key_in, late_key, line_owed, retries_on}
-use Rattle.abstract_locks.specs.Locks.{LockState, Taken, Rules, keep_from, putting}
+use Rattle.spec_locks.specs.Locks.{LockState, Taken, Rules, keep_from, putting}
 use Rattle.std.specs.Prelude.{◌&&◌, ◌||◌}
-use Rattle.lot_acts.specs.Owners.{is_thread}
-use Rattle.abstract_locks.specs.Locks as locks
-use Rattle.abstract_locks.specs.Sites.{Doing, Site, Out, idle, leaves, wakened, after_deed}
+use Rattle.steps_base.specs.Owners.{is_thread}
+use Rattle.spec_locks.specs.Locks as locks
+use Rattle.spec_locks.specs.Sites.{Doing, Site, Out, idle, leaves, wakened, after_deed}
 use Rattle.lot_machine.specs.Machine.{State, place_at, kind_at, word_at, owners_at, shares_at, filled_at, queue_at, place_after_telling, held, shares_in_hand, with_share, shares_given, wants_more_in_hand, successor_or, successor_from, put, held_by}
 use Rattle.lot_machine.specs.declared.hands.Successor.{Successor}
 use Rattle.lot_laws.specs.Refinement.{lock_seen, taken_at}
 use Rattle.lot_laws.specs.MutexDeeds.{mutex_station}
 use Rattle.lot_laws.specs.Stations.{Station, hand, station, station_at, nowhere, doing_on, station_by}
-use Rattle.lot_laws.specs.SitesOf.{site_of, rules_in, hand_at, FitsItsLock, IsSteady, TakesOne}
+use Rattle.lot_laws.specs.SitesOf.{rules_in, hand_at, FitsItsLock, IsSteady, TakesOne}
 
 -- ---------------------------------------------------------------- lists with one element set, as functions
 
@@ -122,10 +121,6 @@ seen_by r l n word o main second places = seen_in r l (record { base = n; word =
 -- of a mutex
 abbrev pub seen : (l : ℕ) → Base → (word : ℕ) → Owners → (main second : List Waiter) → (ℕ → Place) → Site
 seen l n word o main second places = seen_by mutex l n word o main second places
-
-pub site_seen : (v : State) (r : Rules) (l : ℕ) (n : Base) (word : ℕ) (o : Owners) (m s : List Waiter) (places : ℕ → Place) → rules_in v l ≡ r → base_at v l ≡ n → word_at v l ≡ word → owners_at v l ≡ o → queue_at v (2 * l) ≡ m → queue_at v (2 * l + 1) ≡ s
-    → place_at v ≡ places → site_of v l ≡ seen_by r l n word o m s places
-site_seen v r l n word o m s places er en ew eo em es ep = λ i. seen_by (er i) l (en i) (ew i) (eo i) (em i) (es i) (ep i)
 
 pub same : (k : ℕ) → (k == k) ≡ true
 same k = grind (arith, nat_tests)
@@ -366,13 +361,6 @@ untaken p t l none = which (calls p l) (is_lock l (beside_of p)) none
 
 -- ---------------------------------------------------------------- one thread goes elsewhere
 
-pub put_put : {A : Type 0} (f : ℕ → A) (t : ℕ) (x y : A) (u : ℕ) → putting (putting f t x) t y u ≡ putting f t y u
-put_put f t x y u = either (u == t)
-  where
-    either : (b : Bool) → (if b then y else if b then x else f u) ≡ (if b then y else f u)
-    either true = refl
-    either false = refl
-
 -- g of each, where one is put
 pub put_of : {A B : Type 0} (g : A → B) (f : ℕ → A) (t : ℕ) (x : A) (u : ℕ) → g (putting f t x u) ≡ putting (λ k. g (f k)) t (g x) u
 put_of g f t x u = either (u == t)
@@ -383,18 +371,6 @@ put_of g f t x u = either (u == t)
 
 pub put_same : {A : Type 0} (f : ℕ → A) (t : ℕ) (x : A) → f t ≡ x → (u : ℕ) → putting f t x u ≡ f u
 put_same f t x e u = sym (put_is f f t x e (λ k ne. refl) u)
-
--- a site whose lock, bit and one thread's doing are others
-abbrev pub local : Site → ℕ → LockState → Bool → Doing → Site
-local s t lock parked d = record s { lock = lock; parked = parked; doing = putting s.doing t d }
-
--- what one thread's going elsewhere does to a site
-pub moved : (l : ℕ) (n : Base) (word : ℕ) (o : Owners) (m s : List Waiter) (p : ℕ → Place) (t : ℕ) (p2 : Place) → taken_at (p t) l ≡ taken_at p2 l
-    → seen l n word o m s (putting p t p2) ≡ local (seen l n word o m s p) t (lock_seen n.shared o m s (λ u. taken_at (p u) l)) (is_parked word) (doing_on p2 l)
-moved l n word o m s p t p2 e = λ i. record (seen l n word o m s p) { lock = lock_seen n.shared o m s (λ u. taken_same u i); doing = λ u. put_of (λ x. doing_on x l) p t p2 u i }
-  where
-    taken_same : (u : ℕ) → taken_at (putting p t p2 u) l ≡ taken_at (p u) l
-    taken_same u = put_of (λ x. taken_at x l) p t p2 u ∙ put_same (λ k. taken_at (p k) l) t (taken_at p2 l) e u
 
 abbrev pub IsLock : ℕ → Option ℕ → Type 0
 IsLock l None = Unit {0}
@@ -565,11 +541,6 @@ inside_is p l = which (calls p l) (is_lock l (beside_of p))
 
 pub own_stance : (l : ℕ) (q : Place) (at : MutexPlace) → q ≡ Mutex l at → station_at q l ≡ mutex_station at
 own_stance l q at is = ap (λ x. station_at x l) is ∙ station_here l (Mutex l at) refl
-
--- another lock sees nothing of it
-pub moved_elsewhere : (l k : ℕ) (n : Base) (word : ℕ) (o : Owners) (m s : List Waiter) (p : ℕ → Place) (t : ℕ) (p2 : Place) → IsOf l (p t) → IsOf l p2 → k ≢ l → seen k n word o m s (putting p t p2) ≡ seen k n word o m s p
-moved_elsewhere l k n word o m s p t p2 h h2 ne = moved k n word o m s p t p2 (taken_elsewhere l k (p t) h ne ∙ sym (taken_elsewhere l k p2 h2 ne))
-    ∙ (λ i. record (seen k n word o m s p) { doing = λ u. put_same (λ x. doing_on (p x) k) t (doing_on p2 k) (doing_elsewhere l k (p t) h ne ∙ sym (doing_elsewhere l k p2 h2 ne)) u i })
 
 -- ---------------------------------------------------------------- whom a thread has in hand is told
 

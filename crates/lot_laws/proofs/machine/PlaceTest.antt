@@ -1,73 +1,73 @@
 -- Each place, tested once: its row and the act that its thread does there agree, by a test that computes. Other files read off it what they need.
 use Rattle.std.proofs.Common.{ℕ, Bool, true, false, Option, Some, None, if◌then◌else◌, ◌==◌, ◌&&◌, ◌||◌, not, ◌≡◌, ◌⊎◌, ◌+◌, ◌-◌, ◌*◌, inl, inr, refl, sym, ◌∙◌, ap, subst}
-use Rattle.lot_base.specs.declared.keys.Keys.TheVariants.{One, Two}
-use Rattle.lot_base.specs.declared.ops.Op.TheVariants as op
-use Rattle.lot_base.specs.declared.wants.Want.TheVariants.{Shared}
-use Rattle.lot_calls.specs.declared.calls.Access.{Access}
-use Rattle.lot_calls.specs.declared.calls.Access.TheVariants as access
-use Rattle.lot_calls.specs.declared.calls.OnceCall.{OnceCall}
-use Rattle.lot_calls.specs.declared.calls.OnceCall.TheVariants as once_call
-use Rattle.lot_acts.specs.declared.acts.Act.{Act}
-use Rattle.lot_acts.specs.declared.acts.Act.TheVariants as act
-use Rattle.lot_acts.specs.Profiles.{Hand, Profile, in_line}
-use Rattle.lot_acts.proofs.RowCheck.{both, is_line, is_try, no_line}
-use Rattle.abstract_locks.specs.Codes.{has_aside}
-use Rattle.abstract_locks.specs.Condvars.{Stage}
-use Rattle.abstract_locks.specs.Purposes.{Recall, Blank, Purpose, Enters, Converts, Patience, Try, once_purpose}
-use Rattle.abstract_locks.specs.Sites.{Line, Main, Second}
-use Rattle.lot_mutex.specs.declared.lock.Entry.{Entry}
-use Rattle.lot_mutex.specs.declared.lock.Entry.TheVariants as entry
-use Rattle.lot_mutex.specs.declared.lock.LockAt.TheVariants as lock
-use Rattle.lot_mutex.specs.declared.unlock.UnlockAt.TheVariants as unlock
-use Rattle.lot_mutex.specs.declared.hand_off.HandOffAt.TheVariants as hand_off
-use Rattle.lot_mutex.specs.declared.places.MutexPlace.{MutexPlace}
-use Rattle.lot_mutex.specs.declared.places.MutexPlace.TheVariants as mutex
-use Rattle.lot_mutex.specs.MutexProfiles.{inside, entry_purpose, mutex_profile, release_purpose}
-use Rattle.lot_mutex.specs.MutexSteps.{is_locked, mutex_act}
-use Rattle.lot_once.specs.declared.look.Course.{Course}
-use Rattle.lot_once.specs.declared.look.Course.TheVariants as course
-use Rattle.lot_once.specs.declared.look.LookAt.TheVariants as look
-use Rattle.lot_once.specs.declared.run.RunAt.TheVariants as run
-use Rattle.lot_once.specs.declared.give_up.GiveUpAt.TheVariants as give_up
-use Rattle.lot_once.specs.declared.places.OncePlace.{OncePlace}
-use Rattle.lot_once.specs.declared.places.OncePlace.TheVariants as once
-use Rattle.lot_once.specs.OnceProfiles.{once_profile}
-use Rattle.lot_once.specs.OnceSteps.{course_act, course_of, once_act}
-use Rattle.lot_semaphore.specs.declared.acquire.AcquireAt.TheVariants as acquire
-use Rattle.lot_semaphore.specs.declared.tries.TryAt.TheVariants as tries_at
-use Rattle.lot_semaphore.specs.declared.release.ReleaseAt.TheVariants as release
-use Rattle.lot_semaphore.specs.declared.places.SemaphorePlace.{SemaphorePlace}
-use Rattle.lot_semaphore.specs.declared.places.SemaphorePlace.TheVariants as semaphore
-use Rattle.lot_semaphore.specs.SemaphoreProfiles.{patience, semaphore_profile}
-use Rattle.lot_semaphore.specs.SemaphoreSteps.{is_free, semaphore_act}
-use Rattle.lot_rwlock.specs.declared.places.Admission.{Admission}
-use Rattle.lot_rwlock.specs.declared.places.RwLockPlace.{RwLockPlace}
-use Rattle.lot_rwlock.specs.declared.places.RwLockAt.{RwLockAt}
-use Rattle.lot_rwlock.specs.declared.places.RwLockAt.TheVariants as at
-use Rattle.lot_rwlock.specs.declared.park.ParkAt.TheVariants as parking
-use Rattle.lot_rwlock.specs.declared.release.WakeAt.TheVariants as waking
-use Rattle.lot_rwlock.specs.declared.enter.Decision.{Decision}
-use Rattle.lot_rwlock.specs.declared.enter.Decision.TheVariants as decisions
-use Rattle.lot_rwlock.specs.declared.purposes.RwLockPurpose.{RwLockPurpose}
-use Rattle.lot_rwlock.specs.RwLockProfiles.{rwlock_profile}
-use Rattle.lot_rwlock.specs.RwLockSteps.{act_at, decided, decided_act, exchange, plus}
-use Rattle.lot_rwlock_fair.specs.declared.hand_over.HandOverAt.{HandOverAt}
-use Rattle.lot_rwlock_fair.specs.declared.hand_over.HandOverAt.TheVariants as handing
-use Rattle.lot_rwlock_fair.specs.declared.handed.HandedAt.TheVariants as handed
-use Rattle.lot_rwlock_fair.specs.declared.places.RwLockCallPlace.{RwLockCallPlace}
-use Rattle.lot_rwlock_fair.specs.declared.places.RwLockCallPlace.TheVariants as fair
-use Rattle.lot_rwlock_fair.specs.FairProfiles.{call_profile}
-use Rattle.lot_rwlock_fair.specs.FairSteps.{call_act, has_room, hand_over_act}
-use Rattle.lot_condvar.specs.declared.notify.NotifyAt.{NotifyAt}
-use Rattle.lot_condvar.specs.declared.notify.NotifyAt.TheVariants as notify
-use Rattle.lot_condvar.specs.declared.places.CondvarPlace.{CondvarPlace}
-use Rattle.lot_condvar.specs.declared.places.CondvarPlace.TheVariants as condvar
-use Rattle.lot_condvar.specs.declared.wait.Stands.{Stands}
-use Rattle.lot_condvar.specs.declared.wait.Stands.TheVariants as stands
-use Rattle.lot_condvar.specs.declared.wait.WaitAt.{WaitAt}
-use Rattle.lot_condvar.specs.declared.wait.WaitAt.TheVariants as wait
-use Rattle.lot_condvar.specs.CondvarProfiles.{condvar_profile, hand_of, has_moved, is_main, is_moved, mutex_side}
-use Rattle.lot_condvar.specs.CondvarSteps.{condvar_act, move_act}
+use Rattle.core_base.specs.declared.keys.Keys.TheVariants.{One, Two}
+use Rattle.core_base.specs.declared.ops.Op.TheVariants as op
+use Rattle.core_base.specs.declared.wants.Want.TheVariants.{Shared}
+use Rattle.spec_locks.specs.declared.calls.Access.{Access}
+use Rattle.spec_locks.specs.declared.calls.Access.TheVariants as access
+use Rattle.spec_locks.specs.declared.calls.OnceCall.{OnceCall}
+use Rattle.spec_locks.specs.declared.calls.OnceCall.TheVariants as once_call
+use Rattle.steps_base.specs.declared.acts.Act.{Act}
+use Rattle.steps_base.specs.declared.acts.Act.TheVariants as act
+use Rattle.steps_base.specs.Profiles.{Hand, Profile, in_line}
+use Rattle.steps_base.proofs.RowCheck.{both, is_line, is_try, no_line}
+use Rattle.spec_locks.specs.Codes.{has_aside}
+use Rattle.spec_locks.specs.Condvars.{Stage}
+use Rattle.spec_locks.specs.Purposes.{Recall, Blank, Purpose, Enters, Converts, Patience, Try, once_purpose}
+use Rattle.spec_locks.specs.Sites.{Line, Main, Second}
+use Rattle.steps_mutex.specs.declared.lock.Entry.{Entry}
+use Rattle.steps_mutex.specs.declared.lock.Entry.TheVariants as entry
+use Rattle.steps_mutex.specs.declared.lock.LockAt.TheVariants as lock
+use Rattle.steps_mutex.specs.declared.unlock.UnlockAt.TheVariants as unlock
+use Rattle.steps_mutex.specs.declared.hand_off.HandOffAt.TheVariants as hand_off
+use Rattle.steps_mutex.specs.declared.places.MutexPlace.{MutexPlace}
+use Rattle.steps_mutex.specs.declared.places.MutexPlace.TheVariants as mutex
+use Rattle.steps_mutex.specs.MutexProfiles.{inside, entry_purpose, mutex_profile, release_purpose}
+use Rattle.steps_mutex.specs.MutexSteps.{is_locked, mutex_act}
+use Rattle.steps_once.specs.declared.look.Course.{Course}
+use Rattle.steps_once.specs.declared.look.Course.TheVariants as course
+use Rattle.steps_once.specs.declared.look.LookAt.TheVariants as look
+use Rattle.steps_once.specs.declared.run.RunAt.TheVariants as run
+use Rattle.steps_once.specs.declared.give_up.GiveUpAt.TheVariants as give_up
+use Rattle.steps_once.specs.declared.places.OncePlace.{OncePlace}
+use Rattle.steps_once.specs.declared.places.OncePlace.TheVariants as once
+use Rattle.steps_once.specs.OnceProfiles.{once_profile}
+use Rattle.steps_once.specs.OnceSteps.{course_act, course_of, once_act}
+use Rattle.steps_semaphore.specs.declared.acquire.AcquireAt.TheVariants as acquire
+use Rattle.steps_semaphore.specs.declared.tries.TryAt.TheVariants as tries_at
+use Rattle.steps_semaphore.specs.declared.release.ReleaseAt.TheVariants as release
+use Rattle.steps_semaphore.specs.declared.places.SemaphorePlace.{SemaphorePlace}
+use Rattle.steps_semaphore.specs.declared.places.SemaphorePlace.TheVariants as semaphore
+use Rattle.steps_semaphore.specs.SemaphoreProfiles.{patience, semaphore_profile}
+use Rattle.steps_semaphore.specs.SemaphoreSteps.{is_free, semaphore_act}
+use Rattle.steps_rwlock.specs.declared.places.Admission.{Admission}
+use Rattle.steps_rwlock.specs.declared.places.RwLockPlace.{RwLockPlace}
+use Rattle.steps_rwlock.specs.declared.places.RwLockAt.{RwLockAt}
+use Rattle.steps_rwlock.specs.declared.places.RwLockAt.TheVariants as at
+use Rattle.steps_rwlock.specs.declared.park.ParkAt.TheVariants as parking
+use Rattle.steps_rwlock.specs.declared.release.WakeAt.TheVariants as waking
+use Rattle.steps_rwlock.specs.declared.enter.Decision.{Decision}
+use Rattle.steps_rwlock.specs.declared.enter.Decision.TheVariants as decisions
+use Rattle.steps_rwlock.specs.declared.purposes.RwLockPurpose.{RwLockPurpose}
+use Rattle.steps_rwlock.specs.RwLockProfiles.{rwlock_profile}
+use Rattle.steps_rwlock.specs.RwLockSteps.{act_at, decided, decided_act, exchange, plus}
+use Rattle.steps_rwlock_fair.specs.declared.hand_over.HandOverAt.{HandOverAt}
+use Rattle.steps_rwlock_fair.specs.declared.hand_over.HandOverAt.TheVariants as handing
+use Rattle.steps_rwlock_fair.specs.declared.handed.HandedAt.TheVariants as handed
+use Rattle.steps_rwlock_fair.specs.declared.places.RwLockCallPlace.{RwLockCallPlace}
+use Rattle.steps_rwlock_fair.specs.declared.places.RwLockCallPlace.TheVariants as fair
+use Rattle.steps_rwlock_fair.specs.FairProfiles.{call_profile}
+use Rattle.steps_rwlock_fair.specs.FairSteps.{call_act, has_room, hand_over_act}
+use Rattle.steps_condvar.specs.declared.notify.NotifyAt.{NotifyAt}
+use Rattle.steps_condvar.specs.declared.notify.NotifyAt.TheVariants as notify
+use Rattle.steps_condvar.specs.declared.places.CondvarPlace.{CondvarPlace}
+use Rattle.steps_condvar.specs.declared.places.CondvarPlace.TheVariants as condvar
+use Rattle.steps_condvar.specs.declared.wait.Stands.{Stands}
+use Rattle.steps_condvar.specs.declared.wait.Stands.TheVariants as stands
+use Rattle.steps_condvar.specs.declared.wait.WaitAt.{WaitAt}
+use Rattle.steps_condvar.specs.declared.wait.WaitAt.TheVariants as wait
+use Rattle.steps_condvar.specs.CondvarProfiles.{condvar_profile, hand_of, has_moved, is_main, is_moved, mutex_side}
+use Rattle.steps_condvar.specs.CondvarSteps.{condvar_act, move_act}
 use Rattle.lot_steps.specs.declared.places.Place.{Place}
 use Rattle.lot_steps.specs.declared.places.Place.TheVariants.{Idle, Mutex, RwLock, Once, Condvar, Semaphore}
 use Rattle.lot_steps.specs.Steps.{act_of, profile, profile_beside}

@@ -1,11 +1,11 @@
 -- By a turn that changes no more than its thread's place, and sections, no lock changes: its call alone does.
 use Rattle.std.proofs.Common.{ℕ, Option, ◌≡◌, ◌<◌, List, length, length-set, replicate, get_or, get_or-set_other, get_or-set_same, inl, inr, refl, ◌∙◌, ap}
 use Rattle.std.proofs.lemmas.Bool.{cases_eq}
-use Rattle.lot_calls.specs.declared.outcomes.Outcome as outcome
+use Rattle.spec_locks.specs.declared.outcomes.Outcome as outcome
 use Rattle.lot_steps.specs.declared.places.Place.{Place}
 use Rattle.lot_steps.specs.declared.places.Place.TheVariants.{Idle}
-use Rattle.abstract_locks.specs.Locks.{Rights, rights_of}
-use Rattle.abstract_locks.specs.Runs.{CallState, Stays}
+use Rattle.spec_locks.specs.Locks.{Rights, rights_of}
+use Rattle.spec_locks.specs.Runs.{CallState, Stays}
 use Rattle.lot_machine.specs.Machine.{State, place_at, put}
 use Rattle.lot_laws.specs.Refinement.{call_state, lock_state, locks_of, taken_at}
 use Rattle.lot_laws.proofs.calls.Events.{put_is, rights}

@@ -1,54 +1,54 @@
 -- A turn is possible exactly where the abstract locks and the call say so, and a thread is told that it sleeps where it does.
-use Rattle.lot_calls.specs.declared.calls.CondvarCall.TheVariants as condvar
+use Rattle.spec_locks.specs.declared.calls.CondvarCall.TheVariants as condvar
 use Rattle.std.proofs.Common.{is_some, subst, ℕ, Bool, true, false, Option, Some, None, if◌then◌else◌, ◌&&◌, ◌≡◌, ◌≢◌, ◌+◌, ◌*◌, ◌≤◌, ◌<◌, ◌↔◌, ◌⊎◌, inl, inr, List, length, is_none, refl, sym, ◌∙◌, ap, arith, get_or-set_other, get_or-set_same, length-set, set}
 use Rattle.lot_laws.proofs.once.Owing.{late_place}
-use Rattle.lot_once.specs.OnceProfiles.{once_profile}
-use Rattle.abstract_locks.specs.Runs.{is_closure}
+use Rattle.steps_once.specs.OnceProfiles.{once_profile}
+use Rattle.spec_locks.specs.Runs.{is_closure}
 use Rattle.lot_laws.proofs.calls.Closures.{call_runs_none, closure_told, mutex_runs_none, condvar_runs_none, semaphore_runs_none}
 use Rattle.std.proofs.lemmas.Bool.{cases_eq, cases_lt}
 use Rattle.std.proofs.lemmas.List.{get_or_past}
-use Rattle.lot_base.specs.declared.keys.Keys.{Keys}
-use Rattle.lot_base.specs.declared.keys.Keys.TheVariants.{One, Two}
-use Rattle.lot_base.specs.Lines.{first_of}
-use Rattle.lot_base.specs.declared.wants.Waiter.{Waiter}
-use Rattle.lot_calls.specs.declared.calls.Turn.{Turn}
-use Rattle.lot_calls.specs.declared.calls.Turn as turn
-use Rattle.lot_calls.specs.declared.calls.Call.{Call}
-use Rattle.lot_calls.specs.declared.calls.Call as call
-use Rattle.lot_calls.specs.declared.calls.MutexCall.{MutexCall}
-use Rattle.lot_calls.specs.declared.calls.MutexCall as mutex_call
-use Rattle.lot_calls.specs.declared.kinds.Kind.{Kind}
-use Rattle.lot_calls.specs.Kinds.{is_fair}
-use Rattle.lot_calls.specs.declared.outcomes.Outcome as outcome
-use Rattle.lot_acts.specs.declared.acts.Act.{Act}
-use Rattle.lot_acts.specs.declared.acts.Act.TheVariants.{Rest, Enter, Park, Take, Sleep, Closure, End}
-use Rattle.lot_acts.specs.declared.acts.Act.TheVariants as act
-use Rattle.lot_acts.specs.declared.acts.Reply.{Reply}
-use Rattle.lot_acts.specs.declared.acts.Reply.TheVariants.{Late}
-use Rattle.lot_acts.specs.declared.acts.Next.{Next}
-use Rattle.lot_acts.specs.declared.acts.Next.TheVariants as next
-use Rattle.lot_mutex.specs.declared.places.MutexPlace.{MutexPlace}
-use Rattle.lot_once.specs.declared.places.OncePlace.{OncePlace}
-use Rattle.lot_once.specs.OnceSteps.{once_act, once_next}
-use Rattle.lot_semaphore.specs.declared.places.SemaphorePlace.{SemaphorePlace}
-use Rattle.lot_semaphore.specs.SemaphoreSteps.{semaphore_act, semaphore_first, semaphore_next}
-use Rattle.lot_calls.specs.declared.calls.SemaphoreCall.{SemaphoreCall}
-use Rattle.lot_calls.specs.declared.calls.SemaphoreCall.TheVariants as semaphore_call
-use Rattle.lot_condvar.specs.declared.places.CondvarPlace.{CondvarPlace}
-use Rattle.lot_condvar.specs.CondvarSteps.{condvar_next, condvar_act, mutex_beside}
+use Rattle.core_base.specs.declared.keys.Keys.{Keys}
+use Rattle.core_base.specs.declared.keys.Keys.TheVariants.{One, Two}
+use Rattle.core_base.specs.Lines.{first_of}
+use Rattle.core_base.specs.declared.wants.Waiter.{Waiter}
+use Rattle.spec_locks.specs.declared.calls.Turn.{Turn}
+use Rattle.spec_locks.specs.declared.calls.Turn as turn
+use Rattle.spec_locks.specs.declared.calls.Call.{Call}
+use Rattle.spec_locks.specs.declared.calls.Call as call
+use Rattle.spec_locks.specs.declared.calls.MutexCall.{MutexCall}
+use Rattle.spec_locks.specs.declared.calls.MutexCall as mutex_call
+use Rattle.spec_locks.specs.declared.kinds.Kind.{Kind}
+use Rattle.spec_locks.specs.Kinds.{is_fair}
+use Rattle.spec_locks.specs.declared.outcomes.Outcome as outcome
+use Rattle.steps_base.specs.declared.acts.Act.{Act}
+use Rattle.steps_base.specs.declared.acts.Act.TheVariants.{Rest, Enter, Park, Take, Sleep, Closure, End}
+use Rattle.steps_base.specs.declared.acts.Act.TheVariants as act
+use Rattle.steps_base.specs.declared.acts.Reply.{Reply}
+use Rattle.steps_base.specs.declared.acts.Reply.TheVariants.{Late}
+use Rattle.steps_base.specs.declared.acts.Next.{Next}
+use Rattle.steps_base.specs.declared.acts.Next.TheVariants as next
+use Rattle.steps_mutex.specs.declared.places.MutexPlace.{MutexPlace}
+use Rattle.steps_once.specs.declared.places.OncePlace.{OncePlace}
+use Rattle.steps_once.specs.OnceSteps.{once_act, once_next}
+use Rattle.steps_semaphore.specs.declared.places.SemaphorePlace.{SemaphorePlace}
+use Rattle.steps_semaphore.specs.SemaphoreSteps.{semaphore_act, semaphore_first, semaphore_next}
+use Rattle.spec_locks.specs.declared.calls.SemaphoreCall.{SemaphoreCall}
+use Rattle.spec_locks.specs.declared.calls.SemaphoreCall.TheVariants as semaphore_call
+use Rattle.steps_condvar.specs.declared.places.CondvarPlace.{CondvarPlace}
+use Rattle.steps_condvar.specs.CondvarSteps.{condvar_next, condvar_act, mutex_beside}
 use Rattle.lot_steps.specs.declared.places.Place.{Place}
 use Rattle.lot_steps.specs.declared.places.Place.TheVariants.{Idle, Mutex, RwLock, Once, Condvar, Semaphore}
-use Rattle.lot_acts.specs.declared.acts.Wakes.{Wakes}
-use Rattle.lot_acts.specs.declared.acts.Wakes as wakes
-use Rattle.lot_acts.specs.declared.acts.Whom.{Whom}
-use Rattle.lot_acts.specs.declared.acts.Whom as whom
-use Rattle.lot_acts.specs.Acts.{takes_effect, outcome_of, holds}
-use Rattle.lot_mutex.specs.MutexSteps.{mutex_act, mutex_first, mutex_next}
+use Rattle.steps_base.specs.declared.acts.Wakes.{Wakes}
+use Rattle.steps_base.specs.declared.acts.Wakes as wakes
+use Rattle.steps_base.specs.declared.acts.Whom.{Whom}
+use Rattle.steps_base.specs.declared.acts.Whom as whom
+use Rattle.steps_base.specs.Acts.{takes_effect, outcome_of, holds}
+use Rattle.steps_mutex.specs.MutexSteps.{mutex_act, mutex_first, mutex_next}
 use Rattle.lot_steps.specs.Steps.{act_of, beside_of, lock_of, profile_beside, next_place, next_act, mutex_goes, mutex_does, late_key, first_place, looking, key_in, profile, rwlock_does, rwlock_goes, once_does, once_goes, condvar_goes, condvar_does, semaphore_does, semaphore_goes}
-use Rattle.lot_base.specs.declared.ops.Op.{Op}
+use Rattle.core_base.specs.declared.ops.Op.{Op}
 use Rattle.lot_machine.specs.Machine.{state_after_hand_over_by, State, state_after_take, place_at, queue_at, section_at, can_do, can_go, is_free_under, word_at, state_with_sections, queues_without_first, state_after_taking, state_after_wake, state_after_act, state_after_go, state_after_late_on}
 use Rattle.lot_machine.specs.Fits.{IsShaped, PlaceFits}
-use Rattle.abstract_locks.specs.Sites.{Main, Line, Second}
+use Rattle.spec_locks.specs.Sites.{Main, Line, Second}
 use Rattle.lot_laws.specs.Stations.{station, station_at, Station}
 use Rattle.lot_laws.specs.SitesOf.{FitsItsLock, IsSteady, stood_in, key_of}
 use Rattle.lot_laws.specs.Refinement.{lock_state, locks_of, call_state, sleeps, runs_closure, keys_entered, call_on_both}
@@ -56,29 +56,29 @@ use Rattle.lot_laws.proofs.calls.SingleCalls.{call_none}
 use Rattle.lot_laws.proofs.machine.Parts.{IsOf, of_own, IsOfTwo, IsSingle, fits_two, calls_none, condvar_apart, single_late, single_or_two}
 use Rattle.lot_laws.proofs.condvar.Late.{IsLate, condvar_acts, two_late, two_may_late}
 use Rattle.lot_laws.proofs.condvar.Sections.{IsActOfTwo, IsItsKey, condvar_lines, holds_key, inside_its}
-use Rattle.lot_condvar.specs.declared.places.CondvarPlace.TheVariants.{Wait, Look, Notify}
+use Rattle.steps_condvar.specs.declared.places.CondvarPlace.TheVariants.{Wait, Look, Notify}
 use Rattle.lot_laws.proofs.promises.LineActs.{line_act, holds_line, key_there, late_line, calls_there}
 use Rattle.lot_laws.proofs.machine.PlaceTest.{IsOfLine, IsLineAct}
 use Rattle.lot_laws.proofs.mutex.Kept.{none_is}
 use Rattle.lot_machine.specs.Machine.{runs_closure}
 use Rattle.lot_laws.proofs.machine.AtPlaces.{queued_by}
 use Rattle.lot_laws.proofs.calls.Events.{rights}
-use Rattle.abstract_locks.specs.Locks.{Rights}
-use Rattle.abstract_locks.specs.Locks as locks
-use Rattle.abstract_locks.specs.Runs.{AreFree, MayGo, MayBeLate, MayTurn, IsTimed, StandsFreely, SectionChanges, CallState}
+use Rattle.spec_locks.specs.Locks.{Rights}
+use Rattle.spec_locks.specs.Locks as locks
+use Rattle.spec_locks.specs.Runs.{AreFree, MayGo, MayBeLate, MayTurn, IsTimed, StandsFreely, SectionChanges, CallState}
 use Rattle.lot_laws.proofs.promises.RowPromises.{is_acting}
 use Rattle.lot_laws.proofs.promises.PlacePromises.{row_promises, station_own, station_calls, call_own, in_second}
 use Rattle.lot_laws.proofs.sites.StandsKept.{in_main}
 use Rattle.lot_laws.proofs.hands.Counts.{first_times}
 use Rattle.lot_laws.proofs.promises.PlaceSteps.{late_next}
-use Rattle.lot_rwlock_fair.specs.declared.places.RwLockCallPlace.{RwLockCallPlace}
-use Rattle.lot_calls.specs.declared.calls.RwLockCall.TheVariants as rwlock_call
-use Rattle.lot_calls.specs.declared.calls.Access.TheVariants as access
-use Rattle.lot_rwlock.specs.RwLockBegins.{admission_of}
-use Rattle.lot_rwlock_fair.specs.FairBegins.{call_first}
-use Rattle.lot_rwlock_fair.specs.FairSteps.{call_act, call_next}
-use Rattle.lot_calls.specs.declared.calls.RwLockCall.{RwLockCall}
-use Rattle.lot_calls.specs.declared.calls.Patience.TheVariants.{Patient, Timed, Try}
+use Rattle.steps_rwlock_fair.specs.declared.places.RwLockCallPlace.{RwLockCallPlace}
+use Rattle.spec_locks.specs.declared.calls.RwLockCall.TheVariants as rwlock_call
+use Rattle.spec_locks.specs.declared.calls.Access.TheVariants as access
+use Rattle.steps_rwlock.specs.RwLockBegins.{admission_of}
+use Rattle.steps_rwlock_fair.specs.FairBegins.{call_first}
+use Rattle.steps_rwlock_fair.specs.FairSteps.{call_act, call_next}
+use Rattle.spec_locks.specs.declared.calls.RwLockCall.{RwLockCall}
+use Rattle.spec_locks.specs.declared.calls.Patience.TheVariants.{Patient, Timed, Try}
 
 -- ---------------------------------------------------------------- going on
 

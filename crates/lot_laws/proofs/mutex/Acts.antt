@@ -3,19 +3,19 @@
 use Rattle.std.proofs.Common.{ℕ, Bool, true, false, Option, Some, None, if◌then◌else◌, ◌||◌, ◌≡◌, ◌+◌, ◌*◌, ◌<◌, List, [], ◌∷◌, length, refl, sym, ◌∙◌, ap, subst}
 use Rattle.std.specs.Prelude.{nat_le, ◌&&◌}
 use Rattle.std.proofs.Math.Bool.{or-false}
-use Rattle.lot_base.specs.declared.keys.Keys.TheVariants.{One}
-use Rattle.lot_base.specs.declared.ops.Op.{Op}
-use Rattle.lot_base.specs.declared.wants.Want.TheVariants.{Exclusive}
-use Rattle.lot_base.specs.Words.{apply}
-use Rattle.lot_acts.specs.Owners.{shares_then, with_exclusive, is_thread}
+use Rattle.core_base.specs.declared.keys.Keys.TheVariants.{One}
+use Rattle.core_base.specs.declared.ops.Op.{Op}
+use Rattle.core_base.specs.declared.wants.Want.TheVariants.{Exclusive}
+use Rattle.core_base.specs.Words.{apply}
+use Rattle.steps_base.specs.Owners.{shares_then, with_exclusive, is_thread}
 use Rattle.lot_steps.specs.declared.places.Place.{Place}
 use Rattle.lot_steps.specs.Steps.{owners_after, shares_after, taker}
-use Rattle.abstract_locks.specs.Codes.{aside_in, code, count_in, parked_in, word_by}
-use Rattle.abstract_locks.specs.Codes as codes
-use Rattle.abstract_locks.specs.Deeds as laws
-use Rattle.abstract_locks.specs.Locks.{Enter, Leave, Rules, one_if_some, putting, Park, keep_from}
-use Rattle.abstract_locks.specs.Locks as locks
-use Rattle.abstract_locks.specs.Sites.{Case, Clear, Deed, End, In, Main, Mark, MarkBrought, MarkOwned, Site, has_readers, FindNobody, Second}
+use Rattle.spec_locks.specs.Codes.{aside_in, code, count_in, parked_in, word_by}
+use Rattle.spec_locks.specs.Codes as codes
+use Rattle.spec_locks.specs.Deeds as laws
+use Rattle.spec_locks.specs.Locks.{Enter, Leave, Rules, one_if_some, putting, Park, keep_from}
+use Rattle.spec_locks.specs.Locks as locks
+use Rattle.spec_locks.specs.Sites.{Case, Clear, Deed, End, In, Main, Mark, MarkBrought, MarkOwned, Site, has_readers, FindNobody, Second}
 use Rattle.lot_machine.specs.Machine.{State, filled_at, owners_at, place_at, put, queue_at, section_at, share_at, shares_at, state_after_operation, state_with_sections, word_at, state_after_telling, queues_with_last, queues_without_first, queues_without}
 use Rattle.lot_laws.specs.Refinement.{lock_seen, taken_at}
 use Rattle.lot_laws.specs.MutexDeeds.{acts}
@@ -26,13 +26,13 @@ use Rattle.lot_laws.proofs.sites.OneStep.{AreSingle, Steps, same_filled, steps_b
 use Rattle.lot_laws.proofs.sites.LawsKept.{after_same, needed_same}
 use Rattle.lot_laws.proofs.sites.StandsKept.{AlikeBeside}
 use Rattle.lot_laws.proofs.sites.Following.{NoHandOff, lock_by, operated, parks, lates}
-use Rattle.lot_acts.specs.Moves.{AreLeaving}
-use Rattle.lot_base.specs.declared.notes.Note.TheVariants.{Normal}
-use Rattle.lot_acts.specs.declared.acts.Reply.TheVariants.{Woken}
+use Rattle.steps_base.specs.Moves.{AreLeaving}
+use Rattle.core_base.specs.declared.notes.Note.TheVariants.{Normal}
+use Rattle.steps_base.specs.declared.acts.Reply.TheVariants.{Woken}
 use Rattle.lot_laws.proofs.sites.ToldAt.{HoldsHere, same_hands}
 use Rattle.lot_laws.proofs.sites.WakesAt.{IsWokenAt, leaving_by, wake_goes}
 use Rattle.lot_laws.proofs.sites.ActsAt as acting
-use Rattle.lot_base.specs.Lines.{first_of, times, without}
+use Rattle.core_base.specs.Lines.{first_of, times, without}
 use Rattle.lot_laws.proofs.hands.Counts.{first_out, aside_kept}
 
 -- a step on the word of a mutex: it is owned, or not, or its bit is set, or cleared

@@ -1,11 +1,11 @@
 -- The word of a mutex tells its owner, and a step claims the mutex where the word says so.
 use Rattle.std.proofs.Common.{ℕ, true, false, Option, Some, None, ◌≡◌, inl, inr, List, [], ◌∷◌, ◌++◌, refl, ap}
-use Rattle.lot_acts.specs.declared.acts.Reply.{Reply}
-use Rattle.lot_acts.specs.declared.acts.Reply.TheVariants.{Value}
-use Rattle.lot_mutex.specs.declared.places.MutexPlace.{MutexPlace}
-use Rattle.lot_mutex.specs.declared.places.MutexPlace.TheVariants.{HandOff}
-use Rattle.lot_mutex.specs.declared.hand_off.HandOffAt.TheVariants as hand_off
-use Rattle.lot_mutex.specs.MutexSteps.{is_locked}
+use Rattle.steps_base.specs.declared.acts.Reply.{Reply}
+use Rattle.steps_base.specs.declared.acts.Reply.TheVariants.{Value}
+use Rattle.steps_mutex.specs.declared.places.MutexPlace.{MutexPlace}
+use Rattle.steps_mutex.specs.declared.places.MutexPlace.TheVariants.{HandOff}
+use Rattle.steps_mutex.specs.declared.hand_off.HandOffAt.TheVariants as hand_off
+use Rattle.steps_mutex.specs.MutexSteps.{is_locked}
 use Rattle.lot_laws.specs.MutexPromises.{IsMutexWord}
 use Rattle.lot_laws.specs.MutexDeeds.{Act, acts, deeds, claims_of, mutex_deeds}
 use Rattle.lot_laws.proofs.calls.Events.{AreClaims}

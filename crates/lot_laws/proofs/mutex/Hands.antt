@@ -1,27 +1,27 @@
 -- A mutex's steps that take its first waiter, hand the mutex over, or let go whom they have in hand: what they do to the lock, by what befalls the other thread.
 use Rattle.std.proofs.Common.{ℕ, Bool, true, false, Some, None, if◌then◌else◌, ◌≡◌, ◌≢◌, ◌*◌, ◌<◌, List, [], ◌∷◌, length, drop, map, inl, inr, refl, sym, ◌∙◌, ap, subst, arith, length-set, get_or-set_same, get_or-set_other}
-use Rattle.abstract_locks.specs.Picks.{queued_of}
+use Rattle.spec_locks.specs.Picks.{queued_of}
 use Rattle.lot_laws.specs.MutexDeeds.{acts}
 use Rattle.lot_laws.specs.Stations.{station_at}
 use Rattle.lot_laws.proofs.machine.Parts.{put_places}
-use Rattle.abstract_locks.specs.Locks.{IsLockState}
+use Rattle.spec_locks.specs.Locks.{IsLockState}
 use Rattle.std.proofs.lemmas.Bool.{cases_eq}
-use Rattle.lot_base.specs.declared.wants.Waiter.{Waiter}
-use Rattle.lot_base.specs.declared.wants.Want.TheVariants.{Exclusive}
-use Rattle.lot_base.specs.declared.notes.Note.TheVariants as note
-use Rattle.lot_acts.specs.declared.owners.Owners.{Owners}
+use Rattle.core_base.specs.declared.wants.Waiter.{Waiter}
+use Rattle.core_base.specs.declared.wants.Want.TheVariants.{Exclusive}
+use Rattle.core_base.specs.declared.notes.Note.TheVariants as note
+use Rattle.steps_base.specs.declared.owners.Owners.{Owners}
 use Rattle.lot_steps.specs.declared.places.Place.{Place}
 use Rattle.lot_steps.specs.declared.places.Place.TheVariants.{Mutex}
-use Rattle.lot_mutex.specs.declared.places.MutexPlace.TheVariants.{HandOff}
-use Rattle.lot_mutex.specs.declared.hand_off.HandOffAt.TheVariants as hand_off
-use Rattle.lot_acts.specs.declared.acts.Reply.TheVariants.{Woken, TakenBy, HandedBy}
+use Rattle.steps_mutex.specs.declared.places.MutexPlace.TheVariants.{HandOff}
+use Rattle.steps_mutex.specs.declared.hand_off.HandOffAt.TheVariants as hand_off
+use Rattle.steps_base.specs.declared.acts.Reply.TheVariants.{Woken, TakenBy, HandedBy}
 use Rattle.std.proofs.Math.Bool.{or-false}
-use Rattle.lot_mutex.specs.MutexSteps.{is_parked}
+use Rattle.steps_mutex.specs.MutexSteps.{is_parked}
 use Rattle.lot_steps.specs.Steps.{next_place}
-use Rattle.abstract_locks.specs.Locks.{Rules, TakeFirst, keep_from, let_go, putting}
-use Rattle.lot_acts.specs.Owners.{with_exclusive}
-use Rattle.abstract_locks.specs.Locks as locks
-use Rattle.abstract_locks.specs.Sites.{Has, Site, Main, Begin, Mark, Clear, Case, wakened}
+use Rattle.spec_locks.specs.Locks.{Rules, TakeFirst, keep_from, let_go, putting}
+use Rattle.steps_base.specs.Owners.{with_exclusive}
+use Rattle.spec_locks.specs.Locks as locks
+use Rattle.spec_locks.specs.Sites.{Has, Site, Main, Begin, Mark, Clear, Case, wakened}
 use Rattle.lot_machine.specs.Machine.{held}
 use Rattle.lot_laws.specs.Refinement.{lock_seen, taken_at}
 use Rattle.lot_laws.specs.MutexDeeds.{Act, mutex_station, queued}
@@ -29,7 +29,7 @@ use Rattle.lot_laws.specs.Stations.{hand, nowhere, doing_on}
 use Rattle.lot_laws.specs.SitesOf.{after_acts, hand_at, Hands}
 use Rattle.lot_laws.proofs.machine.Parts.{mutex, Base, seen, LetGo, untaken, put_here, put_other, same, differ}
 use Rattle.lot_laws.proofs.hands.Handed.{handed_is, heir}
-use Rattle.lot_base.specs.Lines.{times, threads_of}
+use Rattle.core_base.specs.Lines.{times, threads_of}
 use Rattle.lot_machine.specs.Machine.{State, filled_at, place_at, places_told, put, queue_at, queues_without_first, state_after_reply}
 use Rattle.lot_machine.proofs.QueueLemmas.{told_count}
 use Rattle.lot_laws.proofs.sites.StandsKept.{AlikeBeside}

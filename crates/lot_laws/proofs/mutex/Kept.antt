@@ -3,40 +3,40 @@ use Rattle.std.proofs.Common.{ℕ, Bool, true, false, Option, Some, None, if◌t
 use Rattle.lot_laws.proofs.once.Kept.{goes_once}
 use Rattle.lot_laws.proofs.semaphore.Kept.{goes_semaphore}
 use Rattle.std.proofs.lemmas.Bool.{eqb-true}
-use Rattle.lot_base.specs.declared.keys.Keys.TheVariants.{One}
-use Rattle.lot_base.specs.declared.ops.Op.{Op}
-use Rattle.lot_base.specs.declared.ops.Op as op
-use Rattle.lot_base.specs.declared.wants.Waiter.{Waiter}
-use Rattle.lot_base.specs.declared.wants.Want.TheVariants.{Exclusive}
-use Rattle.lot_base.specs.Lines.{without, first_of, times}
+use Rattle.core_base.specs.declared.keys.Keys.TheVariants.{One}
+use Rattle.core_base.specs.declared.ops.Op.{Op}
+use Rattle.core_base.specs.declared.ops.Op as op
+use Rattle.core_base.specs.declared.wants.Waiter.{Waiter}
+use Rattle.core_base.specs.declared.wants.Want.TheVariants.{Exclusive}
+use Rattle.core_base.specs.Lines.{without, first_of, times}
 use Rattle.lot_steps.specs.declared.places.Place.{Place}
 use Rattle.lot_steps.specs.declared.places.Place.TheVariants.{Idle, Mutex, RwLock, Once, Condvar, Semaphore}
-use Rattle.lot_mutex.specs.declared.lock.Entry.{Entry}
-use Rattle.lot_mutex.specs.declared.lock.Entry.TheVariants as entries
-use Rattle.lot_mutex.specs.declared.places.MutexPlace.{MutexPlace}
-use Rattle.lot_mutex.specs.declared.places.MutexPlace.TheVariants.{Lock, TryLock, Unlock, UnlockFair, Bump, HandOff}
-use Rattle.lot_mutex.specs.declared.lock.LockAt.{LockAt}
-use Rattle.lot_mutex.specs.declared.lock.LockAt.TheVariants as lock
-use Rattle.lot_mutex.specs.declared.unlock.UnlockAt.{UnlockAt}
-use Rattle.lot_mutex.specs.declared.unlock.UnlockAt.TheVariants as unlock
-use Rattle.lot_mutex.specs.declared.hand_off.HandOffAt.{HandOffAt}
-use Rattle.lot_mutex.specs.declared.hand_off.HandOffAt.TheVariants as hand_off
-use Rattle.lot_acts.specs.declared.acts.Act.{Act}
-use Rattle.lot_acts.specs.declared.acts.Act as act
-use Rattle.lot_acts.specs.declared.acts.Check.TheVariants.{WordIs}
-use Rattle.lot_acts.specs.declared.acts.Wakes as wakes
-use Rattle.lot_acts.specs.declared.acts.Reply.TheVariants.{Parked, Removed, Took, TakenBy, Value}
-use Rattle.lot_mutex.specs.declared.places.TheConstants.{NOT_PARKED}
-use Rattle.lot_acts.specs.declared.acts.Whom as whoms
-use Rattle.lot_mutex.specs.MutexSteps.{is_locked, is_parked, lock_act, unlock_act, hand_off_act, mutex_act}
+use Rattle.steps_mutex.specs.declared.lock.Entry.{Entry}
+use Rattle.steps_mutex.specs.declared.lock.Entry.TheVariants as entries
+use Rattle.steps_mutex.specs.declared.places.MutexPlace.{MutexPlace}
+use Rattle.steps_mutex.specs.declared.places.MutexPlace.TheVariants.{Lock, TryLock, Unlock, UnlockFair, Bump, HandOff}
+use Rattle.steps_mutex.specs.declared.lock.LockAt.{LockAt}
+use Rattle.steps_mutex.specs.declared.lock.LockAt.TheVariants as lock
+use Rattle.steps_mutex.specs.declared.unlock.UnlockAt.{UnlockAt}
+use Rattle.steps_mutex.specs.declared.unlock.UnlockAt.TheVariants as unlock
+use Rattle.steps_mutex.specs.declared.hand_off.HandOffAt.{HandOffAt}
+use Rattle.steps_mutex.specs.declared.hand_off.HandOffAt.TheVariants as hand_off
+use Rattle.steps_base.specs.declared.acts.Act.{Act}
+use Rattle.steps_base.specs.declared.acts.Act as act
+use Rattle.steps_base.specs.declared.acts.Check.TheVariants.{WordIs}
+use Rattle.steps_base.specs.declared.acts.Wakes as wakes
+use Rattle.steps_base.specs.declared.acts.Reply.TheVariants.{Parked, Removed, Took, TakenBy, Value}
+use Rattle.steps_mutex.specs.declared.places.TheConstants.{NOT_PARKED}
+use Rattle.steps_base.specs.declared.acts.Whom as whoms
+use Rattle.steps_mutex.specs.MutexSteps.{is_locked, is_parked, lock_act, unlock_act, hand_off_act, mutex_act}
 use Rattle.lot_steps.specs.Steps.{next_place, act_of}
-use Rattle.abstract_locks.specs.Locks.{one_if_some, TakeFirst}
-use Rattle.abstract_locks.specs.Codes.{bit}
-use Rattle.abstract_locks.specs.Sites.{Main, Second, End, is_empty, found, leaves, In, Out, Case, FindNobody}
+use Rattle.spec_locks.specs.Locks.{one_if_some, TakeFirst}
+use Rattle.spec_locks.specs.Codes.{bit}
+use Rattle.spec_locks.specs.Sites.{Main, Second, End, is_empty, found, leaves, In, Out, Case, FindNobody}
 use Rattle.lot_machine.specs.Machine.{State, place_at, word_at, owners_at, queue_at, section_at, can_do, put, state_with_sections, queues_with_last, queues_without, queues_without_first, state_after_reply, state_after_taking, is_there, reply_to}
 use Rattle.lot_machine.specs.Fits.{IsShaped, PlaceFits}
 use Rattle.lot_laws.specs.Refinement.{taken_at}
-use Rattle.abstract_locks.specs.Picks.{queued_of}
+use Rattle.spec_locks.specs.Picks.{queued_of}
 use Rattle.lot_laws.specs.MutexDeeds.{mutex_doing, mutex_station, acts, deeds, mutex_deeds, queued}
 use Rattle.lot_laws.specs.Stations.{Station, nowhere, station, station_at}
 use Rattle.lot_laws.specs.SitesOf.{AreCounted, IsSteady, Goes, stood_in}

@@ -1,36 +1,36 @@
--- How a call of a mutex comes to owe a wake: by the word that it sees, and by entering the section. Whatever befalls a thread asleep changes
--- nothing of that.
+-- A call of a mutex comes to owe a wake by the word that it sees, and by entering the section. An
+-- event that befalls a thread asleep changes nothing of that.
 use Rattle.std.proofs.Common.{ℕ, Bool, true, false, Some, None, if◌then◌else◌, ◌==◌, not, ◌≡◌, ◌*◌, inl, inr, length, drop, refl, sym, ◌∙◌, ap, subst}
-use Rattle.lot_base.specs.declared.notes.Note.{Note}
-use Rattle.lot_base.specs.declared.notes.Note.TheVariants as note
-use Rattle.lot_base.specs.Lines.{first_of}
-use Rattle.lot_calls.specs.declared.calls.MutexCall.{MutexCall}
-use Rattle.lot_calls.specs.declared.calls.MutexCall as mutex_call
-use Rattle.lot_calls.specs.declared.outcomes.Outcome.{Outcome}
-use Rattle.lot_calls.specs.declared.outcomes.Outcome as outcome
-use Rattle.lot_acts.specs.declared.acts.Reply.{Reply}
-use Rattle.lot_acts.specs.declared.acts.Reply.TheVariants.{TakenBy, MovedTo, HandedBy, Woken, Late}
-use Rattle.lot_mutex.specs.declared.places.MutexPlace.{MutexPlace}
-use Rattle.lot_mutex.specs.declared.places.MutexPlace.TheVariants.{Lock, TryLock, Unlock, UnlockFair, Bump, HandOff}
-use Rattle.lot_mutex.specs.declared.lock.LockAt.{LockAt}
-use Rattle.lot_mutex.specs.declared.lock.LockAt.TheVariants as lock
-use Rattle.lot_mutex.specs.declared.unlock.UnlockAt.TheVariants as unlock
-use Rattle.lot_mutex.specs.declared.hand_off.HandOffAt.TheVariants as hand_off
+use Rattle.core_base.specs.declared.notes.Note.{Note}
+use Rattle.core_base.specs.declared.notes.Note.TheVariants as note
+use Rattle.core_base.specs.Lines.{first_of}
+use Rattle.spec_locks.specs.declared.calls.MutexCall.{MutexCall}
+use Rattle.spec_locks.specs.declared.calls.MutexCall as mutex_call
+use Rattle.spec_locks.specs.declared.outcomes.Outcome.{Outcome}
+use Rattle.spec_locks.specs.declared.outcomes.Outcome as outcome
+use Rattle.steps_base.specs.declared.acts.Reply.{Reply}
+use Rattle.steps_base.specs.declared.acts.Reply.TheVariants.{TakenBy, MovedTo, HandedBy, Woken, Late}
+use Rattle.steps_mutex.specs.declared.places.MutexPlace.{MutexPlace}
+use Rattle.steps_mutex.specs.declared.places.MutexPlace.TheVariants.{Lock, TryLock, Unlock, UnlockFair, Bump, HandOff}
+use Rattle.steps_mutex.specs.declared.lock.LockAt.{LockAt}
+use Rattle.steps_mutex.specs.declared.lock.LockAt.TheVariants as lock
+use Rattle.steps_mutex.specs.declared.unlock.UnlockAt.TheVariants as unlock
+use Rattle.steps_mutex.specs.declared.hand_off.HandOffAt.TheVariants as hand_off
 use Rattle.lot_steps.specs.declared.places.Place.{Place}
 use Rattle.lot_steps.specs.declared.places.Place.TheVariants.{Idle, Mutex}
-use Rattle.lot_acts.specs.Acts.{outcome_of}
-use Rattle.lot_mutex.specs.declared.lock.Entry.{Entry}
-use Rattle.lot_mutex.specs.declared.lock.Entry.TheVariants as entries
-use Rattle.lot_acts.specs.declared.acts.Next.{Next}
-use Rattle.lot_acts.specs.declared.acts.Next.TheVariants as next
-use Rattle.lot_calls.specs.declared.outcomes.Answer as answer
-use Rattle.lot_mutex.specs.declared.unlock.UnlockAt.{UnlockAt}
-use Rattle.lot_mutex.specs.declared.hand_off.HandOffAt.{HandOffAt}
-use Rattle.lot_mutex.specs.MutexSteps.{in_lock, in_unlock, is_parked, is_locked, looked, next_lock, lock_act, mutex_first}
+use Rattle.steps_base.specs.Acts.{outcome_of}
+use Rattle.steps_mutex.specs.declared.lock.Entry.{Entry}
+use Rattle.steps_mutex.specs.declared.lock.Entry.TheVariants as entries
+use Rattle.steps_base.specs.declared.acts.Next.{Next}
+use Rattle.steps_base.specs.declared.acts.Next.TheVariants as next
+use Rattle.spec_locks.specs.declared.outcomes.Answer as answer
+use Rattle.steps_mutex.specs.declared.unlock.UnlockAt.{UnlockAt}
+use Rattle.steps_mutex.specs.declared.hand_off.HandOffAt.{HandOffAt}
+use Rattle.steps_mutex.specs.MutexSteps.{in_lock, in_unlock, is_parked, is_locked, looked, next_lock, lock_act, mutex_first}
 use Rattle.lot_steps.specs.Steps.{next_place, mutex_goes, mutex_does}
 use Rattle.lot_machine.specs.Machine.{State, place_at, word_at, queue_at, is_there, reply_to}
 use Rattle.lot_laws.specs.Refinement.{owner_at}
-use Rattle.abstract_locks.specs.Sites.{Main}
+use Rattle.spec_locks.specs.Sites.{Main}
 use Rattle.lot_laws.specs.MutexPromises.{IsMutexWord}
 use Rattle.lot_laws.specs.SitesOf.{IsSteady}
 use Rattle.lot_laws.proofs.machine.AtPlaces.{coded_for, owns}
@@ -38,10 +38,10 @@ use Rattle.lot_steps.specs.Steps.{line_owed, profile}
 use Rattle.lot_laws.proofs.promises.RowPromises.{LetsIn, RowSees, RowOwesNext, IsLateNext, Befalls}
 use Rattle.lot_laws.proofs.mutex.Rows.{lock_owes, shut}
 use Rattle.lot_laws.specs.MutexDeeds.{mutex_row}
-use Rattle.lot_mutex.specs.MutexSteps.{mutex_act, mutex_next, is_timed}
+use Rattle.steps_mutex.specs.MutexSteps.{mutex_act, mutex_next, is_timed}
 use Rattle.lot_laws.specs.Owing.{line_let_in, tells_of}
-use Rattle.abstract_locks.specs.Locks as locks
-use Rattle.abstract_locks.specs.Sites.{Line, Second}
+use Rattle.spec_locks.specs.Locks as locks
+use Rattle.spec_locks.specs.Sites.{Line, Second}
 
 -- ---------------------------------------------------------------- what befalls another thread
 

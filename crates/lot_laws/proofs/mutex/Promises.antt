@@ -1,21 +1,21 @@
 -- The promises of every state, and of every step, in the words that users of a mutex know.
 use Rattle.std.proofs.Common.{ℕ, true, false, Option, Some, None, ◌≡◌, ◌⊎◌, inl, inr, refl, sym, ◌∙◌, ap, subst}
-use Rattle.lot_base.specs.declared.wants.Want.{Want}
-use Rattle.lot_base.specs.declared.wants.Want.TheVariants.{Exclusive, Upgradable, Shared}
-use Rattle.lot_calls.specs.declared.outcomes.Outcome.{Outcome}
-use Rattle.lot_mutex.specs.MutexSteps.{is_parked}
+use Rattle.core_base.specs.declared.wants.Want.{Want}
+use Rattle.core_base.specs.declared.wants.Want.TheVariants.{Exclusive, Upgradable, Shared}
+use Rattle.spec_locks.specs.declared.outcomes.Outcome.{Outcome}
+use Rattle.steps_mutex.specs.MutexSteps.{is_parked}
 use Rattle.lot_steps.specs.Steps.{is_line, line_owed}
-use Rattle.abstract_locks.specs.Locks as locks
-use Rattle.abstract_locks.specs.Locks.{Knows, Sort}
-use Rattle.abstract_locks.specs.Codes.{parked_in, aside_in, word_by}
-use Rattle.abstract_locks.specs.Sites.{Line, Main, Second, has_readers}
-use Rattle.abstract_locks.specs.Purposes.{Recall, Purpose, Enters, Releases, Converts, Bumps, CallsOnce, Awaits, Waits, Notifies}
+use Rattle.spec_locks.specs.Locks as locks
+use Rattle.spec_locks.specs.Locks.{Knows, Sort}
+use Rattle.spec_locks.specs.Codes.{parked_in, aside_in, word_by}
+use Rattle.spec_locks.specs.Sites.{Line, Main, Second, has_readers}
+use Rattle.spec_locks.specs.Purposes.{Recall, Purpose, Enters, Releases, Converts, Bumps, CallsOnce, Awaits, Waits, Notifies}
 use Rattle.lot_machine.specs.Machine.{State, place_at, word_at, kind_at}
 use Rattle.lot_laws.specs.Refinement.{owner_at, lock_state, call_at}
 use Rattle.lot_laws.specs.SitesOf.{is_mutex, rules_in}
 use Rattle.lot_laws.specs.Owing.{Owes, IsInside, IsWait, ReleasesLock, LetsOthersIn, SeesWaiters, OwesSince, OnlyLooks, LooksFirst, line_let_in, tells_by, sort_at}
 use Rattle.lot_laws.specs.Promises.{WakesWaiters, IsKept, IsLookedAfter, IsOpenNow}
-use Rattle.lot_acts.specs.Rows.{KnowsRights, WakesAside}
+use Rattle.steps_base.specs.Rows.{KnowsRights, WakesAside}
 use Rattle.lot_laws.specs.MutexPromises.{HasDebtor, HasReleasedIt, IsShownToOwe, WakesOne, GoesToRelease, SeesParkedBit, IsMutexKept, MutexesAreKept, OwesMutexSince, MutexesOwe}
 use Rattle.lot_laws.proofs.mutex.Words.{mutex}
 use Rattle.lot_laws.proofs.sites.StandsMoved.{mutex_rules}

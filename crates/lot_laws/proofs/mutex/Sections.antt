@@ -1,19 +1,19 @@
 -- The entries of a mutex in its section that speak of other threads: taking the first of the line, and handing the lock over.
 use Rattle.std.proofs.Common.{ℕ, Bool, true, false, Option, Some, None, ◌≡◌, ◌≢◌, ◌⊎◌, ◌↔◌, List, [], ◌∷◌, map, inl, inr, refl, sym, ap}
 use Rattle.std.proofs.lemmas.Bool.{cases_eq}
-use Rattle.lot_base.specs.declared.wants.Waiter.{Waiter}
-use Rattle.lot_base.specs.declared.wants.Want.{Want}
-use Rattle.lot_base.specs.declared.wants.Want.TheVariants.{Exclusive, Shared}
-use Rattle.lot_acts.specs.declared.owners.Owners.{Owners}
+use Rattle.core_base.specs.declared.wants.Waiter.{Waiter}
+use Rattle.core_base.specs.declared.wants.Want.{Want}
+use Rattle.core_base.specs.declared.wants.Want.TheVariants.{Exclusive, Shared}
+use Rattle.steps_base.specs.declared.owners.Owners.{Owners}
 use Rattle.lot_steps.specs.declared.places.Place.{Place}
 use Rattle.lot_steps.specs.declared.places.Place.TheVariants.{Mutex}
-use Rattle.lot_mutex.specs.declared.places.MutexPlace.TheVariants.{HandOff}
-use Rattle.lot_mutex.specs.declared.hand_off.HandOffAt.TheVariants as hand_off
-use Rattle.abstract_locks.specs.Locks.{LockState, Taken, Queued, IsTaken, HasTakenNobody, Knows, TakeFirst, keep_from}
-use Rattle.abstract_locks.specs.Locks as locks
-use Rattle.abstract_locks.specs.Sites.{Doing, Has, IsSite, Main, Second, Case}
+use Rattle.steps_mutex.specs.declared.places.MutexPlace.TheVariants.{HandOff}
+use Rattle.steps_mutex.specs.declared.hand_off.HandOffAt.TheVariants as hand_off
+use Rattle.spec_locks.specs.Locks.{LockState, Taken, Queued, IsTaken, HasTakenNobody, Knows, TakeFirst, keep_from}
+use Rattle.spec_locks.specs.Locks as locks
+use Rattle.spec_locks.specs.Sites.{Doing, Has, IsSite, Main, Second, Case}
 use Rattle.lot_laws.specs.Refinement.{lock_seen, taken_at}
-use Rattle.abstract_locks.specs.Picks.{queued_of}
+use Rattle.spec_locks.specs.Picks.{queued_of}
 use Rattle.lot_laws.specs.MutexDeeds.{mutex_doing, acts, queued}
 use Rattle.lot_laws.specs.Stations.{hand, doing_on}
 use Rattle.lot_laws.specs.SitesOf.{ActsNeeded}

@@ -2,36 +2,36 @@
 -- in a call of that mutex or of a condition variable beside it. No other lock sees a change of it.
 use Rattle.std.proofs.Common.{ℕ, Bool, true, false, Option, Some, None, if◌then◌else◌, ◌==◌, ◌≡◌, ◌≢◌, ◌⊎◌, inl, inr, refl, sym, ◌∙◌, ap, subst}
 use Rattle.std.proofs.lemmas.Bool.{cases_eq, eqb-true}
-use Rattle.lot_base.specs.declared.notes.Note.TheVariants as note
-use Rattle.lot_base.specs.declared.wants.Want.TheVariants.{Exclusive}
-use Rattle.lot_acts.specs.declared.acts.Reply.TheVariants.{Woken, TakenBy, HandedBy}
-use Rattle.lot_acts.specs.Profiles.{taken_from, in_line}
+use Rattle.core_base.specs.declared.notes.Note.TheVariants as note
+use Rattle.core_base.specs.declared.wants.Want.TheVariants.{Exclusive}
+use Rattle.steps_base.specs.declared.acts.Reply.TheVariants.{Woken, TakenBy, HandedBy}
+use Rattle.steps_base.specs.Profiles.{taken_from, in_line}
 use Rattle.lot_steps.specs.declared.places.Place.{Place}
 use Rattle.lot_steps.specs.declared.places.Place.TheVariants.{Idle, Mutex, RwLock, Once, Condvar, Semaphore}
 use Rattle.lot_steps.specs.Steps.{next_place, or_else, wants}
-use Rattle.lot_mutex.specs.declared.lock.Entry.{Entry}
-use Rattle.lot_mutex.specs.declared.lock.Entry.TheVariants as entries
-use Rattle.lot_mutex.specs.declared.lock.LockAt.{LockAt}
-use Rattle.lot_mutex.specs.declared.lock.LockAt.TheVariants as lock
-use Rattle.lot_mutex.specs.declared.places.MutexPlace.{MutexPlace}
-use Rattle.lot_mutex.specs.declared.places.MutexPlace.TheVariants.{Lock, Unlock}
-use Rattle.lot_mutex.specs.declared.unlock.UnlockAt.TheVariants as unlock
-use Rattle.lot_condvar.specs.declared.notify.NotifyAt.{NotifyAt}
-use Rattle.lot_condvar.specs.declared.notify.NotifyAt.TheVariants as notify
-use Rattle.lot_condvar.specs.declared.places.CondvarPlace.{CondvarPlace}
-use Rattle.lot_condvar.specs.declared.places.CondvarPlace.TheVariants.{Wait, Look, Notify}
-use Rattle.lot_condvar.specs.declared.wait.Stands.TheVariants as stands
-use Rattle.lot_condvar.specs.declared.wait.WaitAt.{WaitAt}
-use Rattle.lot_condvar.specs.declared.wait.WaitAt.TheVariants as wait
-use Rattle.lot_condvar.specs.CondvarSteps.{mutex_beside}
-use Rattle.lot_condvar.specs.CondvarProfiles.{condvar_profile, mutex_side, notify_row}
-use Rattle.lot_condvar.specs.CondvarCalls.{IsReached, IsRelease, IsLockOf, IsRelock}
-use Rattle.abstract_locks.specs.Locks.{Rules, Taken}
-use Rattle.abstract_locks.specs.Locks as locks
-use Rattle.abstract_locks.specs.Sites.{Doing, Line, Main, Has, has_readers, idle}
+use Rattle.steps_mutex.specs.declared.lock.Entry.{Entry}
+use Rattle.steps_mutex.specs.declared.lock.Entry.TheVariants as entries
+use Rattle.steps_mutex.specs.declared.lock.LockAt.{LockAt}
+use Rattle.steps_mutex.specs.declared.lock.LockAt.TheVariants as lock
+use Rattle.steps_mutex.specs.declared.places.MutexPlace.{MutexPlace}
+use Rattle.steps_mutex.specs.declared.places.MutexPlace.TheVariants.{Lock, Unlock}
+use Rattle.steps_mutex.specs.declared.unlock.UnlockAt.TheVariants as unlock
+use Rattle.steps_condvar.specs.declared.notify.NotifyAt.{NotifyAt}
+use Rattle.steps_condvar.specs.declared.notify.NotifyAt.TheVariants as notify
+use Rattle.steps_condvar.specs.declared.places.CondvarPlace.{CondvarPlace}
+use Rattle.steps_condvar.specs.declared.places.CondvarPlace.TheVariants.{Wait, Look, Notify}
+use Rattle.steps_condvar.specs.declared.wait.Stands.TheVariants as stands
+use Rattle.steps_condvar.specs.declared.wait.WaitAt.{WaitAt}
+use Rattle.steps_condvar.specs.declared.wait.WaitAt.TheVariants as wait
+use Rattle.steps_condvar.specs.CondvarSteps.{mutex_beside}
+use Rattle.steps_condvar.specs.CondvarProfiles.{condvar_profile, mutex_side, notify_row}
+use Rattle.steps_condvar.specs.CondvarCalls.{IsReached, IsRelease, IsLockOf, IsRelock}
+use Rattle.spec_locks.specs.Locks.{Rules, Taken}
+use Rattle.spec_locks.specs.Locks as locks
+use Rattle.spec_locks.specs.Sites.{Doing, Line, Main, Has, has_readers, idle}
 use Rattle.lot_machine.specs.Machine.{State, place_at}
 use Rattle.lot_laws.specs.Refinement.{taken_at}
-use Rattle.lot_mutex.specs.MutexProfiles.{mutex_profile}
+use Rattle.steps_mutex.specs.MutexProfiles.{mutex_profile}
 use Rattle.lot_laws.specs.MutexDeeds.{mutex_row, mutex_station}
 use Rattle.lot_laws.specs.Stations.{Station, Hand, hand, nowhere, station, station_at, station_by, doing_on}
 use Rattle.lot_laws.specs.SitesOf.{FitsItsLock, IsSteady, Hands, hand_at, rules_in}

@@ -1,57 +1,57 @@
 -- A thread in a call of a `Once` goes on: every lock is a site again.
 use Rattle.std.proofs.Common.{inl, rules, ℕ, Bool, true, false, Option, Some, None, ◌==◌, ◌≡◌, ◌+◌, ◌*◌, ◌<◌, List, [], ◌∷◌, length, is_none, refl, sym, ◌∙◌, ap, subst, arith}
 use Rattle.std.proofs.lemmas.Bool.{eqb-true}
-use Rattle.lot_base.specs.declared.keys.Keys.{Keys}
-use Rattle.lot_base.specs.declared.keys.Keys.TheVariants.{One}
-use Rattle.lot_base.specs.declared.notes.Note.TheVariants.{Normal}
-use Rattle.lot_base.specs.declared.ops.Op.{Op}
-use Rattle.lot_base.specs.Words.{apply}
-use Rattle.lot_base.specs.declared.wants.Want.{Want}
-use Rattle.lot_calls.specs.declared.calls.OnceCall.{OnceCall}
-use Rattle.lot_calls.specs.declared.calls.OnceCall.TheVariants.{CallOnce, Wait, WaitTimed}
-use Rattle.lot_acts.specs.declared.acts.Check.{Check}
-use Rattle.lot_acts.specs.declared.acts.Act.{Act}
-use Rattle.lot_acts.specs.declared.acts.Act.TheVariants as act
-use Rattle.lot_acts.specs.declared.acts.Next.{Next}
-use Rattle.lot_acts.specs.declared.acts.Next.TheVariants as next
-use Rattle.lot_acts.specs.declared.acts.Reply.{Reply}
-use Rattle.lot_acts.specs.declared.acts.Reply.TheVariants.{Done, Value, Parked, Took, Removed, TakenBy, Late, Woken, Closed}
-use Rattle.lot_acts.specs.declared.acts.Wakes.{Wakes}
-use Rattle.lot_acts.specs.declared.acts.Whom.TheVariants as whom
-use Rattle.lot_acts.specs.Acts.{holds, wakes_taken}
-use Rattle.lot_acts.specs.Moves.{StaysPut, GoesIn, GoesOut, LeavesLine, AreLeaving, Waits, row_of}
-use Rattle.lot_acts.specs.Calls.{IsNotLate}
-use Rattle.lot_acts.specs.Profiles.{Profile, in_hand}
-use Rattle.lot_acts.specs.Owners.{lock_seen}
-use Rattle.abstract_locks.specs.Onces.{Rest, TakeAll}
-use Rattle.abstract_locks.specs.Locks.{Rules, OfOnce}
-use Rattle.abstract_locks.specs.Locks as locks
-use Rattle.abstract_locks.specs.Sites.{Site, Deed, Line, Main, Second, Case, In, has_readers}
-use Rattle.abstract_locks.specs.Codes.{aside_in, code, is_marked, parked_in}
-use Rattle.abstract_locks.specs.Deeds.{case_of}
-use Rattle.abstract_locks.specs.Deeds as laws
-use Rattle.lot_once.specs.declared.give_up.GiveUpAt.TheVariants as give_up
-use Rattle.lot_once.specs.declared.look.LookAt.TheVariants as look
-use Rattle.lot_once.specs.declared.look.Course.{Course}
-use Rattle.lot_once.specs.declared.look.Course.TheVariants.{Ends, Runs, Marks, Parks}
-use Rattle.lot_once.specs.declared.run.RunAt.TheVariants as run
-use Rattle.lot_once.specs.declared.places.OncePlace.{OncePlace}
-use Rattle.lot_once.specs.declared.places.OncePlace.TheVariants.{Look, Run, GiveUp}
-use Rattle.lot_once.specs.OnceCalls.{CallFollowsBy, next_row}
-use Rattle.lot_once.specs.OnceDeeds.{Follows, IsAt, OnceSectionsFollow, MayHear, closes, doing_next, exchanged_deeds, looked_deeds, once_deeds, once_doing}
-use Rattle.lot_once.specs.OnceMoves.{OnceMoves, RestsBehind, TakesAll, once_hears, once_move}
-use Rattle.lot_once.specs.OnceProfiles.{once_profile}
-use Rattle.lot_once.specs.OnceSteps.{course_act, course_of, once_act, once_first, once_next, once_owners}
-use Rattle.lot_once.proofs.OnceActs.{once_acts_move, once_late_move, once_sleepers_move}
-use Rattle.lot_once.proofs.OnceFit.{once_owners_follow, once_steps_code, once_steps_follow}
-use Rattle.lot_once.proofs.OnceTells.{once_sections_tell, once_steps_tell}
-use Rattle.lot_once.proofs.OnceWords as words
-use Rattle.lot_semaphore.specs.declared.places.SemaphorePlace.{SemaphorePlace}
+use Rattle.core_base.specs.declared.keys.Keys.{Keys}
+use Rattle.core_base.specs.declared.keys.Keys.TheVariants.{One}
+use Rattle.core_base.specs.declared.notes.Note.TheVariants.{Normal}
+use Rattle.core_base.specs.declared.ops.Op.{Op}
+use Rattle.core_base.specs.Words.{apply}
+use Rattle.core_base.specs.declared.wants.Want.{Want}
+use Rattle.spec_locks.specs.declared.calls.OnceCall.{OnceCall}
+use Rattle.spec_locks.specs.declared.calls.OnceCall.TheVariants.{CallOnce, Wait, WaitTimed}
+use Rattle.steps_base.specs.declared.acts.Check.{Check}
+use Rattle.steps_base.specs.declared.acts.Act.{Act}
+use Rattle.steps_base.specs.declared.acts.Act.TheVariants as act
+use Rattle.steps_base.specs.declared.acts.Next.{Next}
+use Rattle.steps_base.specs.declared.acts.Next.TheVariants as next
+use Rattle.steps_base.specs.declared.acts.Reply.{Reply}
+use Rattle.steps_base.specs.declared.acts.Reply.TheVariants.{Done, Value, Parked, Took, Removed, TakenBy, Late, Woken}
+use Rattle.steps_base.specs.declared.acts.Wakes.{Wakes}
+use Rattle.steps_base.specs.declared.acts.Whom.TheVariants as whom
+use Rattle.steps_base.specs.Acts.{holds, wakes_taken}
+use Rattle.steps_base.specs.Moves.{StaysPut, GoesIn, GoesOut, LeavesLine, AreLeaving, Waits, row_of}
+use Rattle.steps_base.specs.Calls.{IsNotLate}
+use Rattle.steps_base.specs.Profiles.{Profile, in_hand}
+use Rattle.steps_base.specs.Owners.{lock_seen}
+use Rattle.spec_locks.specs.Onces.{Rest, TakeAll}
+use Rattle.spec_locks.specs.Locks.{Rules, OfOnce}
+use Rattle.spec_locks.specs.Locks as locks
+use Rattle.spec_locks.specs.Sites.{Site, Deed, Line, Main, Second, Case, In, has_readers}
+use Rattle.spec_locks.specs.Codes.{aside_in, code, is_marked, parked_in}
+use Rattle.spec_locks.specs.Deeds.{case_of}
+use Rattle.spec_locks.specs.Deeds as laws
+use Rattle.steps_once.specs.declared.give_up.GiveUpAt.TheVariants as give_up
+use Rattle.steps_once.specs.declared.look.LookAt.TheVariants as look
+use Rattle.steps_once.specs.declared.look.Course.{Course}
+use Rattle.steps_once.specs.declared.look.Course.TheVariants.{Ends, Runs, Marks, Parks}
+use Rattle.steps_once.specs.declared.run.RunAt.TheVariants as run
+use Rattle.steps_once.specs.declared.places.OncePlace.{OncePlace}
+use Rattle.steps_once.specs.declared.places.OncePlace.TheVariants.{Look, Run, GiveUp}
+use Rattle.steps_once.specs.OnceCalls.{CallFollowsBy, next_row}
+use Rattle.steps_once.specs.OnceDeeds.{Follows, IsAt, OnceSectionsFollow, MayHear, closes, doing_next, exchanged_deeds, looked_deeds, once_deeds, once_doing}
+use Rattle.steps_once.specs.OnceMoves.{OnceMoves, RestsBehind, TakesAll, once_hears, once_move}
+use Rattle.steps_once.specs.OnceProfiles.{once_profile}
+use Rattle.steps_once.specs.OnceSteps.{course_act, course_of, once_act, once_first, once_next, once_owners}
+use Rattle.steps_once.proofs.OnceActs.{once_acts_move, once_late_move, once_sleepers_move}
+use Rattle.steps_once.proofs.OnceFit.{once_owners_follow, once_steps_code, once_steps_follow}
+use Rattle.steps_once.proofs.OnceTells.{once_sections_tell, once_steps_tell}
+use Rattle.steps_once.proofs.OnceWords as words
+use Rattle.steps_semaphore.specs.declared.places.SemaphorePlace.{SemaphorePlace}
 use Rattle.lot_steps.specs.declared.places.Place.{Place}
 use Rattle.lot_steps.specs.declared.places.Place.TheVariants.{Idle, Mutex, RwLock, Once, Condvar, Semaphore}
-use Rattle.lot_mutex.specs.declared.places.MutexPlace.{MutexPlace}
-use Rattle.lot_rwlock.specs.declared.places.Admission.{Admission}
-use Rattle.lot_rwlock_fair.specs.declared.places.RwLockCallPlace.{RwLockCallPlace}
+use Rattle.steps_mutex.specs.declared.places.MutexPlace.{MutexPlace}
+use Rattle.steps_rwlock.specs.declared.places.Admission.{Admission}
+use Rattle.steps_rwlock_fair.specs.declared.places.RwLockCallPlace.{RwLockCallPlace}
 use Rattle.lot_steps.specs.Steps.{calls, next_place, once_goes, profile}
 use Rattle.lot_machine.specs.Machine.{State, are_free, can_do, is_free, state_after_late_under, kind_at, owners_at, place_at, put, queue_at, reply_to, section_at, shares_at, state_after_act, word_at}
 use Rattle.lot_machine.specs.Fits.{IsShaped}
@@ -62,10 +62,10 @@ use Rattle.lot_laws.specs.Stations.{doing_on, station}
 use Rattle.lot_laws.specs.SitesOf.{FitsItsLock, Goes, IsSteady, TakesOne, is_mutex, key_of, rules_in}
 use Rattle.lot_laws.proofs.sites.ActsKept.{lock_by, place_goes}
 use Rattle.lot_laws.proofs.sites.OneStep.{steps_by}
-use Rattle.lot_condvar.specs.declared.places.CondvarPlace.{CondvarPlace}
+use Rattle.steps_condvar.specs.declared.places.CondvarPlace.{CondvarPlace}
 use Rattle.lot_laws.proofs.machine.Parts.{not_beside, IsOf, doing_here, free_of, next_of, parts_at}
 use Rattle.lot_laws.proofs.sites.MovesKept.{IsFollowed, SleepsIfCalls, IsSleeper, entered_hears, goes_in, goes_out, leaves_line, left_hears, removed_hears, wakes_one}
-use Rattle.lot_laws.proofs.once.MovesKept.{all_hears, closes_so, rests_or_turns, stays_unshared, takes_all, told_so}
+use Rattle.lot_laws.proofs.once.MovesKept.{all_hears, rests_or_turns, stays_unshared, takes_all, told_so}
 use Rattle.lot_laws.proofs.calls.OtherCalls.{IsCalm, WakesOwn}
 use Rattle.lot_laws.proofs.rwlock.Kept.{left_calm, left_wakes, word_calm, calm_case, AreCalm}
 use Rattle.lot_laws.proofs.sites.StandsMoved.{mutex_rules}
@@ -408,27 +408,6 @@ module _ (w : State) (t l : ℕ) (at : OncePlace) (steady : IsSteady w) (shape :
       → Goes w (state_after_late_under w t (key_of l m)) l (acts t (once_deeds at Late))
   once_goes_late m e free = goes_in w t l steady there own (rules_in w l) refl (once_move at) same_row (once_hears at) m Late (next_place (place_at w t) Late) (section_there m)
       (nobody_is (section_at w (key_of l m)) free) (once_late_move at m e) (λ h. followed Late h)
-
--- its closure has answered, and it goes on behind it
-module _ (w : State) (t l : ℕ) (forced poisoned succeeded : Bool) (steady : IsSteady w) (there : t < length w.places)
-    (is : place_at w t ≡ Once l (Run forced (run.Closure poisoned))) where
-  of : IsOf l (place_at w t)
-  of = rw is refl
-
-  row : profile (place_at w t) ≡ once_profile (Run forced (run.Closure poisoned))
-  row = ap profile is
-
-  abbrev pub behind_closure : Place
-  behind_closure = next_place (place_at w t) (Closed succeeded)
-
-  pub closes_kept : Goes w (put w t behind_closure) l (acts t [])
-  closes_kept = closes_so w t l steady there of (rules_in w l) refl (once_move (Run forced (run.Closure poisoned))) row (once_acts_move l (Run forced (run.Closure poisoned))) succeeded (record {
-    of = next_of l (place_at w t) (Closed succeeded) of;
-    fits = subst (λ q. FitsItsLock w (next_place q (Closed succeeded))) (sym is) (subst (FitsItsLock w) is (steady.stands.calls t));
-    row = ap (λ q. profile (next_place q (Closed succeeded))) is;
-    needed = tt;
-    doing = doing_here l (place_at w t) of ∙ ap (λ (y : Profile). y.doing) row;
-  })
 
 -- ---------------------------------------------------------------- a call begins
 

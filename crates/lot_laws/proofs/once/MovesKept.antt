@@ -1,29 +1,29 @@
--- A thread in a call of a `Once` goes on where its act takes it: on the word, behind the last of the queue, with all who wait in its hand,
--- and behind its closure. No place is named.
+-- A thread in a call of a `Once` goes on where its act takes it: on the word, behind the last of the queue,
+-- or with all who wait in its hand. No place is named.
 use Rattle.std.proofs.Common.{ℕ, Bool, true, false, Option, Some, None, if◌then◌else◌, ◌==◌, ◌||◌, ◌≡◌, ◌*◌, ◌≤◌, ◌<◌, List, [], ◌∷◌, ◌++◌, length, not, refl, sym, ◌∙◌, ap, subst, arith}
 use Rattle.std.specs.Prelude.{◌&&◌, nat_le}
 use Rattle.std.proofs.Math.Bool.{or-false}
-use Rattle.lot_base.specs.declared.ops.Op.{Op}
-use Rattle.lot_base.specs.declared.wants.Waiter.{Waiter}
-use Rattle.lot_base.specs.declared.wants.Want.{Want}
-use Rattle.lot_base.specs.Lines.{times, waiter}
-use Rattle.lot_base.specs.Words.{apply}
-use Rattle.lot_acts.specs.declared.acts.Check.{Check}
-use Rattle.lot_acts.specs.declared.acts.Reply.{Reply}
-use Rattle.lot_acts.specs.declared.acts.Reply.TheVariants.{Value, Parked, Took, Closed}
-use Rattle.lot_acts.specs.declared.acts.Whom.TheVariants as whom
-use Rattle.lot_acts.specs.Acts.{holds}
-use Rattle.lot_acts.specs.Moves.{Move, Hears, StaysPut, inside_of, station_of}
-use Rattle.lot_acts.specs.Profiles.{in_hand}
-use Rattle.lot_acts.specs.Stations.{Station}
-use Rattle.abstract_locks.specs.Onces.{Rest, TakeAll}
-use Rattle.abstract_locks.specs.Locks.{Rules, OfOnce, HasTakenNobody}
-use Rattle.abstract_locks.specs.Sites.{Site, Deed, Main, Case, has_readers}
-use Rattle.abstract_locks.specs.Codes.{aside_in, code, count_in, fills, parked_in}
-use Rattle.abstract_locks.specs.Deeds as laws
+use Rattle.core_base.specs.declared.ops.Op.{Op}
+use Rattle.core_base.specs.declared.wants.Waiter.{Waiter}
+use Rattle.core_base.specs.declared.wants.Want.{Want}
+use Rattle.core_base.specs.Lines.{times, waiter}
+use Rattle.core_base.specs.Words.{apply}
+use Rattle.steps_base.specs.declared.acts.Check.{Check}
+use Rattle.steps_base.specs.declared.acts.Reply.{Reply}
+use Rattle.steps_base.specs.declared.acts.Reply.TheVariants.{Value, Parked, Took}
+use Rattle.steps_base.specs.declared.acts.Whom.TheVariants as whom
+use Rattle.steps_base.specs.Acts.{holds}
+use Rattle.steps_base.specs.Moves.{Move, Hears, StaysPut, inside_of, station_of}
+use Rattle.steps_base.specs.Profiles.{in_hand}
+use Rattle.steps_base.specs.Stations.{Station}
+use Rattle.spec_locks.specs.Onces.{Rest, TakeAll}
+use Rattle.spec_locks.specs.Locks.{Rules, OfOnce, HasTakenNobody}
+use Rattle.spec_locks.specs.Sites.{Site, Deed, Main, Case, has_readers}
+use Rattle.spec_locks.specs.Codes.{aside_in, code, count_in, fills, parked_in}
+use Rattle.spec_locks.specs.Deeds as laws
 use Rattle.lot_steps.specs.declared.places.Place.{Place}
 use Rattle.lot_steps.specs.Steps.{next_place, profile}
-use Rattle.lot_once.specs.OnceMoves.{Closes, RestsBehind, TakesAll}
+use Rattle.steps_once.specs.OnceMoves.{RestsBehind, TakesAll}
 use Rattle.lot_machine.specs.Machine.{State, filled_at, place_at, put, queue_at, queues_with_last, state_after_operation, state_after_park, state_after_take, word_at}
 use Rattle.lot_laws.specs.Refinement.{lock_state, taken_at}
 use Rattle.lot_laws.specs.MutexDeeds.{acts}
@@ -115,9 +115,6 @@ module _ (w : State) (t l : ℕ) (steady : IsSteady w) (there : t < length w.pla
   -- behind the last, where it still has to wait
   module _ (hears : Hears) (check : Check) (want : Want) (line : 2 * l < length w.queues) (g : RestsBehind x hears check want)
       (followed : (b : Bool) → hears r now t None (Parked b) → Followed (Parked b) (next_place (place_at w t) (Parked b))) where
-    rests : Deed
-    rests = Case (OfOnce (Rest want g.forced))
-
     pub told_so : (b : Bool) → holds check (word_at w l) ≡ b → hears r now t None (Parked b)
     told_so b e = g.may r now t b (sym e ∙ ap (holds check) (word_is w t l steady there own r rules x same_row))
         (nowhere_here w t l steady there own r rules x same_row (ap (λ (y : Station). y.stands) g.was) (ap (λ (y : Station). y.hand) g.was))
@@ -182,11 +179,3 @@ module _ (w : State) (t l : ℕ) (steady : IsSteady w) (there : t < length w.pla
         line sleeps (λ b h. some_in b (queue_at w (2 * l)) (sym (ap (λ (y : Station). y.carries) goes_then) ∙ h)) (λ u h. ap (λ (y : Station). y.carries) goes_then ∙ all_in (queue_at w (2 * l)) u h)
         (needed_by w t l steady there own r rules x same_row None (Took any true) then_at follows (Case (OfOnce TakeAll) ∷ []) (g.deeds any true))
         (own_by w t l steady there own r rules x same_row None (Took any true) then_at follows (Case (OfOnce TakeAll) ∷ []) (g.deeds any true)))
-
-  -- ---------------------------------------------------------------- its closure
-
-  -- nothing changes but where the thread stands
-  pub closes_so : (g : Closes x) (succeeded : Bool) → Followed (Closed succeeded) (next_place (place_at w t) (Closed succeeded))
-      → Goes w (put w t (next_place (place_at w t) (Closed succeeded))) l (acts t (x.deeds None (Closed succeeded)))
-  closes_so g succeeded f = rests_there (Closed succeeded) (next_place (place_at w t) (Closed succeeded)) _ (is_now ∙ g.was) refl (g.deeds succeeded)
-      (there_is w t l steady there own r rules x same_row None (Closed succeeded) (next_place (place_at w t) (Closed succeeded)) f ∙ g.goes succeeded) f

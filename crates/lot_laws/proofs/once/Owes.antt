@@ -1,24 +1,24 @@
 -- A thread in a call of a `Once` owes a wake from the end of its run on, where that saw waiters, or from entering the section, until it leaves it.
 use Rattle.std.proofs.Common.{ℕ, Bool, true, false, Option, Some, None, if◌then◌else◌, ◌≡◌, inl, inr, refl, sym, ◌∙◌, ap, subst}
-use Rattle.lot_calls.specs.declared.calls.OnceCall.{OnceCall}
-use Rattle.lot_calls.specs.declared.calls.OnceCall.TheVariants.{CallOnce, Wait, WaitTimed}
-use Rattle.lot_acts.specs.declared.acts.Next.{Next}
-use Rattle.lot_acts.specs.declared.acts.Next.TheVariants as next
-use Rattle.lot_acts.specs.declared.acts.Reply.{Reply}
-use Rattle.lot_acts.specs.declared.acts.Reply.TheVariants as reply
-use Rattle.lot_acts.specs.Acts.{outcome_of}
-use Rattle.abstract_locks.specs.Locks as locks
-use Rattle.abstract_locks.specs.Sites.{Line, Main}
-use Rattle.abstract_locks.specs.Codes.{is_marked}
-use Rattle.lot_once.specs.declared.give_up.GiveUpAt.{GiveUpAt}
-use Rattle.lot_once.specs.declared.give_up.GiveUpAt.TheVariants as give_up
-use Rattle.lot_once.specs.declared.look.LookAt.{LookAt}
-use Rattle.lot_once.specs.declared.run.RunAt.{RunAt}
-use Rattle.lot_once.specs.declared.run.RunAt.TheVariants as run
-use Rattle.lot_once.specs.declared.places.OncePlace.{OncePlace}
-use Rattle.lot_once.specs.declared.places.OncePlace.TheVariants.{Look, Run, GiveUp}
-use Rattle.lot_once.specs.OnceSteps.{begins_run, ended, found, in_look, in_run, is_forced, next_look, once_act, once_next, run_act, still_retries, gives_up, give_up_act, in_give_up, is_timed, next_give_up}
-use Rattle.lot_once.specs.OnceProfiles.{again_of, once_profile, run_row}
+use Rattle.spec_locks.specs.declared.calls.OnceCall.{OnceCall}
+use Rattle.spec_locks.specs.declared.calls.OnceCall.TheVariants.{CallOnce, Wait, WaitTimed}
+use Rattle.steps_base.specs.declared.acts.Next.{Next}
+use Rattle.steps_base.specs.declared.acts.Next.TheVariants as next
+use Rattle.steps_base.specs.declared.acts.Reply.{Reply}
+use Rattle.steps_base.specs.declared.acts.Reply.TheVariants as reply
+use Rattle.steps_base.specs.Acts.{outcome_of}
+use Rattle.spec_locks.specs.Locks as locks
+use Rattle.spec_locks.specs.Sites.{Line, Main}
+use Rattle.spec_locks.specs.Codes.{is_marked}
+use Rattle.steps_once.specs.declared.give_up.GiveUpAt.{GiveUpAt}
+use Rattle.steps_once.specs.declared.give_up.GiveUpAt.TheVariants as give_up
+use Rattle.steps_once.specs.declared.look.LookAt.{LookAt}
+use Rattle.steps_once.specs.declared.run.RunAt.{RunAt}
+use Rattle.steps_once.specs.declared.run.RunAt.TheVariants as run
+use Rattle.steps_once.specs.declared.places.OncePlace.{OncePlace}
+use Rattle.steps_once.specs.declared.places.OncePlace.TheVariants.{Look, Run, GiveUp}
+use Rattle.steps_once.specs.OnceSteps.{begins_run, ended, found, in_look, in_run, is_forced, next_look, once_act, once_next, run_act, still_retries, gives_up, give_up_act, in_give_up, is_timed, next_give_up}
+use Rattle.steps_once.specs.OnceProfiles.{again_of, once_profile, run_row}
 use Rattle.lot_steps.specs.Steps.{act_of, once_does, once_goes, profile}
 use Rattle.lot_machine.specs.Machine.{State, reply_to, word_at}
 use Rattle.lot_laws.specs.Owing.{tells_by, tells_of}

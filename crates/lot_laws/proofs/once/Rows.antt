@@ -1,18 +1,18 @@
 -- The rows of a `Once`: all that is asked of them beside their promises.
 use Rattle.std.proofs.Common.{ℕ, Bool, true, false, Option, Some, ◌≡◌, inl, inr, refl, subst}
-use Rattle.lot_base.specs.declared.wants.Want.{Want}
-use Rattle.lot_calls.specs.declared.calls.OnceCall.{OnceCall}
-use Rattle.lot_calls.specs.declared.calls.OnceCall.TheVariants.{CallOnce, Wait, WaitTimed}
-use Rattle.lot_acts.specs.Rows.{LetsIn}
-use Rattle.abstract_locks.specs.Locks as locks
-use Rattle.abstract_locks.specs.Sites.{Line}
-use Rattle.abstract_locks.specs.Purposes.{IsReleasing, once_purpose}
-use Rattle.lot_once.specs.OnceSteps.{is_timed}
-use Rattle.lot_once.specs.declared.give_up.GiveUpAt.{GiveUpAt}
-use Rattle.lot_once.specs.declared.look.LookAt.{LookAt}
-use Rattle.lot_once.specs.declared.look.LookAt.TheVariants as look
-use Rattle.lot_once.specs.declared.places.OncePlace.TheVariants.{Look, GiveUp}
-use Rattle.lot_once.specs.OnceProfiles.{again_of, look_row, once_profile}
+use Rattle.core_base.specs.declared.wants.Want.{Want}
+use Rattle.spec_locks.specs.declared.calls.OnceCall.{OnceCall}
+use Rattle.spec_locks.specs.declared.calls.OnceCall.TheVariants.{CallOnce, Wait, WaitTimed}
+use Rattle.steps_base.specs.Rows.{LetsIn}
+use Rattle.spec_locks.specs.Locks as locks
+use Rattle.spec_locks.specs.Sites.{Line}
+use Rattle.spec_locks.specs.Purposes.{IsReleasing, once_purpose}
+use Rattle.steps_once.specs.OnceSteps.{is_timed}
+use Rattle.steps_once.specs.declared.give_up.GiveUpAt.{GiveUpAt}
+use Rattle.steps_once.specs.declared.look.LookAt.{LookAt}
+use Rattle.steps_once.specs.declared.look.LookAt.TheVariants as look
+use Rattle.steps_once.specs.declared.places.OncePlace.TheVariants.{Look, GiveUp}
+use Rattle.steps_once.specs.OnceProfiles.{again_of, look_row, once_profile}
 
 unreleased : (timed : Bool) (wanted : Option Want) (at : LookAt) → (look_row timed wanted at).released ≡ false
 unreleased timed wanted look.Load = refl

@@ -1,39 +1,39 @@
 -- A run of a `Once` is on only while its thread is in the closure of its call.
-use Rattle.abstract_locks.specs.Condvars.{moved_of}
+use Rattle.spec_locks.specs.Condvars.{moved_of}
 use Rattle.std.proofs.Common.{◌==◌, eqb-true, ℕ, Bool, true, false, Option, Some, None, if◌then◌else◌, ◌≡◌, ◌≢◌, ◌⊎◌, inl, inr, is_some, List, get_or-set_other, refl, sym, ◌∙◌, ap, subst}
 use Rattle.std.proofs.lemmas.Bool.{cases_eq}
-use Rattle.lot_calls.specs.declared.calls.Step.{Step}
-use Rattle.lot_calls.specs.declared.calls.Turn.{Turn}
-use Rattle.lot_calls.specs.declared.calls.Turn as turn
-use Rattle.lot_calls.specs.declared.kinds.Kind.{Kind}
-use Rattle.lot_calls.specs.declared.outcomes.Outcome.{Outcome}
-use Rattle.lot_calls.specs.declared.outcomes.Outcome as outcome
-use Rattle.lot_acts.specs.declared.acts.Next.{Next}
-use Rattle.lot_acts.specs.declared.acts.Next.TheVariants as next
-use Rattle.lot_acts.specs.declared.acts.Reply.{Reply}
-use Rattle.lot_acts.specs.declared.acts.Reply.TheVariants.{TakenBy, MovedTo, HandedBy, Woken}
-use Rattle.abstract_locks.specs.Locks.{LockCase, LockState, OfOnce, Rules, left_behind, after_case, once_after, rights_of}
-use Rattle.abstract_locks.proofs.OnceLaws.{phase_by}
-use Rattle.abstract_locks.specs.Onces.{Phase, OnceCase, New, InProgress, Start, Finish, Fail, Rest, TakeAll}
-use Rattle.abstract_locks.specs.Purposes.{Purpose, Enters, Releases, Converts, Bumps, CallsOnce, Awaits, Waits, Notifies}
-use Rattle.abstract_locks.specs.Runs.{AtLock, Begins, CallState, Closes, Does, Event, GoesOn, IsStep, LocksState, MayDo, MayHappen, MayTurn, Nothing, calls_after, is_closure, locks_after, rules_at, state_told, Moves, joined_by}
-use Rattle.lot_calls.specs.declared.calls.OnceCall.{OnceCall}
-use Rattle.lot_mutex.specs.declared.places.MutexPlace.{MutexPlace}
-use Rattle.lot_mutex.specs.MutexSteps.{mutex_next}
-use Rattle.lot_once.specs.declared.give_up.GiveUpAt.{GiveUpAt}
-use Rattle.lot_once.specs.declared.look.LookAt.{LookAt}
-use Rattle.lot_once.specs.declared.look.LookAt.TheVariants as look
-use Rattle.lot_once.specs.declared.give_up.GiveUpAt.TheVariants as give_up
-use Rattle.lot_once.specs.declared.run.RunAt.{RunAt}
-use Rattle.lot_once.specs.declared.run.RunAt.TheVariants as run
-use Rattle.lot_once.specs.declared.places.OncePlace.TheVariants.{Look, Run, GiveUp}
-use Rattle.lot_once.specs.OnceSteps.{begins_run, course_of, found, in_look, in_run, is_forced, next_look, next_run, still_retries, gives_up, in_give_up, next_give_up}
-use Rattle.lot_semaphore.specs.declared.places.SemaphorePlace.{SemaphorePlace}
-use Rattle.lot_semaphore.specs.SemaphoreSteps.{semaphore_next}
-use Rattle.lot_rwlock_fair.specs.declared.places.RwLockCallPlace.{RwLockCallPlace}
-use Rattle.lot_rwlock_fair.specs.FairSteps.{call_next}
-use Rattle.lot_condvar.specs.declared.places.CondvarPlace.{CondvarPlace}
-use Rattle.lot_condvar.specs.CondvarSteps.{condvar_next}
+use Rattle.spec_locks.specs.declared.calls.Step.{Step}
+use Rattle.spec_locks.specs.declared.calls.Turn.{Turn}
+use Rattle.spec_locks.specs.declared.calls.Turn as turn
+use Rattle.spec_locks.specs.declared.kinds.Kind.{Kind}
+use Rattle.spec_locks.specs.declared.outcomes.Outcome.{Outcome}
+use Rattle.spec_locks.specs.declared.outcomes.Outcome as outcome
+use Rattle.steps_base.specs.declared.acts.Next.{Next}
+use Rattle.steps_base.specs.declared.acts.Next.TheVariants as next
+use Rattle.steps_base.specs.declared.acts.Reply.{Reply}
+use Rattle.steps_base.specs.declared.acts.Reply.TheVariants.{TakenBy, MovedTo, HandedBy, Woken}
+use Rattle.spec_locks.specs.Locks.{LockCase, LockState, OfOnce, Rules, left_behind, after_case, once_after, rights_of}
+use Rattle.spec_locks.proofs.OnceLaws.{phase_by}
+use Rattle.spec_locks.specs.Onces.{Phase, OnceCase, New, InProgress, Start, Finish, Fail, Rest, TakeAll}
+use Rattle.spec_locks.specs.Purposes.{Purpose, Enters, Releases, Converts, Bumps, CallsOnce, Awaits, Waits, Notifies}
+use Rattle.spec_locks.specs.Runs.{AtLock, Begins, CallState, Closes, Does, Event, GoesOn, IsStep, LocksState, MayDo, MayHappen, MayTurn, Nothing, calls_after, is_closure, locks_after, rules_at, state_told, Moves, joined_by}
+use Rattle.spec_locks.specs.declared.calls.OnceCall.{OnceCall}
+use Rattle.steps_mutex.specs.declared.places.MutexPlace.{MutexPlace}
+use Rattle.steps_mutex.specs.MutexSteps.{mutex_next}
+use Rattle.steps_once.specs.declared.give_up.GiveUpAt.{GiveUpAt}
+use Rattle.steps_once.specs.declared.look.LookAt.{LookAt}
+use Rattle.steps_once.specs.declared.look.LookAt.TheVariants as look
+use Rattle.steps_once.specs.declared.give_up.GiveUpAt.TheVariants as give_up
+use Rattle.steps_once.specs.declared.run.RunAt.{RunAt}
+use Rattle.steps_once.specs.declared.run.RunAt.TheVariants as run
+use Rattle.steps_once.specs.declared.places.OncePlace.TheVariants.{Look, Run, GiveUp}
+use Rattle.steps_once.specs.OnceSteps.{begins_run, course_of, found, in_look, in_run, is_forced, next_look, next_run, still_retries, gives_up, in_give_up, next_give_up}
+use Rattle.steps_semaphore.specs.declared.places.SemaphorePlace.{SemaphorePlace}
+use Rattle.steps_semaphore.specs.SemaphoreSteps.{semaphore_next}
+use Rattle.steps_rwlock_fair.specs.declared.places.RwLockCallPlace.{RwLockCallPlace}
+use Rattle.steps_rwlock_fair.specs.FairSteps.{call_next}
+use Rattle.steps_condvar.specs.declared.places.CondvarPlace.{CondvarPlace}
+use Rattle.steps_condvar.specs.CondvarSteps.{condvar_next}
 use Rattle.lot_steps.specs.declared.places.Place.{Place}
 use Rattle.lot_steps.specs.declared.places.Place.TheVariants.{Idle, Mutex, RwLock, Once, Condvar, Semaphore}
 use Rattle.lot_steps.specs.Steps.{act_of, lock_of, looking, mutex_goes, next_place, once_goes, rwlock_goes, condvar_goes, semaphore_goes}

@@ -1,48 +1,48 @@
 -- A thread in a call of a `Once` goes on by its act: that is one event of the `Once`, and its call goes on with it.
 use Rattle.std.proofs.Common.{inl, inr, ℕ, Bool, true, false, Option, Some, None, ◌==◌, ◌≡◌, ◌<◌, ◌≤◌, [], length, get_or-set_same, refl, sym, ◌∙◌, ap, subst, append-nil}
-use Rattle.lot_calls.specs.declared.calls.OnceCall.{OnceCall}
-use Rattle.lot_calls.specs.declared.outcomes.Outcome.TheVariants as outcome
-use Rattle.lot_acts.specs.declared.acts.Next.{Next}
-use Rattle.lot_acts.specs.declared.acts.Next.TheVariants as next
-use Rattle.lot_acts.specs.declared.acts.Reply.{Reply}
-use Rattle.lot_acts.specs.declared.acts.Reply.TheVariants.{Parked, Removed, Value}
-use Rattle.lot_acts.specs.Acts.{holds}
-use Rattle.lot_once.specs.OnceSteps.{check_of}
-use Rattle.abstract_locks.specs.Codes.{is_marked}
+use Rattle.spec_locks.specs.declared.calls.OnceCall.{OnceCall}
+use Rattle.spec_locks.specs.declared.outcomes.Outcome.TheVariants as outcome
+use Rattle.steps_base.specs.declared.acts.Next.{Next}
+use Rattle.steps_base.specs.declared.acts.Next.TheVariants as next
+use Rattle.steps_base.specs.declared.acts.Reply.{Reply}
+use Rattle.steps_base.specs.declared.acts.Reply.TheVariants.{Parked, Removed, Value}
+use Rattle.steps_base.specs.Acts.{holds}
+use Rattle.steps_once.specs.OnceSteps.{check_of}
+use Rattle.spec_locks.specs.Codes.{is_marked}
 use Rattle.lot_machine.specs.Machine.{word_at}
 use Rattle.lot_laws.specs.SitesOf.{rules_in, site_of}
 use Rattle.lot_laws.proofs.once.Kept.{sort_is}
 use Rattle.lot_laws.proofs.machine.Parts.{IsSingle, same}
-use Rattle.lot_acts.specs.Acts.{outcome_of}
-use Rattle.lot_acts.specs.Profiles.{Profile}
-use Rattle.lot_acts.specs.Stations.{Station}
-use Rattle.lot_once.specs.declared.give_up.GiveUpAt.TheVariants as give_up
-use Rattle.lot_once.specs.declared.look.LookAt.TheVariants as look
-use Rattle.lot_once.specs.declared.look.Course.{Course}
-use Rattle.lot_once.specs.declared.look.Course.TheVariants.{Ends, Runs, Marks, Parks}
-use Rattle.lot_once.specs.declared.run.RunAt.TheVariants as run
-use Rattle.lot_once.specs.declared.places.OncePlace.{OncePlace}
-use Rattle.lot_once.specs.declared.places.OncePlace.TheVariants.{Look, Run, GiveUp}
-use Rattle.lot_once.specs.OnceCalls.{next_row}
-use Rattle.lot_once.specs.OnceDeeds.{closes, end_of, exchanged_deeds, looked_deeds, once_deeds}
-use Rattle.lot_once.specs.OnceProfiles.{once_profile}
-use Rattle.lot_once.specs.OnceSteps.{course_act, course_of, ended, found, in_look, in_run, is_forced, is_mark, is_run, looked_by, marked, once_act, once_next, state_before}
+use Rattle.steps_base.specs.Acts.{outcome_of}
+use Rattle.steps_base.specs.Profiles.{Profile}
+use Rattle.steps_base.specs.Stations.{Station}
+use Rattle.steps_once.specs.declared.give_up.GiveUpAt.TheVariants as give_up
+use Rattle.steps_once.specs.declared.look.LookAt.TheVariants as look
+use Rattle.steps_once.specs.declared.look.Course.{Course}
+use Rattle.steps_once.specs.declared.look.Course.TheVariants.{Ends, Runs, Marks, Parks}
+use Rattle.steps_once.specs.declared.run.RunAt.TheVariants as run
+use Rattle.steps_once.specs.declared.places.OncePlace.{OncePlace}
+use Rattle.steps_once.specs.declared.places.OncePlace.TheVariants.{Look, Run, GiveUp}
+use Rattle.steps_once.specs.OnceCalls.{next_row}
+use Rattle.steps_once.specs.OnceDeeds.{closes, end_of, exchanged_deeds, looked_deeds, once_deeds}
+use Rattle.steps_once.specs.OnceProfiles.{once_profile}
+use Rattle.steps_once.specs.OnceSteps.{course_act, course_of, ended, found, in_look, in_run, is_forced, is_mark, is_run, looked_by, marked, once_act, once_next, state_before}
 use Rattle.lot_steps.specs.declared.places.Place.TheVariants.{Idle, Once}
 use Rattle.lot_steps.specs.Steps.{lock_of, next_act, next_place, once_does, once_goes, profile}
-use Rattle.abstract_locks.specs.Deeds.{case_of, event_by}
-use Rattle.abstract_locks.specs.Locks.{LockCase, OfOnce, Rules, standing}
-use Rattle.abstract_locks.specs.Runs.{AtLock, Begins, GoesOn, LocksState, Nothing, state_told}
-use Rattle.abstract_locks.specs.Onces.{Phase, New, Poisoned, InProgress, Done, MayStart}
-use Rattle.abstract_locks.specs.Codes.{code, is_poisoned}
-use Rattle.abstract_locks.specs.Locks as locks
-use Rattle.lot_calls.specs.declared.outcomes.Outcome.{Outcome}
-use Rattle.lot_once.proofs.OnceWords as words
+use Rattle.spec_locks.specs.Deeds.{case_of, event_by}
+use Rattle.spec_locks.specs.Locks.{LockCase, OfOnce, Rules, standing}
+use Rattle.spec_locks.specs.Runs.{AtLock, Begins, GoesOn, LocksState, Nothing, state_told}
+use Rattle.spec_locks.specs.Onces.{Phase, New, Poisoned, InProgress, Done, MayStart}
+use Rattle.spec_locks.specs.Codes.{code, is_poisoned}
+use Rattle.spec_locks.specs.Locks as locks
+use Rattle.spec_locks.specs.declared.outcomes.Outcome.{Outcome}
+use Rattle.steps_once.proofs.OnceWords as words
 use Rattle.lot_laws.proofs.promises.PlacePromises.{waiting_stands}
 use Rattle.lot_laws.proofs.promises.RowPromises.{IsWaiting}
 use Rattle.lot_laws.specs.Refinement.{lock_state}
 use Rattle.lot_laws.specs.Stations.{doing_on}
 use Rattle.std.specs.Prelude.{◌&&◌, if◌then◌else◌}
-use Rattle.abstract_locks.specs.Sites.{Site, Runs as Running, idle}
+use Rattle.spec_locks.specs.Sites.{Site, Runs as Running, idle}
 use Rattle.lot_machine.specs.Machine.{State, can_do, place_at, reply_to, state_after_act}
 use Rattle.lot_machine.specs.Fits.{IsShaped}
 use Rattle.lot_machine.proofs.Shape.{performed_counts}

@@ -2,29 +2,29 @@
 -- one on its way but for a wait.
 use Rattle.std.proofs.Common.{ℕ, Bool, true, false, Option, Some, None, if◌then◌else◌, ◌==◌, ◌≡◌, ◌≢◌, ◌⊎◌, ◌↔◌, inl, inr, refl, sym, ◌∙◌, ap, subst}
 use Rattle.std.proofs.lemmas.Bool.{eqb-true}
-use Rattle.lot_base.specs.declared.keys.Keys.TheVariants.{One}
-use Rattle.lot_acts.specs.declared.acts.Act.TheVariants.{Enter}
-use Rattle.lot_acts.specs.Profiles.{in_line}
-use Rattle.lot_acts.specs.Stations.{nowhere, station_by}
-use Rattle.lot_mutex.specs.declared.lock.Entry.TheVariants as entry
-use Rattle.lot_mutex.specs.declared.lock.LockAt.{LockAt}
-use Rattle.lot_mutex.specs.declared.lock.LockAt.TheVariants as lock
-use Rattle.lot_mutex.specs.declared.places.MutexPlace.TheVariants as mutex
-use Rattle.lot_mutex.specs.declared.unlock.UnlockAt.TheVariants as unlock
-use Rattle.lot_mutex.specs.MutexProfiles.{inside}
-use Rattle.lot_condvar.specs.declared.notify.NotifyAt.{NotifyAt}
-use Rattle.lot_condvar.specs.declared.notify.NotifyAt.TheVariants as notify
-use Rattle.lot_condvar.specs.declared.places.CondvarPlace.{CondvarPlace}
-use Rattle.lot_condvar.specs.declared.places.CondvarPlace.TheVariants.{Wait, Look, Notify}
-use Rattle.lot_condvar.specs.declared.wait.WaitAt.TheVariants as wait
-use Rattle.lot_condvar.specs.CondvarCalls.{IsLockOf, IsReached}
-use Rattle.lot_condvar.specs.CondvarProfiles.{condvar_row, has_moved, mutex_side, section_in}
-use Rattle.lot_condvar.specs.CondvarSteps.{mutex_beside, move_act}
+use Rattle.core_base.specs.declared.keys.Keys.TheVariants.{One}
+use Rattle.steps_base.specs.declared.acts.Act.TheVariants.{Enter}
+use Rattle.steps_base.specs.Profiles.{in_line}
+use Rattle.steps_base.specs.Stations.{nowhere, station_by}
+use Rattle.steps_mutex.specs.declared.lock.Entry.TheVariants as entry
+use Rattle.steps_mutex.specs.declared.lock.LockAt.{LockAt}
+use Rattle.steps_mutex.specs.declared.lock.LockAt.TheVariants as lock
+use Rattle.steps_mutex.specs.declared.places.MutexPlace.TheVariants as mutex
+use Rattle.steps_mutex.specs.declared.unlock.UnlockAt.TheVariants as unlock
+use Rattle.steps_mutex.specs.MutexProfiles.{inside}
+use Rattle.steps_condvar.specs.declared.notify.NotifyAt.{NotifyAt}
+use Rattle.steps_condvar.specs.declared.notify.NotifyAt.TheVariants as notify
+use Rattle.steps_condvar.specs.declared.places.CondvarPlace.{CondvarPlace}
+use Rattle.steps_condvar.specs.declared.places.CondvarPlace.TheVariants.{Wait, Look, Notify}
+use Rattle.steps_condvar.specs.declared.wait.WaitAt.TheVariants as wait
+use Rattle.steps_condvar.specs.CondvarCalls.{IsLockOf, IsReached}
+use Rattle.steps_condvar.specs.CondvarProfiles.{condvar_row, has_moved, mutex_side, section_in}
+use Rattle.steps_condvar.specs.CondvarSteps.{mutex_beside, move_act}
 use Rattle.lot_steps.specs.declared.places.Place.TheVariants.{Condvar}
 use Rattle.lot_steps.specs.Steps.{act_of, is_lock, line_owed, or_else}
-use Rattle.abstract_locks.specs.Locks.{Rights}
-use Rattle.abstract_locks.specs.Purposes.{Waits}
-use Rattle.abstract_locks.specs.Sites.{Line, Main}
+use Rattle.spec_locks.specs.Locks.{Rights}
+use Rattle.spec_locks.specs.Purposes.{Waits}
+use Rattle.spec_locks.specs.Sites.{Line, Main}
 use Rattle.lot_machine.specs.Machine.{State, place_at}
 use Rattle.lot_laws.specs.Refinement.{call_at, call_state}
 use Rattle.lot_laws.specs.Stations.{station, station_at}

@@ -1,60 +1,60 @@
 -- Each step of the world is fair.
 use Rattle.std.proofs.Common.{ℕ, Bool, true, false, Option, Some, None, if◌then◌else◌, ◌==◌, ◌&&◌, not, ◌≡◌, ◌≢◌, ◌+◌, ◌*◌, ◌<◌, ◌⊎◌, inl, inr, [], length, refl, sym, ◌∙◌, ap, subst, arith, get_or-set_same, length-set}
-use Rattle.lot_semaphore.specs.declared.places.SemaphorePlace.TheVariants as semaphore
-use Rattle.lot_calls.specs.declared.calls.OnceCall.TheVariants as once_call
-use Rattle.lot_once.specs.declared.places.OncePlace.TheVariants.{Look, Run, GiveUp}
+use Rattle.steps_semaphore.specs.declared.places.SemaphorePlace.TheVariants as semaphore
+use Rattle.spec_locks.specs.declared.calls.OnceCall.TheVariants as once_call
+use Rattle.steps_once.specs.declared.places.OncePlace.TheVariants.{Look, Run, GiveUp}
 use Rattle.lot_laws.proofs.calls.Closures.{closes_one}
 use Rattle.lot_laws.proofs.calls.OwnPlace.{gone}
 use Rattle.std.proofs.lemmas.Bool.{cases_eq, eqb-true, ltb-true}
 use Rattle.std.proofs.lemmas.Bool.Decides.{nat_tests}
-use Rattle.lot_base.specs.declared.keys.Keys.TheVariants.{One}
-use Rattle.lot_base.specs.declared.ops.Op.{Op}
-use Rattle.lot_base.specs.declared.ops.Op as op
-use Rattle.lot_base.specs.declared.wants.Want.{Want}
-use Rattle.lot_base.specs.declared.wants.Want.TheVariants.{Exclusive, Upgradable, Shared, Wait, CallOnce}
-use Rattle.lot_base.specs.Lines.{first_of}
-use Rattle.lot_calls.specs.declared.kinds.Kind as kind
-use Rattle.lot_acts.specs.declared.acts.Act as act
-use Rattle.lot_calls.specs.declared.calls.Turn.{Turn}
-use Rattle.lot_calls.specs.declared.calls.Turn as turn
-use Rattle.lot_calls.specs.declared.calls.Step.{Step}
-use Rattle.lot_mutex.specs.declared.lock.Entry.TheVariants as entries
-use Rattle.lot_mutex.specs.declared.places.MutexPlace.{MutexPlace}
-use Rattle.lot_mutex.specs.declared.places.MutexPlace.TheVariants.{Lock, TryLock, Unlock, UnlockFair, Bump, HandOff}
-use Rattle.lot_mutex.specs.declared.lock.LockAt.{LockAt}
-use Rattle.lot_mutex.specs.declared.lock.LockAt.TheVariants as lock
-use Rattle.lot_mutex.specs.declared.places.TheConstants.{NOT_PARKED}
-use Rattle.lot_mutex.specs.declared.hand_off.HandOffAt.{HandOffAt}
-use Rattle.lot_mutex.specs.declared.hand_off.HandOffAt.TheVariants as hand_off
+use Rattle.core_base.specs.declared.keys.Keys.TheVariants.{One}
+use Rattle.core_base.specs.declared.ops.Op.{Op}
+use Rattle.core_base.specs.declared.ops.Op as op
+use Rattle.core_base.specs.declared.wants.Want.{Want}
+use Rattle.core_base.specs.declared.wants.Want.TheVariants.{Exclusive, Upgradable, Shared, Wait, CallOnce}
+use Rattle.core_base.specs.Lines.{first_of}
+use Rattle.spec_locks.specs.declared.kinds.Kind as kind
+use Rattle.steps_base.specs.declared.acts.Act as act
+use Rattle.spec_locks.specs.declared.calls.Turn.{Turn}
+use Rattle.spec_locks.specs.declared.calls.Turn as turn
+use Rattle.spec_locks.specs.declared.calls.Step.{Step}
+use Rattle.steps_mutex.specs.declared.lock.Entry.TheVariants as entries
+use Rattle.steps_mutex.specs.declared.places.MutexPlace.{MutexPlace}
+use Rattle.steps_mutex.specs.declared.places.MutexPlace.TheVariants.{Lock, TryLock, Unlock, UnlockFair, Bump, HandOff}
+use Rattle.steps_mutex.specs.declared.lock.LockAt.{LockAt}
+use Rattle.steps_mutex.specs.declared.lock.LockAt.TheVariants as lock
+use Rattle.steps_mutex.specs.declared.places.TheConstants.{NOT_PARKED}
+use Rattle.steps_mutex.specs.declared.hand_off.HandOffAt.{HandOffAt}
+use Rattle.steps_mutex.specs.declared.hand_off.HandOffAt.TheVariants as hand_off
 use Rattle.lot_steps.specs.declared.places.Place.{Place}
 use Rattle.lot_steps.specs.declared.places.Place.TheVariants.{Idle, Mutex, RwLock, Once, Condvar, Semaphore}
-use Rattle.lot_condvar.specs.declared.places.CondvarPlace.{CondvarPlace}
-use Rattle.lot_condvar.specs.declared.places.CondvarPlace.TheVariants as condvar_place
-use Rattle.lot_mutex.specs.MutexSteps.{is_locked, is_parked, lock_act, hand_off_act}
+use Rattle.steps_condvar.specs.declared.places.CondvarPlace.{CondvarPlace}
+use Rattle.steps_condvar.specs.declared.places.CondvarPlace.TheVariants as condvar_place
+use Rattle.steps_mutex.specs.MutexSteps.{is_locked, is_parked, lock_act, hand_off_act}
 use Rattle.lot_steps.specs.Steps.{act_of, looking, late_key, next_place, lock_of, profile}
 use Rattle.lot_machine.specs.Machine.{State, unlocked, place_at, word_at, owners_at, kind_at, queue_at, state_after_operation, queues_with_last, queues_without_first, state_after_act, state_after_taking, state_after_look, state_after_go, put, state_after_late_on, state_after_turn, can_turn, is_possible, after, step_outcome, can_do, reply_to}
 use Rattle.lot_machine.specs.Fits.{IsShaped, PlaceFits}
 use Rattle.lot_laws.specs.MutexPromises.{IsMutexWord}
 use Rattle.lot_laws.specs.MutexDeeds.{mutex_station}
 use Rattle.lot_laws.specs.SitesOf.{AreCondvars, AreCounted, IsSteady, FitsItsLock, is_mutex, rules_in}
-use Rattle.abstract_locks.specs.Sites.{Main}
+use Rattle.spec_locks.specs.Sites.{Main}
 use Rattle.lot_laws.proofs.mutex.Words.{own_doing}
 use Rattle.lot_machine.proofs.Shape.{both, looking_shaped}
 use Rattle.lot_laws.proofs.calls.Looking.{looking_steady, locks_same, looks_now, calls_same}
 use Rattle.std.specs.Prelude.{nat_lt}
-use Rattle.abstract_locks.specs.Onces.{OnceCase, Start, Finish, Fail, Rest, TakeAll}
-use Rattle.abstract_locks.specs.Locks.{LockState, Rules, Taken, LockCase, Enter, Pend, Settle, Leave, Convert, Park, Aside, TakeFirst, TakeAside, TakePicked, Wake, HandOff as HandsLockOff, Late, Rollback, OfOnce, Needs, IsTaken, HasTakenNobody, IsLockState, keep_from, first_thread, Owns}
-use Rattle.abstract_locks.specs.Locks as locks
-use Rattle.abstract_locks.specs.Runs.{CallState, AreLockStates, IsStep, MayMove, rules_at, locks_after, Moves}
+use Rattle.spec_locks.specs.Onces.{OnceCase, Start, Finish, Fail, Rest, TakeAll}
+use Rattle.spec_locks.specs.Locks.{LockState, Rules, Taken, LockCase, Enter, Pend, Settle, Leave, Convert, Park, Aside, TakeFirst, TakeAside, TakePicked, Wake, HandOff as HandsLockOff, Late, Rollback, OfOnce, Needs, IsTaken, HasTakenNobody, IsLockState, keep_from, first_thread, Owns}
+use Rattle.spec_locks.specs.Locks as locks
+use Rattle.spec_locks.specs.Runs.{CallState, AreLockStates, IsStep, MayMove, rules_at, locks_after, Moves}
 use Rattle.lot_laws.specs.Refinement.{call_at, lock_state, locks_of, call_state, owner_at}
 use Rattle.lot_laws.specs.Fair.{ReleasesFairly, IsFairRelease, OwnsOn, HandsOver, LetsGo, IsFair, IsToGiveAt, GivesUpFairly, ComesTo as GivesFrom}
-use Rattle.lot_rwlock_fair.specs.FairGives.{IsToGive}
-use Rattle.lot_rwlock_fair.specs.FairSteps.{call_act}
+use Rattle.steps_rwlock_fair.specs.FairGives.{IsToGive}
+use Rattle.steps_rwlock_fair.specs.FairSteps.{call_act}
 use Rattle.lot_laws.proofs.rwlock.FairHands.{goes_giving, owner_stays}
 use Rattle.lot_laws.proofs.promises.PlacePromises.{row_promises}
 use Rattle.lot_laws.proofs.hands.CountsPut.{looking_counted}
-use Rattle.lot_rwlock.specs.declared.places.Admission.{Admission}
-use Rattle.lot_rwlock_fair.specs.declared.places.RwLockCallPlace.{RwLockCallPlace}
+use Rattle.steps_rwlock.specs.declared.places.Admission.{Admission}
+use Rattle.steps_rwlock_fair.specs.declared.places.RwLockCallPlace.{RwLockCallPlace}
 use Rattle.lot_laws.proofs.promises.ExclusiveOwners.{mutex_owner_after, mutex_is, by_code}
 use Rattle.lot_laws.proofs.calls.EachLock.{moves_no_owner, moves_no_readers, moves_takes, turned_so}
 use Rattle.lot_laws.proofs.machine.Parts.{IsSingle, own_stance, aparts, single_or_two}
@@ -65,15 +65,15 @@ use Rattle.lot_laws.proofs.sites.TurnsKept.{after_steady}
 use Rattle.lot_laws.proofs.mutex.Words.{mutex}
 use Rattle.lot_laws.proofs.sites.StandsMoved.{mutex_rules}
 use Rattle.lot_laws.proofs.machine.KindsStay.{after_kinds}
-use Rattle.abstract_locks.specs.Purposes.{rules_of}
+use Rattle.spec_locks.specs.Purposes.{rules_of}
 use Rattle.lot_laws.proofs.sites.SitesKept.{unshared_at, single_at, alone_at, mutexes_at}
-use Rattle.lot_acts.specs.declared.owners.Owners.{Owners}
-use Rattle.lot_acts.specs.Owners.{with_exclusive}
+use Rattle.steps_base.specs.declared.owners.Owners.{Owners}
+use Rattle.steps_base.specs.Owners.{with_exclusive}
 use Rattle.lot_laws.proofs.calls.Events.{rights}
 use Rattle.lot_laws.proofs.calls.LockSteps.{after_step}
-use Rattle.abstract_locks.specs.Purposes.{Purpose, Enters, Releases, Converts, Bumps, CallsOnce, Awaits, Waits, Notifies, lock_for}
-use Rattle.abstract_locks.specs.Sites.{has_readers}
-use Rattle.lot_rwlock_fair.specs.FairProfiles.{call_profile}
+use Rattle.spec_locks.specs.Purposes.{Purpose, Enters, Releases, Converts, Bumps, CallsOnce, Awaits, Waits, Notifies, lock_for}
+use Rattle.spec_locks.specs.Sites.{has_readers}
+use Rattle.steps_rwlock_fair.specs.FairProfiles.{call_profile}
 use Rattle.lot_laws.proofs.rwlock.CallRows.{call_promises}
 
 -- the lock that is released fairly is that of the call

@@ -1,5 +1,5 @@
 -- A debtor owes its wake since it saw waiters, or since it entered the section.
-use Rattle.lot_acts.specs.Acts.{outcome_of}
+use Rattle.steps_base.specs.Acts.{outcome_of}
 use Rattle.std.proofs.Common.{ℕ, Bool, true, false, Option, Some, None, if◌then◌else◌, ◌≡◌, ◌≢◌, ◌<◌, ◌⊎◌, ◌↔◌, inl, inr, length, refl, sym, ◌∙◌, ap, subst, get_or-set_same, nat_lt, is_some, length-set}
 use Rattle.lot_machine.specs.Machine.{closed_place}
 use Rattle.lot_laws.proofs.calls.Looking.{alike_calls, closing_steady, like}
@@ -8,28 +8,28 @@ use Rattle.lot_laws.proofs.calls.OwnPlace.{gone_place, gone_told}
 use Rattle.lot_machine.specs.Machine.{close_outcome, state_after_close}
 use Rattle.lot_laws.proofs.calls.Closures.{RunsOne, closes_one}
 use Rattle.std.proofs.lemmas.Bool.{ltb-true}
-use Rattle.lot_base.specs.declared.keys.Keys.TheVariants.{One}
-use Rattle.lot_calls.specs.declared.calls.Call.{Call}
-use Rattle.lot_calls.specs.declared.calls.Call as call
-use Rattle.lot_calls.specs.declared.calls.Turn.{Turn}
-use Rattle.lot_calls.specs.declared.calls.Turn as turn
-use Rattle.lot_calls.specs.declared.calls.Step.{Step}
-use Rattle.lot_calls.specs.declared.outcomes.Outcome.{Outcome}
-use Rattle.lot_calls.specs.declared.outcomes.Outcome as outcome
-use Rattle.lot_acts.specs.declared.acts.Act.TheVariants.{Enter}
-use Rattle.lot_acts.specs.declared.acts.Reply.TheVariants.{Late}
+use Rattle.core_base.specs.declared.keys.Keys.TheVariants.{One}
+use Rattle.spec_locks.specs.declared.calls.Call.{Call}
+use Rattle.spec_locks.specs.declared.calls.Call as call
+use Rattle.spec_locks.specs.declared.calls.Turn.{Turn}
+use Rattle.spec_locks.specs.declared.calls.Turn as turn
+use Rattle.spec_locks.specs.declared.calls.Step.{Step}
+use Rattle.spec_locks.specs.declared.outcomes.Outcome.{Outcome}
+use Rattle.spec_locks.specs.declared.outcomes.Outcome as outcome
+use Rattle.steps_base.specs.declared.acts.Act.TheVariants.{Enter}
+use Rattle.steps_base.specs.declared.acts.Reply.TheVariants.{Late}
 use Rattle.lot_steps.specs.declared.places.Place.{Place}
 use Rattle.lot_steps.specs.declared.places.Place.TheVariants.{Idle}
-use Rattle.lot_calls.specs.Calls.{lock_in}
-use Rattle.lot_condvar.specs.CondvarSteps.{condvar_first}
+use Rattle.spec_locks.specs.Calls.{lock_in}
+use Rattle.steps_condvar.specs.CondvarSteps.{condvar_first}
 use Rattle.lot_steps.specs.Steps.{act_of, condvar_goes, next_place, first_place, is_idle, looking, late_key, lock_of, line_owed, profile, next_act}
 use Rattle.lot_machine.specs.Machine.{State, place_at, word_at, state_after_go, state_after_going, go_reply, go_outcome, going_outcome, is_free_under, is_open_to, can_begin, state_after_begin, can_turn, turn_outcome, kind_at, put, state_after_look, look_outcome, state_after_late_on, state_after_turn, is_possible, after, step_outcome}
 use Rattle.lot_laws.proofs.machine.Befallen.{others_keep_it}
-use Rattle.abstract_locks.specs.Locks.{Rights}
+use Rattle.spec_locks.specs.Locks.{Rights}
 use Rattle.lot_laws.specs.Owing.{Owes, IsInside, IsWait, SeesWaiters, OwesSince, OnlyLooks, LooksFirst, LetsOthersIn, line_let_in, sort_at, tells_by}
 use Rattle.lot_machine.specs.Fits.{IsShaped}
 use Rattle.lot_laws.specs.Refinement.{call_at, call_state}
-use Rattle.abstract_locks.specs.Sites.{Line}
+use Rattle.spec_locks.specs.Sites.{Line}
 use Rattle.lot_laws.specs.SitesOf.{AreCondvars, AreCounted, IsSteady, key_of}
 use Rattle.lot_machine.proofs.Shape.{both}
 use Rattle.lot_laws.proofs.sites.TurnsKept.{idle_is, after_steady}
@@ -38,10 +38,10 @@ use Rattle.lot_laws.proofs.condvar.Owes.{SeesBy, calm_owing, first_calm, two_goe
 use Rattle.lot_laws.proofs.machine.Parts.{IsLock, IsSingle, next_of, next_single, calls_none, of_lock_of, of_own, single_or_two}
 use Rattle.lot_laws.proofs.calls.Looking.{looking_steady, calls_same}
 use Rattle.lot_laws.proofs.calls.Events.{rights as rights_at}
-use Rattle.lot_acts.specs.Profiles.{Profile}
-use Rattle.lot_acts.specs.Calls.{call_by}
-use Rattle.abstract_locks.specs.Runs.{CallState, no_call}
-use Rattle.abstract_locks.specs.Purposes.{Purpose, Waits, lock_for}
+use Rattle.steps_base.specs.Profiles.{Profile}
+use Rattle.steps_base.specs.Calls.{call_by}
+use Rattle.spec_locks.specs.Runs.{CallState, no_call}
+use Rattle.spec_locks.specs.Purposes.{Purpose, Waits, lock_for}
 use Rattle.lot_laws.proofs.promises.RowPromises.{CallsOneLock, RowFinds, RowLooks, releases_for, downgrades_for}
 use Rattle.lot_laws.proofs.promises.PlacePromises.{LetsBy, row_promises, row_calls_one, calls_one_lock, owing_is, owes_own, owed_own, inside_own, call_own, lets_in, lets_out}
 use Rattle.lot_laws.proofs.promises.LineActs.{late_line}

@@ -1,29 +1,29 @@
 -- The promises of a thread at any place of a call, by its row, and their sense in the state.
 use Rattle.std.proofs.Common.{ℕ, Bool, true, false, Option, Some, None, if◌then◌else◌, ◌≡◌, ◌≢◌, ◌*◌, ◌+◌, ◌≤◌, ◌⊎◌, ◌↔◌, inl, inr, refl, sym, ◌∙◌, ap, subst, arith, ◌&&◌, not}
-use Rattle.lot_once.proofs.OnceRowCheck.{once_promises}
-use Rattle.lot_semaphore.proofs.SemaphoreRowCheck.{semaphore_promises}
-use Rattle.lot_base.specs.declared.keys.Keys.TheVariants.{One}
-use Rattle.lot_base.specs.Lines.{first_of}
-use Rattle.lot_base.specs.Lines as Lines
-use Rattle.lot_acts.specs.declared.acts.Act.TheVariants.{Enter, Rest}
-use Rattle.lot_acts.specs.Profiles.{taken_from}
+use Rattle.steps_once.proofs.OnceRowCheck.{once_promises}
+use Rattle.steps_semaphore.proofs.SemaphoreRowCheck.{semaphore_promises}
+use Rattle.core_base.specs.declared.keys.Keys.TheVariants.{One}
+use Rattle.core_base.specs.Lines.{first_of}
+use Rattle.core_base.specs.Lines as Lines
+use Rattle.steps_base.specs.declared.acts.Act.TheVariants.{Enter, Rest}
+use Rattle.steps_base.specs.Profiles.{taken_from}
 use Rattle.lot_steps.specs.declared.places.Place.{Place}
 use Rattle.lot_steps.specs.declared.places.Place.TheVariants.{Idle, Mutex, RwLock, Once, Condvar, Semaphore}
 use Rattle.lot_steps.specs.Steps.{act_of, lock_of, is_lock, calls, profile, line_owed, beside_of, profile_beside}
-use Rattle.abstract_locks.specs.Locks.{Taken, IsSomePending, one_if_some, is_thread, standing}
-use Rattle.abstract_locks.specs.Locks as locks
-use Rattle.abstract_locks.specs.Runs.{CallState}
-use Rattle.abstract_locks.specs.Purposes.{Purpose, IsReleasing, Waits}
+use Rattle.spec_locks.specs.Locks.{Taken, IsSomePending, one_if_some, is_thread, standing}
+use Rattle.spec_locks.specs.Locks as locks
+use Rattle.spec_locks.specs.Runs.{CallState}
+use Rattle.spec_locks.specs.Purposes.{Purpose, IsReleasing, Waits}
 use Rattle.std.proofs.lemmas.Bool.{cases_eq}
-use Rattle.abstract_locks.specs.Sites.{Doing, Line, Main, Second, Pends, idle, has_readers}
+use Rattle.spec_locks.specs.Sites.{Doing, Line, Main, Second, Pends, idle, has_readers}
 use Rattle.lot_machine.specs.Machine.{State, place_at, kind_at, queue_at}
 use Rattle.lot_laws.specs.Refinement.{lock_state, call_on, call_at, taken_at}
 use Rattle.lot_laws.specs.Stations.{Station, nowhere, station, station_at, doing_on, station_by}
 use Rattle.lot_laws.specs.SitesOf.{IsSteady, FitsItsLock, key_of, stood_in, rules_in}
 use Rattle.lot_laws.specs.Owing.{Owes, IsInside, LetsOthersIn, sort_at}
-use Rattle.lot_acts.specs.Rows.{IsDowngrade}
+use Rattle.steps_base.specs.Rows.{IsDowngrade}
 use Rattle.lot_laws.specs.Promises.{GoesToWake, HasReleased}
-use Rattle.lot_acts.specs.Rows.{WakesAside}
+use Rattle.steps_base.specs.Rows.{WakesAside}
 use Rattle.lot_laws.proofs.hands.Counts.{none_first, first_out}
 use Rattle.lot_laws.proofs.calls.SingleCalls.{call_here, call_none}
 use Rattle.lot_laws.proofs.condvar.Promises.{StandsAt, two_stand_main}
@@ -33,12 +33,12 @@ use Rattle.lot_laws.proofs.mutex.Words.{queued_times}
 use Rattle.lot_laws.proofs.sites.StandsMoved.{mutex_rules}
 use Rattle.lot_laws.proofs.promises.LineActs.{line_act}
 use Rattle.lot_laws.proofs.machine.PlaceTest.{IsOfLine, IsLineAct}
-use Rattle.lot_mutex.proofs.MutexRowCheck.{mutex_promises}
+use Rattle.steps_mutex.proofs.MutexRowCheck.{mutex_promises}
 use Rattle.lot_laws.proofs.promises.RowPromises.{CallsOneLock, LetsIn, LetsInAt, IsWaiting, calls_one as purpose_of_one, taken_of, RowPromises}
 use Rattle.lot_laws.proofs.calls.Events.{rights}
 use Rattle.lot_laws.proofs.rwlock.CallRows.{call_promises}
-use Rattle.lot_rwlock_fair.specs.FairProfiles.{call_profile}
-use Rattle.lot_rwlock_fair.specs.FairSteps.{call_act}
+use Rattle.steps_rwlock_fair.specs.FairProfiles.{call_profile}
+use Rattle.steps_rwlock_fair.specs.FairSteps.{call_act}
 
 -- ---------------------------------------------------------------- the lock that a thread calls, and the others
 

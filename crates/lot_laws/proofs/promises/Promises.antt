@@ -1,30 +1,30 @@
 -- The promises between steps, as callers are told them.
 use Rattle.std.proofs.Common.{ℕ, Bool, true, false, Option, Some, None, if◌then◌else◌, ◌==◌, ◌&&◌, ◌≡◌, ◌≢◌, ◌+◌, ◌*◌, ◌≤◌, ◌<◌, ◌⊎◌, inl, inr, List, [], ◌∷◌, length, refl, ◌∙◌, ap, subst, arith, ◌↔◌, sym}
-use Rattle.lot_base.specs.declared.wants.Want.{Want}
-use Rattle.lot_base.specs.declared.wants.Want.TheVariants.{Exclusive}
-use Rattle.lot_acts.specs.declared.acts.Act.TheVariants.{Leave, Rest, Sleep}
-use Rattle.lot_acts.specs.Profiles.{Profile, hand, hand_owner}
-use Rattle.lot_calls.specs.declared.kinds.Kind.{Kind}
+use Rattle.core_base.specs.declared.wants.Want.{Want}
+use Rattle.core_base.specs.declared.wants.Want.TheVariants.{Exclusive}
+use Rattle.steps_base.specs.declared.acts.Act.TheVariants.{Leave, Rest, Sleep}
+use Rattle.steps_base.specs.Profiles.{Profile, hand, hand_owner}
+use Rattle.spec_locks.specs.declared.kinds.Kind.{Kind}
 use Rattle.lot_steps.specs.declared.places.Place.{Place}
 use Rattle.lot_steps.specs.declared.places.Place.TheVariants.{Condvar}
 use Rattle.lot_steps.specs.Steps.{act_of, calls, is_lock, lock_of, or_else, profile, retries_on, taker}
 use Rattle.lot_machine.specs.Machine.{State, opening, place_at, kind_at, filled_at, section_at}
 use Rattle.lot_laws.specs.Stations.{Station, station_at, doing_on}
 use Rattle.lot_laws.specs.SitesOf.{AreCondvars, IsSteady, RunsInClosures, rules_in, site_of}
-use Rattle.abstract_locks.specs.Permits.{HasPermits}
-use Rattle.lot_semaphore.specs.Tended.{IsTended, semaphore}
-use Rattle.lot_semaphore.proofs.TendedKept.{nobody_forgotten}
-use Rattle.abstract_locks.specs.Runs.{CallState, IsOpening}
-use Rattle.abstract_locks.specs.Locks.{LockState, Sort, Queued, Rights, opening_lock, Rules, IsSomePending, has_caller, rights_of, readers, count, standing}
-use Rattle.abstract_locks.specs.Onces.{InProgress, IsRunning}
-use Rattle.abstract_locks.specs.Locks as sorts
-use Rattle.abstract_locks.specs.Sites.{Doing, Line, Main, Second, Has, Pends, Runs, IsOpen, counts_some, has_readers, IsDebtor, IsSite}
-use Rattle.abstract_locks.specs.Codes.{HasLimit}
-use Rattle.abstract_locks.specs.Purposes.{Enters, Converts, Bumps, CallsOnce, Awaits, Purpose, MayWait, Waits}
+use Rattle.spec_locks.specs.Permits.{HasPermits}
+use Rattle.steps_semaphore.specs.Tended.{IsTended, semaphore}
+use Rattle.steps_semaphore.proofs.TendedKept.{nobody_forgotten}
+use Rattle.spec_locks.specs.Runs.{CallState, IsOpening}
+use Rattle.spec_locks.specs.Locks.{LockState, Sort, Queued, Rights, opening_lock, Rules, IsSomePending, has_caller, rights_of, readers, count, standing}
+use Rattle.spec_locks.specs.Onces.{InProgress, IsRunning}
+use Rattle.spec_locks.specs.Locks as sorts
+use Rattle.spec_locks.specs.Sites.{Doing, Line, Main, Second, Has, Pends, Runs, IsOpen, counts_some, has_readers, IsDebtor, IsSite}
+use Rattle.spec_locks.specs.Codes.{HasLimit}
+use Rattle.spec_locks.specs.Purposes.{Enters, Converts, Bumps, CallsOnce, Awaits, Purpose, MayWait, Waits}
 use Rattle.lot_laws.specs.Refinement.{RunsClosure, locks_of, lock_state, lock_seen, taken_at, call_at, call_on, call_state, stance_of}
 use Rattle.lot_laws.specs.Owing.{Owes, sort_at}
 use Rattle.lot_laws.specs.Promises.{IsKept, WaitsFor, WakesWaiters, IsDebtorOf, IsLookedAfter, IsOpenNow, WasNeverFull, HasOrPends, IsHandedOver, IsOwedWake, IsWithinLimit, want_of, HasReleased}
-use Rattle.lot_acts.specs.Rows.{KnowsRights}
+use Rattle.steps_base.specs.Rows.{KnowsRights}
 use Rattle.lot_laws.proofs.calls.Closures.{runs_one}
 use Rattle.lot_laws.proofs.hands.Inside.{hands_inside, is_to_mark}
 use Rattle.lot_laws.proofs.sites.Held.{held}
@@ -36,7 +36,7 @@ use Rattle.lot_laws.proofs.promises.SitesPromise.{not_empty}
 use Rattle.lot_laws.proofs.promises.RowPromises.{CallsOneLock, IsDebtorIn, HasClaimed, HasDebt, WasHanded, RowLooksAfter}
 use Rattle.lot_laws.proofs.promises.PlacePromises.{row_promises, station_own, doing_own, owed_own, owes_own, calls_one_lock, doing_calls, station_calls, stands_waiting, waiting_stands, call_own, inside_own}
 use Rattle.lot_laws.proofs.calls.SingleCalls.{call_none, single_call}
-use Rattle.lot_condvar.specs.declared.places.CondvarPlace.{CondvarPlace}
+use Rattle.steps_condvar.specs.declared.places.CondvarPlace.{CondvarPlace}
 use Rattle.lot_steps.specs.Steps.{line_owed}
 use Rattle.lot_laws.specs.Refinement.{call_state}
 use Rattle.lot_laws.specs.SitesOf.{FitsItsLock}
@@ -45,11 +45,11 @@ use Rattle.lot_laws.proofs.machine.Parts.{IsOfTwo, condvar_apart, fits_two, sing
 use Rattle.lot_laws.proofs.promises.PlacePromises.{stands_there, there_stands}
 use Rattle.lot_laws.proofs.condvar.Asleep.{WasHandedBeside, two_asleep, two_hand_none}
 use Rattle.lot_laws.proofs.mutex.Waiters.{doing_beside, station_beside}
-use Rattle.lot_base.specs.declared.keys.Keys.TheVariants.{One}
-use Rattle.lot_base.specs.declared.notes.Note as note
-use Rattle.lot_acts.specs.declared.acts.Wakes as wakes
-use Rattle.lot_condvar.specs.CondvarProfiles.{condvar_profile, condvar_purpose, condvar_recalls, condvar_released, condvar_row}
-use Rattle.lot_condvar.specs.CondvarSteps.{mutex_beside}
+use Rattle.core_base.specs.declared.keys.Keys.TheVariants.{One}
+use Rattle.core_base.specs.declared.notes.Note as note
+use Rattle.steps_base.specs.declared.acts.Wakes as wakes
+use Rattle.steps_condvar.specs.CondvarProfiles.{condvar_profile, condvar_purpose, condvar_recalls, condvar_released, condvar_row}
+use Rattle.steps_condvar.specs.CondvarSteps.{mutex_beside}
 use Rattle.lot_laws.proofs.promises.Debtors.{going_owes_so, inside_owes_so, owing_so}
 use Rattle.lot_laws.proofs.condvar.MutexDebts.{LooksBeside, debtor_beside, idle_owes, looks_beside, no_second, two_owe, two_recalls, two_released, two_retries}
 use Rattle.lot_laws.proofs.machine.Parts.{same, calls_none, single_retries, single_taker, IsSingle, plain_rules}

@@ -1,13 +1,13 @@
 -- One run of the world, and what its definitions refuse.
 use Rattle.std.proofs.Common.{ℕ, zero, suc, true, Some, None, ◌≡◌, inl, inr, [], ◌∷◌, refl, sym, ◌∙◌, arith, Option}
-use Rattle.lot_calls.specs.declared.kinds.Kind.TheVariants as kind
+use Rattle.spec_locks.specs.declared.kinds.Kind.TheVariants as kind
 use Rattle.lot_machine.specs.Machine.{after_steps}
-use Rattle.abstract_locks.specs.Sites.{Line, Main}
+use Rattle.spec_locks.specs.Sites.{Line, Main}
 use Rattle.lot_laws.specs.Promises.{IsLookedAfter}
 use Rattle.lot_laws.specs.Laws.{FairUnlockHandsOver, NoWaiterIsForgotten, NobodyIsPassedOver, three, row, row_told, forgotten}
 use Rattle.lot_machine.proofs.Shape.{opening_shaped}
 use Rattle.std.proofs.lemmas.List.Elements.{All-cons, All-nil}
-use Rattle.lot_calls.specs.Kinds.{fits}
+use Rattle.spec_locks.specs.Kinds.{fits}
 use Rattle.lot_laws.specs.SitesOf.{IsWorld}
 use Rattle.lot_laws.proofs.sites.Opening.{opening_condvars, opening_steady}
 use Rattle.lot_laws.proofs.hands.CountsPut.{opening_counted}

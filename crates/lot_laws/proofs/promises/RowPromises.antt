@@ -1,26 +1,26 @@
 -- The row of a place promises of a step to the next one, whatever the sort of its lock.
 use Rattle.std.proofs.Common.{ℕ, Bool, true, false, Option, Some, None, ◌||◌, ◌≡◌, ◌≢◌, ◌⊎◌, inl, inr, refl, sym, ◌∙◌}
-use Rattle.lot_base.specs.declared.keys.Keys.TheVariants.{One}
-use Rattle.lot_base.specs.declared.wants.Want.{Want}
-use Rattle.lot_base.specs.declared.wants.Want.TheVariants.{Exclusive}
-use Rattle.lot_calls.specs.declared.outcomes.Outcome.{Outcome}
-use Rattle.lot_calls.specs.declared.outcomes.Outcome.TheVariants as told
-use Rattle.lot_acts.specs.declared.acts.Act.{Act}
-use Rattle.lot_acts.specs.declared.acts.Act.TheVariants.{Enter, Sleep}
-use Rattle.lot_acts.specs.Profiles.{Profile}
+use Rattle.core_base.specs.declared.keys.Keys.TheVariants.{One}
+use Rattle.core_base.specs.declared.wants.Want.{Want}
+use Rattle.core_base.specs.declared.wants.Want.TheVariants.{Exclusive}
+use Rattle.spec_locks.specs.declared.outcomes.Outcome.{Outcome}
+use Rattle.spec_locks.specs.declared.outcomes.Outcome.TheVariants as told
+use Rattle.steps_base.specs.declared.acts.Act.{Act}
+use Rattle.steps_base.specs.declared.acts.Act.TheVariants.{Enter, Sleep}
+use Rattle.steps_base.specs.Profiles.{Profile}
 use Rattle.lot_steps.specs.declared.places.Place.{Place}
 use Rattle.lot_steps.specs.Steps.{act_of, profile}
-use Rattle.abstract_locks.specs.Codes.{parked_in}
-use Rattle.abstract_locks.specs.Locks.{Sort, Taken}
-use Rattle.abstract_locks.specs.Locks as sorts
-use Rattle.abstract_locks.specs.Purposes.{Purpose, Enters, Releases, Converts, Bumps, CallsOnce, Awaits, IsReleasing, lock_for, Waits, Notifies}
-use Rattle.abstract_locks.specs.Sites.{Line, Main, Second}
-pub use Rattle.lot_acts.specs.Rows.{is_acting, taken_of, IsWaiting, HasClaimed, WasHanded, LetsIn, LetsInAt, RowOwes, IsDebtorIn, HasDebt, RowLooksAfter, RowIsLate, RowPromises}
+use Rattle.spec_locks.specs.Codes.{parked_in}
+use Rattle.spec_locks.specs.Locks.{Sort}
+use Rattle.spec_locks.specs.Locks as sorts
+use Rattle.spec_locks.specs.Purposes.{Purpose, Enters, Releases, Converts, Bumps, CallsOnce, Awaits, IsReleasing, lock_for, Waits, Notifies}
+use Rattle.spec_locks.specs.Sites.{Line, Main, Second}
+pub use Rattle.steps_base.specs.Rows.{is_acting, taken_of, IsWaiting, HasClaimed, WasHanded, LetsIn, LetsInAt, RowOwes, IsDebtorIn, HasDebt, RowLooksAfter, RowIsLate, RowPromises}
 pub use Rattle.lot_machine.proofs.Acted.{Befalls}
 use Rattle.lot_laws.specs.SitesOf.{key_of}
 use Rattle.lot_laws.specs.Owing.{LooksFirst, line_let_in, tells_by, tells_of}
-use Rattle.lot_acts.specs.Rows.{IsDowngrade}
-use Rattle.lot_acts.specs.Rows.{KnowsRights}
+use Rattle.steps_base.specs.Rows.{IsDowngrade}
+use Rattle.steps_base.specs.Rows.{KnowsRights}
 
 -- a call is of one lock
 abbrev pub CallsOneLock : Option Purpose → Type 0

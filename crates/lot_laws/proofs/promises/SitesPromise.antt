@@ -1,11 +1,11 @@
 -- A site of a mutex promises of its word and of its waiters.
 use Rattle.std.proofs.Common.{ℕ, Bool, true, false, Option, Some, None, ◌⊎◌, ◌≡◌, ◌≢◌, ◌+◌, ◌*◌, ◌≤◌, List, [], ◌∷◌, inl, inr, sym, ◌∙◌, ap, subst, arith}
-use Rattle.lot_base.specs.Lines as Lines
-use Rattle.lot_mutex.specs.MutexSteps.{is_parked}
-use Rattle.abstract_locks.specs.Locks.{Queued, times, one_if_some}
-use Rattle.abstract_locks.specs.Locks as locks
-use Rattle.abstract_locks.specs.Sites.{Main}
-use Rattle.abstract_locks.specs.Codes.{bit, code, parked_in}
+use Rattle.core_base.specs.Lines as Lines
+use Rattle.steps_mutex.specs.MutexSteps.{is_parked}
+use Rattle.spec_locks.specs.Locks.{Queued, times, one_if_some}
+use Rattle.spec_locks.specs.Locks as locks
+use Rattle.spec_locks.specs.Sites.{Main}
+use Rattle.spec_locks.specs.Codes.{bit, code, parked_in}
 use Rattle.lot_machine.specs.Machine.{State, place_at, word_at, owners_at, queue_at, section_at}
 use Rattle.lot_laws.specs.Refinement.{lock_state}
 use Rattle.lot_laws.specs.Promises.{IsAboutToMark, WaitsFor}

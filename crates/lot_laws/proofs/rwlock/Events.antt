@@ -2,54 +2,54 @@
 use Rattle.std.proofs.Common.{ℕ, Bool, true, false, Option, Some, None, if◌then◌else◌, ◌==◌, not, ◌≡◌, ◌≤◌, ◌<◌, ◌⊎◌, inl, inr, length, get_or-set_same, refl, sym, ◌∙◌, ap, subst, arith}
 use Rattle.lot_laws.proofs.calls.Closures.{call_runs_none, closure_told}
 use Rattle.lot_laws.proofs.rwlock.Kept.{admits, stands}
-use Rattle.abstract_locks.specs.Runs.{is_closure}
+use Rattle.spec_locks.specs.Runs.{is_closure}
 use Rattle.lot_laws.proofs.calls.Events.{RunsNothing, begins_nothing, runs_nothing}
 use Rattle.std.proofs.lemmas.Bool.Decides.{nat_tests}
-use Rattle.lot_calls.specs.declared.calls.Access.{Access}
-use Rattle.lot_calls.specs.declared.calls.Access.TheVariants as access
-use Rattle.lot_calls.specs.declared.calls.Call.TheVariants as call
-use Rattle.lot_calls.specs.declared.calls.RwLockCall.{RwLockCall}
-use Rattle.lot_calls.specs.declared.calls.RwLockCall.TheVariants as rwlock_call
-use Rattle.lot_calls.specs.declared.kinds.Kind.{Kind}
-use Rattle.lot_calls.specs.declared.kinds.Kind.TheVariants as kind
-use Rattle.lot_calls.specs.declared.outcomes.Outcome.TheVariants as outcome
-use Rattle.lot_acts.specs.declared.acts.Act.{Act}
-use Rattle.lot_acts.specs.declared.acts.Act.TheVariants as act
-use Rattle.lot_acts.specs.declared.acts.Next.{Next}
-use Rattle.lot_acts.specs.declared.acts.Next.TheVariants as next
-use Rattle.lot_acts.specs.declared.acts.Reply.{Reply}
-use Rattle.lot_acts.specs.Acts.{outcome_of}
-use Rattle.lot_acts.specs.declared.acts.Whom.TheVariants as whom
-use Rattle.lot_acts.specs.Profiles.{Hand, Profile, hand, taken_from}
-use Rattle.lot_acts.specs.Stations.{Station}
-use Rattle.lot_rwlock.specs.declared.places.Admission.{Admission}
-use Rattle.lot_rwlock.specs.declared.places.RwLockPlace.{RwLockPlace}
-use Rattle.lot_rwlock.specs.RwLockBegins.{has_access}
-use Rattle.lot_rwlock.specs.RwLockSteps.{from_of, rwlock_next, wanted}
-use Rattle.lot_rwlock_fair.specs.declared.places.RwLockCallPlace.{RwLockCallPlace}
-use Rattle.lot_rwlock.specs.declared.purposes.RwLockPurpose.{RwLockPurpose}
-use Rattle.lot_rwlock.specs.declared.purposes.RwLockPurpose.TheVariants as purpose
-use Rattle.lot_calls.specs.declared.outcomes.Answer.TheVariants.{Ok}
-use Rattle.lot_acts.specs.declared.acts.Reply.TheVariants.{Done, HandedBy, Picked, Value, Woken}
-use Rattle.lot_base.specs.declared.notes.Note.TheVariants.{HandOff, Normal}
-use Rattle.lot_rwlock_fair.specs.declared.places.RwLockCallPlace.TheVariants.{Plain, Glance, HandOver, Bump, Handed}
-use Rattle.lot_rwlock_fair.specs.declared.hand_over.HandOverAt.{HandOverAt}
-use Rattle.lot_rwlock_fair.specs.declared.hand_over.HandOverAt.TheVariants as handing
-use Rattle.lot_rwlock_fair.specs.declared.handed.HandedAt.TheVariants as handed
-use Rattle.lot_rwlock_fair.specs.FairMoves.{CallMoves, call_hears, call_move}
-use Rattle.lot_rwlock_fair.specs.FairSteps.{any_taken, bump_next, call_act, call_next, enters_again, freed_next, given, gives_up_at, gives_way, hand_over_next, has_room, looked, plain_next, released, took, unless_given}
-use Rattle.lot_rwlock_fair.proofs.FairActs.{fair_acts_move}
-use Rattle.lot_rwlock_fair.proofs.FairSleepers.{never_given}
-use Rattle.lot_rwlock_fair.specs.FairBegins.{call_first, call_right}
-use Rattle.lot_rwlock_fair.specs.FairLaws.{CallOpens, next_rows}
-use Rattle.lot_rwlock_fair.specs.FairProfiles.{call_profile}
-use Rattle.lot_rwlock_fair.proofs.FairOpenings.{calls_open}
+use Rattle.spec_locks.specs.declared.calls.Access.{Access}
+use Rattle.spec_locks.specs.declared.calls.Access.TheVariants as access
+use Rattle.spec_locks.specs.declared.calls.Call.TheVariants as call
+use Rattle.spec_locks.specs.declared.calls.RwLockCall.{RwLockCall}
+use Rattle.spec_locks.specs.declared.calls.RwLockCall.TheVariants as rwlock_call
+use Rattle.spec_locks.specs.declared.kinds.Kind.{Kind}
+use Rattle.spec_locks.specs.declared.kinds.Kind.TheVariants as kind
+use Rattle.spec_locks.specs.declared.outcomes.Outcome.TheVariants as outcome
+use Rattle.steps_base.specs.declared.acts.Act.{Act}
+use Rattle.steps_base.specs.declared.acts.Act.TheVariants as act
+use Rattle.steps_base.specs.declared.acts.Next.{Next}
+use Rattle.steps_base.specs.declared.acts.Next.TheVariants as next
+use Rattle.steps_base.specs.declared.acts.Reply.{Reply}
+use Rattle.steps_base.specs.Acts.{outcome_of}
+use Rattle.steps_base.specs.declared.acts.Whom.TheVariants as whom
+use Rattle.steps_base.specs.Profiles.{Hand, Profile, hand, taken_from}
+use Rattle.steps_base.specs.Stations.{Station}
+use Rattle.steps_rwlock.specs.declared.places.Admission.{Admission}
+use Rattle.steps_rwlock.specs.declared.places.RwLockPlace.{RwLockPlace}
+use Rattle.steps_rwlock.specs.RwLockBegins.{has_access}
+use Rattle.steps_rwlock.specs.RwLockSteps.{from_of, rwlock_next, wanted}
+use Rattle.steps_rwlock_fair.specs.declared.places.RwLockCallPlace.{RwLockCallPlace}
+use Rattle.steps_rwlock.specs.declared.purposes.RwLockPurpose.{RwLockPurpose}
+use Rattle.steps_rwlock.specs.declared.purposes.RwLockPurpose.TheVariants as purpose
+use Rattle.spec_locks.specs.declared.outcomes.Answer.TheVariants.{Ok}
+use Rattle.steps_base.specs.declared.acts.Reply.TheVariants.{Done, HandedBy, Picked, Value, Woken}
+use Rattle.core_base.specs.declared.notes.Note.TheVariants.{HandOff, Normal}
+use Rattle.steps_rwlock_fair.specs.declared.places.RwLockCallPlace.TheVariants.{Plain, Glance, HandOver, Bump, Handed}
+use Rattle.steps_rwlock_fair.specs.declared.hand_over.HandOverAt.{HandOverAt}
+use Rattle.steps_rwlock_fair.specs.declared.hand_over.HandOverAt.TheVariants as handing
+use Rattle.steps_rwlock_fair.specs.declared.handed.HandedAt.TheVariants as handed
+use Rattle.steps_rwlock_fair.specs.FairMoves.{CallMoves, call_hears, call_move}
+use Rattle.steps_rwlock_fair.specs.FairSteps.{any_taken, bump_next, call_act, call_next, enters_again, freed_next, given, gives_up_at, gives_way, hand_over_next, has_room, looked, plain_next, released, took, unless_given}
+use Rattle.steps_rwlock_fair.proofs.FairActs.{fair_acts_move}
+use Rattle.steps_rwlock_fair.proofs.FairSleepers.{never_given}
+use Rattle.steps_rwlock_fair.specs.FairBegins.{call_first, call_right}
+use Rattle.steps_rwlock_fair.specs.FairLaws.{CallOpens, next_rows}
+use Rattle.steps_rwlock_fair.specs.FairProfiles.{call_profile}
+use Rattle.steps_rwlock_fair.proofs.FairOpenings.{calls_open}
 use Rattle.lot_steps.specs.declared.places.Place.TheVariants.{Idle, RwLock}
 use Rattle.lot_steps.specs.Steps.{calls, lock_of, next_act, profile, rwlock_does, rwlock_goes}
-use Rattle.abstract_locks.specs.Locks.{LockCase, Owns, Rights, standing}
-use Rattle.abstract_locks.specs.Purposes.{purpose_of, rules_of, rwlock_purpose}
-use Rattle.abstract_locks.specs.Runs.{GoesOn, HasRight, new_call}
-use Rattle.abstract_locks.specs.Sites.{has_readers}
+use Rattle.spec_locks.specs.Locks.{LockCase, Owns, Rights, standing}
+use Rattle.spec_locks.specs.Purposes.{purpose_of, rules_of, rwlock_purpose}
+use Rattle.spec_locks.specs.Runs.{GoesOn, HasRight, new_call}
+use Rattle.spec_locks.specs.Sites.{has_readers}
 use Rattle.lot_machine.specs.Machine.{State, can_do, owners_at, place_at, reply_to, share_at, state_after_act}
 use Rattle.lot_machine.specs.Fits.{IsShaped}
 use Rattle.lot_machine.proofs.Shape.{performed_counts}

@@ -1,36 +1,36 @@
 -- A fair release, or a bump, of a lock that is shared: what its own steps make of those whom it has taken.
 use Rattle.std.proofs.Common.{ℕ, Bool, true, false, Option, Some, None, if◌then◌else◌, ◌≡◌, ◌≢◌, ◌<◌, ◌==◌, ◌⊎◌, inl, inr, length, refl, sym, ◌∙◌, ap, subst}
-use Rattle.lot_base.specs.declared.keys.Keys.TheVariants.{One, Two}
-use Rattle.lot_base.specs.declared.ops.Op.{Op}
-use Rattle.lot_base.specs.declared.ops.Op.TheVariants as operation
-use Rattle.lot_base.specs.declared.wants.Want.{Want}
-use Rattle.lot_base.specs.declared.wants.Want.TheVariants.{Exclusive, Upgradable, Shared, Wait, CallOnce}
-use Rattle.lot_base.specs.Lines.{first_of}
-use Rattle.lot_calls.specs.declared.calls.Access.{Access}
-use Rattle.lot_acts.specs.declared.acts.Act.{Act}
-use Rattle.lot_acts.specs.declared.acts.Act.TheVariants as act
-use Rattle.lot_acts.specs.declared.acts.Reply.TheVariants.{Value}
-use Rattle.lot_acts.specs.declared.acts.Wakes.TheVariants as wakes
-use Rattle.lot_acts.specs.declared.acts.Whom.TheVariants as whoms
-use Rattle.lot_acts.specs.Acts.{holds, takes_effect}
-use Rattle.lot_acts.specs.Profiles.{in_hand}
-use Rattle.lot_rwlock.specs.declared.places.Admission.{Admission}
-use Rattle.lot_rwlock_fair.specs.declared.places.RwLockCallPlace.{RwLockCallPlace}
-use Rattle.lot_rwlock_fair.specs.declared.places.RwLockCallPlace.TheVariants.{Plain, Glance, HandOver, Bump, Handed}
-use Rattle.lot_rwlock_fair.specs.declared.hand_over.Taken.{Taken as Counted}
-use Rattle.lot_rwlock_fair.specs.declared.hand_over.HandOverAt.TheVariants as handing
-use Rattle.lot_rwlock_fair.specs.FairCalls.{CallStands, HasInHand, in_hand_of}
-use Rattle.lot_rwlock_fair.specs.FairDeeds.{call_deeds, exchanged_deeds}
-use Rattle.lot_rwlock_fair.specs.FairGives.{IsToGive}
-use Rattle.lot_rwlock_fair.specs.FairMoves.{CallMoves, call_hears, call_move}
-use Rattle.lot_rwlock_fair.specs.FairProfiles.{call_profile}
-use Rattle.lot_rwlock_fair.specs.FairSteps.{any_taken, call_act, has_room, parked_as, with_taken, without}
-use Rattle.lot_rwlock_fair.proofs.FairActs.{fair_acts_move}
-use Rattle.lot_rwlock_fair.proofs.FairGives.{bump_keeps, fair_releases_give, handed_keeps, plain_keeps}
-use Rattle.abstract_locks.specs.Deeds.{after_all}
-use Rattle.abstract_locks.specs.Locks.{Owns, Rules}
-use Rattle.abstract_locks.specs.Sites.{Site}
-use Rattle.abstract_locks.proofs.Deeds.{deeds_lead}
+use Rattle.core_base.specs.declared.keys.Keys.TheVariants.{One, Two}
+use Rattle.core_base.specs.declared.ops.Op.{Op}
+use Rattle.core_base.specs.declared.ops.Op.TheVariants as operation
+use Rattle.core_base.specs.declared.wants.Want.{Want}
+use Rattle.core_base.specs.declared.wants.Want.TheVariants.{Exclusive, Upgradable, Shared, Wait, CallOnce}
+use Rattle.core_base.specs.Lines.{first_of}
+use Rattle.spec_locks.specs.declared.calls.Access.{Access}
+use Rattle.steps_base.specs.declared.acts.Act.{Act}
+use Rattle.steps_base.specs.declared.acts.Act.TheVariants as act
+use Rattle.steps_base.specs.declared.acts.Reply.TheVariants.{Value}
+use Rattle.steps_base.specs.declared.acts.Wakes.TheVariants as wakes
+use Rattle.steps_base.specs.declared.acts.Whom.TheVariants as whoms
+use Rattle.steps_base.specs.Acts.{holds, takes_effect}
+use Rattle.steps_base.specs.Profiles.{in_hand}
+use Rattle.steps_rwlock.specs.declared.places.Admission.{Admission}
+use Rattle.steps_rwlock_fair.specs.declared.places.RwLockCallPlace.{RwLockCallPlace}
+use Rattle.steps_rwlock_fair.specs.declared.places.RwLockCallPlace.TheVariants.{Plain, Glance, HandOver, Bump, Handed}
+use Rattle.steps_rwlock_fair.specs.declared.hand_over.Taken.{Taken as Counted}
+use Rattle.steps_rwlock_fair.specs.declared.hand_over.HandOverAt.TheVariants as handing
+use Rattle.steps_rwlock_fair.specs.FairCalls.{CallStands, HasInHand, in_hand_of}
+use Rattle.steps_rwlock_fair.specs.FairDeeds.{call_deeds, exchanged_deeds}
+use Rattle.steps_rwlock_fair.specs.FairGives.{IsToGive}
+use Rattle.steps_rwlock_fair.specs.FairMoves.{CallMoves, call_hears, call_move}
+use Rattle.steps_rwlock_fair.specs.FairProfiles.{call_profile}
+use Rattle.steps_rwlock_fair.specs.FairSteps.{any_taken, call_act, has_room, parked_as, with_taken, without}
+use Rattle.steps_rwlock_fair.proofs.FairActs.{fair_acts_move}
+use Rattle.steps_rwlock_fair.proofs.FairGives.{bump_keeps, fair_releases_give, handed_keeps, plain_keeps}
+use Rattle.spec_locks.specs.Deeds.{after_all}
+use Rattle.spec_locks.specs.Locks.{Owns, Rules}
+use Rattle.spec_locks.specs.Sites.{Site}
+use Rattle.spec_locks.proofs.Deeds.{deeds_lead}
 use Rattle.lot_steps.specs.declared.places.Place.{Place}
 use Rattle.lot_steps.specs.declared.places.Place.TheVariants.{RwLock}
 use Rattle.lot_steps.specs.Steps.{profile}

@@ -1,73 +1,73 @@
 -- A thread in a call of a reader-writer lock goes on: every lock is a site again.
 use Rattle.std.proofs.Common.{inl, inr, ℕ, Bool, true, false, Option, Some, None, if◌then◌else◌, ◌==◌, ◌≡◌, ◌≢◌, ◌+◌, ◌*◌, ◌-◌, ◌^◌, ◌≤◌, ◌<◌, List, [], ◌∷◌, length, is_none, refl, sym, ◌∙◌, ap, subst, arith}
 use Rattle.std.proofs.lemmas.Bool.{eqb-true}
-use Rattle.lot_base.specs.declared.keys.Keys.{Keys}
-use Rattle.lot_base.specs.declared.keys.Keys.TheVariants.{One}
-use Rattle.lot_base.specs.declared.notes.Note.TheVariants.{HandOff, Normal}
-use Rattle.lot_base.specs.declared.ops.Op.{Op}
-use Rattle.lot_base.specs.Words.{apply}
-use Rattle.lot_base.specs.declared.wants.Want.{Want}
-use Rattle.lot_acts.specs.Calls.{IsNotLate}
-use Rattle.lot_acts.specs.declared.acts.Check.{Check}
-use Rattle.lot_calls.specs.declared.calls.RwLockCall.{RwLockCall}
-use Rattle.lot_calls.specs.declared.kinds.Kind.{Kind}
-use Rattle.lot_calls.specs.declared.kinds.Kind.TheVariants as kinds
-use Rattle.lot_calls.specs.declared.calls.Patience.{Patience}
-use Rattle.lot_calls.specs.declared.calls.Patience.TheVariants as patience
-use Rattle.lot_acts.specs.declared.acts.Act.{Act}
-use Rattle.lot_acts.specs.declared.acts.Act.TheVariants as act
-use Rattle.lot_acts.specs.declared.acts.Next.{Next}
-use Rattle.lot_acts.specs.declared.acts.Next.TheVariants as next
-use Rattle.lot_acts.specs.declared.acts.Reply.{Reply}
-use Rattle.lot_acts.specs.declared.acts.Reply.TheVariants.{Done, Value, Parked, Took, Picked, Removed, Late, TakenBy, Woken}
-use Rattle.lot_acts.specs.declared.acts.Wakes.{Wakes}
-use Rattle.lot_acts.specs.declared.acts.Whom as whom
-use Rattle.lot_acts.specs.Acts.{holds, wakes_taken}
-use Rattle.lot_acts.specs.Moves.{StaysPut, GoesIn, GoesOut, Parks, Picks, TakesAside, LeavesLine, TellsHanded, Accepts, AreOfWord, AreLeaving, parks_in, takes_aside, row_of}
-use Rattle.lot_acts.specs.Profiles.{Profile, hand, in_hand, taken_from}
-use Rattle.lot_acts.specs.Stations.{Station, nowhere, station_by}
-use Rattle.lot_acts.specs.Owners.{lock_seen, shares_then}
-use Rattle.lot_rwlock.specs.declared.places.Admission.{Admission}
-use Rattle.lot_rwlock.specs.declared.places.RwLockPlace.{RwLockPlace}
-use Rattle.lot_rwlock.specs.declared.places.RwLockAt.{RwLockAt}
-use Rattle.lot_rwlock.specs.declared.places.RwLockAt.TheVariants as at
-use Rattle.lot_rwlock.specs.declared.park.ParkAt.TheVariants as parking
-use Rattle.lot_rwlock.specs.RwLockSteps.{patience_of}
-use Rattle.lot_rwlock.specs.RwLockDeeds.{Admits, MayHear}
-use Rattle.lot_rwlock.specs.RwLockProfiles.{late_line_at}
-use Rattle.lot_rwlock.specs.RwLockCalls.{HasDeadline, MayBeTold}
-use Rattle.lot_rwlock.specs.RwLockBegins.{admission_of}
-use Rattle.lot_rwlock_fair.specs.declared.places.RwLockCallPlace.{RwLockCallPlace}
-use Rattle.lot_rwlock_fair.specs.declared.places.RwLockCallPlace.TheVariants.{Plain, Glance, HandOver, Bump, Handed}
-use Rattle.lot_rwlock_fair.specs.FairCalls.{CallMayBeTold, CallMayHear, CallStands, CallStandsNext, IsInCall}
-use Rattle.lot_rwlock_fair.specs.FairDeeds.{call_deeds, call_doing, call_doing_next}
-use Rattle.lot_rwlock_fair.specs.FairMoves.{CallMoves, call_hears, call_move}
-use Rattle.lot_rwlock_fair.specs.FairProfiles.{call_late_line, call_profile}
-use Rattle.lot_rwlock_fair.proofs.FairActs.{fair_acts_move, fair_late_moves, fair_sleepers_move}
-use Rattle.lot_rwlock_fair.proofs.FairCallTells.{fair_sections_tell, fair_steps_tell}
-use Rattle.lot_rwlock_fair.proofs.FairCodes.{fair_steps_code}
-use Rattle.lot_rwlock_fair.proofs.FairFit.{fair_steps_follow}
-use Rattle.lot_rwlock_fair.proofs.FairMoves.{handed_move}
-use Rattle.lot_rwlock_fair.proofs.FairOwners.{fair_owners_follow}
-use Rattle.lot_rwlock_fair.proofs.FairSections.{fair_sections_follow}
-use Rattle.lot_rwlock_fair.proofs.FairStands.{fair_calls_stand}
-use Rattle.lot_rwlock_fair.specs.FairBegins.{call_first, call_right}
-use Rattle.lot_rwlock_fair.specs.FairLaws.{CallOpens, CallTells, next_rows}
-use Rattle.lot_rwlock_fair.specs.FairSteps.{call_act, call_next, call_owners, call_shares}
-use Rattle.lot_rwlock_fair.proofs.FairOpenings.{calls_open}
-use Rattle.lot_semaphore.specs.declared.places.SemaphorePlace.{SemaphorePlace}
+use Rattle.core_base.specs.declared.keys.Keys.{Keys}
+use Rattle.core_base.specs.declared.keys.Keys.TheVariants.{One}
+use Rattle.core_base.specs.declared.notes.Note.TheVariants.{HandOff, Normal}
+use Rattle.core_base.specs.declared.ops.Op.{Op}
+use Rattle.core_base.specs.Words.{apply}
+use Rattle.core_base.specs.declared.wants.Want.{Want}
+use Rattle.steps_base.specs.Calls.{IsNotLate}
+use Rattle.steps_base.specs.declared.acts.Check.{Check}
+use Rattle.spec_locks.specs.declared.calls.RwLockCall.{RwLockCall}
+use Rattle.spec_locks.specs.declared.kinds.Kind.{Kind}
+use Rattle.spec_locks.specs.declared.kinds.Kind.TheVariants as kinds
+use Rattle.spec_locks.specs.declared.calls.Patience.{Patience}
+use Rattle.spec_locks.specs.declared.calls.Patience.TheVariants as patience
+use Rattle.steps_base.specs.declared.acts.Act.{Act}
+use Rattle.steps_base.specs.declared.acts.Act.TheVariants as act
+use Rattle.steps_base.specs.declared.acts.Next.{Next}
+use Rattle.steps_base.specs.declared.acts.Next.TheVariants as next
+use Rattle.steps_base.specs.declared.acts.Reply.{Reply}
+use Rattle.steps_base.specs.declared.acts.Reply.TheVariants.{Done, Value, Parked, Took, Picked, Removed, Late, TakenBy, Woken}
+use Rattle.steps_base.specs.declared.acts.Wakes.{Wakes}
+use Rattle.steps_base.specs.declared.acts.Whom as whom
+use Rattle.steps_base.specs.Acts.{holds, wakes_taken}
+use Rattle.steps_base.specs.Moves.{StaysPut, GoesIn, GoesOut, Parks, Picks, TakesAside, LeavesLine, TellsHanded, Accepts, AreOfWord, AreLeaving, parks_in, takes_aside, row_of}
+use Rattle.steps_base.specs.Profiles.{Profile, hand, in_hand, taken_from}
+use Rattle.steps_base.specs.Stations.{Station, nowhere, station_by}
+use Rattle.steps_base.specs.Owners.{lock_seen, shares_then}
+use Rattle.steps_rwlock.specs.declared.places.Admission.{Admission}
+use Rattle.steps_rwlock.specs.declared.places.RwLockPlace.{RwLockPlace}
+use Rattle.steps_rwlock.specs.declared.places.RwLockAt.{RwLockAt}
+use Rattle.steps_rwlock.specs.declared.places.RwLockAt.TheVariants as at
+use Rattle.steps_rwlock.specs.declared.park.ParkAt.TheVariants as parking
+use Rattle.steps_rwlock.specs.RwLockSteps.{patience_of}
+use Rattle.steps_rwlock.specs.RwLockDeeds.{Admits, MayHear}
+use Rattle.steps_rwlock.specs.RwLockProfiles.{late_line_at}
+use Rattle.steps_rwlock.specs.RwLockCalls.{HasDeadline, MayBeTold}
+use Rattle.steps_rwlock.specs.RwLockBegins.{admission_of}
+use Rattle.steps_rwlock_fair.specs.declared.places.RwLockCallPlace.{RwLockCallPlace}
+use Rattle.steps_rwlock_fair.specs.declared.places.RwLockCallPlace.TheVariants.{Plain, Glance, HandOver, Bump, Handed}
+use Rattle.steps_rwlock_fair.specs.FairCalls.{CallMayBeTold, CallMayHear, CallStands, CallStandsNext, IsInCall}
+use Rattle.steps_rwlock_fair.specs.FairDeeds.{call_deeds, call_doing, call_doing_next}
+use Rattle.steps_rwlock_fair.specs.FairMoves.{CallMoves, call_hears, call_move}
+use Rattle.steps_rwlock_fair.specs.FairProfiles.{call_late_line, call_profile}
+use Rattle.steps_rwlock_fair.proofs.FairActs.{fair_acts_move, fair_late_moves, fair_sleepers_move}
+use Rattle.steps_rwlock_fair.proofs.FairCallTells.{fair_sections_tell, fair_steps_tell}
+use Rattle.steps_rwlock_fair.proofs.FairCodes.{fair_steps_code}
+use Rattle.steps_rwlock_fair.proofs.FairFit.{fair_steps_follow}
+use Rattle.steps_rwlock_fair.proofs.FairMoves.{handed_move}
+use Rattle.steps_rwlock_fair.proofs.FairOwners.{fair_owners_follow}
+use Rattle.steps_rwlock_fair.proofs.FairSections.{fair_sections_follow}
+use Rattle.steps_rwlock_fair.proofs.FairStands.{fair_calls_stand}
+use Rattle.steps_rwlock_fair.specs.FairBegins.{call_first, call_right}
+use Rattle.steps_rwlock_fair.specs.FairLaws.{CallOpens, CallTells, next_rows}
+use Rattle.steps_rwlock_fair.specs.FairSteps.{call_act, call_next, call_owners, call_shares}
+use Rattle.steps_rwlock_fair.proofs.FairOpenings.{calls_open}
+use Rattle.steps_semaphore.specs.declared.places.SemaphorePlace.{SemaphorePlace}
 use Rattle.lot_steps.specs.declared.places.Place.{Place}
 use Rattle.lot_steps.specs.declared.places.Place.TheVariants.{Idle, Mutex, RwLock, Once, Condvar, Semaphore as OfSemaphore}
-use Rattle.lot_mutex.specs.declared.places.MutexPlace.{MutexPlace}
-use Rattle.lot_once.specs.declared.places.OncePlace.{OncePlace}
+use Rattle.steps_mutex.specs.declared.places.MutexPlace.{MutexPlace}
+use Rattle.steps_once.specs.declared.places.OncePlace.{OncePlace}
 use Rattle.lot_steps.specs.Steps.{next_place, profile, calls, rwlock_goes}
-use Rattle.abstract_locks.specs.Locks.{Rules, Sort, Normal as NormalSort, Recursive, Semaphore, count, keep_from, one_if_some, standing}
-use Rattle.abstract_locks.specs.Locks as locks
-use Rattle.abstract_locks.specs.Sites.{Site, IsSite, Deed, Line, Main, Second, Begin, Case, Clear, End, In, Mark, Out, has_readers, wakened, LeaveLine}
-use Rattle.abstract_locks.specs.Codes.{HasLimit, bit, code, code_of, packed, writers}
-use Rattle.abstract_locks.specs.Deeds.{case_of}
-use Rattle.abstract_locks.specs.Deeds as laws
-use Rattle.abstract_locks.specs.Purposes.{rules_of}
+use Rattle.spec_locks.specs.Locks.{Rules, Sort, Normal as NormalSort, Recursive, Semaphore, count, keep_from, one_if_some, standing}
+use Rattle.spec_locks.specs.Locks as locks
+use Rattle.spec_locks.specs.Sites.{Site, IsSite, Deed, Line, Main, Second, Begin, Case, Clear, End, In, Mark, Out, has_readers, wakened, LeaveLine}
+use Rattle.spec_locks.specs.Codes.{HasLimit, bit, code, code_of, packed, writers}
+use Rattle.spec_locks.specs.Deeds.{case_of}
+use Rattle.spec_locks.specs.Deeds as laws
+use Rattle.spec_locks.specs.Purposes.{rules_of}
 use Rattle.lot_machine.specs.Machine.{State, place_at, word_at, kind_at, owners_at, shares_at, share_at, queue_at, section_at, can_do, are_free, is_free, put, state_after_act, state_after_late_under, reply_to}
 use Rattle.lot_machine.specs.Fits.{IsShaped}
 use Rattle.lot_machine.proofs.Shape.{main_key_there}
@@ -75,10 +75,10 @@ use Rattle.lot_laws.specs.Refinement.{taken_at}
 use Rattle.lot_laws.specs.MutexDeeds.{acts}
 use Rattle.lot_laws.specs.Stations.{station, doing_on}
 use Rattle.lot_laws.specs.SitesOf.{IsSteady, Goes, FitsItsLock, TakesOne, HasRoom, carried_at, hand_at, is_mutex, rules_in, key_of}
-use Rattle.lot_condvar.specs.declared.places.CondvarPlace.{CondvarPlace}
+use Rattle.steps_condvar.specs.declared.places.CondvarPlace.{CondvarPlace}
 use Rattle.lot_steps.specs.Steps.{is_lock}
-use Rattle.lot_acts.specs.Profiles.{Hand}
-use Rattle.lot_condvar.specs.CondvarSteps.{mutex_beside}
+use Rattle.steps_base.specs.Profiles.{Hand}
+use Rattle.steps_condvar.specs.CondvarSteps.{mutex_beside}
 use Rattle.lot_laws.proofs.machine.Parts.{not_beside, condvar_unheld, free_of, IsOf, next_of, parts_at, put_here, doing_here, station_here, of_single}
 use Rattle.lot_laws.proofs.hands.Moved.{accepts, tells_handed, told_hears}
 use Rattle.lot_laws.proofs.sites.WakesAt.{IsWokenAt}

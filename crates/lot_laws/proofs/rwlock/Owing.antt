@@ -1,53 +1,53 @@
--- How a call of a reader-writer lock comes to owe a wake: by the word that it sees, and by entering a section. Whatever befalls a thread
--- changes nothing of that.
+-- A call of a reader-writer lock comes to owe a wake by the word that it sees, and by entering a
+-- section. An event that befalls a thread changes nothing of that.
 use Rattle.std.proofs.Common.{ℕ, Bool, true, false, Option, Some, None, if◌then◌else◌, ◌==◌, ◌&&◌, ◌≡◌, inl, inr, refl, sym, ◌∙◌, ap, subst}
-use Rattle.lot_base.specs.declared.keys.Line.{Line}
-use Rattle.lot_base.specs.declared.keys.Line.TheVariants.{Main, Second}
-use Rattle.lot_base.specs.declared.notes.Note.{Note}
-use Rattle.lot_base.specs.declared.notes.Note.TheVariants as note
-use Rattle.lot_calls.specs.declared.calls.Access.{Access}
-use Rattle.lot_calls.specs.declared.calls.Access.TheVariants as access
-use Rattle.lot_calls.specs.declared.calls.Patience.{Patience}
-use Rattle.lot_calls.specs.declared.calls.Patience.TheVariants.{Patient, Timed, Try}
-use Rattle.lot_calls.specs.declared.calls.RwLockCall.{RwLockCall}
-use Rattle.lot_calls.specs.declared.calls.RwLockCall.TheVariants as rwlock_call
-use Rattle.lot_calls.specs.declared.outcomes.Answer.{Answer}
-use Rattle.lot_calls.specs.declared.outcomes.Answer as answer
-use Rattle.lot_acts.specs.declared.acts.Next.{Next}
-use Rattle.lot_acts.specs.declared.acts.Next.TheVariants as next
-use Rattle.lot_acts.specs.declared.acts.Reply.{Reply}
-use Rattle.lot_acts.specs.declared.acts.Reply.TheVariants as reply
-use Rattle.lot_acts.specs.Acts.{outcome_of}
-use Rattle.lot_acts.specs.Profiles.{in_line}
-use Rattle.lot_rwlock.specs.declared.places.Admission.{Admission}
-use Rattle.lot_rwlock.specs.declared.places.RwLockPlace.{RwLockPlace}
-use Rattle.lot_rwlock.specs.declared.places.RwLockAt.{RwLockAt}
-use Rattle.lot_rwlock.specs.declared.places.RwLockAt.TheVariants as at
-use Rattle.lot_rwlock.specs.declared.purposes.RwLockPurpose.{RwLockPurpose}
-use Rattle.lot_rwlock.specs.declared.purposes.RwLockPurpose.TheVariants as purpose
-use Rattle.lot_rwlock.specs.declared.enter.Decision.{Decision}
-use Rattle.lot_rwlock.specs.declared.enter.Decision.TheVariants as decisions
-use Rattle.lot_rwlock.specs.declared.park.ParkAt.{ParkAt}
-use Rattle.lot_rwlock.specs.declared.park.ParkAt.TheVariants as parking
-use Rattle.lot_rwlock.specs.declared.release.WakeAt.{WakeAt}
-use Rattle.lot_rwlock.specs.declared.release.WakeAt.TheVariants as waking
-use Rattle.lot_rwlock.specs.RwLockSteps.{plus, decided, patience_of, patience_at, entered, looked, looked_by, missed, came_in, came_in_for, exchanged_next, counted, rolled_back, gave_way_by, park_next, parks_at, looks_again, clears, wake_next, next_at, rwlock_act, rwlock_next, act_at}
-use Rattle.lot_rwlock.specs.RwLockDeeds.{Admits, rwlock_doing, pends}
-use Rattle.lot_rwlock.specs.RwLockCalls.{StandsAt, MayStand}
-use Rattle.lot_rwlock_fair.specs.declared.places.RwLockCallPlace.{RwLockCallPlace}
-use Rattle.lot_rwlock_fair.specs.declared.places.RwLockCallPlace.TheVariants.{Plain, Glance, HandOver, Bump, Handed}
-use Rattle.lot_rwlock_fair.specs.declared.hand_over.HandOverAt.{HandOverAt}
-use Rattle.lot_rwlock_fair.specs.declared.hand_over.HandOverAt.TheVariants as handing
-use Rattle.lot_rwlock_fair.specs.declared.handed.HandedAt.{HandedAt}
-use Rattle.lot_rwlock_fair.specs.declared.handed.HandedAt.TheVariants as handed
-use Rattle.lot_rwlock_fair.specs.FairBegins.{call_first}
-use Rattle.lot_rwlock_fair.specs.FairSteps.{bump_ended, bump_next, given, glances, hand_over_next, handed_by, handed_next, handed_woken, plain_next, unless_given, woken_with}
-use Rattle.lot_rwlock_fair.specs.FairProfiles.{call_profile}
-use Rattle.lot_rwlock.specs.RwLockProfiles.{rwlock_profile, is_timed, owes_at, late_line_at, purpose_by}
-use Rattle.abstract_locks.specs.Codes.{count_in, has_aside, has_parked, parked_in, aside_in}
-use Rattle.abstract_locks.specs.Locks.{Rules, Sort}
-use Rattle.abstract_locks.specs.Locks as sorts
-use Rattle.abstract_locks.specs.Sites.{has_readers}
+use Rattle.core_base.specs.declared.keys.Line.{Line}
+use Rattle.core_base.specs.declared.keys.Line.TheVariants.{Main, Second}
+use Rattle.core_base.specs.declared.notes.Note.{Note}
+use Rattle.core_base.specs.declared.notes.Note.TheVariants as note
+use Rattle.spec_locks.specs.declared.calls.Access.{Access}
+use Rattle.spec_locks.specs.declared.calls.Access.TheVariants as access
+use Rattle.spec_locks.specs.declared.calls.Patience.{Patience}
+use Rattle.spec_locks.specs.declared.calls.Patience.TheVariants.{Patient, Timed, Try}
+use Rattle.spec_locks.specs.declared.calls.RwLockCall.{RwLockCall}
+use Rattle.spec_locks.specs.declared.calls.RwLockCall.TheVariants as rwlock_call
+use Rattle.spec_locks.specs.declared.outcomes.Answer.{Answer}
+use Rattle.spec_locks.specs.declared.outcomes.Answer as answer
+use Rattle.steps_base.specs.declared.acts.Next.{Next}
+use Rattle.steps_base.specs.declared.acts.Next.TheVariants as next
+use Rattle.steps_base.specs.declared.acts.Reply.{Reply}
+use Rattle.steps_base.specs.declared.acts.Reply.TheVariants as reply
+use Rattle.steps_base.specs.Acts.{outcome_of}
+use Rattle.steps_base.specs.Profiles.{in_line}
+use Rattle.steps_rwlock.specs.declared.places.Admission.{Admission}
+use Rattle.steps_rwlock.specs.declared.places.RwLockPlace.{RwLockPlace}
+use Rattle.steps_rwlock.specs.declared.places.RwLockAt.{RwLockAt}
+use Rattle.steps_rwlock.specs.declared.places.RwLockAt.TheVariants as at
+use Rattle.steps_rwlock.specs.declared.purposes.RwLockPurpose.{RwLockPurpose}
+use Rattle.steps_rwlock.specs.declared.purposes.RwLockPurpose.TheVariants as purpose
+use Rattle.steps_rwlock.specs.declared.enter.Decision.{Decision}
+use Rattle.steps_rwlock.specs.declared.enter.Decision.TheVariants as decisions
+use Rattle.steps_rwlock.specs.declared.park.ParkAt.{ParkAt}
+use Rattle.steps_rwlock.specs.declared.park.ParkAt.TheVariants as parking
+use Rattle.steps_rwlock.specs.declared.release.WakeAt.{WakeAt}
+use Rattle.steps_rwlock.specs.declared.release.WakeAt.TheVariants as waking
+use Rattle.steps_rwlock.specs.RwLockSteps.{plus, decided, patience_of, patience_at, entered, looked, looked_by, missed, came_in, came_in_for, exchanged_next, counted, rolled_back, gave_way_by, park_next, parks_at, looks_again, clears, wake_next, next_at, rwlock_act, rwlock_next, act_at}
+use Rattle.steps_rwlock.specs.RwLockDeeds.{Admits, rwlock_doing, pends}
+use Rattle.steps_rwlock.specs.RwLockCalls.{StandsAt, MayStand}
+use Rattle.steps_rwlock_fair.specs.declared.places.RwLockCallPlace.{RwLockCallPlace}
+use Rattle.steps_rwlock_fair.specs.declared.places.RwLockCallPlace.TheVariants.{Plain, Glance, HandOver, Bump, Handed}
+use Rattle.steps_rwlock_fair.specs.declared.hand_over.HandOverAt.{HandOverAt}
+use Rattle.steps_rwlock_fair.specs.declared.hand_over.HandOverAt.TheVariants as handing
+use Rattle.steps_rwlock_fair.specs.declared.handed.HandedAt.{HandedAt}
+use Rattle.steps_rwlock_fair.specs.declared.handed.HandedAt.TheVariants as handed
+use Rattle.steps_rwlock_fair.specs.FairBegins.{call_first}
+use Rattle.steps_rwlock_fair.specs.FairSteps.{bump_ended, bump_next, given, glances, hand_over_next, handed_by, handed_next, handed_woken, plain_next, unless_given, woken_with}
+use Rattle.steps_rwlock_fair.specs.FairProfiles.{call_profile}
+use Rattle.steps_rwlock.specs.RwLockProfiles.{rwlock_profile, is_timed, owes_at, late_line_at, purpose_by}
+use Rattle.spec_locks.specs.Codes.{count_in, has_aside, has_parked, parked_in, aside_in}
+use Rattle.spec_locks.specs.Locks.{Rules, Sort}
+use Rattle.spec_locks.specs.Locks as sorts
+use Rattle.spec_locks.specs.Sites.{has_readers}
 use Rattle.lot_steps.specs.declared.places.Place.TheVariants.{RwLock}
 use Rattle.lot_steps.specs.Steps.{next_place, line_owed, profile, rwlock_goes}
 use Rattle.lot_machine.specs.Machine.{State, word_at, reply_to}

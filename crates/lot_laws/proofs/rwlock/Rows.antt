@@ -1,43 +1,43 @@
 -- Each place of a reader-writer lock says of its thread what is promised of it.
 use Rattle.std.proofs.Common.{ℕ, Bool, true, false, Option, Some, None, if◌then◌else◌, ◌≡◌, ◌≢◌, ◌+◌, ◌*◌, ◌⊎◌, inl, inr, refl, sym, ◌∙◌, ap, arith}
-use Rattle.lot_base.specs.declared.keys.Keys.TheVariants.{One}
-use Rattle.lot_base.specs.declared.keys.Line.{Line}
-use Rattle.lot_base.specs.declared.keys.Line.TheVariants.{Main, Second}
-use Rattle.lot_base.specs.declared.wants.Want.{Want}
-use Rattle.lot_base.specs.declared.wants.Want.TheVariants.{Exclusive}
-use Rattle.lot_base.specs.Keys.{key_of}
-use Rattle.lot_calls.specs.declared.calls.Access.{Access}
-use Rattle.lot_calls.specs.declared.calls.Access.TheVariants as access
-use Rattle.lot_calls.specs.declared.calls.Downgrade.{Downgrade}
-use Rattle.lot_calls.specs.declared.calls.Downgrade.TheVariants as downgrade
-use Rattle.lot_calls.specs.declared.calls.Patience.{Patience}
-use Rattle.lot_calls.specs.declared.calls.Patience.TheVariants.{Patient, Timed, Try}
-use Rattle.lot_acts.specs.declared.acts.Act.TheVariants as act
-use Rattle.lot_acts.specs.declared.acts.Act.TheVariants.{Sleep}
-use Rattle.lot_rwlock.specs.declared.places.Admission.{Admission}
-use Rattle.lot_rwlock.specs.declared.places.RwLockPlace.{RwLockPlace}
-use Rattle.lot_rwlock.specs.declared.places.RwLockAt.{RwLockAt}
-use Rattle.lot_rwlock.specs.declared.places.RwLockAt.TheVariants as at
-use Rattle.lot_rwlock.specs.declared.purposes.RwLockPurpose.{RwLockPurpose}
-use Rattle.lot_rwlock.specs.declared.purposes.RwLockPurpose.TheVariants as purpose
-use Rattle.lot_rwlock.specs.declared.enter.Decision.{Decision}
-use Rattle.lot_rwlock.specs.declared.enter.Decision.TheVariants as decisions
-use Rattle.lot_rwlock.specs.declared.park.ParkAt.{ParkAt}
-use Rattle.lot_rwlock.specs.declared.park.ParkAt.TheVariants as parking
-use Rattle.lot_rwlock.specs.declared.release.WakeAt.{WakeAt}
-use Rattle.lot_rwlock.specs.declared.release.WakeAt.TheVariants as waking
-use Rattle.lot_rwlock.specs.RwLockSteps.{wanted, to_of, start_of, patience_of, want_at, decided, decided_act, park_act, act_at, rwlock_act, exchange, plus}
-use Rattle.lot_rwlock.specs.RwLockDeeds.{Admits, parking_doing, waking_doing, doing_at, again_of, rwlock_doing, falls_back, pends, claimed}
-use Rattle.lot_rwlock.specs.RwLockCalls.{ParksBy, StandsAt, IsNoRefusal, IsDecided, MayStand}
-use Rattle.lot_rwlock.specs.RwLockProfiles.{rwlock_profile, is_inside, is_timed, owes_at, stands_at, hand_at, carries_at, late_line_at, late_at, has_given_up, purpose_by, wants_for}
-use Rattle.lot_acts.specs.Profiles.{Profile, hand, in_line, taken_from}
-use Rattle.abstract_locks.specs.Codes.{has_aside}
-use Rattle.abstract_locks.specs.Locks.{Rules, Sort, Knows}
-use Rattle.abstract_locks.specs.Locks as sorts
-use Rattle.abstract_locks.specs.Purposes.{MayWait, lock_for, Blank}
-use Rattle.abstract_locks.specs.Runs.{IsTimed}
-use Rattle.abstract_locks.specs.Sites.{Pends, Claim, counts_some, has_readers, idle}
-use Rattle.lot_acts.specs.Rows.{KnowsRights, WakesAside}
+use Rattle.core_base.specs.declared.keys.Keys.TheVariants.{One}
+use Rattle.core_base.specs.declared.keys.Line.{Line}
+use Rattle.core_base.specs.declared.keys.Line.TheVariants.{Main, Second}
+use Rattle.core_base.specs.declared.wants.Want.{Want}
+use Rattle.core_base.specs.declared.wants.Want.TheVariants.{Exclusive}
+use Rattle.core_base.specs.Keys.{key_of}
+use Rattle.spec_locks.specs.declared.calls.Access.{Access}
+use Rattle.spec_locks.specs.declared.calls.Access.TheVariants as access
+use Rattle.spec_locks.specs.declared.calls.Downgrade.{Downgrade}
+use Rattle.spec_locks.specs.declared.calls.Downgrade.TheVariants as downgrade
+use Rattle.spec_locks.specs.declared.calls.Patience.{Patience}
+use Rattle.spec_locks.specs.declared.calls.Patience.TheVariants.{Patient, Timed, Try}
+use Rattle.steps_base.specs.declared.acts.Act.TheVariants as act
+use Rattle.steps_base.specs.declared.acts.Act.TheVariants.{Sleep}
+use Rattle.steps_rwlock.specs.declared.places.Admission.{Admission}
+use Rattle.steps_rwlock.specs.declared.places.RwLockPlace.{RwLockPlace}
+use Rattle.steps_rwlock.specs.declared.places.RwLockAt.{RwLockAt}
+use Rattle.steps_rwlock.specs.declared.places.RwLockAt.TheVariants as at
+use Rattle.steps_rwlock.specs.declared.purposes.RwLockPurpose.{RwLockPurpose}
+use Rattle.steps_rwlock.specs.declared.purposes.RwLockPurpose.TheVariants as purpose
+use Rattle.steps_rwlock.specs.declared.enter.Decision.{Decision}
+use Rattle.steps_rwlock.specs.declared.enter.Decision.TheVariants as decisions
+use Rattle.steps_rwlock.specs.declared.park.ParkAt.{ParkAt}
+use Rattle.steps_rwlock.specs.declared.park.ParkAt.TheVariants as parking
+use Rattle.steps_rwlock.specs.declared.release.WakeAt.{WakeAt}
+use Rattle.steps_rwlock.specs.declared.release.WakeAt.TheVariants as waking
+use Rattle.steps_rwlock.specs.RwLockSteps.{wanted, to_of, start_of, patience_of, want_at, decided, decided_act, park_act, act_at, rwlock_act, exchange, plus}
+use Rattle.steps_rwlock.specs.RwLockDeeds.{Admits, parking_doing, waking_doing, doing_at, again_of, rwlock_doing, falls_back, pends, claimed}
+use Rattle.steps_rwlock.specs.RwLockCalls.{ParksBy, StandsAt, IsNoRefusal, IsDecided, MayStand}
+use Rattle.steps_rwlock.specs.RwLockProfiles.{rwlock_profile, is_inside, is_timed, owes_at, stands_at, hand_at, carries_at, late_line_at, late_at, has_given_up, purpose_by, wants_for}
+use Rattle.steps_base.specs.Profiles.{Profile, hand, in_line, taken_from}
+use Rattle.spec_locks.specs.Codes.{has_aside}
+use Rattle.spec_locks.specs.Locks.{Rules, Sort, Knows}
+use Rattle.spec_locks.specs.Locks as sorts
+use Rattle.spec_locks.specs.Purposes.{MayWait, lock_for, Blank}
+use Rattle.spec_locks.specs.Runs.{IsTimed}
+use Rattle.spec_locks.specs.Sites.{Pends, Claim, counts_some, has_readers, idle}
+use Rattle.steps_base.specs.Rows.{KnowsRights, WakesAside}
 use Rattle.lot_laws.proofs.promises.RowPromises.{is_acting, LetsIn, IsDebtorIn, HasDebt, RowLooksAfter, RowIsLate, RowPromises}
 
 -- ---------------------------------------------------------------- the call

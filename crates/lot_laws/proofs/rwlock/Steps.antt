@@ -1,36 +1,36 @@
 -- A thread in a call of a reader-writer lock goes on by its act: for itself alone, or handing its right over to those whom it has in hand.
 use Rattle.std.proofs.Common.{ℕ, Bool, true, false, Option, Some, ◌≡◌, ◌≢◌, ◌<◌, List, [], length, refl, sym, ◌∙◌, ap, subst, append-nil}
-use Rattle.lot_base.specs.declared.ops.Op.{Op}
-use Rattle.lot_calls.specs.declared.calls.Access.TheVariants as access
-use Rattle.lot_acts.specs.declared.acts.Act.{Act}
-use Rattle.lot_acts.specs.declared.acts.Act.TheVariants as act
-use Rattle.lot_acts.specs.declared.acts.Reply.TheVariants.{Value}
-use Rattle.lot_acts.specs.Acts.{takes_effect}
-use Rattle.lot_acts.specs.Stations.{Station}
-use Rattle.lot_rwlock.specs.declared.places.Admission.{Admission}
-use Rattle.lot_rwlock.specs.declared.places.RwLockPlace.{RwLockPlace}
-use Rattle.lot_rwlock.specs.RwLockCalls.{MayStand}
-use Rattle.lot_rwlock.specs.RwLockMoves.{rwlock_move, rwlock_hears}
-use Rattle.lot_rwlock.specs.RwLockSteps.{rwlock_act}
-use Rattle.lot_rwlock.proofs.RwLockMoves.{rwlock_acts_move}
-use Rattle.lot_acts.specs.Moves.{Moves}
-use Rattle.lot_rwlock_fair.specs.declared.places.RwLockCallPlace.{RwLockCallPlace}
-use Rattle.lot_rwlock_fair.specs.declared.places.RwLockCallPlace.TheVariants.{Plain, Glance, HandOver, Bump, Handed}
-use Rattle.lot_rwlock_fair.specs.declared.hand_over.Taken.{Taken as Counted}
-use Rattle.lot_rwlock_fair.specs.declared.hand_over.HandOverAt.TheVariants as handing
-use Rattle.lot_rwlock_fair.specs.declared.handed.HandedAt.TheVariants as handed
-use Rattle.lot_rwlock_fair.specs.FairCalls.{CallStands, in_hand_of}
-use Rattle.lot_rwlock_fair.specs.FairDeeds.{call_deeds}
-use Rattle.lot_rwlock_fair.specs.FairLaws.{CallTells}
-use Rattle.lot_rwlock_fair.specs.FairMoves.{CallMoves, call_hears, call_move}
-use Rattle.lot_rwlock_fair.specs.FairProfiles.{call_profile}
-use Rattle.lot_rwlock_fair.specs.FairSteps.{call_act}
-use Rattle.lot_rwlock_fair.proofs.FairActs.{fair_acts_move}
+use Rattle.core_base.specs.declared.ops.Op.{Op}
+use Rattle.spec_locks.specs.declared.calls.Access.TheVariants as access
+use Rattle.steps_base.specs.declared.acts.Act.{Act}
+use Rattle.steps_base.specs.declared.acts.Act.TheVariants as act
+use Rattle.steps_base.specs.declared.acts.Reply.TheVariants.{Value}
+use Rattle.steps_base.specs.Acts.{takes_effect}
+use Rattle.steps_base.specs.Stations.{Station}
+use Rattle.steps_rwlock.specs.declared.places.Admission.{Admission}
+use Rattle.steps_rwlock.specs.declared.places.RwLockPlace.{RwLockPlace}
+use Rattle.steps_rwlock.specs.RwLockCalls.{MayStand}
+use Rattle.steps_rwlock.specs.RwLockMoves.{rwlock_move, rwlock_hears}
+use Rattle.steps_rwlock.specs.RwLockSteps.{rwlock_act}
+use Rattle.steps_rwlock.proofs.RwLockMoves.{rwlock_acts_move}
+use Rattle.steps_base.specs.Moves.{Moves}
+use Rattle.steps_rwlock_fair.specs.declared.places.RwLockCallPlace.{RwLockCallPlace}
+use Rattle.steps_rwlock_fair.specs.declared.places.RwLockCallPlace.TheVariants.{Plain, Glance, HandOver, Bump, Handed}
+use Rattle.steps_rwlock_fair.specs.declared.hand_over.Taken.{Taken as Counted}
+use Rattle.steps_rwlock_fair.specs.declared.hand_over.HandOverAt.TheVariants as handing
+use Rattle.steps_rwlock_fair.specs.declared.handed.HandedAt.TheVariants as handed
+use Rattle.steps_rwlock_fair.specs.FairCalls.{CallStands, in_hand_of}
+use Rattle.steps_rwlock_fair.specs.FairDeeds.{call_deeds}
+use Rattle.steps_rwlock_fair.specs.FairLaws.{CallTells}
+use Rattle.steps_rwlock_fair.specs.FairMoves.{CallMoves, call_hears, call_move}
+use Rattle.steps_rwlock_fair.specs.FairProfiles.{call_profile}
+use Rattle.steps_rwlock_fair.specs.FairSteps.{call_act}
+use Rattle.steps_rwlock_fair.proofs.FairActs.{fair_acts_move}
 use Rattle.lot_steps.specs.declared.places.Place.TheVariants.{RwLock}
 use Rattle.lot_steps.specs.Steps.{lock_of, next_place}
-use Rattle.abstract_locks.specs.Deeds.{case_of, event_by}
-use Rattle.abstract_locks.specs.Locks.{LockCase}
-use Rattle.abstract_locks.specs.Sites.{Deed}
+use Rattle.spec_locks.specs.Deeds.{case_of, event_by}
+use Rattle.spec_locks.specs.Locks.{LockCase}
+use Rattle.spec_locks.specs.Sites.{Deed}
 use Rattle.lot_machine.specs.Machine.{State, can_do, place_at, put, reply_to, state_after_hand_over_by, word_at}
 use Rattle.lot_machine.specs.Fits.{IsShaped}
 use Rattle.lot_laws.specs.MutexDeeds.{acts}
@@ -41,7 +41,7 @@ use Rattle.lot_laws.proofs.machine.AtPlaces.{in_no_hand}
 use Rattle.lot_laws.proofs.calls.Events.{Happens, OthersFollow, happens, others_follow}
 use Rattle.lot_laws.proofs.hands.HandsOn.{g, hands_fails, hands_tell, whom}
 use Rattle.lot_laws.proofs.hands.HandsOnEvents.{hands_happen, hands_others}
-use Rattle.abstract_locks.specs.Sites.{has_readers}
+use Rattle.spec_locks.specs.Sites.{has_readers}
 use Rattle.lot_laws.proofs.rwlock.Kept.{admits}
 use Rattle.lot_laws.proofs.promises.LineActs.{TakesHere, takes_here}
 use Rattle.lot_laws.proofs.machine.PlaceTest.{call_facts}

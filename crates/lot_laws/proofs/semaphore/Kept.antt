@@ -3,58 +3,58 @@ use Rattle.std.proofs.Common.{inl, ℕ, Bool, true, false, Option, Some, None, i
 use Rattle.std.specs.Prelude.{is_none, ◌&&◌}
 use Rattle.std.proofs.lemmas.Bool.{eqb-true}
 use Rattle.std.proofs.lemmas.Bool.Decides.{nat_tests}
-use Rattle.lot_base.specs.declared.keys.Keys.{Keys}
-use Rattle.lot_base.specs.declared.keys.Keys.TheVariants.{One}
-use Rattle.lot_base.specs.declared.notes.Note.TheVariants.{Normal}
-use Rattle.lot_base.specs.declared.ops.Op.{Op}
-use Rattle.lot_base.specs.declared.ops.Op.TheVariants as ops
-use Rattle.lot_base.specs.Words.{apply}
-use Rattle.lot_base.specs.Lines.{first_of}
-use Rattle.lot_base.specs.declared.wants.Want.{Want}
-use Rattle.lot_base.specs.declared.wants.Want.TheVariants.{Shared}
-use Rattle.lot_calls.specs.declared.calls.Patience.TheVariants as how
-use Rattle.lot_calls.specs.declared.calls.SemaphoreCall.{SemaphoreCall}
-use Rattle.lot_calls.specs.declared.calls.SemaphoreCall.TheVariants as semaphore_call
-use Rattle.lot_acts.specs.declared.acts.Check.{Check}
-use Rattle.lot_acts.specs.declared.acts.Act.{Act}
-use Rattle.lot_acts.specs.declared.acts.Act.TheVariants as act
-use Rattle.lot_acts.specs.declared.acts.Next.{Next}
-use Rattle.lot_acts.specs.declared.acts.Next.TheVariants as next
-use Rattle.lot_acts.specs.declared.acts.Reply.{Reply}
-use Rattle.lot_acts.specs.declared.acts.Reply.TheVariants.{Done, Value, Parked, Took, Removed, TakenBy, Late, Woken}
-use Rattle.lot_acts.specs.declared.acts.Wakes.{Wakes}
-use Rattle.lot_acts.specs.declared.acts.Whom.TheVariants as whom
-use Rattle.lot_acts.specs.Acts.{holds, wakes_taken}
-use Rattle.lot_acts.specs.Calls.{CallFollows}
-use Rattle.lot_acts.specs.Moves.{StaysPut, GoesIn, GoesOut, LeavesLine, AreLeaving, Parks, Waits, parks_in, row_of}
-use Rattle.lot_acts.specs.Profiles.{Profile, in_hand}
-use Rattle.lot_acts.specs.Owners.{lock_seen, shares_then}
-use Rattle.abstract_locks.specs.Locks.{LockState, Rules}
-use Rattle.abstract_locks.specs.Locks as locks
-use Rattle.abstract_locks.specs.Sites.{Begin, Case, Claim, Deed, End, Has, In, Line, Main, Mark, Second, Site, has_readers}
-use Rattle.abstract_locks.specs.Codes.{aside_in, code, has_parked, parked_in}
-use Rattle.abstract_locks.specs.Deeds.{case_of}
-use Rattle.abstract_locks.specs.Deeds as laws
-use Rattle.lot_semaphore.specs.declared.acquire.AcquireAt.TheVariants as acquire
-use Rattle.lot_semaphore.specs.declared.tries.TryAt.TheVariants as tries
-use Rattle.lot_semaphore.specs.declared.release.ReleaseAt.TheVariants as release
-use Rattle.lot_semaphore.specs.declared.places.SemaphorePlace.{SemaphorePlace}
-use Rattle.lot_semaphore.specs.declared.places.SemaphorePlace.TheVariants.{Acquire, Try, Release}
-use Rattle.lot_semaphore.specs.SemaphoreDeeds.{enters, semaphore_deeds, takes}
-use Rattle.lot_semaphore.specs.SemaphoreLaws.{Follows, IsAt, LeavesWord, MayHear, doing_next, next_row, semaphore_doing}
-use Rattle.lot_semaphore.specs.SemaphoreProfiles.{semaphore_profile}
-use Rattle.lot_semaphore.specs.SemaphoreSteps.{is_free, semaphore_act, semaphore_first, semaphore_next, semaphore_right, semaphore_shares}
-use Rattle.lot_semaphore.proofs.SemaphoreCode.{semaphore_steps_code}
-use Rattle.lot_semaphore.proofs.SemaphoreFit.{semaphore_steps_follow}
-use Rattle.lot_semaphore.proofs.SemaphoreTells.{semaphore_steps_tell}
-use Rattle.lot_semaphore.proofs.SemaphoreWords as words
+use Rattle.core_base.specs.declared.keys.Keys.{Keys}
+use Rattle.core_base.specs.declared.keys.Keys.TheVariants.{One}
+use Rattle.core_base.specs.declared.notes.Note.TheVariants.{Normal}
+use Rattle.core_base.specs.declared.ops.Op.{Op}
+use Rattle.core_base.specs.declared.ops.Op.TheVariants as ops
+use Rattle.core_base.specs.Words.{apply}
+use Rattle.core_base.specs.Lines.{first_of}
+use Rattle.core_base.specs.declared.wants.Want.{Want}
+use Rattle.core_base.specs.declared.wants.Want.TheVariants.{Shared}
+use Rattle.spec_locks.specs.declared.calls.Patience.TheVariants as how
+use Rattle.spec_locks.specs.declared.calls.SemaphoreCall.{SemaphoreCall}
+use Rattle.spec_locks.specs.declared.calls.SemaphoreCall.TheVariants as semaphore_call
+use Rattle.steps_base.specs.declared.acts.Check.{Check}
+use Rattle.steps_base.specs.declared.acts.Act.{Act}
+use Rattle.steps_base.specs.declared.acts.Act.TheVariants as act
+use Rattle.steps_base.specs.declared.acts.Next.{Next}
+use Rattle.steps_base.specs.declared.acts.Next.TheVariants as next
+use Rattle.steps_base.specs.declared.acts.Reply.{Reply}
+use Rattle.steps_base.specs.declared.acts.Reply.TheVariants.{Done, Value, Parked, Took, Removed, TakenBy, Late, Woken}
+use Rattle.steps_base.specs.declared.acts.Wakes.{Wakes}
+use Rattle.steps_base.specs.declared.acts.Whom.TheVariants as whom
+use Rattle.steps_base.specs.Acts.{holds, wakes_taken}
+use Rattle.steps_base.specs.Calls.{CallFollows}
+use Rattle.steps_base.specs.Moves.{StaysPut, GoesIn, GoesOut, LeavesLine, AreLeaving, Parks, Waits, parks_in, row_of}
+use Rattle.steps_base.specs.Profiles.{Profile, in_hand}
+use Rattle.steps_base.specs.Owners.{lock_seen, shares_then}
+use Rattle.spec_locks.specs.Locks.{Rules}
+use Rattle.spec_locks.specs.Locks as locks
+use Rattle.spec_locks.specs.Sites.{Begin, Case, Claim, Deed, End, Has, In, Line, Main, Mark, Second, Site, has_readers}
+use Rattle.spec_locks.specs.Codes.{aside_in, code, has_parked, parked_in}
+use Rattle.spec_locks.specs.Deeds.{case_of}
+use Rattle.spec_locks.specs.Deeds as laws
+use Rattle.steps_semaphore.specs.declared.acquire.AcquireAt.TheVariants as acquire
+use Rattle.steps_semaphore.specs.declared.tries.TryAt.TheVariants as tries
+use Rattle.steps_semaphore.specs.declared.release.ReleaseAt.TheVariants as release
+use Rattle.steps_semaphore.specs.declared.places.SemaphorePlace.{SemaphorePlace}
+use Rattle.steps_semaphore.specs.declared.places.SemaphorePlace.TheVariants.{Acquire, Try, Release}
+use Rattle.steps_semaphore.specs.SemaphoreDeeds.{enters, semaphore_deeds, takes}
+use Rattle.steps_semaphore.specs.SemaphoreLaws.{Follows, IsAt, LeavesWord, MayHear, doing_next, next_row, semaphore_doing}
+use Rattle.steps_semaphore.specs.SemaphoreProfiles.{semaphore_profile}
+use Rattle.steps_semaphore.specs.SemaphoreSteps.{is_free, semaphore_act, semaphore_first, semaphore_next, semaphore_right, semaphore_shares}
+use Rattle.steps_semaphore.proofs.SemaphoreCode.{semaphore_steps_code}
+use Rattle.steps_semaphore.proofs.SemaphoreFit.{semaphore_steps_follow}
+use Rattle.steps_semaphore.proofs.SemaphoreTells.{semaphore_steps_tell}
+use Rattle.steps_semaphore.proofs.SemaphoreWords as words
 use Rattle.lot_steps.specs.declared.places.Place.{Place}
 use Rattle.lot_steps.specs.declared.places.Place.TheVariants.{Idle, Mutex, RwLock, Once, Condvar, Semaphore}
-use Rattle.lot_mutex.specs.declared.places.MutexPlace.{MutexPlace}
-use Rattle.lot_once.specs.declared.places.OncePlace.{OncePlace}
-use Rattle.lot_rwlock.specs.declared.places.Admission.{Admission}
-use Rattle.lot_rwlock_fair.specs.declared.places.RwLockCallPlace.{RwLockCallPlace}
-use Rattle.lot_condvar.specs.declared.places.CondvarPlace.{CondvarPlace}
+use Rattle.steps_mutex.specs.declared.places.MutexPlace.{MutexPlace}
+use Rattle.steps_once.specs.declared.places.OncePlace.{OncePlace}
+use Rattle.steps_rwlock.specs.declared.places.Admission.{Admission}
+use Rattle.steps_rwlock_fair.specs.declared.places.RwLockCallPlace.{RwLockCallPlace}
+use Rattle.steps_condvar.specs.declared.places.CondvarPlace.{CondvarPlace}
 use Rattle.lot_steps.specs.Steps.{calls, next_place, profile, semaphore_goes}
 use Rattle.lot_machine.specs.Machine.{State, are_free, can_do, is_free as is_free_in, state_after_late_under, kind_at, owners_at, place_at, put, queue_at, reply_to, section_at, share_at, shares_at, state_after_act, word_at}
 use Rattle.lot_machine.specs.Fits.{IsShaped}

@@ -1,37 +1,37 @@
 -- Each step of a semaphore takes its thread in the machine where its act says, and so does what befalls it asleep.
 use Rattle.std.proofs.Common.{ℕ, Bool, true, false, Option, Some, None, if◌then◌else◌, ◌==◌, ◌≡◌, ◌-◌, ◌*◌, [], ◌∷◌, inl, inr, refl, sym, ap, ◌∙◌, subst, not}
 use Rattle.std.specs.Prelude.{◌&&◌}
-use Rattle.lot_base.specs.declared.keys.Keys.TheVariants.{One}
-use Rattle.lot_base.specs.declared.ops.Op.TheVariants as op
-use Rattle.lot_base.specs.declared.wants.Want.TheVariants.{Shared}
-use Rattle.lot_base.specs.Keys.{key_of}
-use Rattle.lot_acts.specs.declared.acts.Act.{Act}
-use Rattle.lot_acts.specs.declared.acts.Act.TheVariants as act
-use Rattle.lot_acts.specs.declared.acts.Next.{Next}
-use Rattle.lot_acts.specs.declared.acts.Next.TheVariants.{At, End as Over}
-use Rattle.lot_acts.specs.declared.acts.Reply.TheVariants as reply
-use Rattle.lot_acts.specs.declared.acts.Whom.TheVariants.{First}
-use Rattle.lot_calls.specs.declared.outcomes.Answer.TheVariants as answer
-use Rattle.lot_acts.specs.Moves.{AreOfWord, GoesIn, Hears, IsHeld, Move, Moves, Sleeps, StaysPut, Waits, inside_of, row_of, station_of, station_then}
-use Rattle.lot_acts.specs.Profiles.{Hand, hand, in_hand}
-use Rattle.lot_acts.specs.Stations.{Station, nowhere, station_by}
-use Rattle.abstract_locks.specs.Codes.{has_parked}
-use Rattle.abstract_locks.specs.Locks.{HasTakenNobody, Leave as GivesBack, Rules}
-use Rattle.abstract_locks.specs.Sites.{Case, End, Line, Main, Mark, Second, Site}
-use Rattle.lot_base.specs.declared.notes.Note.TheVariants.{HandOff, Normal}
-use Rattle.lot_acts.specs.declared.acts.Reply.{Reply}
-use Rattle.lot_semaphore.specs.declared.tries.TryAt.{TryAt}
-use Rattle.lot_semaphore.specs.declared.release.ReleaseAt.{ReleaseAt}
-use Rattle.lot_semaphore.specs.declared.acquire.AcquireAt.TheVariants as acquire
-use Rattle.lot_semaphore.specs.declared.tries.TryAt.TheVariants as tries
-use Rattle.lot_semaphore.specs.declared.release.ReleaseAt.TheVariants as release
-use Rattle.lot_semaphore.specs.declared.places.SemaphorePlace.{SemaphorePlace}
-use Rattle.lot_semaphore.specs.declared.places.SemaphorePlace.TheVariants.{Acquire, Try, Release}
-use Rattle.lot_semaphore.specs.SemaphoreDeeds.{enters, semaphore_deeds, takes}
-use Rattle.lot_semaphore.specs.SemaphoreLaws.{MayHear, next_row}
-use Rattle.lot_semaphore.specs.SemaphoreLaws as laws
-use Rattle.lot_semaphore.specs.SemaphoreProfiles.{semaphore_late_line, semaphore_profile}
-use Rattle.lot_semaphore.specs.SemaphoreSteps.{acquired, in_acquire, in_release, in_try, is_free, next_release, next_try, semaphore_act, semaphore_next}
+use Rattle.core_base.specs.declared.keys.Keys.TheVariants.{One}
+use Rattle.core_base.specs.declared.ops.Op.TheVariants as op
+use Rattle.core_base.specs.declared.wants.Want.TheVariants.{Shared}
+use Rattle.core_base.specs.Keys.{key_of}
+use Rattle.steps_base.specs.declared.acts.Act.{Act}
+use Rattle.steps_base.specs.declared.acts.Act.TheVariants as act
+use Rattle.steps_base.specs.declared.acts.Next.{Next}
+use Rattle.steps_base.specs.declared.acts.Next.TheVariants.{At, End as Over}
+use Rattle.steps_base.specs.declared.acts.Reply.TheVariants as reply
+use Rattle.steps_base.specs.declared.acts.Whom.TheVariants.{First}
+use Rattle.spec_locks.specs.declared.outcomes.Answer.TheVariants as answer
+use Rattle.steps_base.specs.Moves.{AreOfWord, GoesIn, Hears, IsHeld, Move, Moves, Sleeps, StaysPut, Waits, inside_of, row_of, station_of, station_then}
+use Rattle.steps_base.specs.Profiles.{Hand, hand, in_hand}
+use Rattle.steps_base.specs.Stations.{Station, nowhere, station_by}
+use Rattle.spec_locks.specs.Codes.{has_parked}
+use Rattle.spec_locks.specs.Locks.{HasTakenNobody, Leave as GivesBack, Rules}
+use Rattle.spec_locks.specs.Sites.{Case, End, Line, Main, Mark, Second, Site}
+use Rattle.core_base.specs.declared.notes.Note.TheVariants.{HandOff, Normal}
+use Rattle.steps_base.specs.declared.acts.Reply.{Reply}
+use Rattle.steps_semaphore.specs.declared.tries.TryAt.{TryAt}
+use Rattle.steps_semaphore.specs.declared.release.ReleaseAt.{ReleaseAt}
+use Rattle.steps_semaphore.specs.declared.acquire.AcquireAt.TheVariants as acquire
+use Rattle.steps_semaphore.specs.declared.tries.TryAt.TheVariants as tries
+use Rattle.steps_semaphore.specs.declared.release.ReleaseAt.TheVariants as release
+use Rattle.steps_semaphore.specs.declared.places.SemaphorePlace.{SemaphorePlace}
+use Rattle.steps_semaphore.specs.declared.places.SemaphorePlace.TheVariants.{Acquire, Try, Release}
+use Rattle.steps_semaphore.specs.SemaphoreDeeds.{enters, semaphore_deeds, takes}
+use Rattle.steps_semaphore.specs.SemaphoreLaws.{MayHear, next_row}
+use Rattle.steps_semaphore.specs.SemaphoreLaws as laws
+use Rattle.steps_semaphore.specs.SemaphoreProfiles.{semaphore_late_line, semaphore_profile}
+use Rattle.steps_semaphore.specs.SemaphoreSteps.{acquired, in_acquire, in_release, in_try, is_free, next_release, next_try, semaphore_act, semaphore_next}
 use Rattle.lot_laws.specs.SitesOf.{GivesUpTimed}
 
 abbrev pub semaphore_move : SemaphorePlace → Move

@@ -1,20 +1,20 @@
 -- A thread inside the section of a semaphore takes the first who waits: every lock is a site again. No place is named.
 use Rattle.std.proofs.Common.{ℕ, Bool, true, false, Option, Some, None, if◌then◌else◌, ◌==◌, ◌≡◌, ◌*◌, ◌<◌, List, [], ◌∷◌, length, map, drop, refl, sym, ◌∙◌, ap, subst, arith, length-set, get_or-set_same, get_or-set_other}
-use Rattle.lot_base.specs.declared.wants.Waiter.{Waiter}
-use Rattle.lot_base.specs.declared.wants.Want.{Want}
-use Rattle.lot_base.specs.declared.wants.Want.TheVariants.{Shared}
-use Rattle.lot_base.specs.Lines.{first_of, threads_of, times}
-use Rattle.lot_acts.specs.declared.acts.Reply.{Reply}
-use Rattle.lot_acts.specs.declared.acts.Reply.TheVariants.{TakenBy, Took}
-use Rattle.lot_acts.specs.declared.acts.Whom.TheVariants as whom
-use Rattle.lot_acts.specs.Moves.{Hears, Move, inside_of}
-use Rattle.lot_acts.specs.Profiles.{in_hand}
-use Rattle.lot_acts.specs.Stations.{Station}
-use Rattle.abstract_locks.specs.Locks.{HasTakenNobody, Knows, KnowsAll, Queued, Rules, Semaphore, TakeFirst, first_thread, putting}
-use Rattle.abstract_locks.specs.Locks as locks
-use Rattle.abstract_locks.specs.Picks.{queued_of}
-use Rattle.abstract_locks.specs.Sites.{Case, FindNobody, Main, Site, idle, is_empty}
-use Rattle.lot_semaphore.specs.SemaphoreDeeds.{queued}
+use Rattle.core_base.specs.declared.wants.Waiter.{Waiter}
+use Rattle.core_base.specs.declared.wants.Want.{Want}
+use Rattle.core_base.specs.declared.wants.Want.TheVariants.{Shared}
+use Rattle.core_base.specs.Lines.{first_of, threads_of, times}
+use Rattle.steps_base.specs.declared.acts.Reply.{Reply}
+use Rattle.steps_base.specs.declared.acts.Reply.TheVariants.{TakenBy, Took}
+use Rattle.steps_base.specs.declared.acts.Whom.TheVariants as whom
+use Rattle.steps_base.specs.Moves.{Hears, Move, inside_of}
+use Rattle.steps_base.specs.Profiles.{in_hand}
+use Rattle.steps_base.specs.Stations.{Station}
+use Rattle.spec_locks.specs.Locks.{HasTakenNobody, Knows, KnowsAll, Rules, Semaphore, TakeFirst, first_thread, putting}
+use Rattle.spec_locks.specs.Locks as locks
+use Rattle.spec_locks.specs.Picks.{queued_of}
+use Rattle.spec_locks.specs.Sites.{Case, FindNobody, Main, Site, idle, is_empty}
+use Rattle.steps_semaphore.specs.SemaphoreDeeds.{queued}
 use Rattle.lot_steps.specs.declared.places.Place.{Place}
 use Rattle.lot_steps.specs.Steps.{next_place, profile}
 use Rattle.lot_machine.specs.Machine.{State, is_there, place_at, places_told, put, queue_at, queues_without_first, reply_to_take, state_after_reply, state_after_take_first, state_after_taking}

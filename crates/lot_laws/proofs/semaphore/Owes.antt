@@ -1,23 +1,23 @@
 -- A thread in a call of a semaphore owes a wake from the step that gave its permit back on, where that saw waiters, or from entering the section, until it leaves it.
 use Rattle.std.proofs.Common.{ℕ, Bool, true, false, Some, if◌then◌else◌, ◌≡◌, inl, inr, refl, sym, ◌∙◌, ap, subst}
-use Rattle.lot_acts.specs.declared.acts.Next.{Next}
-use Rattle.lot_acts.specs.declared.acts.Next.TheVariants as next
-use Rattle.lot_acts.specs.declared.acts.Reply.{Reply}
-use Rattle.lot_acts.specs.Acts.{outcome_of}
-use Rattle.lot_acts.specs.Rows.{LetsIn}
-use Rattle.lot_calls.specs.declared.outcomes.Answer.TheVariants as answer
-use Rattle.abstract_locks.specs.Locks as locks
-use Rattle.abstract_locks.specs.Sites.{Line, Main}
-use Rattle.abstract_locks.specs.Codes.{has_parked}
-use Rattle.lot_semaphore.specs.declared.acquire.AcquireAt.{AcquireAt}
-use Rattle.lot_semaphore.specs.declared.acquire.AcquireAt.TheVariants as acquire
-use Rattle.lot_semaphore.specs.declared.tries.TryAt.{TryAt}
-use Rattle.lot_semaphore.specs.declared.release.ReleaseAt.{ReleaseAt}
-use Rattle.lot_semaphore.specs.declared.release.ReleaseAt.TheVariants as release
-use Rattle.lot_semaphore.specs.declared.places.SemaphorePlace.{SemaphorePlace}
-use Rattle.lot_semaphore.specs.declared.places.SemaphorePlace.TheVariants.{Acquire, Try, Release}
-use Rattle.lot_semaphore.specs.SemaphoreProfiles.{semaphore_profile}
-use Rattle.lot_semaphore.specs.SemaphoreSteps.{acquire_act, in_acquire, in_release, in_try, next_acquire, next_release, next_try, release_act, semaphore_act, semaphore_next, still_retries, try_act}
+use Rattle.steps_base.specs.declared.acts.Next.{Next}
+use Rattle.steps_base.specs.declared.acts.Next.TheVariants as next
+use Rattle.steps_base.specs.declared.acts.Reply.{Reply}
+use Rattle.steps_base.specs.Acts.{outcome_of}
+use Rattle.steps_base.specs.Rows.{LetsIn}
+use Rattle.spec_locks.specs.declared.outcomes.Answer.TheVariants as answer
+use Rattle.spec_locks.specs.Locks as locks
+use Rattle.spec_locks.specs.Sites.{Line, Main}
+use Rattle.spec_locks.specs.Codes.{has_parked}
+use Rattle.steps_semaphore.specs.declared.acquire.AcquireAt.{AcquireAt}
+use Rattle.steps_semaphore.specs.declared.acquire.AcquireAt.TheVariants as acquire
+use Rattle.steps_semaphore.specs.declared.tries.TryAt.{TryAt}
+use Rattle.steps_semaphore.specs.declared.release.ReleaseAt.{ReleaseAt}
+use Rattle.steps_semaphore.specs.declared.release.ReleaseAt.TheVariants as release
+use Rattle.steps_semaphore.specs.declared.places.SemaphorePlace.{SemaphorePlace}
+use Rattle.steps_semaphore.specs.declared.places.SemaphorePlace.TheVariants.{Acquire, Try, Release}
+use Rattle.steps_semaphore.specs.SemaphoreProfiles.{semaphore_profile}
+use Rattle.steps_semaphore.specs.SemaphoreSteps.{acquire_act, in_acquire, in_release, in_try, next_acquire, next_release, next_try, release_act, semaphore_act, semaphore_next, still_retries, try_act}
 use Rattle.lot_steps.specs.Steps.{act_of, profile, semaphore_does, semaphore_goes}
 use Rattle.lot_machine.specs.Machine.{State, reply_to, word_at}
 use Rattle.lot_laws.specs.Owing.{tells_by, tells_of}

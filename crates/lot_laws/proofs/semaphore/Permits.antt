@@ -1,10 +1,10 @@
 -- Deeds of threads of the world keep what holds of a semaphore's permits.
 use Rattle.std.proofs.Common.{ℕ, ◌≡◌, ◌<◌, List, [], ◌∷◌, length, refl, sym, ◌∙◌, subst}
-use Rattle.abstract_locks.specs.Locks.{Rules, Semaphore}
-use Rattle.abstract_locks.specs.Permits.{HasPermits}
-use Rattle.abstract_locks.specs.Sites.{Deed, Site, IsSite, after_deed}
-use Rattle.lot_semaphore.specs.Tended.{IsTended, semaphore}
-use Rattle.lot_semaphore.proofs.TendedKept.{one_keeps, same_sharers}
+use Rattle.spec_locks.specs.Locks.{Rules, Semaphore}
+use Rattle.spec_locks.specs.Permits.{HasPermits}
+use Rattle.spec_locks.specs.Sites.{Deed, Site, IsSite, after_deed}
+use Rattle.steps_semaphore.specs.Tended.{IsTended, semaphore}
+use Rattle.steps_semaphore.proofs.TendedKept.{one_keeps, same_sharers}
 use Rattle.lot_laws.specs.MutexDeeds.{acts}
 use Rattle.lot_laws.specs.MutexDeeds as deeds
 use Rattle.lot_laws.specs.SitesOf.{ActsNeeded, AllBy, after_acts}

@@ -1,32 +1,32 @@
 -- A thread in a call of a semaphore goes on by its act: that is one event of the semaphore, and its call goes on with it.
 use Rattle.std.proofs.Common.{inl, inr, ℕ, Bool, true, false, Option, Some, if◌then◌else◌, ◌==◌, ◌≡◌, ◌<◌, ◌≤◌, ◌-◌, ◌*◌, [], length, get_or-set_same, refl, sym, ◌∙◌, ap, subst, append-nil}
-use Rattle.lot_base.specs.declared.keys.Keys.TheVariants.{One}
-use Rattle.lot_base.specs.declared.ops.Op.TheVariants as op
-use Rattle.lot_calls.specs.declared.outcomes.Outcome.TheVariants as outcome
-use Rattle.lot_acts.specs.declared.acts.Act.TheVariants as act
-use Rattle.lot_acts.specs.declared.acts.Next.{Next}
-use Rattle.lot_acts.specs.declared.acts.Next.TheVariants as next
-use Rattle.lot_acts.specs.declared.acts.Reply.{Reply}
-use Rattle.lot_acts.specs.Acts.{outcome_of}
-use Rattle.lot_acts.specs.Profiles.{Profile}
-use Rattle.lot_acts.specs.Rows.{RowPromises}
-use Rattle.lot_acts.specs.Stations.{Station}
-use Rattle.lot_semaphore.specs.declared.acquire.AcquireAt.TheVariants as acquire
-use Rattle.lot_semaphore.specs.declared.tries.TryAt.TheVariants as tries
-use Rattle.lot_semaphore.specs.declared.release.ReleaseAt.TheVariants as release
-use Rattle.lot_semaphore.specs.declared.places.SemaphorePlace.{SemaphorePlace}
-use Rattle.lot_semaphore.specs.declared.places.SemaphorePlace.TheVariants.{Acquire, Try, Release}
-use Rattle.lot_semaphore.specs.SemaphoreDeeds.{semaphore_deeds}
-use Rattle.lot_semaphore.specs.SemaphoreLaws.{next_row}
-use Rattle.lot_semaphore.specs.SemaphoreProfiles.{semaphore_profile}
-use Rattle.lot_semaphore.specs.SemaphoreSteps.{is_free, semaphore_act, semaphore_next}
-use Rattle.lot_semaphore.proofs.SemaphoreRowCheck.{semaphore_promises}
+use Rattle.core_base.specs.declared.keys.Keys.TheVariants.{One}
+use Rattle.core_base.specs.declared.ops.Op.TheVariants as op
+use Rattle.spec_locks.specs.declared.outcomes.Outcome.TheVariants as outcome
+use Rattle.steps_base.specs.declared.acts.Act.TheVariants as act
+use Rattle.steps_base.specs.declared.acts.Next.{Next}
+use Rattle.steps_base.specs.declared.acts.Next.TheVariants as next
+use Rattle.steps_base.specs.declared.acts.Reply.{Reply}
+use Rattle.steps_base.specs.Acts.{outcome_of}
+use Rattle.steps_base.specs.Profiles.{Profile}
+use Rattle.steps_base.specs.Rows.{RowPromises}
+use Rattle.steps_base.specs.Stations.{Station}
+use Rattle.steps_semaphore.specs.declared.acquire.AcquireAt.TheVariants as acquire
+use Rattle.steps_semaphore.specs.declared.tries.TryAt.TheVariants as tries
+use Rattle.steps_semaphore.specs.declared.release.ReleaseAt.TheVariants as release
+use Rattle.steps_semaphore.specs.declared.places.SemaphorePlace.{SemaphorePlace}
+use Rattle.steps_semaphore.specs.declared.places.SemaphorePlace.TheVariants.{Acquire, Try, Release}
+use Rattle.steps_semaphore.specs.SemaphoreDeeds.{semaphore_deeds}
+use Rattle.steps_semaphore.specs.SemaphoreLaws.{next_row}
+use Rattle.steps_semaphore.specs.SemaphoreProfiles.{semaphore_profile}
+use Rattle.steps_semaphore.specs.SemaphoreSteps.{is_free, semaphore_act, semaphore_next}
+use Rattle.steps_semaphore.proofs.SemaphoreRowCheck.{semaphore_promises}
 use Rattle.lot_steps.specs.declared.places.Place.TheVariants.{Idle, Semaphore}
 use Rattle.lot_steps.specs.Steps.{lock_of, next_act, next_place, profile, semaphore_does, semaphore_goes}
-use Rattle.abstract_locks.specs.Deeds.{case_of, event_by}
-use Rattle.abstract_locks.specs.Locks.{LockCase, standing}
-use Rattle.abstract_locks.specs.Locks as locks
-use Rattle.abstract_locks.specs.Runs.{GoesOn, is_closure}
+use Rattle.spec_locks.specs.Deeds.{case_of, event_by}
+use Rattle.spec_locks.specs.Locks.{LockCase, standing}
+use Rattle.spec_locks.specs.Locks as locks
+use Rattle.spec_locks.specs.Runs.{GoesOn, is_closure}
 use Rattle.lot_machine.specs.Machine.{State, can_do, place_at, reply_to, state_after_act}
 use Rattle.lot_machine.specs.Fits.{IsShaped}
 use Rattle.lot_machine.proofs.Closures.{semaphore_runs_none}

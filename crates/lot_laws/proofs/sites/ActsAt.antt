@@ -4,20 +4,20 @@ use Rattle.std.proofs.Common.{ℕ, Bool, true, Option, Some, None, if◌then◌e
 use Rattle.std.proofs.lemmas.Bool.{cases_eq}
 use Rattle.std.proofs.lemmas.List.{length-map}
 use Rattle.std.proofs.Math.ListN.{get_or-map}
-use Rattle.lot_base.specs.declared.keys.Keys.TheVariants.{One}
-use Rattle.lot_base.specs.declared.ops.Op.{Op}
-use Rattle.lot_base.specs.declared.wants.Waiter.{Waiter}
-use Rattle.lot_base.specs.declared.wants.Want.{Want}
-use Rattle.lot_base.specs.Words.{apply}
-use Rattle.lot_base.specs.Lines.{waiter, without, times}
-use Rattle.lot_base.proofs.Counts.{times_append, times_without, times_gone}
-use Rattle.lot_calls.specs.declared.kinds.Kind as kind
+use Rattle.core_base.specs.declared.keys.Keys.TheVariants.{One}
+use Rattle.core_base.specs.declared.ops.Op.{Op}
+use Rattle.core_base.specs.declared.wants.Waiter.{Waiter}
+use Rattle.core_base.specs.declared.wants.Want.{Want}
+use Rattle.core_base.specs.Words.{apply}
+use Rattle.core_base.specs.Lines.{waiter, without, times}
+use Rattle.core_base.proofs.Counts.{times_append, times_without, times_gone}
+use Rattle.spec_locks.specs.declared.kinds.Kind as kind
 use Rattle.lot_steps.specs.declared.places.Place.{Place}
 use Rattle.lot_steps.specs.declared.places.Place.TheVariants.{Idle}
 use Rattle.lot_steps.specs.Steps.{owners_after, shares_after}
-use Rattle.abstract_locks.specs.Locks.{Rules, putting}
-use Rattle.abstract_locks.specs.Sites.{Doing, IsSite, Deed, Line, Main, Second, In, FindNobody, has_readers, after_deed}
-use Rattle.abstract_locks.specs.Codes.{code, fills}
+use Rattle.spec_locks.specs.Locks.{Rules, putting}
+use Rattle.spec_locks.specs.Sites.{Doing, IsSite, Deed, Line, Main, Second, In, FindNobody, has_readers, after_deed}
+use Rattle.spec_locks.specs.Codes.{code, fills}
 use Rattle.lot_machine.specs.declared.locks.Lock.{Lock}
 use Rattle.lot_machine.specs.Machine.{State, unlocked, place_at, word_at, owners_at, share_at, filled_at, kind_at, queue_at, section_at, put, state_after_operation, state_with_sections, queues_with_last, queues_without, queues_without_first}
 use Rattle.lot_laws.specs.Refinement.{taken_at}

@@ -1,15 +1,14 @@
 -- Each act of one thread in a call of one lock keeps every lock of the world a site whose word says so.
 use Rattle.std.proofs.Common.{ℕ, true, Some, None, ◌≡◌, ◌≢◌, ◌<◌, List, [], ◌∷◌, ◌++◌, length, sym, ◌∙◌, ap}
-use Rattle.lot_base.specs.declared.keys.Keys.TheVariants.{One}
-use Rattle.lot_base.specs.declared.ops.Op.{Op}
-use Rattle.lot_base.specs.declared.wants.Waiter.{Waiter}
-use Rattle.lot_base.specs.declared.wants.Want.{Want}
-use Rattle.lot_base.specs.Words.{apply}
-use Rattle.lot_base.specs.Lines.{waiter, without}
+use Rattle.core_base.specs.declared.keys.Keys.TheVariants.{One}
+use Rattle.core_base.specs.declared.ops.Op.{Op}
+use Rattle.core_base.specs.declared.wants.Want.{Want}
+use Rattle.core_base.specs.Words.{apply}
+use Rattle.core_base.specs.Lines.{waiter, without}
 use Rattle.lot_steps.specs.declared.places.Place.{Place}
-use Rattle.abstract_locks.specs.Locks.{Rules, putting}
-use Rattle.abstract_locks.specs.Sites.{Doing, IsSite, Deed, Line, In, FindNobody, has_readers, after_deed}
-use Rattle.abstract_locks.specs.Codes.{code}
+use Rattle.spec_locks.specs.Locks.{Rules, putting}
+use Rattle.spec_locks.specs.Sites.{Doing, IsSite, Deed, Line, In, FindNobody, has_readers, after_deed}
+use Rattle.spec_locks.specs.Codes.{code}
 use Rattle.lot_machine.specs.Machine.{State, place_at, word_at, queue_at, section_at, put, state_after_operation, state_with_sections, queues_with_last, queues_without, queues_without_first}
 use Rattle.lot_laws.specs.Refinement.{taken_at}
 use Rattle.lot_laws.specs.MutexDeeds.{acts}
@@ -19,12 +18,7 @@ use Rattle.lot_laws.proofs.machine.Parts.{parts_at, seen_in, IsOf, station_here,
 use Rattle.lot_laws.proofs.sites.OneStep.{Steps}
 use Rattle.lot_laws.proofs.sites.StandsKept.{AlikeBeside, own_alike}
 pub use Rattle.lot_laws.proofs.sites.Following.{AlikeAt, Moves, NoHandOff, asides, follows_by, goes_all_steady, goes_steady, lates, limited, lock_by, operated, ordinary_by, parks, stood_one, stood_other, with_line}
-use Rattle.lot_laws.proofs.sites.Following as following
 use Rattle.lot_laws.proofs.sites.ActsAt as at
-
-pub alike_put : (l k : ℕ) (p : ℕ → Place) (t : ℕ) (p2 : Place) → IsOf l (p t) → IsOf l p2 → k ≢ l → (u : ℕ)
-    → AlikeAt k (p u) (putting p t p2 u)
-alike_put l k p t p2 h h2 = following.alike_put l k p t p2 (own_alike l (p t) p2 h h2)
 
 module _ (w : State) (t l : ℕ) (steady : IsSteady w) (own : IsOf l (place_at w t)) (there : t < length w.places) (r : Rules)
     (rules : rules_in w l ≡ r) (p2 : Place) (of : IsOf l p2) (fits : FitsItsLock w p2) where
@@ -47,9 +41,6 @@ module _ (w : State) (t l : ℕ) (steady : IsSteady w) (own : IsOf l (place_at w
   pub site_by : IsSite r (lock_by w l r)
   site_by = at.site_by w t l steady there r rules p2 alike fits
 
-  pub word_by_lines : (m s : List Waiter) (q : ℕ → Place) → word_at w l ≡ code r (seen_in r l (record (parts_at w l) { main = m; second = s }) q)
-  word_by_lines = at.word_by_lines w t l steady there r rules p2 alike fits
-
   pub word_goes : (p : Place) → l < length w.locks → l < length w.shares → (f : Op) (ds : List Deed)
       → (has_readers r.sort ≡ true → NoHandOff ds) → Steps r l (parts_at w l) (operated w t p l f) (place_at w) t p2 ds
       → apply f (word_at w l) ≡ code r (seen_in r l (operated w t p l f) (putting (place_at w) t p2))
@@ -65,9 +56,6 @@ module _ (w : State) (t l : ℕ) (steady : IsSteady w) (own : IsOf l (place_at w
   nobody_inside = at.nobody_inside w t l steady there r rules p2 alike fits
 
   module _ (hand : taken_at (place_at w t) l ≡ taken_at p2 l) where
-    pub goes_into : (m : Line) → ActsNeeded r (acts t (In m ∷ [])) (lock_by w l r) → doing_on p2 l ≡ record (doing_on (place_at w t) l) { inside = Some m } → Steps r l (parts_at w l) (parts_at w l) (place_at w) t p2 (In m ∷ [])
-    goes_into = at.goes_into w t l steady there r rules p2 alike fits hand
-
     pub finds_none : (m : Line) (d : Doing) → ActsNeeded r (acts t (FindNobody m ∷ [])) (lock_by w l r)
         → doing_on p2 l ≡ (after_deed r (FindNobody m) (lock_by w l r) t).doing t
         → Steps r l (parts_at w l) (parts_at w l) (place_at w) t p2 (FindNobody m ∷ [])

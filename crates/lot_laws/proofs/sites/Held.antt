@@ -1,20 +1,20 @@
 -- A thread that stands at a lock is by its place in the hand of the one that has taken it, and of nobody while it stands in a line.
 use Rattle.std.proofs.Common.{ℕ, Bool, true, false, Option, Some, None, if◌then◌else◌, ◌≡◌, ◌≢◌, ◌≤◌, inl, inr, refl, sym, ◌∙◌, ap, subst}
 use Rattle.std.proofs.lemmas.Bool.{eqb-true}
-use Rattle.lot_acts.specs.Owners.{is_thread}
-use Rattle.lot_acts.specs.Profiles.{Profile, hand_owner}
-use Rattle.lot_acts.specs.Stations.{nowhere, station_by}
-use Rattle.abstract_locks.specs.Locks.{Taken, standing}
-use Rattle.abstract_locks.specs.Sites.{Line, Main}
-use Rattle.lot_condvar.specs.declared.places.CondvarPlace.{CondvarPlace}
-use Rattle.lot_condvar.specs.declared.places.CondvarPlace.TheVariants as condvar
-use Rattle.lot_condvar.specs.declared.notify.NotifyAt.{NotifyAt}
-use Rattle.lot_condvar.specs.declared.notify.NotifyAt.TheVariants as notify
-use Rattle.lot_condvar.specs.declared.wait.Stands.{Stands}
-use Rattle.lot_condvar.specs.declared.wait.Stands.TheVariants as stands
-use Rattle.lot_condvar.specs.declared.wait.WaitAt.{WaitAt}
-use Rattle.lot_condvar.specs.declared.wait.WaitAt.TheVariants as wait
-use Rattle.lot_condvar.specs.CondvarProfiles.{condvar_row, hand_of, is_listed, notify_row, wait_row}
+use Rattle.steps_base.specs.Owners.{is_thread}
+use Rattle.steps_base.specs.Profiles.{Profile, hand_owner}
+use Rattle.steps_base.specs.Stations.{nowhere, station_by}
+use Rattle.spec_locks.specs.Locks.{Taken, standing}
+use Rattle.spec_locks.specs.Sites.{Line, Main}
+use Rattle.steps_condvar.specs.declared.places.CondvarPlace.{CondvarPlace}
+use Rattle.steps_condvar.specs.declared.places.CondvarPlace.TheVariants as condvar
+use Rattle.steps_condvar.specs.declared.notify.NotifyAt.{NotifyAt}
+use Rattle.steps_condvar.specs.declared.notify.NotifyAt.TheVariants as notify
+use Rattle.steps_condvar.specs.declared.wait.Stands.{Stands}
+use Rattle.steps_condvar.specs.declared.wait.Stands.TheVariants as stands
+use Rattle.steps_condvar.specs.declared.wait.WaitAt.{WaitAt}
+use Rattle.steps_condvar.specs.declared.wait.WaitAt.TheVariants as wait
+use Rattle.steps_condvar.specs.CondvarProfiles.{condvar_row, hand_of, is_listed, notify_row, wait_row}
 use Rattle.lot_steps.specs.declared.places.Place.{Place}
 use Rattle.lot_steps.specs.declared.places.Place.TheVariants.{Condvar}
 use Rattle.lot_steps.specs.Steps.{beside_of, calls, is_lock, or_else, profile, profile_beside, taker}

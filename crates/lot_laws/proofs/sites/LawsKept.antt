@@ -1,14 +1,14 @@
 -- A step on the word of a lock that is shared, by what the laws of its sort conclude of it: that its deeds may be done, what its thread does then, the owners
 -- and the word behind it.
 use Rattle.std.proofs.Common.{ℕ, true, ◌||◌, ◌≡◌, ◌<◌, List, [], ◌∷◌, length, refl, sym, ◌∙◌, ap}
-use Rattle.lot_base.specs.declared.ops.Op.{Op}
-use Rattle.lot_base.specs.Words.{apply}
+use Rattle.core_base.specs.declared.ops.Op.{Op}
+use Rattle.core_base.specs.Words.{apply}
 use Rattle.lot_steps.specs.declared.places.Place.{Place}
-use Rattle.abstract_locks.specs.Locks.{Rules, Sort, Mutex, Normal, Recursive, Semaphore, Once, Condvar}
-use Rattle.abstract_locks.specs.Sites.{Site, IsSite, Deed, has_readers, after_deed}
-use Rattle.abstract_locks.specs.Codes.{code, fills, parked_in, aside_in, has_parked, has_aside, TellsTrue}
-use Rattle.abstract_locks.specs.Deeds as laws
-use Rattle.abstract_locks.proofs.CodeLaws.{words_tell_true}
+use Rattle.spec_locks.specs.Locks.{Rules, Sort, Mutex, Normal, Recursive, Semaphore, Once, Condvar}
+use Rattle.spec_locks.specs.Sites.{Site, IsSite, Deed, has_readers, after_deed}
+use Rattle.spec_locks.specs.Codes.{code, fills, parked_in, aside_in, has_parked, has_aside, TellsTrue}
+use Rattle.spec_locks.specs.Deeds as laws
+use Rattle.spec_locks.proofs.CodeLaws.{words_tell_true}
 use Rattle.lot_machine.specs.Machine.{State, place_at, word_at, filled_at, put, state_after_operation}
 use Rattle.lot_laws.specs.Refinement.{taken_at}
 use Rattle.lot_laws.specs.MutexDeeds.{acts}

@@ -2,35 +2,35 @@
 -- the act takes its thread, and the laws of its sort of lock that its deeds may be done.
 use Rattle.std.proofs.Common.{ℕ, Bool, true, false, Option, Some, None, if◌then◌else◌, ◌==◌, ◌≡◌, ◌≢◌, ◌+◌, ◌*◌, ◌≤◌, ◌<◌, List, [], ◌∷◌, length, map, drop, get_or, cond, not, inl, inr, refl, sym, ◌∙◌, ap, subst, arith}
 use Rattle.std.proofs.lemmas.Bool.{eqb-true}
-use Rattle.lot_base.specs.declared.keys.Keys.TheVariants.{One}
-use Rattle.lot_base.specs.declared.notes.Note.TheVariants.{Normal}
-use Rattle.lot_base.specs.declared.ops.Op.{Op}
-use Rattle.lot_base.specs.declared.wants.Waiter.{Waiter}
-use Rattle.lot_base.specs.declared.wants.Want.{Want}
-use Rattle.lot_base.specs.declared.wants.Want.TheVariants.{Exclusive}
-use Rattle.lot_base.specs.Lines.{without, first_of, times}
-use Rattle.lot_base.specs.Words.{apply}
-use Rattle.lot_acts.specs.declared.acts.Check.{Check}
-use Rattle.lot_acts.specs.declared.acts.Reply.{Reply}
-use Rattle.lot_acts.specs.declared.acts.Wakes.{Wakes}
-use Rattle.lot_acts.specs.declared.acts.Reply.TheVariants.{Done, Value, Parked, Took, Picked, Removed, TakenBy, Woken}
-use Rattle.lot_acts.specs.declared.acts.Whom as whom
-use Rattle.lot_acts.specs.Acts.{holds, wakes_taken}
-use Rattle.lot_acts.specs.Moves.{Move, Hears, StaysPut, GoesIn, Parks, Picks, TakesAside, LeavesLine, GoesOut, Sleeps, IsHeld, AreOfWord, AreLeaving, parks_in, inside_of, station_of, station_then}
-use Rattle.lot_acts.specs.Profiles.{Profile, Of, hand, in_hand, taken_from}
-use Rattle.lot_rwlock_fair.specs.FairMoves.{CallWaits}
-use Rattle.lot_acts.specs.Stations.{Station, station_by, nowhere, waits_for}
+use Rattle.core_base.specs.declared.keys.Keys.TheVariants.{One}
+use Rattle.core_base.specs.declared.notes.Note.TheVariants.{Normal}
+use Rattle.core_base.specs.declared.ops.Op.{Op}
+use Rattle.core_base.specs.declared.wants.Waiter.{Waiter}
+use Rattle.core_base.specs.declared.wants.Want.{Want}
+use Rattle.core_base.specs.declared.wants.Want.TheVariants.{Exclusive}
+use Rattle.core_base.specs.Lines.{without, first_of, times}
+use Rattle.core_base.specs.Words.{apply}
+use Rattle.steps_base.specs.declared.acts.Check.{Check}
+use Rattle.steps_base.specs.declared.acts.Reply.{Reply}
+use Rattle.steps_base.specs.declared.acts.Wakes.{Wakes}
+use Rattle.steps_base.specs.declared.acts.Reply.TheVariants.{Done, Value, Parked, Took, Picked, Removed, TakenBy, Woken}
+use Rattle.steps_base.specs.declared.acts.Whom as whom
+use Rattle.steps_base.specs.Acts.{holds, wakes_taken}
+use Rattle.steps_base.specs.Moves.{Move, Hears, StaysPut, GoesIn, Parks, Picks, TakesAside, LeavesLine, GoesOut, Sleeps, IsHeld, AreOfWord, AreLeaving, parks_in, inside_of, station_of, station_then}
+use Rattle.steps_base.specs.Profiles.{Profile, Of, hand, in_hand, taken_from}
+use Rattle.steps_rwlock_fair.specs.FairMoves.{CallWaits}
+use Rattle.steps_base.specs.Stations.{Station, station_by, nowhere, waits_for}
 use Rattle.lot_steps.specs.declared.places.Place.{Place}
 use Rattle.lot_steps.specs.Steps.{next_place, profile, profile_beside, wants, taker, lock_of, is_lock, calls, beside_of}
 use Rattle.lot_steps.specs.declared.places.Place.TheVariants.{Idle}
-use Rattle.lot_base.specs.Picks.{lock_picker, lock_picked, without_lock_picked}
-use Rattle.lot_acts.specs.Owners.{is_thread}
-use Rattle.abstract_locks.specs.Locks.{Rules, Pending, IsSomePending, Park, Aside, TakeAside, TakePicked, Wake, is_recursive, HandOff, keep_from, one_if_some, putting, standing}
-use Rattle.abstract_locks.specs.Locks as locks
-use Rattle.abstract_locks.specs.Picks.{queued_of}
-use Rattle.abstract_locks.specs.Sites.{Doing, Pends, wakened, is_empty, Site, IsSite, Deed, Line, Main, Second, End, In, Out, Mark, Clear, FindNobody, Case, has_readers, idle}
-use Rattle.abstract_locks.specs.Codes.{code}
-use Rattle.abstract_locks.specs.Deeds as laws
+use Rattle.core_base.specs.Picks.{lock_picker, lock_picked, without_lock_picked}
+use Rattle.steps_base.specs.Owners.{is_thread}
+use Rattle.spec_locks.specs.Locks.{Rules, Pending, IsSomePending, Park, Aside, TakeAside, TakePicked, Wake, is_recursive, HandOff, keep_from, one_if_some, putting, standing}
+use Rattle.spec_locks.specs.Locks as locks
+use Rattle.spec_locks.specs.Picks.{queued_of}
+use Rattle.spec_locks.specs.Sites.{Doing, Pends, wakened, is_empty, Site, IsSite, Deed, Line, Main, Second, End, In, Out, Mark, Clear, FindNobody, Case, has_readers, idle}
+use Rattle.spec_locks.specs.Codes.{code}
+use Rattle.spec_locks.specs.Deeds as laws
 use Rattle.lot_machine.specs.Machine.{State, place_at, word_at, queue_at, section_at, put, state_with_sections, state_after_operation, state_after_telling, state_after_leave, state_after_park, queues_with_last, queues_without, queues_without_first, is_there, state_after_reply, state_after_taking, state_after_take_first, state_after_take, reply_to_take, sharers, successor_from, want_of_successor}
 use Rattle.lot_laws.specs.Refinement.{taken_at}
 use Rattle.lot_laws.specs.MutexDeeds.{acts}

@@ -4,20 +4,20 @@ use Rattle.std.proofs.Common.{ℕ, Bool, true, false, Option, Some, None, if◌t
 use Rattle.std.specs.Prelude.{sum}
 use Rattle.std.proofs.lemmas.Bool.{cases_eq}
 use Rattle.std.proofs.Math.Bool.{or-false}
-use Rattle.lot_base.specs.declared.wants.Waiter.{Waiter}
-use Rattle.lot_base.specs.declared.wants.Want.{Want}
-use Rattle.lot_base.specs.declared.wants.Want.TheVariants as wants
-use Rattle.lot_base.specs.Lines.{waiter, without, times}
+use Rattle.core_base.specs.declared.wants.Waiter.{Waiter}
+use Rattle.core_base.specs.declared.wants.Want.{Want}
+use Rattle.core_base.specs.declared.wants.Want.TheVariants as wants
+use Rattle.core_base.specs.Lines.{waiter, without, times}
 use Rattle.lot_steps.specs.declared.places.Place.{Place}
-use Rattle.abstract_locks.specs.Onces.{OnceCase, Start, Finish, Fail, Rest, TakeAll}
-use Rattle.abstract_locks.specs.Locks.{LockState, LockCase, Pending, Rules, Sort, Mutex, Normal, Recursive, Semaphore, Once, OfOnce, once_after, putting, readers, CondvarCase, Look, Show, Hide}
-use Rattle.abstract_locks.specs.Locks as locks
-use Rattle.abstract_locks.specs.Picks.{queued_of}
-use Rattle.abstract_locks.specs.Sites.{Site, IsSite, Deed, Main, Begin, End, In, Out, Mark, Clear, FindNobody, MarkOwned, Bring, MarkBrought, Send, LeaveLine, Case, has_readers, is_empty, is_full, after_deed, Needed}
-use Rattle.abstract_locks.specs.Codes.{bit, packed, code, word_by, parked_in, aside_in, fills, HasLimit, IsHandOff, shown_code}
-use Rattle.abstract_locks.proofs.CodeLaws.{words_tell_true}
-use Rattle.abstract_locks.proofs.Limits.{limit_kept}
-use Rattle.abstract_locks.proofs.SiteKeeps.{deed_keeps}
+use Rattle.spec_locks.specs.Onces.{OnceCase, Start, Finish, Fail, Rest, TakeAll}
+use Rattle.spec_locks.specs.Locks.{LockState, LockCase, Pending, Rules, Sort, Mutex, Normal, Recursive, Semaphore, Once, OfOnce, once_after, putting, readers, CondvarCase, Look, Show, Hide}
+use Rattle.spec_locks.specs.Locks as locks
+use Rattle.spec_locks.specs.Picks.{queued_of}
+use Rattle.spec_locks.specs.Sites.{Site, IsSite, Deed, Main, Begin, End, In, Out, Mark, Clear, FindNobody, MarkOwned, Bring, MarkBrought, Send, LeaveLine, Case, has_readers, is_empty, is_full, after_deed, Needed}
+use Rattle.spec_locks.specs.Codes.{bit, packed, code, word_by, parked_in, aside_in, fills, HasLimit, IsHandOff, shown_code}
+use Rattle.spec_locks.proofs.CodeLaws.{words_tell_true}
+use Rattle.spec_locks.proofs.Limits.{limit_kept}
+use Rattle.spec_locks.proofs.SiteKeeps.{deed_keeps}
 use Rattle.lot_laws.specs.Refinement.{taken_at}
 use Rattle.lot_laws.specs.MutexDeeds.{acts}
 use Rattle.lot_laws.specs.MutexDeeds as deeds

@@ -2,22 +2,22 @@
 use Rattle.std.proofs.Common.{subst, ℕ, zero, suc, true, false, None, ◌&&◌, ◌≡◌, ◌+◌, ◌-◌, ◌*◌, ◌^◌, ◌≤◌, ◌<◌, List, [], ◌∷◌, length, get_or, map, replicate, sum, nat_le, All, inl, inr, refl, sym, ◌∙◌, ap, arith}
 use Rattle.std.proofs.lemmas.Bool.{cases_lt, leb-true}
 use Rattle.std.proofs.lemmas.List.{length-replicate, length-map}
-use Rattle.lot_calls.specs.declared.kinds.Kind.{Kind}
-use Rattle.lot_calls.specs.declared.kinds.Kind as kind
-use Rattle.lot_calls.specs.declared.kinds.TheConstants.{MOST_READERS}
-use Rattle.lot_calls.specs.Kinds.{fits}
+use Rattle.spec_locks.specs.declared.kinds.Kind.{Kind}
+use Rattle.spec_locks.specs.declared.kinds.Kind as kind
+use Rattle.spec_locks.specs.declared.kinds.TheConstants.{MOST_READERS}
+use Rattle.spec_locks.specs.Kinds.{fits}
 use Rattle.lot_steps.specs.declared.places.Place.TheVariants.{Idle}
-use Rattle.abstract_locks.specs.Locks.{Rules, opening_lock}
-use Rattle.abstract_locks.specs.Locks as sorts
-use Rattle.abstract_locks.specs.Permits.{HasPermits}
-use Rattle.abstract_locks.specs.Codes.{code, HasLimit}
-use Rattle.abstract_locks.specs.Purposes.{rules_of}
-use Rattle.abstract_locks.specs.Sites.{Main, Site, IsSite, is_full, has_readers}
-use Rattle.abstract_locks.proofs.LockKeeps.{opening_is_state}
+use Rattle.spec_locks.specs.Locks.{Rules, opening_lock}
+use Rattle.spec_locks.specs.Locks as sorts
+use Rattle.spec_locks.specs.Permits.{HasPermits}
+use Rattle.spec_locks.specs.Codes.{code, HasLimit}
+use Rattle.spec_locks.specs.Purposes.{rules_of}
+use Rattle.spec_locks.specs.Sites.{Main, Site, IsSite, is_full, has_readers}
+use Rattle.spec_locks.proofs.LockKeeps.{opening_is_state}
 use Rattle.lot_machine.specs.Machine.{State, first_word, opening, unlocked, place_at, kind_at}
 use Rattle.lot_laws.specs.Stations.{nowhere, station_at}
-use Rattle.abstract_locks.specs.Condvars.{IsCondvar, opening_condvar}
-use Rattle.abstract_locks.specs.Picks.{queued_of}
+use Rattle.spec_locks.specs.Condvars.{IsCondvar, opening_condvar}
+use Rattle.spec_locks.specs.Picks.{queued_of}
 use Rattle.lot_steps.specs.Steps.{profile_at}
 use Rattle.lot_laws.specs.SitesOf.{AreCondvars, condvar_of, inside_as, IsSteady, HasRoom, site_of, rules_in, key_of, carried_at, hand_at}
 use Rattle.lot_laws.proofs.machine.Parts.{past_all, seen_by}

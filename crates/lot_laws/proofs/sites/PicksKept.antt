@@ -1,25 +1,25 @@
 -- A thread takes those who are picked of the main queue of a reader-writer lock, the writer aside, or all who wait for a `Once`: what the machine does is the case of the lock.
 use Rattle.std.proofs.Common.{ℕ, Bool, true, false, Option, Some, None, if◌then◌else◌, ◌==◌, ◌||◌, ◌≡◌, ◌+◌, ◌*◌, ◌≤◌, ◌<◌, List, [], ◌∷◌, length, map, drop, refl, sym, ◌∙◌, ap, subst, arith, length-set, get_or-set_same, get_or-set_other}
 use Rattle.std.proofs.lemmas.Bool.Decides.{nat_tests}
-use Rattle.lot_base.specs.declared.lock_picker.LockPicker.{LockPicker}
-use Rattle.lot_base.specs.declared.picks.Pick.{Pick}
-use Rattle.lot_base.specs.declared.picks.Pick.TheVariants.{Unpark, Skip, Stop}
-use Rattle.lot_base.specs.declared.wants.Waiter.{Waiter}
-use Rattle.lot_base.specs.declared.wants.Want.{Want}
-use Rattle.lot_base.specs.declared.wants.Want.TheVariants.{Exclusive}
-use Rattle.lot_base.specs.Lines.{line, times, threads_of}
-use Rattle.lot_base.specs.Picks.{picked, without_picked, lock_answer, next_picker, lock_picker, lock_picked, without_lock_picked}
+use Rattle.core_base.specs.declared.lock_picker.LockPicker.{LockPicker}
+use Rattle.core_base.specs.declared.picks.Pick.{Pick}
+use Rattle.core_base.specs.declared.picks.Pick.TheVariants.{Unpark, Skip, Stop}
+use Rattle.core_base.specs.declared.wants.Waiter.{Waiter}
+use Rattle.core_base.specs.declared.wants.Want.{Want}
+use Rattle.core_base.specs.declared.wants.Want.TheVariants.{Exclusive}
+use Rattle.core_base.specs.Lines.{line, times, threads_of}
+use Rattle.core_base.specs.Picks.{picked, without_picked, lock_answer, next_picker, lock_picker, lock_picked, without_lock_picked}
 use Rattle.lot_steps.specs.declared.places.Place.{Place}
 use Rattle.lot_steps.specs.declared.places.Place.TheVariants.{Idle}
-use Rattle.lot_acts.specs.declared.acts.Reply.TheVariants.{TakenBy}
-use Rattle.lot_acts.specs.declared.acts.Whom as whom
+use Rattle.steps_base.specs.declared.acts.Reply.TheVariants.{TakenBy}
+use Rattle.steps_base.specs.declared.acts.Whom as whom
 use Rattle.lot_steps.specs.Steps.{next_place}
-use Rattle.abstract_locks.specs.Onces.{TakeAll}
-use Rattle.abstract_locks.specs.Locks.{OfOnce, Rules, Sort, TakePicked, TakeAside, is_recursive, putting}
-use Rattle.abstract_locks.specs.Locks as locks
-use Rattle.abstract_locks.specs.Picks.{queued_of}
-use Rattle.abstract_locks.specs.Sites.{Line, Main, Second, Case}
-use Rattle.abstract_locks.proofs.Picks.{pickers_pick}
+use Rattle.spec_locks.specs.Onces.{TakeAll}
+use Rattle.spec_locks.specs.Locks.{OfOnce, Rules, Sort, TakePicked, TakeAside, is_recursive, putting}
+use Rattle.spec_locks.specs.Locks as locks
+use Rattle.spec_locks.specs.Picks.{queued_of}
+use Rattle.spec_locks.specs.Sites.{Line, Main, Second, Case}
+use Rattle.spec_locks.proofs.Picks.{pickers_pick}
 use Rattle.lot_machine.specs.Machine.{State, place_at, queue_at, put, state_after_take, state_after_reply, queues_without_first, places_told}
 use Rattle.lot_machine.proofs.QueueLemmas.{told_count}
 use Rattle.lot_laws.specs.Refinement.{taken_at}

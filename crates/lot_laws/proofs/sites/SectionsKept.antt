@@ -1,17 +1,17 @@
 -- Parking, giving up, entering and taking nobody keep every lock of the world a site.
 use Rattle.std.proofs.Common.{ℕ, true, false, Option, Some, None, ◌≡◌, ◌≢◌, ◌+◌, ◌*◌, ◌<◌, ◌⊎◌, [], ◌∷◌, length, map, refl, sym, ◌∙◌, ap, arith}
-use Rattle.lot_base.specs.declared.wants.Want.TheVariants.{Exclusive}
-use Rattle.lot_base.specs.Lines.{without, first_of, times}
+use Rattle.core_base.specs.declared.wants.Want.TheVariants.{Exclusive}
+use Rattle.core_base.specs.Lines.{without, first_of, times}
 use Rattle.lot_steps.specs.declared.places.Place.{Place}
 use Rattle.lot_steps.specs.declared.places.Place.TheVariants.{Mutex}
-use Rattle.lot_mutex.specs.declared.places.MutexPlace.{MutexPlace}
-use Rattle.lot_mutex.specs.MutexSteps.{is_parked}
-use Rattle.abstract_locks.specs.Locks.{is_thread}
-use Rattle.abstract_locks.specs.Locks as locks
-use Rattle.abstract_locks.specs.Sites.{IsSite, Line, Main, Case, FindNobody, found, is_empty}
+use Rattle.steps_mutex.specs.declared.places.MutexPlace.{MutexPlace}
+use Rattle.steps_mutex.specs.MutexSteps.{is_parked}
+use Rattle.spec_locks.specs.Locks.{is_thread}
+use Rattle.spec_locks.specs.Locks as locks
+use Rattle.spec_locks.specs.Sites.{IsSite, Line, Main, Case, FindNobody, found, is_empty}
 use Rattle.lot_machine.specs.Machine.{State, place_at, word_at, owners_at, queue_at, put, queues_with_last, queues_without, queues_without_first}
 use Rattle.lot_laws.specs.Refinement.{lock_state, taken_at}
-use Rattle.abstract_locks.specs.Picks.{queued_of}
+use Rattle.spec_locks.specs.Picks.{queued_of}
 use Rattle.lot_laws.specs.MutexDeeds.{mutex_doing, mutex_station, acts}
 use Rattle.lot_laws.specs.Stations.{Station, station, doing_on}
 use Rattle.lot_laws.specs.SitesOf.{Goes, FitsItsLock, IsSteady, key_of, stood_in}

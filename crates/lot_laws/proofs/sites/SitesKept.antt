@@ -1,34 +1,33 @@
 -- Each act of a thread keeps every lock of the world a site, whose word says so.
 use Rattle.std.proofs.Math.Bool.{or-false}
 use Rattle.std.proofs.Common.{ℕ, Bool, true, false, Option, Some, None, if◌then◌else◌, ◌==◌, ◌&&◌, ◌||◌, ◌≡◌, ◌≢◌, ◌+◌, ◌*◌, ◌≤◌, ◌<◌, ◌⊎◌, List, [], ◌∷◌, ◌++◌, length, replicate, get_or, set, map, drop, inl, inr, refl, sym, ◌∙◌, ap, subst, arith, length-set, get_or-set_same, get_or-set_other}
-use Rattle.lot_base.specs.declared.keys.Keys.TheVariants.{One}
-use Rattle.lot_base.specs.declared.notes.Note.{Note}
-use Rattle.lot_base.specs.declared.notes.Note.TheVariants as note
-use Rattle.lot_base.specs.declared.ops.Op.{Op}
-use Rattle.lot_base.specs.declared.ops.Op.TheVariants as op
-use Rattle.lot_base.specs.declared.wants.Waiter.{Waiter}
-use Rattle.lot_base.specs.Words.{apply}
-use Rattle.lot_calls.specs.declared.kinds.Kind as kind
-use Rattle.lot_acts.specs.declared.owners.Owners.{Owners}
+use Rattle.core_base.specs.declared.keys.Keys.TheVariants.{One}
+use Rattle.core_base.specs.declared.notes.Note.{Note}
+use Rattle.core_base.specs.declared.notes.Note.TheVariants as note
+use Rattle.core_base.specs.declared.ops.Op.{Op}
+use Rattle.core_base.specs.declared.ops.Op.TheVariants as op
+use Rattle.core_base.specs.declared.wants.Waiter.{Waiter}
+use Rattle.core_base.specs.Words.{apply}
+use Rattle.spec_locks.specs.declared.kinds.Kind as kind
+use Rattle.steps_base.specs.declared.owners.Owners.{Owners}
 use Rattle.lot_steps.specs.declared.places.Place.{Place}
 use Rattle.lot_steps.specs.declared.places.Place.TheVariants.{Idle, Mutex}
-use Rattle.lot_mutex.specs.declared.places.MutexPlace.{MutexPlace}
-use Rattle.lot_mutex.specs.declared.places.MutexPlace.TheVariants.{Unlock, HandOff}
-use Rattle.lot_mutex.specs.declared.unlock.UnlockAt.TheVariants as unlock
-use Rattle.lot_mutex.specs.declared.hand_off.HandOffAt.TheVariants as hand_off
-use Rattle.lot_acts.specs.declared.acts.Act.{Act}
-use Rattle.lot_acts.specs.declared.acts.Act as act
-use Rattle.lot_acts.specs.declared.acts.Wakes as wakes
-use Rattle.lot_acts.specs.declared.acts.Reply.{Reply}
-use Rattle.lot_acts.specs.declared.acts.Reply.TheVariants.{Value, Woken, TakenBy}
-use Rattle.lot_mutex.specs.MutexSteps.{mutex_owners, hand_off_word, mutex_next}
-use Rattle.lot_acts.specs.Owners.{with_exclusive}
+use Rattle.steps_mutex.specs.declared.places.MutexPlace.{MutexPlace}
+use Rattle.steps_mutex.specs.declared.places.MutexPlace.TheVariants.{Unlock, HandOff}
+use Rattle.steps_mutex.specs.declared.unlock.UnlockAt.TheVariants as unlock
+use Rattle.steps_mutex.specs.declared.hand_off.HandOffAt.TheVariants as hand_off
+use Rattle.steps_base.specs.declared.acts.Act.{Act}
+use Rattle.steps_base.specs.declared.acts.Act as act
+use Rattle.steps_base.specs.declared.acts.Wakes as wakes
+use Rattle.steps_base.specs.declared.acts.Reply.TheVariants.{Value, Woken, TakenBy}
+use Rattle.steps_mutex.specs.MutexSteps.{mutex_owners, hand_off_word, mutex_next}
+use Rattle.steps_base.specs.Owners.{with_exclusive}
 use Rattle.lot_steps.specs.Steps.{next_place}
-use Rattle.abstract_locks.specs.Locks.{TakeFirst, putting, IsLockState}
-use Rattle.lot_base.specs.declared.wants.Want.TheVariants.{Exclusive}
-use Rattle.abstract_locks.specs.Sites.{Has}
-use Rattle.abstract_locks.specs.Sites.{Doing, Site, IsSite, Deed, Main, Second, In, Out, Case, idle, leaves, wakened, found, is_empty, has_readers}
-use Rattle.abstract_locks.specs.Codes.{code, fills}
+use Rattle.spec_locks.specs.Locks.{TakeFirst, putting, IsLockState}
+use Rattle.core_base.specs.declared.wants.Want.TheVariants.{Exclusive}
+use Rattle.spec_locks.specs.Sites.{Has}
+use Rattle.spec_locks.specs.Sites.{Doing, Site, IsSite, Deed, Main, Second, In, Out, Case, idle, leaves, wakened, found, is_empty, has_readers}
+use Rattle.spec_locks.specs.Codes.{code, fills}
 pub use Rattle.lot_laws.proofs.sites.OneStep.{acts_keep}
 use Rattle.lot_laws.proofs.sites.WakesAt.{IsWokenAt}
 use Rattle.lot_laws.proofs.sites.WakesAt as wakes_at
@@ -38,8 +37,8 @@ pub use Rattle.lot_laws.proofs.sites.ActsKept.{AlikeAt, alike_put, lock_by, foll
 use Rattle.std.specs.Prelude.{sum}
 use Rattle.lot_machine.specs.Machine.{unshared_then, State, hand_over_told, shares_handed_over, unlocked, place_at, word_at, owners_at, shares_at, filled_at, kind_at, queue_at, put, state_with_sections, section_at, queues_without_first, state_after_reply, state_after_telling, state_after_hand_over, state_after_act, reply_to}
 use Rattle.lot_laws.specs.Refinement.{taken_at, lock_state}
-use Rattle.abstract_locks.specs.Picks.{queued_of}
-use Rattle.lot_laws.specs.MutexDeeds.{mutex_doing, mutex_deeds, mutex_station, acts, owner, queued}
+use Rattle.spec_locks.specs.Picks.{queued_of}
+use Rattle.lot_laws.specs.MutexDeeds.{mutex_doing, mutex_deeds, mutex_station, acts, queued}
 use Rattle.lot_laws.specs.Stations.{Station, hand, nowhere, station, station_at, doing_on}
 use Rattle.lot_laws.specs.MutexDeeds as deeds
 use Rattle.lot_laws.specs.SitesOf.{SameNumbers, TakesOne, rules_in, ActsNeeded, IsSteady, Follows, Goes, FitsItsLock, carried_at, hand_at, after_acts}
@@ -50,7 +49,7 @@ use Rattle.lot_laws.proofs.sites.TakesAt.{behind_take, member}
 use Rattle.lot_laws.proofs.sites.Following as following
 use Rattle.lot_laws.proofs.sites.ToldAt.{HoldsHere, SameHands}
 use Rattle.std.proofs.lemmas.Bool.{cases_eq}
-use Rattle.abstract_locks.specs.Locks.{keep_from}
+use Rattle.spec_locks.specs.Locks.{keep_from}
 use Rattle.lot_laws.proofs.machine.Parts.{differ}
 use Rattle.lot_laws.specs.SitesOf.{stations_of, Hands}
 use Rattle.lot_laws.specs.Stations.{Hand}
@@ -83,10 +82,6 @@ alike_both l k p v pv t p2 hv h apart ne u =
 
 abbrev pub mutex_at : State → ℕ → Site
 mutex_at w l = lock_by w l mutex
-
-pub same_bases : (w v : State) → v.locks ≡ w.locks → v.shares ≡ w.shares → length v.places ≡ length w.places → (k : ℕ)
-    → base_at v k ≡ base_at w k
-same_bases w v locks shares threads k = λ i. record { shared = get_or (shares i) k (replicate (threads i) 0); filled = (get_or (locks i) k (unlocked kind.TheVariants.Mutex)).filled }
 
 module _ (w v : State) (l : ℕ) (rules : rules_in w l ≡ mutex) (q : ℕ → Place) (word : ℕ) (o : Owners) (m : List Waiter)
     (places : place_at v ≡ q) (numbers : SameNumbers w v) (bases : (k : ℕ) → base_at v k ≡ base_at w k) (words : Changed (word_at w) (word_at v) l word) (owners : Changed (owners_at w) (owners_at v) l o)
@@ -155,9 +150,6 @@ module _ (w : State) (t l : ℕ) (at : MutexPlace) (steady : IsSteady w) (is : p
   pub own : IsOf l (place_at w t)
   own = rw is refl
 
-  past : (p : Place) → length w.places ≤ t → p ≡ Idle
-  past p h = absurd (omega arith)
-
   station_is_at : station (place_at w t) ≡ mutex_station at
   station_is_at = ap station is
 
@@ -197,10 +189,6 @@ module _ (w : State) (t l : ℕ) (at : MutexPlace) (steady : IsSteady w) (is : p
       (queue_at w (2 * l)) (queue_at w (2 * l + 1)) (place_at w) t p2 ds
       → station p2 ≡ mutex_station at → Goes w (put w t p2) l (acts t ds)
   place_keeps p2 ds of steps e = place_goes w t l steady own there mutex rules p2 (own_of l p2 of) (fits p2 of) ds (λ h. absurd (plain h)) steps (e ∙ sym station_is_at)
-
-  section_set : 2 * l < length w.sections → (who : Option ℕ)
-      → Changed (section_at w) (section_at (state_with_sections w (One (2 * l)) who)) (2 * l) who
-  section_set line who = changed_set (λ x. x) w.sections (2 * l) who None line
 
   -- into a section that is free
   pub enter_keeps : 2 * l < length w.sections → (p2 : Place) → IsMutexOf l p2 → taken_at (Mutex l at) l ≡ None → taken_at p2 l ≡ None → section_at w (2 * l) ≡ None → (mutex_doing at).inside ≡ None → (mutex_doing at).empty ≡ None → doing_on p2 l ≡ record (mutex_doing at) { inside = Some Main }
@@ -285,12 +273,6 @@ module _ (w : State) (t l : ℕ) (steady : IsSteady w) (there : t < length w.pla
   module _ (at : MutexPlace) (is : place_at w t ≡ Mutex l at) (b : Bool) (carries : (mutex_station at).carries ≡ Some b) where
     pub one_held : (u : ℕ) × (hand_at (place_at w u) l ≡ hand t b)
     one_held = steady.stands.hands.carried t l b (ap (λ (x : Station). x.carries) (own_stance l (place_at w t) at is) ∙ carries)
-
-    -- it is told alone
-    pub told_it : (reply : Reply)
-        → state_after_telling (state_with_sections w (One (2 * l)) None) t reply
-        ≡ state_after_reply (state_with_sections w (One (2 * l)) None) one_held.0 reply
-    told_it reply = told_one (state_with_sections w (One (2 * l)) None) t l one_held.0 b reply (aparts w steady) steady.stands.hands (single w t l at steady is there) (of_carries l (place_at w t) (own w t l at steady is there)) one_held.1
 
   -- a release leaves, and wakes the one that it took
   pub release_wakes : 2 * l < length w.sections → place_at w t ≡ Mutex l (Unlock (unlock.Leave true))
@@ -451,11 +433,6 @@ module _ (w : State) (t l : ℕ) (steady : IsSteady w) (there : t < length w.pla
     }
 
 -- ---------------------------------------------------------------- the first of a line is taken
-
--- the same of the main keys
-pub changed_main : {A : Type 0} (xs : List A) (l : ℕ) (x d : A) → 2 * l < length xs
-    → Changed (λ k. get_or xs (2 * k) d) (λ k. get_or (set xs (2 * l) x) (2 * k) d) l x
-changed_main xs l x d lt = record { here = get_or-set_same xs (2 * l) x d lt; other = λ j ne. get_or-set_other xs (2 * l) (2 * j) x d (λ e. ne (omega arith)) }
 
 module _ (w : State) (t l : ℕ) (at : MutexPlace) (steady : IsSteady w) (is : place_at w t ≡ Mutex l at)
     (there : t < length w.places) (line : 2 * l < length w.queues)

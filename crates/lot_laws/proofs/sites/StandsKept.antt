@@ -1,15 +1,15 @@
 -- How the sections, the lines and the hands of the machine are kept, by the stations of threads. No place is named.
 use Rattle.std.proofs.Common.{ℕ, Bool, true, false, Option, Some, None, if◌then◌else◌, ◌==◌, ◌&&◌, ◌≡◌, ◌≢◌, ◌≤◌, ◌↔◌, ◌⊎◌, List, [], ◌∷◌, ◌++◌, cond, not, inl, inr, refl, sym, ◌∙◌, ap, subst, arith}
 use Rattle.std.proofs.lemmas.Bool.{cases_eq, eqb-true}
-use Rattle.lot_base.specs.declared.wants.Waiter.{Waiter}
-use Rattle.lot_base.specs.Lines.{times, without}
-use Rattle.lot_calls.specs.Kinds.{is_plain_mutex}
+use Rattle.core_base.specs.declared.wants.Waiter.{Waiter}
+use Rattle.core_base.specs.Lines.{times, without}
+use Rattle.spec_locks.specs.Kinds.{is_plain_mutex}
 use Rattle.lot_steps.specs.declared.places.Place.{Place}
 use Rattle.lot_steps.specs.declared.places.Place.TheVariants.{Idle, Mutex, RwLock, Once, Condvar, Semaphore}
-use Rattle.abstract_locks.specs.Locks.{putting}
-use Rattle.abstract_locks.specs.Purposes.{rules_of}
-use Rattle.lot_rwlock.specs.RwLockDeeds.{Admits}
-use Rattle.abstract_locks.specs.Sites.{Line, Main, Second}
+use Rattle.spec_locks.specs.Locks.{putting}
+use Rattle.spec_locks.specs.Purposes.{rules_of}
+use Rattle.steps_rwlock.specs.RwLockDeeds.{Admits}
+use Rattle.spec_locks.specs.Sites.{Line, Main, Second}
 use Rattle.lot_machine.specs.Machine.{State, kind_at}
 use Rattle.lot_laws.specs.SitesOf.{is_mutex}
 use Rattle.lot_laws.specs.Refinement.{taken_at}
@@ -46,16 +46,6 @@ own_alike l p p2 h h2 k ne = record {
 
 -- a part of a station, where one thread goes elsewhere
 module _ {A : Type 0} (g : Station → A) (l : ℕ) where
-  pub part_put : (p : ℕ → Place) (t : ℕ) (p2 : Place) → AlikeBeside l (p t) p2 → g (station_at p2 l) ≡ g (station_at (p t) l)
-      → (u k : ℕ) → g (station_at (putting p t p2 u) k) ≡ g (station_at (p u) k)
-  part_put p t p2 alike e u k = elim (cases_eq u t) [
-    | inl f ↦ rw (f, put_here p t p2) (elim (cases_eq k l) [
-      | inl h ↦ rw h e
-      | inr ne ↦ ap g (alike k ne).station
-    ])
-    | inr ne ↦ rw (put_other p t p2 u ne) refl
-  ]
-
   -- whoever else is looked at
   pub part_else : (p : ℕ → Place) (t : ℕ) (p2 : Place) → AlikeBeside l (p t) p2 → (u k : ℕ) → (u ≡ t → k ≡ l → ⊥)
       → g (station_at (putting p t p2 u) k) ≡ g (station_at (p u) k)
@@ -108,10 +98,6 @@ module _ (p q : ℕ → ℕ → Station) (section after : ℕ → Option ℕ) (s
     ]
     | inr ne ↦ stays u k n (λ f g. ne g) (other_key l k m n ne)
   ]
-
-  -- it is inside no other section of the lock, before and behind
-  not_other : (n : Line) → n ≢ m → (p t l).inside ≡ Some n → after (key_of l n) ≡ Some t
-  not_other n ne h = elsewhere (key_of l n) (other_line l m n ne) ∙ (s t l n).0 h
 
   was_other : (n : Line) → n ≢ m → after (key_of l n) ≡ Some t → (p t l).inside ≡ Some n
   was_other n ne h = (s t l n).1 (sym (elsewhere (key_of l n) (other_line l m n ne)) ∙ h)

@@ -1,14 +1,14 @@
 -- The machine keeps more than its locks' being sites, where one thread goes elsewhere, or two.
 use Rattle.std.proofs.Common.{ℕ, true, Option, Some, None, ◌≡◌, ◌≢◌, List, inl, inr, refl, sym, ◌∙◌, ap, subst}
 use Rattle.std.proofs.lemmas.Bool.{cases_eq}
-use Rattle.lot_base.specs.declared.wants.Waiter.{Waiter}
-use Rattle.lot_base.specs.Lines.{times}
-use Rattle.lot_calls.specs.declared.kinds.Kind.{Kind}
-use Rattle.lot_calls.specs.declared.kinds.Kind as kind
+use Rattle.core_base.specs.declared.wants.Waiter.{Waiter}
+use Rattle.core_base.specs.Lines.{times}
+use Rattle.spec_locks.specs.declared.kinds.Kind.{Kind}
+use Rattle.spec_locks.specs.declared.kinds.Kind as kind
 use Rattle.lot_steps.specs.declared.places.Place.{Place}
-use Rattle.abstract_locks.specs.Locks.{Rules, putting}
-use Rattle.abstract_locks.specs.Purposes.{rules_of}
-use Rattle.abstract_locks.specs.Sites.{Line}
+use Rattle.spec_locks.specs.Locks.{Rules, putting}
+use Rattle.spec_locks.specs.Purposes.{rules_of}
+use Rattle.spec_locks.specs.Sites.{Line}
 use Rattle.lot_machine.specs.Machine.{State, place_at, kind_at, section_at, queue_at}
 use Rattle.lot_laws.specs.SitesOf.{is_mutex}
 use Rattle.lot_laws.specs.Stations.{Station, station_at}

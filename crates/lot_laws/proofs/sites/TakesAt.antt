@@ -4,19 +4,19 @@ use Rattle.std.proofs.Common.{ℕ, Bool, true, false, Option, Some, None, if◌t
 use Rattle.std.proofs.lemmas.Bool.{cases_eq}
 use Rattle.std.proofs.lemmas.Bool.Decides.{nat_tests}
 use Rattle.std.proofs.Math.Bool.{and-true, and-false}
-use Rattle.lot_base.specs.declared.wants.Waiter.{Waiter}
-use Rattle.lot_base.specs.Lines.{times, threads_of}
+use Rattle.core_base.specs.declared.wants.Waiter.{Waiter}
+use Rattle.core_base.specs.Lines.{times, threads_of}
 use Rattle.lot_steps.specs.declared.places.Place.{Place}
 use Rattle.lot_steps.specs.declared.places.Place.TheVariants.{Idle}
-use Rattle.lot_acts.specs.declared.acts.Reply.{Reply}
-use Rattle.lot_acts.specs.declared.acts.Reply.TheVariants.{TakenBy}
+use Rattle.steps_base.specs.declared.acts.Reply.{Reply}
+use Rattle.steps_base.specs.declared.acts.Reply.TheVariants.{TakenBy}
 use Rattle.lot_steps.specs.Steps.{next_place}
-use Rattle.abstract_locks.specs.Locks.{Rules, Taken, putting}
-use Rattle.abstract_locks.specs.Locks as locks
-use Rattle.abstract_locks.specs.Picks.{queued_of}
-use Rattle.abstract_locks.specs.Sites.{Site, Deed, Line, Main, Second}
-use Rattle.abstract_locks.specs.Codes.{code}
-use Rattle.lot_calls.specs.declared.kinds.Kind as kind
+use Rattle.spec_locks.specs.Locks.{Rules, Taken, putting}
+use Rattle.spec_locks.specs.Locks as locks
+use Rattle.spec_locks.specs.Picks.{queued_of}
+use Rattle.spec_locks.specs.Sites.{Site, Deed, Line, Main, Second}
+use Rattle.spec_locks.specs.Codes.{code}
+use Rattle.spec_locks.specs.declared.kinds.Kind as kind
 use Rattle.lot_machine.specs.Machine.{State, unlocked, shares_at, place_at, section_at, queue_at, kind_at, places_told}
 use Rattle.lot_laws.specs.Refinement.{taken_at}
 use Rattle.lot_laws.specs.MutexDeeds.{acts}

@@ -1,15 +1,15 @@
 -- A thread in a call of one lock takes waiters of a line of it, as many as it is to, each in a call of that lock.
 use Rattle.std.proofs.Common.{ℕ, Bool, true, false, Option, Some, None, if◌then◌else◌, ◌≡◌, ◌≢◌, ◌+◌, ◌≤◌, ◌<◌, List, [], ◌∷◌, length, map, refl, sym, ◌∙◌, ap, arith}
-use Rattle.lot_base.specs.declared.wants.Waiter.{Waiter}
-use Rattle.lot_base.specs.declared.wants.Want.{Want}
-use Rattle.lot_base.specs.Lines.{times}
+use Rattle.core_base.specs.declared.wants.Waiter.{Waiter}
+use Rattle.core_base.specs.declared.wants.Want.{Want}
+use Rattle.core_base.specs.Lines.{times}
 use Rattle.lot_steps.specs.declared.places.Place.{Place}
-use Rattle.lot_acts.specs.declared.acts.Reply.TheVariants.{TakenBy}
+use Rattle.steps_base.specs.declared.acts.Reply.TheVariants.{TakenBy}
 use Rattle.lot_steps.specs.Steps.{next_place}
-use Rattle.abstract_locks.specs.Locks.{Rules, putting}
-use Rattle.abstract_locks.specs.Locks as locks
-use Rattle.abstract_locks.specs.Picks.{queued_of}
-use Rattle.abstract_locks.specs.Sites.{Site, Deed, Line}
+use Rattle.spec_locks.specs.Locks.{Rules, putting}
+use Rattle.spec_locks.specs.Locks as locks
+use Rattle.spec_locks.specs.Picks.{queued_of}
+use Rattle.spec_locks.specs.Sites.{Site, Deed, Line}
 use Rattle.lot_machine.specs.Machine.{State, place_at, queue_at}
 use Rattle.lot_laws.specs.Refinement.{taken_at}
 use Rattle.lot_laws.specs.MutexDeeds.{acts}
@@ -19,7 +19,7 @@ use Rattle.lot_laws.proofs.machine.Parts.{parts_at, lock_in, seen_in, IsOf, stat
 use Rattle.lot_laws.proofs.sites.OneStep.{AreSingle}
 use Rattle.lot_laws.proofs.sites.Following.{NoHandOff, with_line, lock_by}
 use Rattle.lot_laws.proofs.sites.StandsKept.{own_alike}
-use Rattle.lot_acts.specs.Stations.{waits_for}
+use Rattle.steps_base.specs.Stations.{waits_for}
 use Rattle.lot_steps.specs.Steps.{profile}
 pub use Rattle.lot_laws.proofs.sites.TakesAt.{member, member_times, at_most_one, told_by, told_places, told_once, AllAre}
 use Rattle.lot_laws.proofs.sites.TakesAt.{IsTakenAt, behind_take}

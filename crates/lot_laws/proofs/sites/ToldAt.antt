@@ -7,10 +7,10 @@ use Rattle.std.proofs.Math.Bool.{and-true, and-false}
 use Rattle.std.proofs.Math.ListN.{get_or-map}
 use Rattle.lot_steps.specs.declared.places.Place.{Place}
 use Rattle.lot_steps.specs.declared.places.Place.TheVariants.{Idle}
-use Rattle.lot_acts.specs.declared.acts.Reply.{Reply}
-use Rattle.lot_acts.specs.Owners.{is_thread}
+use Rattle.steps_base.specs.declared.acts.Reply.{Reply}
+use Rattle.steps_base.specs.Owners.{is_thread}
 use Rattle.lot_steps.specs.Steps.{next_place, taker}
-use Rattle.abstract_locks.specs.Locks.{putting}
+use Rattle.spec_locks.specs.Locks.{putting}
 use Rattle.lot_machine.specs.Machine.{State, place_at, put, state_after_telling, place_after_telling}
 use Rattle.lot_laws.specs.Stations.{Station, Hand, hand, station_at}
 use Rattle.lot_laws.specs.SitesOf.{IsSteady, FitsItsLock, carried_at, hand_at}

@@ -1,15 +1,15 @@
 -- A step of one thread at two locks that nobody shares: both are sites again, and every other lock is as it was.
 use Rattle.std.proofs.Common.{ℕ, Bool, true, false, Option, Some, None, if◌then◌else◌, ◌==◌, ◌&&◌, ◌≡◌, ◌≢◌, ◌+◌, ◌*◌, ◌<◌, List, [], length, replicate, get_or, set, inl, inr, refl, sym, ◌∙◌, ap, subst, arith, length-set}
 use Rattle.std.proofs.lemmas.Bool.{cases_eq}
-use Rattle.lot_base.specs.declared.wants.Waiter.{Waiter}
-use Rattle.lot_calls.specs.declared.kinds.Kind as kind
+use Rattle.core_base.specs.declared.wants.Waiter.{Waiter}
+use Rattle.spec_locks.specs.declared.kinds.Kind as kind
 use Rattle.lot_steps.specs.declared.places.Place.{Place}
 use Rattle.lot_steps.specs.declared.places.Place.TheVariants.{Idle}
-use Rattle.abstract_locks.specs.Locks.{putting}
-use Rattle.abstract_locks.specs.Locks as locks
-use Rattle.abstract_locks.specs.Purposes.{rules_of}
-use Rattle.abstract_locks.specs.Sites.{Deed, Main, Site, has_readers}
-use Rattle.abstract_locks.specs.Codes.{code, HasLimit}
+use Rattle.spec_locks.specs.Locks.{putting}
+use Rattle.spec_locks.specs.Locks as locks
+use Rattle.spec_locks.specs.Purposes.{rules_of}
+use Rattle.spec_locks.specs.Sites.{Deed, Main, Site, has_readers}
+use Rattle.spec_locks.specs.Codes.{code, HasLimit}
 use Rattle.lot_machine.specs.Machine.{State, place_at, kind_at, shares_at, unlocked, word_at}
 use Rattle.lot_laws.specs.Refinement.{lock_state}
 use Rattle.lot_laws.specs.MutexDeeds.{acts}

@@ -2,14 +2,14 @@
 use Rattle.std.proofs.Common.{Option, ℕ, Bool, true, false, Some, None, if◌then◌else◌, ◌==◌, ◌&&◌, ◌≡◌, ◌≢◌, ◌+◌, ◌*◌, ◌<◌, replicate, List, [], ◌∷◌, length, get_or, map, inl, inr, refl, sym, ◌∙◌, ap, subst, length-set, get_or-set_same, get_or-set_other}
 use Rattle.std.proofs.lemmas.Bool.{cases_eq}
 use Rattle.std.proofs.lemmas.List.{length-map}
-use Rattle.lot_base.specs.declared.keys.Keys.TheVariants.{One}
-use Rattle.lot_base.specs.declared.notes.Note.{Note}
+use Rattle.core_base.specs.declared.keys.Keys.TheVariants.{One}
+use Rattle.core_base.specs.declared.notes.Note.{Note}
 use Rattle.lot_steps.specs.declared.places.Place.{Place}
-use Rattle.lot_acts.specs.declared.acts.Reply.TheVariants.{Woken}
-use Rattle.lot_acts.specs.Moves.{AreLeaving}
+use Rattle.steps_base.specs.declared.acts.Reply.TheVariants.{Woken}
+use Rattle.steps_base.specs.Moves.{AreLeaving}
 use Rattle.lot_steps.specs.Steps.{next_place}
-use Rattle.abstract_locks.specs.Locks.{Rules, putting, keep_from}
-use Rattle.abstract_locks.specs.Sites.{Deed, Line, End, Out, idle, wakened, leaves}
+use Rattle.spec_locks.specs.Locks.{Rules, putting, keep_from}
+use Rattle.spec_locks.specs.Sites.{Deed, Line, End, Out, idle, wakened, leaves}
 use Rattle.lot_machine.specs.Machine.{State, place_at, filled_at, section_at, queue_at, put, state_with_sections, state_after_telling, place_after_telling}
 use Rattle.lot_laws.specs.Refinement.{taken_at}
 use Rattle.lot_laws.specs.MutexDeeds.{acts}

@@ -1,12 +1,12 @@
 -- A thread in a call of one lock leaves its section and lets go whomever it has in hand, one or many, each in a call of that lock.
 use Rattle.std.proofs.Common.{ℕ, Bool, true, false, Some, None, if◌then◌else◌, ◌≡◌, ◌≢◌, ◌<◌, List, length, sym, ◌∙◌, ap}
-use Rattle.lot_base.specs.declared.keys.Keys.TheVariants.{One}
-use Rattle.lot_base.specs.declared.notes.Note.{Note}
+use Rattle.core_base.specs.declared.keys.Keys.TheVariants.{One}
+use Rattle.core_base.specs.declared.notes.Note.{Note}
 use Rattle.lot_steps.specs.declared.places.Place.{Place}
-use Rattle.lot_acts.specs.declared.acts.Reply.TheVariants.{Woken}
+use Rattle.steps_base.specs.declared.acts.Reply.TheVariants.{Woken}
 use Rattle.lot_steps.specs.Steps.{next_place}
-use Rattle.abstract_locks.specs.Locks.{Rules, keep_from}
-use Rattle.abstract_locks.specs.Sites.{Deed, Line}
+use Rattle.spec_locks.specs.Locks.{Rules, keep_from}
+use Rattle.spec_locks.specs.Sites.{Deed, Line}
 use Rattle.lot_machine.specs.Machine.{State, place_at, put, state_with_sections, state_after_telling}
 use Rattle.lot_laws.specs.Refinement.{taken_at}
 use Rattle.lot_laws.specs.MutexDeeds.{acts}
@@ -17,7 +17,7 @@ use Rattle.lot_laws.proofs.hands.Handed.{of_carries}
 use Rattle.lot_laws.proofs.mutex.Waiters.{holds_here}
 use Rattle.lot_laws.proofs.sites.ActsKept.{lock_by}
 use Rattle.lot_laws.proofs.sites.StandsKept.{AlikeBeside, own_alike}
-pub use Rattle.lot_acts.specs.Moves.{AreLeaving}
+pub use Rattle.steps_base.specs.Moves.{AreLeaving}
 use Rattle.lot_laws.proofs.sites.ToldAt.{HoldsHere, same_hands}
 use Rattle.lot_laws.proofs.sites.WakesAt.{IsWokenAt}
 use Rattle.lot_laws.proofs.sites.WakesAt as at

@@ -1,5 +1,5 @@
 use Rattle.std.proofs.Common.{◌∙◌, ap, List}
-use Rattle.lot_calls.specs.declared.calls.Step.{Step}
+use Rattle.spec_locks.specs.declared.calls.Step.{Step}
 use Rattle.lot_drain.specs.Schedules.{Progress, clear, most_turns, out_of_main, out_of_second, turns}
 use Rattle.lot_drain.proofs.draining.schedule.Goals as goal
 

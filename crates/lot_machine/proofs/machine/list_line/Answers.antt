@@ -1,5 +1,5 @@
 use Rattle.std.proofs.Common.{arith}
-use Rattle.lot_base.specs.Lines.{line}
+use Rattle.core_base.specs.Lines.{line}
 use Rattle.lot_machine.proofs.QueueLemmas.{room_for}
 use Rattle.lot_machine.proofs.machine.list_line.Goals as goal
 

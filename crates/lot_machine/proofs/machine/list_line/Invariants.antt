@@ -1,6 +1,6 @@
 use Rattle.std.proofs.Common.{◌≡◌, ◌++◌, length}
 use Rattle.std.specs.Vec.{vec_capacity}
-use Rattle.lot_base.specs.Lines.{line, threads_of}
+use Rattle.core_base.specs.Lines.{line, threads_of}
 use Rattle.lot_machine.proofs.machine.list_line.Given as goal
 
 -- whoever isn't listed yet stands from the place on

@@ -1,5 +1,5 @@
 use Rattle.std.proofs.Common.{sym, ap, ◌∙◌}
-use Rattle.lot_calls.specs.declared.outcomes.Outcome.{Outcome}
+use Rattle.spec_locks.specs.declared.outcomes.Outcome.{Outcome}
 use Rattle.lot_machine.specs.Machine.{State}
 use Rattle.lot_replay.specs.Stages.{went_alone}
 use Rattle.lot_laws.proofs.alone.Steps.{after_stuck}

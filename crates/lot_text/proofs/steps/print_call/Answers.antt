@@ -1,6 +1,6 @@
 use Rattle.std.proofs.Common.{◌++◌}
 use Rattle.std.specs.Prelude.{codes}
-use Rattle.lot_calls.specs.Calls.{lock_in, mutex_in}
+use Rattle.spec_locks.specs.Calls.{lock_in, mutex_in}
 use Rattle.lot_text.specs.Steps.{beside_text, call_word, name_at}
 use Rattle.lot_text.proofs.SentLemmas.{puts_then}
 use Rattle.lot_text.proofs.steps.print_call.Goals as goal

@@ -1,6 +1,6 @@
 use Rattle.std.proofs.Common.{◌≡◌, ◌∙◌, ℕ, Some, None, IfOk, refl, subst, arith}
-use Rattle.keyed_locks.specs.Guards.{HasValue}
-use Rattle.lot_words.specs.RightsOf.{IsRightOf}
+use Rattle.core_parts.specs.Guards.{HasValue}
+use Rattle.core_words.specs.RightsOf.{IsRightOf}
 use Rattle.parking_lot_core.specs.declared.waiters.WakeRecord.{WakeRecord}
 use Rattle.parking_lot_core.proofs.Lists.{all_more, all_empty}
 use Rattle.parking_lot_core.proofs.lot.empty_records.Goals as goal

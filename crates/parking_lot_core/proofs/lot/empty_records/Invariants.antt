@@ -1,5 +1,5 @@
 use Rattle.std.proofs.Common.{◌≡◌, None, All, length}
-use Rattle.keyed_locks.specs.Guards.{HasValue}
+use Rattle.core_parts.specs.Guards.{HasValue}
 use Rattle.parking_lot_core.proofs.lot.empty_records.Given as goal
 
 abbrev pub invariant-loop : goal.invariant-loop

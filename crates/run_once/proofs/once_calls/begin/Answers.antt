@@ -1,14 +1,14 @@
 use Rattle.std.proofs.Common.{◌++◌, ◌∙◌, None, ap, subst}
-use Rattle.lot_base.specs.declared.ops.Op.TheVariants.{Load}
-use Rattle.lot_calls.specs.declared.calls.OnceCall.{OnceCall}
-use Rattle.lot_words.specs.Indices.{word_index}
-use Rattle.lot_words.specs.Steps.{CodesWith}
-use Rattle.lot_words.specs.declared.views.View.{View}
-use Rattle.lot_words.specs.declared.words.WordKind.{WordKind}
-use Rattle.lot_driver.specs.Paths.{once_at, step}
-use Rattle.lot_driver.specs.Stages.{stage_of, stepped}
-use Rattle.lot_driver.specs.Telling.{owns_of, steps_of}
-use Rattle.lot_driver.proofs.Turning.{by_stage}
+use Rattle.core_base.specs.declared.ops.Op.TheVariants.{Load}
+use Rattle.spec_locks.specs.declared.calls.OnceCall.{OnceCall}
+use Rattle.core_words.specs.Indices.{word_index}
+use Rattle.core_words.specs.Steps.{CodesWith}
+use Rattle.core_words.specs.declared.views.View.{View}
+use Rattle.core_words.specs.declared.words.WordKind.{WordKind}
+use Rattle.run_base.specs.Paths.{once_at, step}
+use Rattle.run_base.specs.Stages.{stage_of, stepped}
+use Rattle.run_base.specs.Telling.{owns_of, steps_of}
+use Rattle.run_base.proofs.Turning.{by_stage}
 use Rattle.run_once.proofs.OnceCalling.{begins_by}
 use Rattle.run_once.proofs.once_calls.begin.Goals as goal
 

@@ -1,17 +1,17 @@
 use Rattle.std.proofs.Common.{rules, ℕ, ◌≡◌, ◌∙◌, None, Some, ap, sym, subst}
-use Rattle.lot_base.specs.Clocks.{IsUp}
-use Rattle.lot_acts.specs.declared.acts.Reply.TheVariants.{Value}
+use Rattle.core_base.specs.Clocks.{IsUp}
+use Rattle.steps_base.specs.declared.acts.Reply.TheVariants.{Value}
 use Rattle.lot_steps.specs.Steps.{next_act, next_place}
 use Rattle.lot_steps.specs.declared.places.Place.{Place}
 use Rattle.parking_lot_core.specs.declared.tokens.Token.{Token}
-use Rattle.lot_driver.specs.Fitting.{Aim, Fits, IsStopped, aim_of, answer_of}
-use Rattle.lot_driver.specs.Paths.{Runs, Walks}
-use Rattle.lot_driver.specs.Stages.{stage_of}
-use Rattle.lot_driver.specs.Telling.{owns_of, steps_of}
-use Rattle.lot_driver.specs.Words.{at_in}
-use Rattle.lot_driver.specs.declared.driver.Stop.{Stop}
-use Rattle.lot_driver.specs.declared.driver.Stop.TheVariants.{Ended, Paused}
-use Rattle.lot_driver.proofs.Ending.{end_of}
+use Rattle.run_base.specs.Fitting.{Aim, Fits, IsStopped, aim_of, answer_of}
+use Rattle.run_base.specs.Paths.{Runs, Walks}
+use Rattle.run_base.specs.Stages.{stage_of}
+use Rattle.run_base.specs.Telling.{owns_of, steps_of}
+use Rattle.run_base.specs.Words.{at_in}
+use Rattle.run_base.specs.declared.driver.Stop.{Stop}
+use Rattle.run_base.specs.declared.driver.Stop.TheVariants.{Ended, Paused}
+use Rattle.run_base.proofs.Ending.{end_of}
 use Rattle.run_once.specs.OnceCalls.{in_closure, once_begin}
 use Rattle.run_once.proofs.OnceCalling.{comes_by, looks_ended, looks_on, looks_to, on_aim, once_alone, paused}
 use Rattle.run_once.proofs.once_calls.begin_behind.Goals as goal

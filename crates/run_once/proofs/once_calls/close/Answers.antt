@@ -1,21 +1,21 @@
 use Rattle.std.proofs.Common.{rules, ℕ, ◌≡◌, ◌++◌, ◌∙◌, Bool, List, true, false, ap, sym, subst}
-use Rattle.abstract_locks.specs.Codes.{is_marked}
-use Rattle.lot_base.specs.declared.ops.Op.TheVariants.{Swap}
-use Rattle.lot_once.specs.OnceSteps.{word_behind}
-use Rattle.lot_words.specs.Indices.{word_index}
-use Rattle.lot_words.specs.Steps.{CodesWith, MayStep, has, owns_after_step, without}
-use Rattle.lot_words.specs.Views.{owning}
-use Rattle.lot_words.specs.declared.owners.Owner.TheVariants.{Runner}
-use Rattle.lot_words.specs.declared.owners.Ownership.{Ownership}
-use Rattle.lot_words.specs.declared.views.View.{View}
-use Rattle.lot_words.specs.declared.views.WordStep.{WordStep}
-use Rattle.lot_words.specs.declared.words.WordKind.{WordKind}
-use Rattle.lot_words.specs.declared.words.WordKind.TheVariants.{Once}
-use Rattle.lot_words.proofs.OnceSteps.{once_steps}
+use Rattle.spec_locks.specs.Codes.{is_marked}
+use Rattle.core_base.specs.declared.ops.Op.TheVariants.{Swap}
+use Rattle.steps_once.specs.OnceSteps.{word_behind}
+use Rattle.core_words.specs.Indices.{word_index}
+use Rattle.core_words.specs.Steps.{CodesWith, MayStep, has, owns_after_step, without}
+use Rattle.core_words.specs.Views.{owning}
+use Rattle.core_words.specs.declared.owners.Owner.TheVariants.{Runner}
+use Rattle.core_words.specs.declared.owners.Ownership.{Ownership}
+use Rattle.core_words.specs.declared.views.View.{View}
+use Rattle.core_words.specs.declared.views.WordStep.{WordStep}
+use Rattle.core_words.specs.declared.words.WordKind.{WordKind}
+use Rattle.core_words.specs.declared.words.WordKind.TheVariants.{Once}
+use Rattle.core_words.proofs.OnceSteps.{once_steps}
 use Rattle.parking_lot_core.specs.Tokens.{last_of}
-use Rattle.lot_driver.specs.OnceFitting.{OwnsBehind}
-use Rattle.lot_driver.specs.Paths.{once_at, step}
-use Rattle.lot_driver.specs.Telling.{owns_of, steps_of}
+use Rattle.run_base.specs.OnceFitting.{OwnsBehind}
+use Rattle.run_base.specs.Paths.{once_at, step}
+use Rattle.run_base.specs.Telling.{owns_of, steps_of}
 use Rattle.run_once.specs.OnceCalls.{WokeIfMarked}
 use Rattle.run_once.proofs.OnceCalling.{closes_at_once, closes_on, runs_found, swapped, word_left}
 use Rattle.run_once.proofs.once_calls.close.Goals as goal

@@ -1,7 +1,7 @@
 use Rattle.std.proofs.Common.{◌∙◌, List, ap}
-use Rattle.lot_words.specs.declared.owners.Ownership.{Ownership}
-use Rattle.lot_words.specs.declared.views.View.{View}
-use Rattle.lot_driver.specs.Telling.{owns_of}
+use Rattle.core_words.specs.declared.owners.Ownership.{Ownership}
+use Rattle.core_words.specs.declared.views.View.{View}
+use Rattle.run_base.specs.Telling.{owns_of}
 use Rattle.run_semaphore.proofs.SemaphoreCalling.{filled, may_fill}
 use Rattle.run_semaphore.proofs.calls.give_all.Goals as goal
 

@@ -1,8 +1,8 @@
 use Rattle.std.proofs.Common.{ℕ, sym, subst}
 use Rattle.lot_steps.specs.declared.places.Place.TheVariants.{Semaphore}
-use Rattle.lot_driver.specs.Fitting.{AreWordsFor}
-use Rattle.lot_driver.specs.Words.{alone, at_in, kind_in}
-use Rattle.lot_driver.specs.declared.words.Words.{Words}
+use Rattle.run_base.specs.Fitting.{AreWordsFor}
+use Rattle.run_base.specs.Words.{alone, at_in, kind_in}
+use Rattle.run_base.specs.declared.words.Words.{Words}
 use Rattle.run_semaphore.proofs.SemaphoreCalling.{semaphore_alone}
 use Rattle.run_semaphore.proofs.calls.run_out.Goals as goal
 

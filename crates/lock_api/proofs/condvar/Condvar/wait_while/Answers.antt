@@ -3,7 +3,7 @@ use denote.Param.Always.{mut_next}
 use denote.Param.Members.{was_Called}
 use Rattle.lock_api.proofs.Stays.{stays_behind}
 use Rattle.lock_api.proofs.WaitsOn.{waits_on, with_given}
-use Rattle.lot_calls.specs.declared.outcomes.Answer.TheVariants as answers
+use Rattle.spec_locks.specs.declared.outcomes.Answer.TheVariants as answers
 use Rattle.lock_api.proofs.condvar.Condvar.wait_while.Goals as goal
 
 pub loop-init : goal.loop-init

@@ -4,7 +4,7 @@ use Rattle.std.specs.Iterator.Runs.{CallKeepsClosure}
 use Rattle.lock_api.specs.Conditions.{WaitedOrNot}
 use Rattle.lock_api.specs.Guards.{lock_of}
 use Rattle.lock_api.specs.Waits.{Waits}
-use Rattle.lot_calls.specs.declared.outcomes.Answer.TheVariants as answers
+use Rattle.spec_locks.specs.declared.outcomes.Answer.TheVariants as answers
 use Rattle.lock_api.proofs.condvar.Condvar.wait_while.Given as goal
 
 abbrev pub invariant-loop : goal.invariant-loop

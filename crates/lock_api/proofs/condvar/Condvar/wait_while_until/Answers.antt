@@ -5,7 +5,7 @@ use Rattle.lock_raw.specs.Answers.{late_answer}
 use Rattle.lock_api.specs.Guards.{lock_of}
 use Rattle.lock_api.proofs.Stays.{stays_behind}
 use Rattle.lock_api.proofs.WaitsOn.{late_or_holds, not_begun, not_late, waits_in_time, waits_so_far, with_given}
-use Rattle.lot_calls.specs.declared.outcomes.Answer.TheVariants as answers
+use Rattle.spec_locks.specs.declared.outcomes.Answer.TheVariants as answers
 use Rattle.lock_api.proofs.condvar.Condvar.wait_while_until.Goals as goal
 
 pub loop-init : goal.loop-init

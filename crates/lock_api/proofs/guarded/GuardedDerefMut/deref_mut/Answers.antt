@@ -1,6 +1,6 @@
 use Rattle.std.proofs.Common.{◌≡◌, refl}
 use Rattle.std.proofs.Props.{props}
-use Rattle.value_place.specs.PermitIds.{PermitId}
+use Rattle.core_parts.specs.PermitIds.{PermitId}
 use Rattle.lock_api.specs.declared.guarded.Guarded.{Guarded}
 use Rattle.lock_api.specs.declared.shows.Keeps as keeps
 use Rattle.lock_api.specs.declared.shows.Shows as shows

@@ -1,8 +1,8 @@
 use Rattle.std.proofs.Common.{rules, ◌≡◌, ◌∙◌, ℕ, ◌+◌, inr, ap, subst, sym}
 use Rattle.lock_raw.specs.Counts.{CountedAgain, SawOthers, first_count}
 use Rattle.lock_api.specs.Reentrant.{CameIn}
-use Rattle.lot_calls.specs.declared.calls.MutexCall.TheVariants.{Lock}
-use Rattle.lot_calls.specs.declared.outcomes.Answer.TheVariants as answers
+use Rattle.spec_locks.specs.declared.calls.MutexCall.TheVariants.{Lock}
+use Rattle.spec_locks.specs.declared.outcomes.Answer.TheVariants as answers
 use Rattle.lock_api.proofs.reentrant.ReentrantMutex.lock.Goals as goal
 
 pub count_first-share-requires-clause-thread : goal.count_first-share-requires-clause-thread

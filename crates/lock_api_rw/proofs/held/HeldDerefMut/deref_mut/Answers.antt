@@ -1,7 +1,7 @@
 use Rattle.std.proofs.Common.{◌≡◌, refl}
 use Rattle.std.proofs.Props.{props}
-use Rattle.lot_place.specs.Ownership.{PlaceId}
-use Rattle.lot_words.specs.declared.views.View.{View}
+use Rattle.lock_values.specs.Ownership.{PlaceId}
+use Rattle.core_words.specs.declared.views.View.{View}
 use Rattle.lock_api_rw.specs.declared.held.Held.{Held}
 use Rattle.lock_api_rw.specs.declared.shows.Holds as holds
 use Rattle.lock_api_rw.specs.declared.shows.Shows as shows

@@ -1,5 +1,5 @@
 use Rattle.std.proofs.Common.{◌<◌, Some, length, sym, ap, subst, ◌∙◌}
-use Rattle.lot_calls.specs.declared.calls.Step.{Step}
+use Rattle.spec_locks.specs.declared.calls.Step.{Step}
 use Rattle.lot_drain.specs.Schedules.{Progress, is_up}
 use Rattle.lot_machine.specs.Machine.{place_at}
 use Rattle.lot_drain.proofs.DrainLemmas.{up_here, up_later}

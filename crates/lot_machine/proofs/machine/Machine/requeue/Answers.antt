@@ -1,9 +1,9 @@
 use Rattle.std.proofs.Common.{◌≡◌, ◌<◌, ◌+◌, ◌==◌, ◌∙◌, sym, [], map, length, ap}
 use Rattle.std.proofs.lemmas.List.{with_items_is}
 use Rattle.std.specs.Prelude.{slice_index_or}
-use Rattle.lot_base.specs.Lines.{line, threads_of}
-use Rattle.lot_base.specs.Requeues.{taken_by, moved_by}
-use Rattle.lot_acts.specs.declared.acts.Reply.TheVariants.{Requeued, TakenBy, MovedTo}
+use Rattle.core_base.specs.Lines.{line, threads_of}
+use Rattle.core_base.specs.Requeues.{taken_by, moved_by}
+use Rattle.steps_base.specs.declared.acts.Reply.TheVariants.{Requeued, TakenBy, MovedTo}
 use Rattle.lot_machine.specs.Machine.{State, lines_from, places_told, listed, moved_threads, left_behind, queues_requeued}
 use Rattle.lot_machine.proofs.QueueLemmas.{told_count, lines_requeued, line_left, line_here}
 use Rattle.lot_machine.proofs.machine.Machine.requeue.Goals as goal

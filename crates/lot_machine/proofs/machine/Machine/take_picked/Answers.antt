@@ -1,9 +1,9 @@
 use Rattle.std.proofs.Common.{◌≡◌, ◌<◌, ◌==◌, ◌∙◌, sym, map, length, ap}
 use Rattle.std.proofs.lemmas.List.{with_items_is}
 use Rattle.std.specs.Prelude.{slice_set}
-use Rattle.lot_base.specs.Lines.{line, threads_of}
-use Rattle.lot_base.specs.Picks.{lock_picked, without_lock_picked}
-use Rattle.lot_acts.specs.declared.acts.Reply.TheVariants.{Picked, TakenBy}
+use Rattle.core_base.specs.Lines.{line, threads_of}
+use Rattle.core_base.specs.Picks.{lock_picked, without_lock_picked}
+use Rattle.steps_base.specs.declared.acts.Reply.TheVariants.{Picked, TakenBy}
 use Rattle.lot_machine.specs.Machine.{State, lines_from, places_told, sharers, successor_from, want_of_successor}
 use Rattle.lot_machine.proofs.QueueLemmas.{told_count, lines_picked, line_then_picked, line_here}
 use Rattle.lot_machine.proofs.machine.Machine.take_picked.Goals as goal

@@ -3,11 +3,11 @@ use Rattle.lot_machine.proofs.Shape.{after_size}
 use Rattle.lot_laws.proofs.calls.LockSteps.{after_step}
 use Rattle.lot_laws.proofs.machine.OneChange.{one_thing, touches}
 use Rattle.lot_laws.proofs.promises.Fair.{is_fair}
-use Rattle.abstract_locks.proofs.NobodyWakes.{nobody_wakes}
+use Rattle.spec_locks.proofs.NobodyWakes.{nobody_wakes}
 use Rattle.lot_laws.proofs.promises.Owing.{owes_since}
 use Rattle.lot_laws.proofs.promises.Headline.{step_behaves}
 use Rattle.lot_laws.proofs.alone.WorldRuns.{of_step, world_after, world_step}
-use Rattle.abstract_locks.proofs.UserLaws.{readers_stay_out, rereaders_pass, upgrades_hold, downgrades_hold}
+use Rattle.spec_locks.proofs.UserLaws.{readers_stay_out, rereaders_pass, upgrades_hold, downgrades_hold}
 use Rattle.lot_world.proofs.world.World.step.Goals as goal
 
 pub invariant_of-self : goal.invariant_of-self

@@ -1,5 +1,5 @@
 use Rattle.std.proofs.Common.{◌≡◌, ◌-◌}
-use Rattle.lot_calls.specs.declared.outcomes.Outcome as outcome
+use Rattle.spec_locks.specs.declared.outcomes.Outcome as outcome
 use Rattle.lot_machine.specs.Machine.{solo}
 use Rattle.lot_machine.specs.Fits.{SameSize}
 use Rattle.lot_world.proofs.world.World.step_alone.Given as goal

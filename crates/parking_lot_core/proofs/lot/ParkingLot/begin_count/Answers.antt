@@ -1,10 +1,10 @@
 use Rattle.std.proofs.Common.{◌≡◌, ◌≢◌, ◌∙◌, ap, arith}
-use Rattle.lot_words.specs.Indices.{word_index}
-use Rattle.lot_words.specs.Plays.{piece, takes_in}
-use Rattle.lot_words.specs.Views.{owning, owning_with, shown}
-use Rattle.lot_words.specs.declared.owners.Owner.TheVariants.{Exclusive}
-use Rattle.lot_words.specs.declared.words.WordKind.{WordKind}
-use Rattle.lot_words.specs.declared.words.WordKind.TheVariants.{Mutex}
+use Rattle.core_words.specs.Indices.{word_index}
+use Rattle.core_words.specs.Plays.{piece, takes_in}
+use Rattle.core_words.specs.Views.{owning, owning_with, shown}
+use Rattle.core_words.specs.declared.owners.Owner.TheVariants.{Exclusive}
+use Rattle.core_words.specs.declared.words.WordKind.{WordKind}
+use Rattle.core_words.specs.declared.words.WordKind.TheVariants.{Mutex}
 use Rattle.parking_lot_core.specs.Tokens.{view_of}
 use Rattle.parking_lot_core.proofs.Counting.{says_next, splits_next, taken_in}
 use Rattle.parking_lot_core.proofs.lot.ParkingLot.begin_count.Goals as goal

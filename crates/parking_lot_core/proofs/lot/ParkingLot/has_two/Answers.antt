@@ -1,12 +1,12 @@
 use Rattle.std.proofs.Common.{◌≡◌, ◌∙◌, List, ◌∷◌, ap, subst}
-use Rattle.lot_words.specs.Indices.{word_index}
-use Rattle.lot_words.specs.Steps.{CodesWith}
-use Rattle.lot_words.specs.Views.{owning, owning_with, shown}
-use Rattle.lot_words.specs.declared.owners.Owner.TheVariants.{Exclusive}
-use Rattle.lot_words.specs.declared.owners.Ownership.{Ownership}
-use Rattle.lot_words.specs.declared.views.View.{View}
-use Rattle.lot_words.specs.declared.words.WordKind.{WordKind}
-use Rattle.lot_words.specs.declared.words.WordKind.TheVariants.{Mutex}
+use Rattle.core_words.specs.Indices.{word_index}
+use Rattle.core_words.specs.Steps.{CodesWith}
+use Rattle.core_words.specs.Views.{owning, owning_with, shown}
+use Rattle.core_words.specs.declared.owners.Owner.TheVariants.{Exclusive}
+use Rattle.core_words.specs.declared.owners.Ownership.{Ownership}
+use Rattle.core_words.specs.declared.views.View.{View}
+use Rattle.core_words.specs.declared.words.WordKind.{WordKind}
+use Rattle.core_words.specs.declared.words.WordKind.TheVariants.{Mutex}
 use Rattle.parking_lot_core.specs.Tokens.{view_of}
 use Rattle.parking_lot_core.proofs.Counting.{owned_once}
 use Rattle.parking_lot_core.proofs.lot.ParkingLot.has_two.Goals as goal

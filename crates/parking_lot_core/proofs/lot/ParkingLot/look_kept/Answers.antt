@@ -1,7 +1,7 @@
 use Rattle.std.proofs.Common.{◌∙◌, ap}
-use Rattle.lot_words.specs.Indices.{word_index}
-use Rattle.lot_words.specs.Views.{owning_with, shown}
-use Rattle.lot_words.specs.declared.words.WordKind.TheVariants.{Mutex}
+use Rattle.core_words.specs.Indices.{word_index}
+use Rattle.core_words.specs.Views.{owning_with, shown}
+use Rattle.core_words.specs.declared.words.WordKind.TheVariants.{Mutex}
 use Rattle.parking_lot_core.specs.Tokens.{view_of}
 use Rattle.parking_lot_core.proofs.Counting.{says_still, splits_still, taken_in}
 use Rattle.parking_lot_core.proofs.lot.ParkingLot.look_kept.Goals as goal

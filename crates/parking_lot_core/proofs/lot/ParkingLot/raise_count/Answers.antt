@@ -1,11 +1,11 @@
 use Rattle.std.proofs.Common.{rules, ℕ, ◌+◌, sym, subst}
-use Rattle.lot_words.specs.Rights.{OwnsWith}
-use Rattle.lot_words.specs.declared.views.View.{View}
-use Rattle.lot_words.specs.Indices.{word_index}
-use Rattle.lot_words.specs.Steps.{MayStep}
-use Rattle.lot_words.specs.declared.words.WordKind.{WordKind}
-use Rattle.lot_words.specs.declared.words.WordKind.TheVariants.{Count}
-use Rattle.lot_base.specs.declared.ops.Op.TheVariants.{Add}
+use Rattle.core_words.specs.Rights.{OwnsWith}
+use Rattle.core_words.specs.declared.views.View.{View}
+use Rattle.core_words.specs.Indices.{word_index}
+use Rattle.core_words.specs.Steps.{MayStep}
+use Rattle.core_words.specs.declared.words.WordKind.{WordKind}
+use Rattle.core_words.specs.declared.words.WordKind.TheVariants.{Count}
+use Rattle.core_base.specs.declared.ops.Op.TheVariants.{Add}
 use Rattle.parking_lot_core.specs.Tokens.{view_of}
 use Rattle.parking_lot_core.proofs.lot.ParkingLot.raise_count.Goals as goal
 

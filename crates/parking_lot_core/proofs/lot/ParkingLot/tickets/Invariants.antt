@@ -1,5 +1,5 @@
 use Rattle.std.proofs.Common.{◌≡◌, map, length, All}
-use Rattle.lot_words.specs.Lots.{IsSeatOf}
+use Rattle.core_words.specs.Lots.{IsSeatOf}
 use Rattle.std.specs.List.{range_with_len}
 use Rattle.parking_lot_core.specs.Tokens.{IsNewTicket, number_of}
 use Rattle.parking_lot_core.proofs.lot.ParkingLot.tickets.Given as goal

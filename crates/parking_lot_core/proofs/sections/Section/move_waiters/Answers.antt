@@ -1,6 +1,6 @@
 use Rattle.std.proofs.Common.{rules}
 use Rattle.std.specs.Sync.Mutex.{mutex_guard_value}
-use Rattle.lot_queues.specs.Places.{IsSameBucket}
+use Rattle.core_queues.specs.Places.{IsSameBucket}
 use Rattle.parking_lot_core.specs.Pairs.{AreBuckets}
 use Rattle.parking_lot_core.proofs.Pairs.{for_some, there_then, two_still}
 use Rattle.parking_lot_core.proofs.sections.Section.move_waiters.Goals as goal

@@ -1,6 +1,6 @@
 use Rattle.std.proofs.Common.{rules}
 use Rattle.std.specs.Sync.Mutex.{mutex_guard_value}
-use Rattle.lot_queues.specs.Places.{IsSameBucket, KeepApart}
+use Rattle.core_queues.specs.Places.{IsSameBucket, KeepApart}
 use Rattle.parking_lot_core.specs.Pairs.{AreApartAt, AreBuckets}
 use Rattle.parking_lot_core.proofs.Pairs.{apart_still, for_some, two_still}
 use Rattle.parking_lot_core.proofs.sections.Section.remove.Goals as goal

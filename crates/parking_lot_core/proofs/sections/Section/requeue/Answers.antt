@@ -1,8 +1,8 @@
 use Rattle.std.proofs.Common.{◌∙◌, ap, length}
-use Rattle.lot_base.specs.Requeues.{moved_by, taken_by}
-use Rattle.bucket_queues.proofs.Places.{same_line}
-use Rattle.lot_queues.specs.Wants.{taken_in_line, wants_of}
-use Rattle.lot_queues.proofs.Halves.{requeued_lines}
+use Rattle.core_base.specs.Requeues.{moved_by, taken_by}
+use Rattle.core_queues.proofs.Places.{same_line}
+use Rattle.core_queues.specs.Wants.{taken_in_line, wants_of}
+use Rattle.core_queues.proofs.Halves.{requeued_lines}
 use Rattle.parking_lot_core.specs.Sections.{waiting_in}
 use Rattle.parking_lot_core.proofs.sections.Section.requeue.Goals as goal
 

@@ -1,12 +1,12 @@
 use Rattle.std.proofs.Common.{◌≡◌, ◌∙◌, ap, rules}
 use Rattle.std.specs.Sync.Mutex.{mutex_guard_value}
-use Rattle.lot_base.specs.Lines.{line, lines, threads_of}
-use Rattle.lot_base.specs.Picks.{lock_picked}
-use Rattle.lot_queues.specs.Buckets.{both}
-use Rattle.lot_queues.specs.Places.{IsSameBucket}
-use Rattle.lot_queues.specs.Wants.{wants_of}
-use Rattle.lot_queues.specs.declared.queueing.Queueing.{Queueing}
-use Rattle.lot_queues.proofs.Halves.{line_old, side_picked}
+use Rattle.core_base.specs.Lines.{line, lines, threads_of}
+use Rattle.core_base.specs.Picks.{lock_picked}
+use Rattle.core_queues.specs.Buckets.{both}
+use Rattle.core_queues.specs.Places.{IsSameBucket}
+use Rattle.core_queues.specs.Wants.{wants_of}
+use Rattle.core_queues.specs.declared.queueing.Queueing.{Queueing}
+use Rattle.core_queues.proofs.Halves.{line_old, side_picked}
 use Rattle.parking_lot_core.specs.Sections.{others_in, waiting_in}
 use Rattle.parking_lot_core.proofs.Pairs.{alone_still, two_still}
 use Rattle.parking_lot_core.proofs.sections.Section.take_picked.Goals as goal

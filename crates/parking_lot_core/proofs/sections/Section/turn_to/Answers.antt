@@ -1,6 +1,6 @@
 use Rattle.std.proofs.Common.{◌≡◌, ◌≢◌, rules}
 use Rattle.std.specs.Sync.Mutex.{mutex_guard_value}
-use Rattle.bucket_queues.specs.Chains.{bucket_of}
+use Rattle.core_queues.specs.Chains.{bucket_of}
 use Rattle.parking_lot_core.specs.Pairs.{AreApartAt, AreBuckets}
 use Rattle.parking_lot_core.proofs.Pairs.{apart_turned, for_some, here_else, lines_turned, none_turned, two_turned}
 use Rattle.parking_lot_core.proofs.sections.Section.turn_to.Goals as goal

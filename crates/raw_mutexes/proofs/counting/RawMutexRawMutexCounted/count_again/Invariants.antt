@@ -1,5 +1,5 @@
 use Rattle.std.proofs.Common.{◌≡◌, ◌++◌, ℕ, List}
-use Rattle.lot_driver.specs.Telling.{steps_of}
+use Rattle.run_base.specs.Telling.{steps_of}
 use Rattle.parking_lot_core.specs.Tokens.{IsTokenOf}
 use Rattle.raw_mutexes.specs.Counting.{count_at, looks}
 use Rattle.raw_mutexes.specs.MutexGuards.{StaysAs}

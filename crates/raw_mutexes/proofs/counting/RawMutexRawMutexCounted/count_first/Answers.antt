@@ -1,6 +1,6 @@
 use Rattle.std.proofs.Common.{◌*◌, ◌+◌, arith, subst, refl}
 use Rattle.parking_lot_core.specs.Counts.{IsKept}
-use Rattle.share_rows.specs.Shares.{FitsShares}
+use Rattle.core_parts.specs.Shares.{FitsShares}
 use Rattle.raw_mutexes.proofs.CountLemmas.{first_kept}
 use Rattle.raw_mutexes.proofs.counting.RawMutexRawMutexCounted.count_first.Goals as goal
 

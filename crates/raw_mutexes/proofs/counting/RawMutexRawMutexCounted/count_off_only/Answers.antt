@@ -1,6 +1,6 @@
 use Rattle.std.proofs.Common.{rules, ◌≡◌, ◌++◌, ◌∷◌, ◌∙◌, [], ap}
 use Rattle.lock_raw.specs.Counts.{times_in}
-use Rattle.lot_driver.specs.Telling.{steps_of}
+use Rattle.run_base.specs.Telling.{steps_of}
 use Rattle.parking_lot_core.specs.Tokens.{IsTokenOf}
 use Rattle.raw_mutexes.specs.Counting.{IsShareOf, StoredCount, count_at}
 use Rattle.raw_mutexes.specs.MutexGuards.{IsGuardOf, StaysAs}

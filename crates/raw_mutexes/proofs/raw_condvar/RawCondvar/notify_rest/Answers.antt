@@ -1,5 +1,5 @@
 use Rattle.std.proofs.Common.{sym, subst}
-use Rattle.mutex_driver.specs.CondvarCalls.{HasLooked}
+use Rattle.run_locks.specs.CondvarCalls.{HasLooked}
 use Rattle.parking_lot_core.specs.declared.lot.ParkingLot.{ParkingLot}
 use Rattle.parking_lot_core.specs.declared.tokens.Token.{Token}
 use Rattle.raw_mutexes.specs.CondvarWords.{lot_of}

@@ -1,7 +1,7 @@
 use Rattle.std.proofs.Common.{None}
-use Rattle.lot_base.specs.Clocks.{IsUp}
-use Rattle.lot_driver.specs.Stages.{stage_of}
-use Rattle.lot_driver.specs.Telling.{owns_of}
+use Rattle.core_base.specs.Clocks.{IsUp}
+use Rattle.run_base.specs.Stages.{stage_of}
+use Rattle.run_base.specs.Telling.{owns_of}
 use Rattle.raw_mutexes.proofs.CondvarAnswers.{tells, tells_late}
 use Rattle.raw_mutexes.proofs.raw_condvar.RawCondvar.wait_with.Goals as goal
 

@@ -1,7 +1,7 @@
 use Rattle.std.proofs.Common.{ℕ, ◌≡◌, ◌++◌, ◌∙◌, ap, false, inl, refl, true}
-use Rattle.lot_base.specs.declared.ops.Op.TheVariants.{Load}
-use Rattle.lot_driver.specs.Paths.{condvar_at, step}
-use Rattle.lot_driver.specs.Telling.{steps_of}
+use Rattle.core_base.specs.declared.ops.Op.TheVariants.{Load}
+use Rattle.run_base.specs.Paths.{condvar_at, step}
+use Rattle.run_base.specs.Telling.{steps_of}
 use Rattle.raw_mutexes.proofs.raw_condvar.RawCondvarRawCondvar.begin_notify.Goals as goal
 
 pub returns-clause-one : goal.returns-clause-one

@@ -1,8 +1,8 @@
 use Rattle.std.proofs.Common.{subst, false}
-use Rattle.lot_calls.specs.declared.outcomes.Answer.{Answer}
+use Rattle.spec_locks.specs.declared.outcomes.Answer.{Answer}
 use Rattle.parking_lot_core.specs.declared.tokens.Token.{Token}
-use Rattle.lot_driver.specs.Telling.{steps_of}
-use Rattle.mutex_driver.specs.CondvarCalls.{HasLooked, Notifies}
+use Rattle.run_base.specs.Telling.{steps_of}
+use Rattle.run_locks.specs.CondvarCalls.{HasLooked, Notifies}
 use Rattle.raw_mutexes.specs.CondvarWords.{lot_of}
 use Rattle.raw_mutexes.proofs.CondvarAnswers.{moved_one}
 use Rattle.raw_mutexes.proofs.raw_condvar.RawCondvarRawCondvar.notify_one_behind.Goals as goal

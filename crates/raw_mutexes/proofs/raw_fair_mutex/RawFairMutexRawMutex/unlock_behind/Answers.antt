@@ -1,5 +1,5 @@
 use Rattle.std.proofs.Common.{sym, subst}
-use Rattle.lot_calls.specs.declared.calls.MutexCall.TheVariants.{UnlockFair}
+use Rattle.spec_locks.specs.declared.calls.MutexCall.TheVariants.{UnlockFair}
 use Rattle.parking_lot_core.specs.declared.tokens.Token.{Token}
 use Rattle.raw_mutexes.specs.Begun.{HasBegun}
 use Rattle.raw_mutexes.specs.declared.raw_mutex.RawMutex.{RawMutex}

@@ -1,17 +1,17 @@
 use Rattle.std.proofs.Common.{◌≡◌, ◌∙◌, ◌++◌, [], append-nil, cond, not, eq-eqb, ap, sym, subst, refl, rules}
-use Rattle.lot_base.specs.declared.ops.Op.TheVariants.{Exchange}
-use Rattle.lot_driver.specs.Calls.{Releases, TookIfParked}
-use Rattle.lot_driver.specs.Paths.{mutex_at, step}
-use Rattle.lot_driver.specs.Telling.{steps_of}
-use Rattle.lot_calls.specs.declared.calls.MutexCall.TheVariants.{UnlockFair}
-use Rattle.lot_words.specs.Indices.{word_index}
-use Rattle.lot_words.specs.Plays.{stepping, takes_in}
-use Rattle.lot_words.specs.Rights.{piece_of}
-use Rattle.lot_words.specs.declared.owners.Owner.TheVariants.{Exclusive}
-use Rattle.lot_words.specs.declared.views.View.{View}
-use Rattle.lot_words.specs.declared.words.WordKind.{WordKind}
+use Rattle.core_base.specs.declared.ops.Op.TheVariants.{Exchange}
+use Rattle.run_base.specs.Calls.{Releases, TookIfParked}
+use Rattle.run_base.specs.Paths.{mutex_at, step}
+use Rattle.run_base.specs.Telling.{steps_of}
+use Rattle.spec_locks.specs.declared.calls.MutexCall.TheVariants.{UnlockFair}
+use Rattle.core_words.specs.Indices.{word_index}
+use Rattle.core_words.specs.Plays.{stepping, takes_in}
+use Rattle.core_words.specs.Rights.{piece_of}
+use Rattle.core_words.specs.declared.owners.Owner.TheVariants.{Exclusive}
+use Rattle.core_words.specs.declared.views.View.{View}
+use Rattle.core_words.specs.declared.words.WordKind.{WordKind}
 use Rattle.parking_lot_core.specs.Tokens.{last_of, view_of}
-use Rattle.lot_driver.proofs.Behind.{path_at_once}
+use Rattle.run_base.proofs.Behind.{path_at_once}
 use Rattle.raw_mutexes.specs.MutexGuards.{StaysAs}
 use Rattle.raw_mutexes.proofs.raw_mutex.RawMutex.begin_unlock_fair.Goals as goal
 

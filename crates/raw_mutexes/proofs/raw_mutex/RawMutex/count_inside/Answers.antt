@@ -1,6 +1,6 @@
 use Rattle.std.proofs.Common.{◌≡◌, ◌/◌, IfSome, subst}
 use Rattle.parking_lot_core.specs.Counts.{IsKept}
-use Rattle.share_rows.specs.Shares.{FitsShares}
+use Rattle.core_parts.specs.Shares.{FitsShares}
 use Rattle.raw_mutexes.proofs.CountLemmas.{more_code, more_kept, more_named}
 use Rattle.raw_mutexes.proofs.raw_mutex.RawMutex.count_inside.Goals as goal
 

@@ -1,12 +1,12 @@
 use Rattle.std.proofs.Common.{◌≡◌, ◌∙◌, ◌++◌, ap, arith, refl, rules}
-use Rattle.lot_base.specs.declared.ops.Op.TheVariants.{Exchange}
-use Rattle.lot_calls.specs.declared.calls.MutexCall.TheVariants.{LockTimed}
-use Rattle.lot_driver.specs.Paths.{step}
-use Rattle.lot_words.specs.Indices.{word_index}
-use Rattle.lot_words.specs.declared.views.View.{View}
-use Rattle.lot_words.specs.declared.words.WordKind.{WordKind}
+use Rattle.core_base.specs.declared.ops.Op.TheVariants.{Exchange}
+use Rattle.spec_locks.specs.declared.calls.MutexCall.TheVariants.{LockTimed}
+use Rattle.run_base.specs.Paths.{step}
+use Rattle.core_words.specs.Indices.{word_index}
+use Rattle.core_words.specs.declared.views.View.{View}
+use Rattle.core_words.specs.declared.words.WordKind.{WordKind}
 use Rattle.parking_lot_core.specs.Tokens.{view_of}
-use Rattle.lot_driver.proofs.Behind.{path_at_once}
+use Rattle.run_base.proofs.Behind.{path_at_once}
 use Rattle.raw_mutexes.proofs.raw_mutex.RawMutex.lock_timed.Goals as goal
 
 pub returns-in-Ok-clause-path : goal.returns-in-Ok-clause-path

@@ -1,15 +1,15 @@
 use Rattle.std.proofs.Common.{◌≡◌, ◌∙◌, ◌++◌, [], append-nil, false, ap, sym, subst, refl, rules}
-use Rattle.lot_base.specs.declared.ops.Op.TheVariants.{Sub}
-use Rattle.lot_calls.specs.declared.calls.MutexCall.TheVariants.{Unlock}
-use Rattle.lot_driver.specs.Calls.{Releases, TookIfParked}
-use Rattle.lot_driver.specs.Paths.{mutex_at, step}
-use Rattle.lot_driver.specs.Telling.{steps_of}
-use Rattle.lot_mutex.specs.MutexSteps.{is_parked}
-use Rattle.lot_words.specs.Indices.{word_index}
-use Rattle.lot_words.specs.declared.views.View.{View}
-use Rattle.lot_words.specs.declared.words.WordKind.{WordKind}
+use Rattle.core_base.specs.declared.ops.Op.TheVariants.{Sub}
+use Rattle.spec_locks.specs.declared.calls.MutexCall.TheVariants.{Unlock}
+use Rattle.run_base.specs.Calls.{Releases, TookIfParked}
+use Rattle.run_base.specs.Paths.{mutex_at, step}
+use Rattle.run_base.specs.Telling.{steps_of}
+use Rattle.steps_mutex.specs.MutexSteps.{is_parked}
+use Rattle.core_words.specs.Indices.{word_index}
+use Rattle.core_words.specs.declared.views.View.{View}
+use Rattle.core_words.specs.declared.words.WordKind.{WordKind}
 use Rattle.parking_lot_core.specs.Tokens.{last_of, view_of}
-use Rattle.lot_driver.proofs.Behind.{path_at_once}
+use Rattle.run_base.proofs.Behind.{path_at_once}
 use Rattle.raw_mutexes.specs.MutexGuards.{StaysAs}
 use Rattle.raw_mutexes.proofs.raw_mutex.RawMutexRawMutex.begin_unlock.Goals as goal
 

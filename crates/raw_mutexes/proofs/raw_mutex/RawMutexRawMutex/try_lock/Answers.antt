@@ -1,12 +1,12 @@
 use Rattle.std.proofs.Common.{◌≡◌, ◌∙◌, ◌++◌, true, false, ap, rules}
-use Rattle.lot_base.specs.declared.ops.Op.TheVariants.{Or}
-use Rattle.lot_driver.specs.Paths.{step}
-use Rattle.lot_mutex.specs.MutexSteps.{is_locked}
-use Rattle.lot_words.specs.Indices.{word_index}
-use Rattle.lot_words.specs.declared.views.View.{View}
-use Rattle.lot_words.specs.declared.words.WordKind.{WordKind}
+use Rattle.core_base.specs.declared.ops.Op.TheVariants.{Or}
+use Rattle.run_base.specs.Paths.{step}
+use Rattle.steps_mutex.specs.MutexSteps.{is_locked}
+use Rattle.core_words.specs.Indices.{word_index}
+use Rattle.core_words.specs.declared.views.View.{View}
+use Rattle.core_words.specs.declared.words.WordKind.{WordKind}
 use Rattle.parking_lot_core.specs.Tokens.{view_of}
-use Rattle.lot_driver.proofs.Behind.{path_of_try}
+use Rattle.run_base.proofs.Behind.{path_of_try}
 use Rattle.raw_mutexes.proofs.raw_mutex.RawMutexRawMutex.try_lock.Goals as goal
 
 pub returns-in-Some-clause-path : goal.returns-in-Some-clause-path

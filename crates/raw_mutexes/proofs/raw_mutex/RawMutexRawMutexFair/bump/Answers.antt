@@ -1,13 +1,13 @@
 use Rattle.std.proofs.Common.{◌≡◌, ◌∙◌, ◌++◌, ◌∷◌, true, false, ap, sym, subst, rules}
-use Rattle.lot_base.specs.declared.ops.Op.TheVariants.{Load}
-use Rattle.lot_mutex.specs.MutexSteps.{is_parked}
-use Rattle.lot_driver.specs.MutexFitting.{held}
-use Rattle.lot_driver.specs.Paths.{mutex_at, step}
-use Rattle.lot_calls.specs.declared.calls.MutexCall.TheVariants.{Bump}
-use Rattle.lot_words.specs.Steps.{has}
-use Rattle.lot_words.specs.declared.views.View.{View}
+use Rattle.core_base.specs.declared.ops.Op.TheVariants.{Load}
+use Rattle.steps_mutex.specs.MutexSteps.{is_parked}
+use Rattle.run_base.specs.MutexFitting.{held}
+use Rattle.run_base.specs.Paths.{mutex_at, step}
+use Rattle.spec_locks.specs.declared.calls.MutexCall.TheVariants.{Bump}
+use Rattle.core_words.specs.Steps.{has}
+use Rattle.core_words.specs.declared.views.View.{View}
 use Rattle.parking_lot_core.specs.Tokens.{view_of}
-use Rattle.lot_driver.proofs.Behind.{path_at_once}
+use Rattle.run_base.proofs.Behind.{path_at_once}
 use Rattle.raw_mutexes.proofs.raw_mutex.RawMutexRawMutexFair.bump.Goals as goal
 
 pub returns-then-not-is_parked-clause-path : goal.returns-then-not-is_parked-clause-path

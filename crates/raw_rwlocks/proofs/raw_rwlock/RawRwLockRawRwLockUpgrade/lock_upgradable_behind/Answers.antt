@@ -1,9 +1,9 @@
 use Rattle.std.proofs.Common.{rules, ◌≡◌, Option, Some, Ok, subst}
 use Rattle.std.specs.declared.result.Result.{Result}
-use Rattle.lot_base.specs.declared.faults.Fault.{Fault}
-use Rattle.lot_calls.specs.declared.calls.Access.TheVariants.{Upgradable}
-use Rattle.lot_calls.specs.declared.calls.Patience.TheVariants.{Patient}
-use Rattle.lot_words.specs.declared.rights.Held.{Held}
+use Rattle.core_base.specs.declared.faults.Fault.{Fault}
+use Rattle.spec_locks.specs.declared.calls.Access.TheVariants.{Upgradable}
+use Rattle.spec_locks.specs.declared.calls.Patience.TheVariants.{Patient}
+use Rattle.core_words.specs.declared.rights.Held.{Held}
 use Rattle.raw_rwlocks.specs.RwLockHalves.{HasEntered}
 use Rattle.raw_rwlocks.proofs.raw_rwlock.RawRwLockRawRwLockUpgrade.lock_upgradable_behind.Goals as goal
 

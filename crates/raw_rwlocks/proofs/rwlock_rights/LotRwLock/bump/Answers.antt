@@ -1,22 +1,22 @@
 use Rattle.std.proofs.Common.{rules, ◌≡◌, ◌∙◌, ◌∷◌, List, None, true, ap, inl, refl, subst, sym}
-use Rattle.lot_base.specs.declared.wants.Want.{Want}
-use Rattle.lot_calls.specs.declared.calls.Patience.TheVariants.{Patient}
-use Rattle.lot_calls.specs.declared.outcomes.Answer.{Answer}
-use Rattle.lot_rwlock.specs.RwLockSteps.{wanted}
-use Rattle.lot_rwlock_fair.specs.declared.places.RwLockCallPlace.TheVariants.{Glance}
+use Rattle.core_base.specs.declared.wants.Want.{Want}
+use Rattle.spec_locks.specs.declared.calls.Patience.TheVariants.{Patient}
+use Rattle.spec_locks.specs.declared.outcomes.Answer.{Answer}
+use Rattle.steps_rwlock.specs.RwLockSteps.{wanted}
+use Rattle.steps_rwlock_fair.specs.declared.places.RwLockCallPlace.TheVariants.{Glance}
 use Rattle.lot_steps.specs.declared.places.Place.TheVariants.{RwLock}
-use Rattle.lot_words.specs.Rights.{owner_for}
-use Rattle.lot_words.specs.Steps.{has, without}
-use Rattle.lot_words.specs.Views.{owning}
-use Rattle.lot_words.specs.declared.views.View.{View}
-use Rattle.lot_words.specs.declared.views.WordStep.{WordStep}
+use Rattle.core_words.specs.Rights.{owner_for}
+use Rattle.core_words.specs.Steps.{has, without}
+use Rattle.core_words.specs.Views.{owning}
+use Rattle.core_words.specs.declared.views.View.{View}
+use Rattle.core_words.specs.declared.views.WordStep.{WordStep}
 use Rattle.parking_lot_core.specs.Tokens.{view_of}
-use Rattle.lot_driver.specs.Paths.{Walks, at_rwlock, rwlock_at}
-use Rattle.lot_driver.specs.Stages.{stage_of}
-use Rattle.rwlock_driver.proofs.RwLockBumpFull.{bump_sees_full}
-use Rattle.rwlock_driver.proofs.RwLockCalling.{entered_right}
-use Rattle.rwlock_driver.proofs.RwLockFairCalls.{bump_full}
-use Rattle.lot_driver.proofs.RwLockNeeds.{has_right, left_beside}
+use Rattle.run_base.specs.Paths.{Walks, at_rwlock, rwlock_at}
+use Rattle.run_base.specs.Stages.{stage_of}
+use Rattle.run_locks.proofs.RwLockBumpFull.{bump_sees_full}
+use Rattle.run_locks.proofs.RwLockCalling.{entered_right}
+use Rattle.run_locks.proofs.RwLockFairCalls.{bump_full}
+use Rattle.run_base.proofs.RwLockNeeds.{has_right, left_beside}
 use Rattle.raw_rwlocks.proofs.rwlock_rights.LotRwLock.bump.Goals as goal
 
 pub bump-requires-clause-right : goal.bump-requires-clause-right

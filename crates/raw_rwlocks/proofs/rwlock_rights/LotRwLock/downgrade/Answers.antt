@@ -1,20 +1,20 @@
 use Rattle.std.proofs.Common.{rules, ◌≡◌, true, List, ap, ◌∙◌, sym, subst}
-use Rattle.lot_base.specs.declared.wants.Want.{Want}
-use Rattle.lot_rwlock.specs.declared.purposes.RwLockPurpose.TheVariants.{Downgrade}
-use Rattle.lot_calls.specs.declared.outcomes.Answer.{Answer}
-use Rattle.lot_calls.specs.declared.outcomes.Answer.TheVariants.{Ok}
-use Rattle.lot_rwlock.specs.RwLockSteps.{from_of, to_of, wanted}
-use Rattle.lot_words.specs.Rights.{owner_for}
-use Rattle.lot_words.specs.Steps.{has, without}
-use Rattle.lot_words.specs.Views.{owning}
-use Rattle.lot_words.specs.declared.views.View.{View}
-use Rattle.lot_words.specs.declared.views.WordStep.{WordStep}
+use Rattle.core_base.specs.declared.wants.Want.{Want}
+use Rattle.steps_rwlock.specs.declared.purposes.RwLockPurpose.TheVariants.{Downgrade}
+use Rattle.spec_locks.specs.declared.outcomes.Answer.{Answer}
+use Rattle.spec_locks.specs.declared.outcomes.Answer.TheVariants.{Ok}
+use Rattle.steps_rwlock.specs.RwLockSteps.{from_of, to_of, wanted}
+use Rattle.core_words.specs.Rights.{owner_for}
+use Rattle.core_words.specs.Steps.{has, without}
+use Rattle.core_words.specs.Views.{owning}
+use Rattle.core_words.specs.declared.views.View.{View}
+use Rattle.core_words.specs.declared.views.WordStep.{WordStep}
 use Rattle.parking_lot_core.specs.Tokens.{view_of}
-use Rattle.lot_driver.specs.Paths.{Walks, at_rwlock, rwlock_at}
-use Rattle.lot_driver.specs.RwLockCalls.{rwlock_begin}
-use Rattle.lot_driver.specs.RwLockFitting.{IsBeside}
-use Rattle.lot_driver.proofs.RwLockNeeds.{has_right, left_beside}
-use Rattle.rwlock_driver.proofs.RwLockRights.{joined_beside}
+use Rattle.run_base.specs.Paths.{Walks, at_rwlock, rwlock_at}
+use Rattle.run_base.specs.RwLockCalls.{rwlock_begin}
+use Rattle.run_base.specs.RwLockFitting.{IsBeside}
+use Rattle.run_base.proofs.RwLockNeeds.{has_right, left_beside}
+use Rattle.run_locks.proofs.RwLockRights.{joined_beside}
 use Rattle.raw_rwlocks.proofs.rwlock_rights.LotRwLock.downgrade.Goals as goal
 
 pub call-requires-clause-right : goal.call-requires-clause-right

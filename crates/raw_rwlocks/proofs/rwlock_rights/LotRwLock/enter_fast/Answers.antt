@@ -1,5 +1,5 @@
 use Rattle.parking_lot_core.specs.Tokens.{view_of}
-use Rattle.rwlock_driver.proofs.RwLockCalling.{begins_entering}
+use Rattle.run_locks.proofs.RwLockCalling.{begins_entering}
 use Rattle.raw_rwlocks.proofs.rwlock_rights.LotRwLock.enter_fast.Goals as goal
 
 pub call_fast-requires-clause-right : goal.call_fast-requires-clause-right

@@ -1,10 +1,10 @@
 use Rattle.std.proofs.Common.{rules, ◌≡◌, subst}
-use Rattle.lot_rwlock.specs.declared.purposes.RwLockPurpose.TheVariants.{Enter}
+use Rattle.steps_rwlock.specs.declared.purposes.RwLockPurpose.TheVariants.{Enter}
 use Rattle.parking_lot_core.specs.Tokens.{view_of}
-use Rattle.rwlock_driver.specs.Halves.{HasBegun}
-use Rattle.rwlock_driver.specs.declared.calls.Rest.{Rest}
-use Rattle.rwlock_driver.specs.declared.calls.Rest.TheVariants.{GoesOn, Missed}
-use Rattle.rwlock_driver.proofs.RwLockCalling.{begins_entering}
+use Rattle.run_locks.specs.Halves.{HasBegun}
+use Rattle.run_locks.specs.declared.rwlock_calls.Rest.{Rest}
+use Rattle.run_locks.specs.declared.rwlock_calls.Rest.TheVariants.{GoesOn, Missed}
+use Rattle.run_locks.proofs.RwLockCalling.{begins_entering}
 use Rattle.raw_rwlocks.proofs.rwlock_rights.LotRwLock.enter_slow.Goals as goal
 
 pub behind-answer-requires-clause-begun : goal.behind-answer-requires-clause-begun

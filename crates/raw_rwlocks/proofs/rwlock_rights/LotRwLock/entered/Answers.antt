@@ -1,23 +1,23 @@
 use Rattle.std.proofs.Common.{◌≡◌, List, None, true, ap, ◌∙◌, sym, subst, refl}
 use Rattle.std.specs.Arc.{arc_value}
-use Rattle.lot_base.specs.Clocks.{IsUp}
-use Rattle.lot_base.specs.declared.wants.Want.{Want}
-use Rattle.lot_calls.specs.declared.outcomes.Answer.{Answer}
-use Rattle.lot_rwlock.specs.declared.purposes.RwLockPurpose.TheVariants.{Enter}
-use Rattle.lot_rwlock.specs.RwLockSteps.{wanted, entered}
-use Rattle.lot_words.specs.Rights.{owner_for}
-use Rattle.lot_words.specs.Steps.{has, without}
-use Rattle.lot_words.specs.Views.{owning}
-use Rattle.lot_words.specs.declared.views.View.{View}
-use Rattle.lot_words.specs.declared.views.WordStep.{WordStep}
+use Rattle.core_base.specs.Clocks.{IsUp}
+use Rattle.core_base.specs.declared.wants.Want.{Want}
+use Rattle.spec_locks.specs.declared.outcomes.Answer.{Answer}
+use Rattle.steps_rwlock.specs.declared.purposes.RwLockPurpose.TheVariants.{Enter}
+use Rattle.steps_rwlock.specs.RwLockSteps.{wanted, entered}
+use Rattle.core_words.specs.Rights.{owner_for}
+use Rattle.core_words.specs.Steps.{has, without}
+use Rattle.core_words.specs.Views.{owning}
+use Rattle.core_words.specs.declared.views.View.{View}
+use Rattle.core_words.specs.declared.views.WordStep.{WordStep}
 use Rattle.parking_lot_core.specs.Tokens.{view_of}
-use Rattle.lot_driver.specs.Paths.{Walks, at_rwlock, rwlock_at}
-use Rattle.lot_driver.specs.RwLockCalls.{IsRwLockRight, rwlock_begin}
-use Rattle.lot_driver.specs.RwLockFitting.{IsBeside}
-use Rattle.lot_driver.specs.Stages.{stage_of}
-use Rattle.rwlock_driver.proofs.RwLockCalling.{begins_entering, entered_right, found_full, gave_up_left, gave_up_may}
-use Rattle.rwlock_driver.proofs.RwLockFull.{sees_full}
-use Rattle.lot_driver.proofs.RwLockNeeds.{has_right, left_beside}
+use Rattle.run_base.specs.Paths.{Walks, at_rwlock, rwlock_at}
+use Rattle.run_base.specs.RwLockCalls.{IsRwLockRight, rwlock_begin}
+use Rattle.run_base.specs.RwLockFitting.{IsBeside}
+use Rattle.run_base.specs.Stages.{stage_of}
+use Rattle.run_locks.proofs.RwLockCalling.{begins_entering, entered_right, found_full, gave_up_left, gave_up_may}
+use Rattle.run_locks.proofs.RwLockFull.{sees_full}
+use Rattle.run_base.proofs.RwLockNeeds.{has_right, left_beside}
 use Rattle.raw_rwlocks.proofs.rwlock_rights.LotRwLock.entered.Goals as goal
 
 pub split-requires-clause-held : goal.split-requires-clause-held

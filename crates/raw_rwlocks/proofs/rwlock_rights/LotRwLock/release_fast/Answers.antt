@@ -1,15 +1,15 @@
 use Rattle.std.proofs.Common.{rules, ◌≡◌, subst, MatchResult, Ok, Err}
 use Rattle.std.specs.declared.result.Result.{Result}
-use Rattle.lot_base.specs.declared.wants.Want.{Want}
-use Rattle.lot_calls.specs.declared.outcomes.Answer.{Answer}
-use Rattle.lot_rwlock.specs.declared.purposes.RwLockPurpose.TheVariants.{Release}
-use Rattle.lot_words.specs.Plays.{piece, takes_in}
-use Rattle.lot_words.specs.Rights.{owner_for}
-use Rattle.lot_words.specs.Views.{owning}
+use Rattle.core_base.specs.declared.wants.Want.{Want}
+use Rattle.spec_locks.specs.declared.outcomes.Answer.{Answer}
+use Rattle.steps_rwlock.specs.declared.purposes.RwLockPurpose.TheVariants.{Release}
+use Rattle.core_words.specs.Plays.{piece, takes_in}
+use Rattle.core_words.specs.Rights.{owner_for}
+use Rattle.core_words.specs.Views.{owning}
 use Rattle.parking_lot_core.specs.Tokens.{view_of}
-use Rattle.lot_driver.specs.Paths.{rwlock_at}
-use Rattle.rwlock_driver.specs.Halves.{HasBegun, HasEnded}
-use Rattle.rwlock_driver.specs.declared.calls.Rest.{Rest}
+use Rattle.run_base.specs.Paths.{rwlock_at}
+use Rattle.run_locks.specs.Halves.{HasBegun, HasEnded}
+use Rattle.run_locks.specs.declared.rwlock_calls.Rest.{Rest}
 use Rattle.raw_rwlocks.proofs.RwLockReleases.{begins_releasing, released}
 use Rattle.raw_rwlocks.proofs.rwlock_rights.LotRwLock.release_fast.Goals as goal
 

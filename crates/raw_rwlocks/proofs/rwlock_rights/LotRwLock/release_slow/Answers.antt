@@ -1,9 +1,9 @@
 use Rattle.std.proofs.Common.{rules, ◌≡◌, subst}
-use Rattle.lot_rwlock.specs.declared.purposes.RwLockPurpose.TheVariants.{Release}
+use Rattle.steps_rwlock.specs.declared.purposes.RwLockPurpose.TheVariants.{Release}
 use Rattle.parking_lot_core.specs.Tokens.{view_of}
-use Rattle.rwlock_driver.specs.Halves.{HasBegun}
-use Rattle.rwlock_driver.specs.declared.calls.Rest.{Rest}
-use Rattle.rwlock_driver.specs.declared.calls.Rest.TheVariants.{GoesOn, Missed}
+use Rattle.run_locks.specs.Halves.{HasBegun}
+use Rattle.run_locks.specs.declared.rwlock_calls.Rest.{Rest}
+use Rattle.run_locks.specs.declared.rwlock_calls.Rest.TheVariants.{GoesOn, Missed}
 use Rattle.raw_rwlocks.proofs.RwLockReleases.{begins_releasing, released}
 use Rattle.raw_rwlocks.proofs.rwlock_rights.LotRwLock.release_slow.Goals as goal
 

@@ -1,16 +1,16 @@
 use Rattle.std.proofs.Common.{rules, ◌≡◌, ◌==◌, ◌∙◌, true, false, ap, subst, sym, List, eq-eqb}
-use Rattle.lot_calls.specs.declared.calls.Access.TheVariants as access
-use Rattle.lot_calls.specs.declared.calls.Patience.TheVariants.{Try}
-use Rattle.lot_rwlock.specs.declared.purposes.RwLockPurpose.TheVariants.{Enter}
-use Rattle.lot_calls.specs.declared.outcomes.Answer.TheVariants.{Yes}
-use Rattle.lot_words.specs.declared.owners.Owner.TheVariants as owners
-use Rattle.lot_words.specs.declared.views.View.{View}
-use Rattle.lot_words.specs.declared.views.WordStep.{WordStep}
+use Rattle.spec_locks.specs.declared.calls.Access.TheVariants as access
+use Rattle.spec_locks.specs.declared.calls.Patience.TheVariants.{Try}
+use Rattle.steps_rwlock.specs.declared.purposes.RwLockPurpose.TheVariants.{Enter}
+use Rattle.spec_locks.specs.declared.outcomes.Answer.TheVariants.{Yes}
+use Rattle.core_words.specs.declared.owners.Owner.TheVariants as owners
+use Rattle.core_words.specs.declared.views.View.{View}
+use Rattle.core_words.specs.declared.views.WordStep.{WordStep}
 use Rattle.parking_lot_core.specs.Tokens.{view_of}
-use Rattle.lot_driver.specs.Paths.{Walks, at_rwlock}
-use Rattle.lot_driver.specs.RwLockCalls.{rwlock_begin}
-use Rattle.lot_driver.proofs.RwLockNeeds.{has_right, left_beside}
-use Rattle.rwlock_driver.proofs.RwLockRights.{took, tried}
+use Rattle.run_base.specs.Paths.{Walks, at_rwlock}
+use Rattle.run_base.specs.RwLockCalls.{rwlock_begin}
+use Rattle.run_base.proofs.RwLockNeeds.{has_right, left_beside}
+use Rattle.run_locks.proofs.RwLockRights.{took, tried}
 use Rattle.raw_rwlocks.proofs.rwlock_rights.LotRwLock.try_enter_alone.Goals as goal
 
 pub split-requires-clause-held : goal.split-requires-clause-held

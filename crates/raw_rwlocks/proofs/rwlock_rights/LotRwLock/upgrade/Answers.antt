@@ -1,19 +1,19 @@
 use Rattle.std.proofs.Common.{rules, List, Option, ap, ◌∙◌, sym, subst, refl, None}
-use Rattle.lot_base.specs.Clocks.{IsUp}
-use Rattle.lot_rwlock.specs.declared.purposes.RwLockPurpose.TheVariants.{Upgrade}
-use Rattle.lot_calls.specs.declared.outcomes.Answer.{Answer}
-use Rattle.lot_rwlock.specs.RwLockSteps.{entered}
-use Rattle.lot_words.specs.declared.owners.Owner.TheVariants as owners
-use Rattle.lot_words.specs.declared.views.View.{View}
-use Rattle.lot_words.specs.declared.views.WordStep.{WordStep}
+use Rattle.core_base.specs.Clocks.{IsUp}
+use Rattle.steps_rwlock.specs.declared.purposes.RwLockPurpose.TheVariants.{Upgrade}
+use Rattle.spec_locks.specs.declared.outcomes.Answer.{Answer}
+use Rattle.steps_rwlock.specs.RwLockSteps.{entered}
+use Rattle.core_words.specs.declared.owners.Owner.TheVariants as owners
+use Rattle.core_words.specs.declared.views.View.{View}
+use Rattle.core_words.specs.declared.views.WordStep.{WordStep}
 use Rattle.parking_lot_core.specs.Tokens.{last_of, view_of}
 use Rattle.parking_lot_core.specs.declared.tokens.SectionRecord.{SectionRecord}
-use Rattle.lot_driver.specs.Paths.{Walks, at_rwlock}
-use Rattle.lot_driver.specs.RwLockCalls.{rwlock_begin}
-use Rattle.lot_driver.specs.RwLockFitting.{LeftBy}
-use Rattle.lot_driver.specs.Stages.{stage_of}
-use Rattle.lot_driver.proofs.RwLockNeeds.{has_right, left_beside}
-use Rattle.rwlock_driver.proofs.RwLockRights.{begins_upgrading, fell_back, fell_back_left, upgraded}
+use Rattle.run_base.specs.Paths.{Walks, at_rwlock}
+use Rattle.run_base.specs.RwLockCalls.{rwlock_begin}
+use Rattle.run_base.specs.RwLockFitting.{LeftBy}
+use Rattle.run_base.specs.Stages.{stage_of}
+use Rattle.run_base.proofs.RwLockNeeds.{has_right, left_beside}
+use Rattle.run_locks.proofs.RwLockRights.{begins_upgrading, fell_back, fell_back_left, upgraded}
 use Rattle.raw_rwlocks.proofs.rwlock_rights.LotRwLock.upgrade.Goals as goal
 
 pub split-requires-clause-held : goal.split-requires-clause-held

@@ -1,5 +1,5 @@
 use Rattle.std.proofs.Common.{◌∙◌, true, inr}
-use Rattle.lot_driver.specs.Telling.{owns_of}
+use Rattle.run_base.specs.Telling.{owns_of}
 use Rattle.run_once.proofs.Knowing.{has_run_by}
 use Rattle.run_once.proofs.once.Once.call_once_force.Goals as goal
 

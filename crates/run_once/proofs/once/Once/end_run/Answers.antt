@@ -1,6 +1,6 @@
 use Rattle.std.proofs.Common.{List}
-use Rattle.lot_words.specs.declared.owners.Ownership.{Ownership}
-use Rattle.lot_driver.specs.Telling.{owns_of}
+use Rattle.core_words.specs.declared.owners.Ownership.{Ownership}
+use Rattle.run_base.specs.Telling.{owns_of}
 use Rattle.run_once.proofs.Knowing.{behind_run, has_run}
 use Rattle.run_once.proofs.once.Once.end_run.Goals as goal
 

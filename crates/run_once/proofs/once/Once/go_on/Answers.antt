@@ -1,6 +1,6 @@
 use Rattle.std.proofs.Common.{◌∙◌, sym, subst}
-use Rattle.lot_base.specs.Clocks.{IsUp}
-use Rattle.lot_driver.specs.Telling.{owns_of, steps_of}
+use Rattle.core_base.specs.Clocks.{IsUp}
+use Rattle.run_base.specs.Telling.{owns_of, steps_of}
 use Rattle.parking_lot_core.specs.Tokens.{last_of}
 use Rattle.parking_lot_core.specs.declared.tokens.Token.{Token}
 use Rattle.run_once.specs.OnceCalls.{LookOwns, LooksBy}

@@ -1,5 +1,5 @@
 use Rattle.std.proofs.Common.{suc, ◌∙◌, ap, inr, refl}
-use Rattle.lot_driver.specs.OnceFitting.{knowing}
+use Rattle.run_base.specs.OnceFitting.{knowing}
 use Rattle.run_once.proofs.once.Once.new_completed.Goals as goal
 
 pub returns-then-complete-clause-stays : goal.returns-then-complete-clause-stays

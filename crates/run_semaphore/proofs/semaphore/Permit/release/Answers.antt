@@ -1,12 +1,12 @@
 use Rattle.std.proofs.Common.{rules, ◌≡◌, ◌++◌, ◌∙◌, List, true, false, ap, subst}
-use Rattle.abstract_locks.specs.Codes.{has_parked}
-use Rattle.lot_calls.specs.declared.outcomes.Answer.{Answer}
-use Rattle.lot_calls.specs.declared.outcomes.Answer.TheVariants as answers
-use Rattle.lot_base.specs.declared.ops.Op.TheVariants.{Add}
-use Rattle.lot_words.specs.declared.views.View.{View}
-use Rattle.lot_words.specs.declared.views.WordStep.{WordStep}
-use Rattle.lot_driver.specs.Paths.{Walks, at_semaphore, semaphore_at, step}
-use Rattle.lot_driver.specs.Telling.{steps_of}
+use Rattle.spec_locks.specs.Codes.{has_parked}
+use Rattle.spec_locks.specs.declared.outcomes.Answer.{Answer}
+use Rattle.spec_locks.specs.declared.outcomes.Answer.TheVariants as answers
+use Rattle.core_base.specs.declared.ops.Op.TheVariants.{Add}
+use Rattle.core_words.specs.declared.views.View.{View}
+use Rattle.core_words.specs.declared.views.WordStep.{WordStep}
+use Rattle.run_base.specs.Paths.{Walks, at_semaphore, semaphore_at, step}
+use Rattle.run_base.specs.Telling.{steps_of}
 use Rattle.run_semaphore.specs.Calls.{waking}
 use Rattle.run_semaphore.proofs.SemaphoreCalling.{releases_at_once, releases_on}
 use Rattle.run_semaphore.proofs.semaphore.Permit.release.Goals as goal

@@ -1,7 +1,7 @@
 use Rattle.std.proofs.Common.{rules, ◌≡◌, refl}
 use Rattle.std.specs.Arc.{arc_value}
-use Rattle.lot_words.specs.declared.words.WordKind.TheVariants as kinds
-use Rattle.lot_driver.specs.Drawing.{Drew}
+use Rattle.core_words.specs.declared.words.WordKind.TheVariants as kinds
+use Rattle.run_base.specs.Drawing.{Drew}
 use Rattle.run_semaphore.proofs.semaphore.Semaphore.new.Goals as goal
 
 pub returns-clause-made : goal.returns-clause-made

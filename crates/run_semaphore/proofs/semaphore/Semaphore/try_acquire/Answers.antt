@@ -1,8 +1,8 @@
 use Rattle.std.proofs.Common.{rules, ◌≡◌, ◌≢◌, ◌∙◌, true, false, ap}
-use Rattle.lot_calls.specs.declared.outcomes.Answer.TheVariants as answers
-use Rattle.lot_words.specs.declared.views.View.{View}
-use Rattle.lot_semaphore.specs.SemaphoreSteps.{is_free}
-use Rattle.lot_driver.specs.Telling.{steps_of}
+use Rattle.spec_locks.specs.declared.outcomes.Answer.TheVariants as answers
+use Rattle.core_words.specs.declared.views.View.{View}
+use Rattle.steps_semaphore.specs.SemaphoreSteps.{is_free}
+use Rattle.run_base.specs.Telling.{steps_of}
 use Rattle.run_semaphore.specs.Calls.{answer_by}
 use Rattle.run_semaphore.proofs.SemaphoreCalling.{misses_all, sees_none, tries_on, tries_well}
 use Rattle.run_semaphore.proofs.semaphore.Semaphore.try_acquire.Goals as goal

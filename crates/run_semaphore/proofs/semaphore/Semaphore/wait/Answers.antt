@@ -1,7 +1,7 @@
 use Rattle.std.proofs.Common.{rules, ◌≡◌, ◌≢◌, ◌∙◌, true, ap}
-use Rattle.lot_words.specs.declared.views.View.{View}
-use Rattle.lot_semaphore.specs.SemaphoreSteps.{acquired, is_free}
-use Rattle.lot_driver.specs.Telling.{steps_of}
+use Rattle.core_words.specs.declared.views.View.{View}
+use Rattle.steps_semaphore.specs.SemaphoreSteps.{acquired, is_free}
+use Rattle.run_base.specs.Telling.{steps_of}
 use Rattle.run_semaphore.specs.Calls.{answer_by}
 use Rattle.run_semaphore.proofs.SemaphoreCalling.{misses, takes, waits_on}
 use Rattle.run_semaphore.proofs.semaphore.Semaphore.wait.Goals as goal

@@ -1,5 +1,0 @@
-use Rattle.abstract_locks.proofs.OnceLaws.{callers}
-use Rattle.abstract_locks.proofs.callers_are_looked_after.Goals as goal
-
-pub returns : goal.returns
-returns c = callers

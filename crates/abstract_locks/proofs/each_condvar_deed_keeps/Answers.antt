@@ -1,5 +1,0 @@
-use Rattle.abstract_locks.proofs.CondvarKeeps.{condvar_deed_keeps}
-use Rattle.abstract_locks.proofs.each_condvar_deed_keeps.Goals as goal
-
-pub returns : goal.returns
-returns c = condvar_deed_keeps

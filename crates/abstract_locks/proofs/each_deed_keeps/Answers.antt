@@ -1,5 +1,0 @@
-use Rattle.abstract_locks.proofs.SiteKeeps.{deed_keeps}
-use Rattle.abstract_locks.proofs.each_deed_keeps.Goals as goal
-
-pub returns : goal.returns
-returns c = deed_keeps

@@ -1,5 +1,0 @@
-use Rattle.abstract_locks.proofs.PermitKeeps.{permits_kept}
-use Rattle.abstract_locks.proofs.each_deed_keeps_permits.Goals as goal
-
-pub returns : goal.returns
-returns c = permits_kept

@@ -1,5 +1,0 @@
-use Rattle.abstract_locks.proofs.CondvarKeeps.{move_fits}
-use Rattle.abstract_locks.proofs.each_move_fits.Goals as goal
-
-pub returns : goal.returns
-returns c = move_fits

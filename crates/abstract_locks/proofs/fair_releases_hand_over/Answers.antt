@@ -1,5 +1,0 @@
-use Rattle.abstract_locks.proofs.Laws.{fair_releases}
-use Rattle.abstract_locks.proofs.fair_releases_hand_over.Goals as goal
-
-pub returns : goal.returns
-returns c = fair_releases

@@ -1,5 +1,0 @@
-use Rattle.abstract_locks.proofs.Limits.{limit_kept}
-use Rattle.abstract_locks.proofs.limit_kept.Goals as goal
-
-pub returns : goal.returns
-returns c = limit_kept

@@ -1,5 +1,0 @@
-use Rattle.abstract_locks.proofs.Laws.{owners_exclude}
-use Rattle.abstract_locks.proofs.owners_exclude.Goals as goal
-
-pub returns : goal.returns
-returns c = owners_exclude

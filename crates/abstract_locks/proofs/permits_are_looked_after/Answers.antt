@@ -1,5 +1,0 @@
-use Rattle.abstract_locks.proofs.PermitKeeps.{looked_after}
-use Rattle.abstract_locks.proofs.permits_are_looked_after.Goals as goal
-
-pub returns : goal.returns
-returns c = looked_after

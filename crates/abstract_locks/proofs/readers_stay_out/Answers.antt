@@ -1,5 +1,0 @@
-use Rattle.abstract_locks.proofs.UserLaws.{readers_stay_out}
-use Rattle.abstract_locks.proofs.readers_stay_out.Goals as goal
-
-pub returns : goal.returns
-returns c = readers_stay_out

@@ -1,5 +1,0 @@
-use Rattle.abstract_locks.proofs.UserLaws.{rereaders_pass}
-use Rattle.abstract_locks.proofs.rereaders_pass.Goals as goal
-
-pub returns : goal.returns
-returns c = rereaders_pass

@@ -1,5 +1,0 @@
-use Rattle.abstract_locks.proofs.UserLaws.{upgrades_hold}
-use Rattle.abstract_locks.proofs.upgrades_let_nobody_write.Goals as goal
-
-pub returns : goal.returns
-returns c = upgrades_hold

@@ -1,5 +1,0 @@
-use Rattle.abstract_locks.proofs.CodeLaws.{words_follow}
-use Rattle.abstract_locks.proofs.words_follow.Goals as goal
-
-pub returns : goal.returns
-returns c = words_follow

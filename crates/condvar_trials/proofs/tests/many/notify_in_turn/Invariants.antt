@@ -1,5 +1,0 @@
-use Rattle.parking_lot.specs.Users.{IsTokenOf, lot_of}
-use Rattle.condvar_trials.proofs.tests.many.notify_in_turn.Given as goal
-
-abbrev pub invariant-loop-turn : goal.invariant-loop-turn
-invariant-loop-turn g l = IsTokenOf (lot_of l.room.mutex) l.token

@@ -1,6 +1,0 @@
-use Rattle.std.proofs.Common.{◌≡◌}
-use Rattle.parking_lot.specs.Users.{IsTokenOf, lock_of, lot_of}
-use Rattle.condvar_trials.proofs.tests.queues.guard_past.Given as goal
-
-abbrev pub invariant-loop : goal.invariant-loop
-invariant-loop g l = IsTokenOf (lot_of l.pipe.line) l.token × (lock_of l.guard ≡ l.pipe.line)

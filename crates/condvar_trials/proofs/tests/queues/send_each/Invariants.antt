@@ -1,5 +1,0 @@
-use Rattle.parking_lot.specs.Users.{IsTokenOf, lot_of}
-use Rattle.condvar_trials.proofs.tests.queues.send_each.Given as goal
-
-abbrev pub invariant-loop-number : goal.invariant-loop-number
-invariant-loop-number g l = IsTokenOf (lot_of l.pipe.line) l.token

@@ -1,5 +1,0 @@
-use Rattle.parking_lot_core.specs.Tokens.{IsTokenOf}
-use Rattle.condvar_trials.proofs.tests.two.is_waited_for.Given as goal
-
-abbrev pub invariant-loop : goal.invariant-loop
-invariant-loop g l = IsTokenOf l.lot l.token

@@ -1,0 +1,30 @@
+-- The waiters that a requeue takes, moves and leaves.
+use Rattle.std.specs.Prelude.{ℕ, List, Option, None, ◌++◌, map, take, drop}
+use Rattle.core_base.specs.Lines.{waiter, line, without_first, without_key, first_of}
+use Rattle.core_base.specs.declared.requeues.Requeue.{Requeue}
+use Rattle.core_base.specs.declared.requeues.Requeue.TheVariants.{One, All, TakeOneMoveRest}
+use Rattle.core_base.specs.declared.wants.Waiter.{Waiter}
+use Rattle.core_base.specs.declared.wants.Want.TheVariants.{Exclusive}
+
+-- who is taken of a line
+abbrev pub taken_by : Requeue → List Waiter → Option ℕ
+taken_by TakeOneMoveRest line = first_of line
+taken_by _ line = None
+
+-- those of a line who are moved
+abbrev pub moved_by : Requeue → List Waiter → List Waiter
+moved_by One line = take 1 line
+moved_by All line = line
+moved_by TakeOneMoveRest line = drop 1 line
+
+-- the list without those who are taken or moved of the line of a key
+abbrev pub left_by : Requeue → ℕ → List Waiter → List Waiter
+left_by One key waiters = without_first key waiters
+left_by _ key waiters = without_key key waiters
+
+-- the list after a requeue: who was moved stands behind the last of another key, and wants to own
+-- alone
+abbrev pub requeued : Requeue → ℕ → ℕ → List Waiter → List Waiter
+requeued op from to waiters =
+    left_by op from waiters ++ map
+    (λ (x : Waiter). waiter to x.thread Exclusive) (moved_by op (line from waiters))

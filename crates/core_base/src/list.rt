@@ -1,0 +1,217 @@
+//! One list of all waiters.
+ghost use Rattle.std.specs.Prelude.{◌≡◌, ◌≢◌, ◌+◌, ◌≤◌, ◌++◌, length, drop, if◌then◌else◌};
+ghost use Rattle.std.specs.Vec.{vec_len, vec_capacity};
+ghost use Rattle.core_base.specs.Lines.{line, line-from_first, without, without_first, without_key, first_of, threads_of};
+ghost use Rattle.core_base.specs.Picks.{picked, without_picked};
+ghost use Rattle.core_base.specs.Requeues.{moved_by, requeued};
+ghost use Rattle.core_base.specs.declared.requeues.Requeue.TheVariants.{One, All};
+
+use crate::faults::Fault;
+use crate::keys::Key;
+use crate::picks::{Pick, Picker};
+use crate::queues::Queues;
+use crate::requeues::Requeue;
+use crate::wants::{Waiter, Want};
+use std::alloc::Global;
+use std::marker::Model;
+
+/// Removes a thread. Where it stands nowhere, `retain` only reads.
+fn drop_thread(waiters: &mut Vec<Waiter>, thread: usize)
+    ensures items { waiters.new.items ≡ without thread waiters.old.items }
+    ensures capacity { vec_capacity waiters.new ≡ vec_capacity waiters.old }
+{
+    waiters.retain(|waiter| waiter.thread != thread);
+}
+
+/// Removes all under a key.
+fn drop_key(waiters: &mut Vec<Waiter>, key: Key)
+    ensures items { waiters.new.items ≡ without_key key waiters.old.items }
+    ensures capacity { vec_capacity waiters.new ≡ vec_capacity waiters.old }
+{
+    waiters.retain(|waiter| waiter.key != key);
+}
+
+/// Takes the first under a key.
+fn take_under(waiters: &mut Vec<Waiter>, key: Key) -> Option<usize>
+    ensures first { result ≡ first_of (line key waiters.old.items) }
+    ensures waiting { waiters.new.items ≡ without_first key waiters.old.items }
+    ensures capacity { vec_capacity waiters.new ≡ vec_capacity waiters.old }
+{
+    for at in 0..waiters.len() {
+        if waiters[at].key == key {
+            return Some(waiters.remove(at).thread);
+        }
+    }
+    None
+}
+
+/// Takes those under a key whom a picker picks, and pushes them to `out`.
+fn take_picked<P: Picker + Drop>(
+    waiters: &mut Vec<Waiter>,
+    key: Key,
+    mut picker: P,
+    out: &mut Vec<usize>,
+)
+    requires { vec_len out.old + vec_len waiters.old ≤ vec_capacity out.old }
+    ensures taken { out.new.items
+        ≡ out.old.items ++ threads_of (picked P.answer P.next picker (line key waiters.old.items)) }
+    ensures room { vec_capacity out.new ≡ vec_capacity out.old }
+    ensures waiting { waiters.new.items
+        ≡ without_picked P.answer P.next picker key waiters.old.items }
+    ensures capacity { vec_capacity waiters.new ≡ vec_capacity waiters.old }
+{
+    let mut at = 0;
+    while at < waiters.len() {
+        let waiter = waiters[at];
+        if waiter.key != key {
+            at += 1;
+            continue;
+        }
+        match picker.pick(waiter.want) {
+            Pick::Unpark => {
+                waiters.remove(at);
+                out.push_reserved(waiter.thread);
+            }
+            Pick::Skip => at += 1,
+            Pick::Stop => return,
+        }
+    }
+}
+
+/// Moves the first under a key behind the last under another, where there is one.
+fn move_first(waiters: &mut Vec<Waiter>, from: Key, to: Key) -> bool
+    ensures moved { (if result then 1 else 0)
+        ≡ length (moved_by One (line from waiters.old.items)) }
+    ensures waiting { waiters.new.items ≡ requeued One from to waiters.old.items }
+    ensures capacity { vec_capacity waiters.new ≡ vec_capacity waiters.old }
+{
+    let Some(thread) = take_under(waiters, from) else {
+        return false;
+    };
+    waiters.push_reserved(Waiter {
+        key: to,
+        thread,
+        want: Want::Exclusive,
+    });
+    true
+}
+
+/// Moves all under a key behind the last under another, and answers how many there were.
+fn move_all(waiters: &mut Vec<Waiter>, from: Key, to: Key) -> usize
+    requires { from ≢ to }
+    ensures number { result ≡ length (line from waiters.old.items) }
+    ensures waiting { waiters.new.items ≡ requeued All from to waiters.old.items }
+    ensures capacity { vec_capacity waiters.new ≡ vec_capacity waiters.old }
+{
+    let mut number = 0;
+    while move_first(waiters, from, to) {
+        number += 1;
+    }
+    number
+}
+
+/// One list of all waiters. A call goes through the whole list, at most; a requeue does so for each
+/// whom it moves.
+#[derive(Drop)]
+pub struct ListQueues {
+    waiters: Vec<Waiter>,
+    capacity: usize,
+}
+
+impl Model for ListQueues {
+    ghost use Rattle.std.specs.Prelude.{◌≤◌};
+    ghost use Rattle.std.specs.Vec.{vec_capacity};
+    ghost use Rattle.core_base.specs.Lines.{Waiting, IsSeated};
+
+    ghost Value = { Waiting };
+
+    ghost view = { λ a. record { waiters = a.waiters.items; capacity = a.capacity } };
+
+    ghost invariant = { λ a. (a.capacity ≤ vec_capacity a.waiters)
+        × IsSeated a.waiters.items a.capacity };
+}
+
+impl Queues for ListQueues {
+    ghost waiting = { λ q. q.waiters };
+
+    ghost capacity = { λ q. q.capacity };
+
+    ghost rest = { λ q key place. line key (drop place q.waiters) };
+
+    fn with_capacity(alloc: Global, threads: usize) -> Result<Self, Fault> {
+        match Vec::with_capacity(alloc, threads) {
+            Ok(waiters) => Ok(ListQueues {
+                waiters,
+                capacity: threads,
+            }),
+            Err(_) => Err(Fault::NoMemory),
+        }
+    }
+
+    fn append(&mut self, key: Key, thread: usize, want: Want) {
+        drop_thread(&mut self.waiters, thread);
+        self.waiters.push_reserved(Waiter { key, thread, want });
+    }
+
+    fn take_first(&mut self, key: Key) -> Option<usize> {
+        take_under(&mut self.waiters, key)
+    }
+
+    fn take_all(&mut self, key: Key, out: &mut Vec<usize>) {
+        for waiter in &self.waiters {
+            if waiter.key == key {
+                out.push_reserved(waiter.thread);
+            }
+        }
+        drop_key(&mut self.waiters, key);
+    }
+
+    fn take_by<P: Picker + Drop>(&mut self, key: Key, picker: P, out: &mut Vec<usize>) {
+        take_picked(&mut self.waiters, key, picker, out);
+    }
+
+    fn requeue(&mut self, from: Key, to: Key, op: Requeue) -> (Option<usize>, usize) {
+        match op {
+            Requeue::One => {
+                let moved = move_first(&mut self.waiters, from, to);
+                (None, usize::from(moved))
+            }
+            Requeue::All => (None, move_all(&mut self.waiters, from, to)),
+            Requeue::TakeOneMoveRest => {
+                let first = take_under(&mut self.waiters, from);
+                (first, move_all(&mut self.waiters, from, to))
+            }
+        }
+    }
+
+    fn remove(&mut self, thread: usize) {
+        drop_thread(&mut self.waiters, thread);
+    }
+
+    fn count(&self, key: Key) -> usize {
+        self.waiters
+            .iter()
+            .filter(|waiter| waiter.key == key)
+            .count()
+    }
+
+    fn key_of(&self, thread: usize) -> Option<Key> {
+        for waiter in &self.waiters {
+            if waiter.thread == thread {
+                return Some(waiter.key);
+            }
+        }
+        None
+    }
+
+    fn find(&self, key: Key, place: usize) -> Option<(Waiter, usize)> {
+        for at in place..self.waiters.len() {
+            if self.waiters[at].key == key {
+                return Some((self.waiters[at], at + 1));
+            }
+        }
+        None
+    }
+
+    ghost from_first = { λ q key. line-from_first key q.waiters };
+}

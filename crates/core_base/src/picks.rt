@@ -1,0 +1,31 @@
+//! Pickers, which choose the waiters that are taken of a queue.
+ghost use Rattle.std.specs.Prelude.{◌≡◌};
+ghost use Rattle.core_base.specs.declared.wants.Want.{Want};
+ghost use Rattle.core_base.specs.declared.picks.Pick.{Pick};
+
+use crate::wants::Want;
+
+/// A picker's answer to the want of a waiter.
+#[derive(Clone, Copy)]
+pub enum Pick {
+    /// The waiter is taken.
+    Unpark,
+    /// The waiter stays, and the next is asked for.
+    Skip,
+    /// The waiter stays, and so do all behind it.
+    Stop,
+}
+
+/// Picks who is taken of a line. It is asked for each want from the front, and may remember what it
+/// answered.
+pub trait Picker {
+    /// The answer to a want.
+    ghost answer: { Self → Want → Pick };
+
+    /// The picker after it answered this want.
+    ghost next: { Self → Want → Self };
+
+    fn pick(&mut self, want: Want) -> Pick
+        ensures answer { result ≡ answer self.old want }
+        ensures next { self.new ≡ next self.old want };
+}

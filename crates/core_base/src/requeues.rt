@@ -1,0 +1,12 @@
+//! How waiters are moved from one queue to another.
+
+/// The waiters that are moved behind the last of another queue.
+#[derive(Clone, Copy, Debug, PartialEq, Eq)]
+pub enum Requeue {
+    /// The first.
+    One,
+    /// All, in their order.
+    All,
+    /// All but the first, in their order. The first is taken.
+    TakeOneMoveRest,
+}

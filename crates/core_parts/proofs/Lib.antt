@@ -1,0 +1,8 @@
+pub mod Apart
+pub mod Fields
+pub mod Opening
+pub mod Through
+pub mod Tracked
+mod KeyKeeps
+mod ShareKeeps
+pub mod Ghostly

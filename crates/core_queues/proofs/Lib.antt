@@ -1,0 +1,16 @@
+pub mod Hashes
+pub mod Leads
+pub mod Changes
+pub mod Linked
+pub mod Found
+pub mod Moved
+pub mod Joined
+pub mod Parts
+pub mod Became
+pub mod Places
+pub mod Sifted
+pub mod Opening
+pub mod Requeued
+pub mod Buckets
+pub mod Halves
+pub mod Picked

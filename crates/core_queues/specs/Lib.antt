@@ -1,0 +1,5 @@
+pub mod Chains
+pub mod Links
+pub mod Buckets
+pub mod Places
+pub mod Wants

@@ -1,0 +1,187 @@
+-- The laws of codes and their owners.
+use Rattle.std.specs.Prelude.{◌≡◌, ◌≢◌, ◌⊎◌, ℕ, ◌+◌, ◌-◌, ◌*◌, ◌/◌, ◌%◌, ◌^◌, ◌<◌, ◌≤◌, List, ◌∷◌, ◌++◌, true}
+use Rattle.core_base.specs.Words.{apply}
+use Rattle.core_base.specs.declared.ops.Op.{Op}
+use Rattle.core_base.specs.declared.ops.Op.TheVariants.{Load, Store, Swap, Add, Sub, Or, And, Exchange}
+use Rattle.core_words.specs.Indices.{word_index}
+use Rattle.core_words.specs.Views.{owned, owning, owning_with}
+use Rattle.core_words.specs.Steps.{MayStep, CodesWith, HasAll, owns_after_step, has, holding, so_many_shared, without}
+use Rattle.core_words.specs.declared.owners.Owner.TheVariants.{Exclusive, Pending, Upgrading, Upgradable, Shared, Runner, Witness}
+use Rattle.core_words.specs.declared.owners.Ownership.{Ownership}
+use Rattle.core_words.specs.Codes.{Owners, Codes, IsCountCode, everyone, exclusive, pending, upgrading, upgradable, shared}
+use Rattle.core_words.specs.declared.words.WordKind.{WordKind}
+use Rattle.core_words.specs.declared.words.WordKind.TheVariants.{Mutex, RwLock, Once, Condvar, Count, Semaphore}
+
+-- one owner, and nobody beside it
+abbrev pub IsAlone : WordKind → Owners → Type 0
+IsAlone Mutex owners = owners everyone ≡ 1
+IsAlone RwLock owners = (owners exclusive ≡ 1) × (owners pending ≡ 0) × (owners upgrading ≡ 0)
+    × (owners upgradable ≡ 0) × (owners shared ≡ 0)
+IsAlone _ owners = Unit {0}
+
+-- in no code does an exclusive owner stand beside another owner
+abbrev pub ExclusiveIsAlone : Type 0
+ExclusiveIsAlone = (kind : WordKind) (n : ℕ) (owners : Owners) → Codes kind n owners
+    → 0 < owners exclusive → IsAlone kind owners
+
+-- the kinds of step on a mutex's word
+pub record MutexSteps (at : ℕ) (owns : List Ownership) : Type 0 where
+  pub load : MayStep Mutex at Load owns
+  pub enter : (from : ℕ) → from < 4 → from % 2 ≡ 0
+      → MayStep Mutex at (Exchange from (from + 1)) owns
+  pub set_locked : MayStep Mutex at (Or 1) owns
+  pub set_parked : MayStep Mutex at (Exchange 1 3) owns
+  pub clear_parked : MayStep Mutex at (And 18446744073709551613) owns
+  -- who notifies marks a locked mutex, or any mutex to which it moved waiters
+  pub mark : (s : ℕ) → (s ≡ 1) ⊎ (s ≡ 3) → MayStep Mutex at (Exchange s 3) owns
+  pub mark_any : MayStep Mutex at (Or 2) owns
+  -- who subtracts 1 owns the mutex
+  pub leave : has (owning at Exclusive) owns ≡ true → MayStep Mutex at (Sub 1) owns
+  -- and so does who leaves a word that nobody waits on, or stores a word in a section
+  pub leave_alone : has (owning at Exclusive) owns ≡ true → MayStep Mutex at (Exchange 1 0) owns
+  pub hand_over : (m : ℕ) → m < 4 → has (owning at Exclusive) owns ≡ true
+      → MayStep Mutex at (Store m) owns
+
+-- whoever it is, it may take them
+abbrev pub MutexMaySteps : Type 0
+MutexMaySteps = (at : ℕ) (owns : List Ownership) → MutexSteps at owns
+
+-- the kinds of step on a reader-writer lock's word
+pub record RwLockSteps (at : ℕ) (owns : List Ownership) : Type 0 where
+  pub load : MayStep RwLock at Load owns
+  -- where no writer is there, or who waits has readers beside it, and the count has room
+  pub read : (s : ℕ) → (s / 8 % 2 ≡ 0) ⊎ (0 < s / 16) → s / 16 < 2 ^ 60 - 2
+      → MayStep RwLock at (Exchange s (s + 16)) owns
+  pub write_alone : MayStep RwLock at (Exchange 0 8) owns
+  pub write : (s : ℕ) → s / 4 % 4 ≡ 0 → MayStep RwLock at (Exchange s (s + 8)) owns
+  pub set_parked : (s : ℕ) → s % 2 ≡ 0 → MayStep RwLock at (Exchange s (s + 1)) owns
+  pub set_writer_parked : (s : ℕ) → s / 2 % 2 ≡ 0 → MayStep RwLock at (Exchange s (s + 2)) owns
+  pub leave_shared : has (owning at Shared) owns ≡ true → MayStep RwLock at (Sub 16) owns
+  pub leave_exclusive : has (owning at Exclusive) owns ≡ true → MayStep RwLock at (Sub 8) owns
+  pub clear_parked : MayStep RwLock at (And 18446744073709551614) owns
+  pub clear_writer_parked : MayStep RwLock at (And 18446744073709551613) owns
+  pub enter_upgradable : (s : ℕ) → s / 4 % 4 ≡ 0 → s / 16 < 2 ^ 60 - 2
+      → MayStep RwLock at (Exchange s (s + 20)) owns
+  pub leave_upgradable : has (owning at Upgradable) owns ≡ true → MayStep RwLock at (Sub 20) owns
+  pub downgrade : has (owning at Exclusive) owns ≡ true → MayStep RwLock at (Add 8) owns
+  pub downgrade_upgradable : has (owning at Upgradable) owns ≡ true → MayStep RwLock at (Sub 4) owns
+  pub downgrade_to_upgradable : has (owning at Exclusive) owns ≡ true
+      → MayStep RwLock at (Add 12) owns
+  pub upgrade : has (owning at Upgradable) owns ≡ true → MayStep RwLock at (Sub 12) owns
+  pub try_upgrade : (s : ℕ) → has (owning at Upgradable) owns ≡ true → s / 16 ≡ 1
+      → MayStep RwLock at (Exchange s (s - 12)) owns
+  pub leave_alone : has (owning at Exclusive) owns ≡ true → MayStep RwLock at (Exchange 8 0) owns
+  -- the store of the tokens of those who were taken
+  pub hand_over : (m : ℕ) → has (owning at Exclusive) owns ≡ true → m < 2 ^ 64 → m / 4 % 4 ≤ 2
+      → m / 4 ≢ 1 → m / 4 ≢ 2
+      → MayStep RwLock at (Store m) owns
+  -- the exchange that adds the tokens of those who were taken, or none
+  pub hand_upgradable : (s m part : ℕ) → has (owning at Upgradable) owns ≡ true → m < 2 ^ 64
+      → m / 4 + 5 ≡ s / 4 + part → part % 4 ≤ 2 → part ≢ 1 → MayStep RwLock at (Exchange s m) owns
+  pub fall_back : has (owning at Upgrading) owns ≡ true → MayStep RwLock at (Add 12) owns
+  pub give_up : has (owning at Pending) owns ≡ true → MayStep RwLock at (Sub 8) owns
+
+-- whoever it is, it may take them
+abbrev pub RwLockMaySteps : Type 0
+RwLockMaySteps = (at : ℕ) (owns : List Ownership) → RwLockSteps at owns
+
+-- the kinds of step on a `Once`'s word
+pub record OnceSteps (at : ℕ) (owns : List Ownership) : Type 0 where
+  pub load : MayStep Once at Load owns
+  -- LOCKED is set and POISON cleared, where nobody runs it and it isn't done
+  pub start : (s : ℕ) → s < 16 → (s % 8 ≡ 0) ⊎ (s % 8 ≡ 2)
+      → MayStep Once at (Exchange s (s / 8 * 8 + 4)) owns
+  pub set_parked : (s : ℕ) → (s ≡ 0) ⊎ ((s ≡ 2) ⊎ (s ≡ 4))
+      → MayStep Once at (Exchange s (s + 8)) owns
+  pub clear_parked : MayStep Once at (And 18446744073709551607) owns
+  -- who runs it leaves it done or poisoned
+  pub finish : (m : ℕ) → (m ≡ 1) ⊎ (m ≡ 2) → has (owning at Runner) owns ≡ true
+      → MayStep Once at (Swap m) owns
+
+-- whoever it is, it may take them
+abbrev pub OnceMaySteps : Type 0
+OnceMaySteps = (at : ℕ) (owns : List Ownership) → OnceSteps at owns
+
+-- the kinds of step on a semaphore's word
+pub record SemaphoreSteps (permits at : ℕ) (owns : List Ownership) : Type 0 where
+  pub load : MayStep (Semaphore permits) at Load owns
+  -- a permit that is free is taken
+  pub take : (s : ℕ) → 2 ≤ s → MayStep (Semaphore permits) at (Exchange s (s - 2)) owns
+  pub set_parked : MayStep (Semaphore permits) at (Exchange 0 1) owns
+  pub clear_parked : MayStep (Semaphore permits) at (And 18446744073709551614) owns
+  -- who holds one gives it back
+  pub give : has (owning at Shared) owns ≡ true → MayStep (Semaphore permits) at (Add 2) owns
+  -- and who holds as many as it drew gives them all
+  pub fill : (many : ℕ) → HasAll at (so_many_shared many) owns
+      → MayStep (Semaphore permits) at (Add (2 * many)) owns
+
+-- what its kinds of step trade
+pub record SemaphoreTrades (permits at : ℕ) (owns : List Ownership) : Type 0 where
+  -- who takes a permit has one more
+  pub takes : (s : ℕ) → 2 ≤ s
+      → owns_after_step (Semaphore permits) at (Exchange s (s - 2)) s owns
+      ≡ owning at Shared ∷ owns
+  -- who gives one back has one less
+  pub gives : (n : ℕ) → n / 2 < 2 ^ 62
+      → owns_after_step (Semaphore permits) at (Add 2) n owns ≡ without (owning at Shared) owns
+  -- who drew the word may give all back, and has none of them then
+  pub has_all : (many : ℕ) → HasAll at (so_many_shared many) (holding at many ++ owns)
+  pub fills : (many n : ℕ) → n / 2 + many ≤ 2 ^ 62
+      → owns_after_step (Semaphore permits) at (Add (2 * many)) n (holding at many ++ owns) ≡ owns
+  -- and who finds a code has no more than the free permits leave
+  pub few : (n : ℕ) → CodesWith (Semaphore permits) at n owns
+      → n / 2 + owned at shared owns ≤ 2 ^ 62
+
+-- of whoever it is
+abbrev pub SemaphoreTrading : Type 0
+SemaphoreTrading = (permits at : ℕ) (owns : List Ownership) → SemaphoreTrades permits at owns
+
+-- whoever it is, it may take them
+abbrev pub SemaphoreMaySteps : Type 0
+SemaphoreMaySteps = (permits at : ℕ) (owns : List Ownership) → SemaphoreSteps permits at owns
+
+-- what is known of a `Once` that is done
+pub record OnceKnowledge (at : ℕ) (owns : List Ownership) : Type 0 where
+  -- who leaves it done knows it
+  pub learns : (op : Op) (found : ℕ) → apply op found ≡ 1
+      → has (owning at Witness) (owns_after_step Once at op found owns) ≡ true
+  -- who knows it does so behind each step, and finds it done
+  pub keeps : (op : Op) (found : ℕ) → has (owning at Witness) owns ≡ true
+      → has (owning at Witness) (owns_after_step Once at op found owns) ≡ true
+  pub finds : (n : ℕ) → CodesWith Once at n owns → has (owning at Witness) owns ≡ true → n ≡ 1
+
+-- of whoever it is
+abbrev pub OnceIsKnown : Type 0
+OnceIsKnown = (at : ℕ) (owns : List Ownership) → OnceKnowledge at owns
+
+-- the kinds of step on a condition variable's word
+pub record CondvarSteps (at : ℕ) (owns : List Ownership) : Type 0 where
+  pub load : MayStep Condvar at Load owns
+  -- who owns a mutex of another number shows it, where none is shown
+  pub show : (mutex : ℕ) → at ≢ word_index mutex Condvar
+      → has (owning (word_index mutex Mutex) Exclusive) owns ≡ true
+      → MayStep Condvar at (Exchange 0 (mutex + 1)) owns
+  pub hide : MayStep Condvar at (Store 0) owns
+
+-- whoever it is, it may take them
+abbrev pub CondvarMaySteps : Type 0
+CondvarMaySteps = (at : ℕ) (owns : List Ownership) → CondvarSteps at owns
+
+-- the kinds of step on the count word of the mutex before it
+pub record CountSteps (mutex : ℕ) (owns : List Ownership) : Type 0 where
+  pub load : MayStep Count (word_index (mutex + 1) Count) Load owns
+  -- who owns the mutex, and says this count of it, counts once more or once less, or stores another
+  -- count
+  pub raise : (count : ℕ) → has (owning_with (word_index mutex Mutex) count) owns ≡ true
+      → IsCountCode (count + 1)
+      → MayStep Count (word_index (mutex + 1) Count) (Add 1) owns
+  pub lower : (count : ℕ) → has (owning_with (word_index mutex Mutex) (count + 1)) owns ≡ true
+      → IsCountCode count
+      → MayStep Count (word_index (mutex + 1) Count) (Sub 1) owns
+  pub store : (count m : ℕ) → has (owning_with (word_index mutex Mutex) count) owns ≡ true
+      → IsCountCode m
+      → MayStep Count (word_index (mutex + 1) Count) (Store m) owns
+
+-- whoever it is, it may take them
+abbrev pub CountMaySteps : Type 0
+CountMaySteps = (mutex : ℕ) (owns : List Ownership) → CountSteps mutex owns

@@ -1,0 +1,41 @@
+//! The knowledge of a lot's seat. No value of it is made.
+ghost use Rattle.std.specs.Prelude.{ℕ, List};
+ghost use Rattle.std.specs.Borrow.{ftrue};
+ghost use Rattle.core_words.specs.declared.owners.Ownership.{Ownership};
+ghost use Rattle.core_words.specs.declared.views.WordStep.{WordStep};
+ghost use Rattle.core_words.specs.declared.views.Drawn.{Drawn};
+
+use crate::words::WordKind;
+use core_base::Op;
+use std::marker::Model;
+
+/// A step that a seat took: at which index, by which operation, and the value before.
+pub struct WordStep {
+    pub at: usize,
+    pub op: Op,
+    pub seen: u64,
+}
+
+/// A word that a seat drew.
+pub struct Drawn {
+    pub number: usize,
+    pub kind: WordKind,
+}
+
+/// A seat's view: what the seat has done, what it owns, and what it saw.
+pub struct View {
+    // Its steps, the first at the front.
+    pub ghost steps: { List WordStep },
+    pub ghost owns: { List Ownership },
+    // The words that it drew, the last at the front.
+    pub ghost drawn: { List Drawn },
+    // The greatest count of drawn words that it saw.
+    pub ghost saw: { ℕ },
+    // The index of the mutex whose permit is out with it. It owns that mutex, and there is one at
+    // most.
+    pub ghost out: { List ℕ },
+}
+
+impl Model for View {
+    ghost also_owns = { λ _. ftrue };
+}

@@ -1,8 +1,0 @@
-pub use Rattle.lot_base.specs.Words
-pub mod Acts
-pub mod Owners
-pub mod Profiles
-pub mod Stations
-pub mod Calls
-pub mod Moves
-pub mod Rows

@@ -1,5 +1,0 @@
-use Rattle.lot_condvar.proofs.CondvarFit.{condvar_moves_fit}
-use Rattle.lot_condvar.proofs.laws.condvar_moves_fit.Goals as goal
-
-pub returns : goal.returns
-returns c = condvar_moves_fit

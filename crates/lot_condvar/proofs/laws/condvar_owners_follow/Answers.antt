@@ -1,5 +1,0 @@
-use Rattle.lot_condvar.proofs.CondvarFit.{condvar_owners_follow}
-use Rattle.lot_condvar.proofs.laws.condvar_owners_follow.Goals as goal
-
-pub returns : goal.returns
-returns c = condvar_owners_follow

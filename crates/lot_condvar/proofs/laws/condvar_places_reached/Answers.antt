@@ -1,5 +1,0 @@
-use Rattle.lot_condvar.proofs.NotifyTells.{condvar_places_reached}
-use Rattle.lot_condvar.proofs.laws.condvar_places_reached.Goals as goal
-
-pub returns : goal.returns
-returns c = condvar_places_reached

@@ -1,5 +1,0 @@
-use Rattle.lot_condvar.proofs.CondvarActs.{looks_move}
-use Rattle.lot_condvar.proofs.laws.looks_move.Goals as goal
-
-pub returns : goal.returns
-returns c = looks_move

@@ -1,5 +1,0 @@
-use Rattle.lot_condvar.proofs.NotifyTells.{looks_tell}
-use Rattle.lot_condvar.proofs.laws.looks_tell.Goals as goal
-
-pub returns : goal.returns
-returns c = looks_tell

@@ -1,5 +1,0 @@
-use Rattle.lot_condvar.proofs.NotifierFit.{notifiers_code}
-use Rattle.lot_condvar.proofs.laws.notifiers_code.Goals as goal
-
-pub returns : goal.returns
-returns c = notifiers_code

@@ -1,5 +1,0 @@
-use Rattle.lot_condvar.proofs.NotifierFit.{notifiers_follow}
-use Rattle.lot_condvar.proofs.laws.notifiers_follow.Goals as goal
-
-pub returns : goal.returns
-returns c = notifiers_follow

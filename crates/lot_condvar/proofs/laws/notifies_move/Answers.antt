@@ -1,5 +1,0 @@
-use Rattle.lot_condvar.proofs.CondvarActs.{notifies_move}
-use Rattle.lot_condvar.proofs.laws.notifies_move.Goals as goal
-
-pub returns : goal.returns
-returns c = notifies_move

@@ -1,5 +1,0 @@
-use Rattle.lot_condvar.proofs.NotifyTells.{notifies_tell}
-use Rattle.lot_condvar.proofs.laws.notifies_tell.Goals as goal
-
-pub returns : goal.returns
-returns c = notifies_tell

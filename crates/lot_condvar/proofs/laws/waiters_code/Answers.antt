@@ -1,5 +1,0 @@
-use Rattle.lot_condvar.proofs.WaiterFit.{waiters_code}
-use Rattle.lot_condvar.proofs.laws.waiters_code.Goals as goal
-
-pub returns : goal.returns
-returns c = waiters_code

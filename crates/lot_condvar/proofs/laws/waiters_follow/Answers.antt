@@ -1,5 +1,0 @@
-use Rattle.lot_condvar.proofs.WaiterFit.{waiters_follow}
-use Rattle.lot_condvar.proofs.laws.waiters_follow.Goals as goal
-
-pub returns : goal.returns
-returns c = waiters_follow

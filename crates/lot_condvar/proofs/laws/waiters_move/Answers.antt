@@ -1,5 +1,0 @@
-use Rattle.lot_condvar.proofs.CondvarActs.{waiters_move}
-use Rattle.lot_condvar.proofs.laws.waiters_move.Goals as goal
-
-pub returns : goal.returns
-returns c = waiters_move

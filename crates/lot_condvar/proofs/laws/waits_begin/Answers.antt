@@ -1,5 +1,0 @@
-use Rattle.lot_condvar.proofs.CondvarActs.{waits_begin}
-use Rattle.lot_condvar.proofs.laws.waits_begin.Goals as goal
-
-pub returns : goal.returns
-returns c = waits_begin

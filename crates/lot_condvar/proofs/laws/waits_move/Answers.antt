@@ -1,5 +1,0 @@
-use Rattle.lot_condvar.proofs.CondvarActs.{waits_move}
-use Rattle.lot_condvar.proofs.laws.waits_move.Goals as goal
-
-pub returns : goal.returns
-returns c = waits_move

@@ -1,7 +1,0 @@
-use Rattle.std.proofs.Common.{◌≡◌, drop}
-use Rattle.lot_driver.specs.Takes.{successor_in}
-use Rattle.lot_driver.proofs.taking.successor.Given as goal
-
--- none so far wants more
-abbrev pub invariant-loop-k : goal.invariant-loop-k
-invariant-loop-k l = successor_in l.wants ≡ successor_in (drop l.k l.wants)

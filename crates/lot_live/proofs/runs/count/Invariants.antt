@@ -1,6 +1,0 @@
-use Rattle.parking_lot.specs.Users.{lot_of}
-use Rattle.parking_lot_core.specs.Tokens.{IsTokenOf}
-use Rattle.lot_live.proofs.runs.count.Given as goal
-
-abbrev pub invariant-loop : goal.invariant-loop
-invariant-loop g l = IsTokenOf (lot_of l.total) l.token

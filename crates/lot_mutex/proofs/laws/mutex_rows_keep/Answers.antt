@@ -1,5 +1,0 @@
-use Rattle.lot_mutex.proofs.MutexRowCheck.{mutex_promises}
-use Rattle.lot_mutex.proofs.laws.mutex_rows_keep.Goals as goal
-
-pub returns : goal.returns
-returns c = mutex_promises

@@ -1,5 +1,0 @@
-use Rattle.lot_mutex.proofs.MutexFit.{mutex_steps_follow}
-use Rattle.lot_mutex.proofs.laws.mutex_steps_follow.Goals as goal
-
-pub returns : goal.returns
-returns c = mutex_steps_follow

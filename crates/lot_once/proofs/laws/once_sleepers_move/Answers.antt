@@ -1,5 +1,0 @@
-use Rattle.lot_once.proofs.OnceActs.{once_sleepers_move}
-use Rattle.lot_once.proofs.laws.once_sleepers_move.Goals as goal
-
-pub returns : goal.returns
-returns c = once_sleepers_move

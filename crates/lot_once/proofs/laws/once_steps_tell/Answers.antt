@@ -1,5 +1,0 @@
-use Rattle.lot_once.proofs.OnceTells.{once_steps_tell}
-use Rattle.lot_once.proofs.laws.once_steps_tell.Goals as goal
-
-pub returns : goal.returns
-returns c = once_steps_tell

@@ -1,3 +1,0 @@
-pub mod Buckets
-pub mod Halves
-pub mod Picked

@@ -1,3 +1,0 @@
-pub mod Buckets
-pub mod Places
-pub mod Wants

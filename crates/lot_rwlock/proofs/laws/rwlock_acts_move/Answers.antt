@@ -1,5 +1,0 @@
-use Rattle.lot_rwlock.proofs.RwLockMoves.{rwlock_acts_move}
-use Rattle.lot_rwlock.proofs.laws.rwlock_acts_move.Goals as goal
-
-pub returns : goal.returns
-returns c = rwlock_acts_move

@@ -1,5 +1,0 @@
-use Rattle.lot_rwlock.proofs.RwLockStands.{rwlock_calls_stand}
-use Rattle.lot_rwlock.proofs.laws.rwlock_calls_stand.Goals as goal
-
-pub returns : goal.returns
-returns c = rwlock_calls_stand

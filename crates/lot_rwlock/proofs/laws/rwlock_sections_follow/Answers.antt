@@ -1,5 +1,0 @@
-use Rattle.lot_rwlock.proofs.RwLockSections.{rwlock_sections_follow}
-use Rattle.lot_rwlock.proofs.laws.rwlock_sections_follow.Goals as goal
-
-pub returns : goal.returns
-returns c = rwlock_sections_follow

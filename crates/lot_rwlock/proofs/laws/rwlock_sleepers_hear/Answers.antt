@@ -1,5 +1,0 @@
-use Rattle.lot_rwlock.proofs.RwLockCallPlaces.{rwlock_sleepers_hear}
-use Rattle.lot_rwlock.proofs.laws.rwlock_sleepers_hear.Goals as goal
-
-pub returns : goal.returns
-returns c = rwlock_sleepers_hear

@@ -1,5 +1,0 @@
-use Rattle.lot_rwlock.proofs.RwLockFit.{rwlock_steps_follow}
-use Rattle.lot_rwlock.proofs.laws.rwlock_steps_follow.Goals as goal
-
-pub returns : goal.returns
-returns c = rwlock_steps_follow

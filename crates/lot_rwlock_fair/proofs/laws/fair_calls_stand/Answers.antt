@@ -1,5 +1,0 @@
-use Rattle.lot_rwlock_fair.proofs.FairStands.{fair_calls_stand}
-use Rattle.lot_rwlock_fair.proofs.laws.fair_calls_stand.Goals as goal
-
-pub returns : goal.returns
-returns c = fair_calls_stand

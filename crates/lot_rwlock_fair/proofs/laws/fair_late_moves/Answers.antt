@@ -1,5 +1,0 @@
-use Rattle.lot_rwlock_fair.proofs.FairActs.{fair_late_moves}
-use Rattle.lot_rwlock_fair.proofs.laws.fair_late_moves.Goals as goal
-
-pub returns : goal.returns
-returns c = fair_late_moves

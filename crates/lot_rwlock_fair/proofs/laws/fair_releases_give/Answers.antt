@@ -1,5 +1,0 @@
-use Rattle.lot_rwlock_fair.proofs.FairGives.{fair_releases_give}
-use Rattle.lot_rwlock_fair.proofs.laws.fair_releases_give.Goals as goal
-
-pub returns : goal.returns
-returns c = fair_releases_give

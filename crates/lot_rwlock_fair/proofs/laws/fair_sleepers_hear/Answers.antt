@@ -1,5 +1,0 @@
-use Rattle.lot_rwlock_fair.proofs.FairSleepers.{fair_sleepers_hear}
-use Rattle.lot_rwlock_fair.proofs.laws.fair_sleepers_hear.Goals as goal
-
-pub returns : goal.returns
-returns c = fair_sleepers_hear

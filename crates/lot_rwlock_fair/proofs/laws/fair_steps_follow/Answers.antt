@@ -1,5 +1,0 @@
-use Rattle.lot_rwlock_fair.proofs.FairFit.{fair_steps_follow}
-use Rattle.lot_rwlock_fair.proofs.laws.fair_steps_follow.Goals as goal
-
-pub returns : goal.returns
-returns c = fair_steps_follow

@@ -1,5 +1,0 @@
-use Rattle.lot_rwlock_fair.proofs.FairCallTells.{fair_steps_tell}
-use Rattle.lot_rwlock_fair.proofs.laws.fair_steps_tell.Goals as goal
-
-pub returns : goal.returns
-returns c = fair_steps_tell

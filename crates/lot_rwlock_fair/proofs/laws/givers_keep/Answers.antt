@@ -1,5 +1,0 @@
-use Rattle.lot_rwlock_fair.proofs.FairOwners.{givers_keep}
-use Rattle.lot_rwlock_fair.proofs.laws.givers_keep.Goals as goal
-
-pub returns : goal.returns
-returns c = givers_keep

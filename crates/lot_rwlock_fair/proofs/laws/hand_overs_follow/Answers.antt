@@ -1,5 +1,0 @@
-use Rattle.lot_rwlock_fair.proofs.HandOverFit.{hand_overs_follow}
-use Rattle.lot_rwlock_fair.proofs.laws.hand_overs_follow.Goals as goal
-
-pub returns : goal.returns
-returns c = hand_overs_follow

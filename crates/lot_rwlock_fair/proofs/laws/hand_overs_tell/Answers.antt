@@ -1,5 +1,0 @@
-use Rattle.lot_rwlock_fair.proofs.FairTells.{hand_overs_tell}
-use Rattle.lot_rwlock_fair.proofs.laws.hand_overs_tell.Goals as goal
-
-pub returns : goal.returns
-returns c = hand_overs_tell

@@ -1,5 +1,0 @@
-use Rattle.lot_rwlock_fair.proofs.FairMoves.{handed_move}
-use Rattle.lot_rwlock_fair.proofs.laws.handed_move.Goals as goal
-
-pub returns : goal.returns
-returns c = handed_move

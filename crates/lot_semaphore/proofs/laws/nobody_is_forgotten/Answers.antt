@@ -1,5 +1,0 @@
-use Rattle.lot_semaphore.proofs.TendedKept.{nobody_forgotten}
-use Rattle.lot_semaphore.proofs.laws.nobody_is_forgotten.Goals as goal
-
-pub returns : goal.returns
-returns c = nobody_forgotten

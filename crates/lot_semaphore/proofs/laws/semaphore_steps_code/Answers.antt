@@ -1,5 +1,0 @@
-use Rattle.lot_semaphore.proofs.SemaphoreCode.{semaphore_steps_code}
-use Rattle.lot_semaphore.proofs.laws.semaphore_steps_code.Goals as goal
-
-pub returns : goal.returns
-returns c = semaphore_steps_code

@@ -1,5 +1,0 @@
-use Rattle.lot_semaphore.proofs.TendedKept.{steps_keep_tended}
-use Rattle.lot_semaphore.proofs.laws.semaphore_steps_keep_tended.Goals as goal
-
-pub returns : goal.returns
-returns c = steps_keep_tended

@@ -1,5 +1,0 @@
-use Rattle.lot_semaphore.proofs.SemaphoreTells.{semaphore_steps_tell}
-use Rattle.lot_semaphore.proofs.laws.semaphore_steps_tell.Goals as goal
-
-pub returns : goal.returns
-returns c = semaphore_steps_tell

@@ -1,6 +1,0 @@
-use Rattle.std.specs.Prelude.{All}
-use Rattle.parking_lot_core.specs.Tokens.{IsNewTicketOf}
-use Rattle.lot_trials.proofs.tests.many.count_woken.Given as goal
-
-abbrev pub invariant-loop : goal.invariant-loop
-invariant-loop g l = All (IsNewTicketOf l.lot) l.tickets.items

@@ -1,7 +1,0 @@
-use Rattle.std.specs.Prelude.{◌≡◌}
-use Rattle.lot_base.specs.declared.keys.Keys.TheVariants.{One}
-use Rattle.parking_lot_core.specs.Sections.{IsUntouched}
-use Rattle.lot_trials.proofs.tests.many.take_all.Given as goal
-
-abbrev pub invariant-loop-thread : goal.invariant-loop-thread
-invariant-loop-thread g l = (l.section.lot.now ≡ l.lot) × (l.section.keys ≡ One 0) × IsUntouched l.section

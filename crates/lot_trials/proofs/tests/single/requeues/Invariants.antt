@@ -1,5 +1,0 @@
-use Rattle.parking_lot_core.specs.Tokens.{IsTokenOf}
-use Rattle.lot_trials.proofs.tests.single.requeues.Given as goal
-
-abbrev pub invariant-loop-op : goal.invariant-loop-op
-invariant-loop-op g l = IsTokenOf l.lot l.token

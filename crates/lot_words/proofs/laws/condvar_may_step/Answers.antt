@@ -1,5 +1,0 @@
-use Rattle.lot_words.proofs.TiedSteps.{condvar_steps}
-use Rattle.lot_words.proofs.laws.condvar_may_step.Goals as goal
-
-pub returns : goal.returns
-returns c = condvar_steps

@@ -1,5 +1,0 @@
-use Rattle.lot_words.proofs.TiedSteps.{count_steps}
-use Rattle.lot_words.proofs.laws.count_may_step.Goals as goal
-
-pub returns : goal.returns
-returns c = count_steps

@@ -1,5 +1,0 @@
-use Rattle.lot_words.proofs.MutexSteps.{mutex_steps}
-use Rattle.lot_words.proofs.laws.mutex_may_step.Goals as goal
-
-pub returns : goal.returns
-returns c = mutex_steps

@@ -1,5 +1,0 @@
-use Rattle.lot_words.proofs.RuleLaws.{drawn_once}
-use Rattle.lot_words.proofs.laws.numbers_are_drawn_once.Goals as goal
-
-pub returns : goal.returns
-returns c = drawn_once

@@ -1,5 +1,0 @@
-use Rattle.lot_words.proofs.OnceKnowledge.{once_known}
-use Rattle.lot_words.proofs.laws.once_is_known.Goals as goal
-
-pub returns : goal.returns
-returns c = once_known

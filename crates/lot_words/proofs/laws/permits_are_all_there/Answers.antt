@@ -1,5 +1,0 @@
-use Rattle.lot_words.proofs.Endowing.{permits_are_all_there}
-use Rattle.lot_words.proofs.laws.permits_are_all_there.Goals as goal
-
-pub returns : goal.returns
-returns c = permits_are_all_there

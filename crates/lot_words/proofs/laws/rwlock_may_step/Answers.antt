@@ -1,5 +1,0 @@
-use Rattle.lot_words.proofs.RwLockKinds.{rwlock_steps}
-use Rattle.lot_words.proofs.laws.rwlock_may_step.Goals as goal
-
-pub returns : goal.returns
-returns c = rwlock_steps

@@ -1,5 +1,0 @@
-use Rattle.lot_words.proofs.SemaphoreSteps.{semaphore_steps}
-use Rattle.lot_words.proofs.laws.semaphore_may_step.Goals as goal
-
-pub returns : goal.returns
-returns c = semaphore_steps

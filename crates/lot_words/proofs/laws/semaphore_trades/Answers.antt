@@ -1,5 +1,0 @@
-use Rattle.lot_words.proofs.SemaphoreSteps.{semaphore_trades}
-use Rattle.lot_words.proofs.laws.semaphore_trades.Goals as goal
-
-pub returns : goal.returns
-returns c = semaphore_trades

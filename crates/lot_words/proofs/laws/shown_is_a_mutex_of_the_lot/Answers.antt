@@ -1,5 +1,0 @@
-use Rattle.lot_words.proofs.RuleLaws.{shown_is_a_mutex}
-use Rattle.lot_words.proofs.laws.shown_is_a_mutex_of_the_lot.Goals as goal
-
-pub returns : goal.returns
-returns c = shown_is_a_mutex

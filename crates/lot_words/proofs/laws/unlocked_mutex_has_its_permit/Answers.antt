@@ -1,5 +1,0 @@
-use Rattle.lot_words.proofs.RuleLaws.{unlocked_has_its_permit}
-use Rattle.lot_words.proofs.laws.unlocked_mutex_has_its_permit.Goals as goal
-
-pub returns : goal.returns
-returns c = unlocked_has_its_permit

@@ -1,7 +1,0 @@
-use Rattle.lot_words.specs.Indices.{word_index}
-use Rattle.lot_words.specs.Views.{owning_with}
-use Rattle.lot_words.specs.declared.words.WordKind.TheVariants.{Mutex}
-use Rattle.lot_words.proofs.table.LotWords.split_counted.Given as goal
-
-abbrev pub ghosts-split_counted_picked : goal.ghosts-split_counted_picked
-ghosts-split_counted_picked a = record { owned = owning_with (word_index a.mutex.number Mutex) a.count }

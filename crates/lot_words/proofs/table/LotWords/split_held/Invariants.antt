@@ -1,5 +1,0 @@
-use Rattle.lot_words.specs.Rights.{named_by}
-use Rattle.lot_words.proofs.table.LotWords.split_held.Given as goal
-
-abbrev pub ghosts-split_off : goal.ghosts-split_off
-ghosts-split_off a = record { owned = named_by a.word a.owner }

@@ -1,0 +1,159 @@
+//! The loops over a lock, each a function of its own, which is inlined nowhere.
+ghost use Rattle.std.specs.Prelude.{◌≡◌, []};
+ghost use Rattle.lotbench.specs.Seats.{IsSeatOf};
+
+use crate::least::LeastLock;
+use atomic_table::Seat;
+use std::sync::Wait;
+use std::thread::yield_now;
+
+// Waits until the word is free, as no thread has to here: so a loop may wait, as a lock may.
+#[cold]
+#[inline(never)]
+fn wait<R: Wait>(rt: &R, lock: &LeastLock) {
+    for _ in rt.forever() {
+        if lock.is_free() {
+            break;
+        }
+        yield_now();
+    }
+}
+
+// As a `Once` is called that is done. It may wait, as each of these may.
+#[inline]
+fn look<R: Wait>(rt: &R, lock: &LeastLock, seat: &mut Seat<(), ()>)
+    requires { IsSeatOf lock.now seat.old }
+    ensures { IsSeatOf lock.now seat.new }
+{
+    if lock.load(seat) != 0 {
+        wait(rt, lock);
+    }
+}
+
+// As a lock is taken.
+#[inline]
+fn take<R: Wait>(rt: &R, lock: &LeastLock, seat: &mut Seat<(), ()>)
+    requires { IsSeatOf lock.now seat.old }
+    ensures { IsSeatOf lock.now seat.new }
+{
+    if !lock.take(seat) {
+        wait(rt, lock);
+    }
+}
+
+// And given up.
+#[inline]
+fn give<R: Wait>(rt: &R, lock: &LeastLock, seat: &mut Seat<(), ()>)
+    requires { IsSeatOf lock.now seat.old }
+    ensures { IsSeatOf lock.now seat.new }
+{
+    if !lock.give(seat) {
+        wait(rt, lock);
+    }
+}
+
+#[cold]
+#[inline(never)]
+fn enter_behind<R: Wait>(rt: &R, lock: &LeastLock, seat: &mut Seat<(), ()>) -> Seat<(), ()>
+    requires { IsSeatOf lock.now seat.old }
+    ensures { IsSeatOf lock.now seat.new × IsSeatOf lock.now result × (result.me.1 ≡ []) }
+{
+    wait(rt, lock);
+    lock.split(seat)
+}
+
+// As a lock is taken by who owns it apart from its thread.
+#[inline]
+fn enter<R: Wait>(rt: &R, lock: &LeastLock, seat: &mut Seat<(), ()>) -> Seat<(), ()>
+    requires { IsSeatOf lock.now seat.old }
+    ensures { IsSeatOf lock.now seat.new × IsSeatOf lock.now result × (result.me.1 ≡ []) }
+{
+    match lock.enter(seat) {
+        Some(owner) => owner,
+        None => enter_behind(rt, lock, seat),
+    }
+}
+
+// And given up.
+#[inline]
+fn leave<R: Wait>(rt: &R, lock: &LeastLock, seat: &mut Seat<(), ()>, owner: Seat<(), ()>)
+    requires { IsSeatOf lock.now seat.old × IsSeatOf lock.now owner × (owner.me.1 ≡ []) }
+    ensures { IsSeatOf lock.now seat.new }
+{
+    if !lock.leave(seat, owner) {
+        wait(rt, lock);
+    }
+}
+
+/// A thread's word on its last section, until it steps again.
+#[derive(Drop)]
+pub(crate) struct Told {
+    pub(crate) is_told: bool,
+}
+
+impl Told {
+    // As a token forgets its last section.
+    #[inline]
+    fn forget(&mut self) {
+        if self.is_told {
+            self.clear();
+        }
+    }
+
+    #[cold]
+    #[inline(never)]
+    fn clear(&mut self) {
+        self.is_told = false;
+    }
+}
+
+/// Looks at the word.
+#[inline(never)]
+pub(crate) fn look_often<R: Wait>(rt: &R, lock: &LeastLock, seat: &mut Seat<(), ()>, times: u64)
+    requires { IsSeatOf lock.now seat.old }
+{
+    for _ in 0..times {
+        look(rt, lock, seat);
+    }
+}
+
+/// Takes the lock and gives it up, with nothing that says who owns it.
+#[inline(never)]
+pub(crate) fn take_often<R: Wait>(rt: &R, lock: &LeastLock, seat: &mut Seat<(), ()>, times: u64)
+    requires { IsSeatOf lock.now seat.old }
+{
+    for _ in 0..times {
+        take(rt, lock, seat);
+        give(rt, lock, seat);
+    }
+}
+
+/// The same, and what the guard has apart from its thread is split off and joined.
+#[inline(never)]
+pub(crate) fn hold_often<R: Wait>(rt: &R, lock: &LeastLock, seat: &mut Seat<(), ()>, times: u64)
+    requires { IsSeatOf lock.now seat.old }
+{
+    for _ in 0..times {
+        let owner = enter(rt, lock, seat);
+        leave(rt, lock, seat, owner);
+    }
+}
+
+/// The same, and each step asks whether a section is told.
+#[inline(never)]
+pub(crate) fn hold_told<R: Wait>(
+    rt: &R,
+    lock: &LeastLock,
+    seat: &mut Seat<(), ()>,
+    told: &mut Told,
+    times: u64,
+)
+    requires { IsSeatOf lock.now seat.old }
+{
+    for _ in 0..times {
+        told.forget();
+        let owner = enter(rt, lock, seat);
+        told.forget();
+        leave(rt, lock, seat, owner);
+    }
+}

@@ -1,6 +1,0 @@
-use Rattle.parking_lot.specs.Users.{lot_of}
-use Rattle.parking_lot_core.specs.Tokens.{IsTokenOf}
-use Rattle.mapped_trials.proofs.tests.reentrant.add_while_held.Given as goal
-
-abbrev pub invariant-loop-n : goal.invariant-loop-n
-invariant-loop-n g l = IsTokenOf (lot_of l.mutex.0) l.token

@@ -1,5 +1,0 @@
-pub mod CondvarCalling
-pub mod CondvarNotifying
-pub mod Coming
-pub mod CondvarGoing
-pub mod MutexGoing

@@ -1,3 +1,0 @@
-pub mod CondvarCalls
-pub mod MutexCourses
-pub mod CondvarCourses

@@ -1,5 +1,0 @@
-//! `Once`, tried by threads. Nothing is here but tests.
-#![tactic(auto)]
-
-#[cfg(test)]
-mod tests;

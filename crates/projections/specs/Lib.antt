@@ -1,4 +1,0 @@
-pub mod Finds
-pub mod Then
-pub mod Mapped
-pub mod Shown

@@ -1,0 +1,89 @@
+-- Turns one behind another, up to the end of their call.
+use Rattle.std.proofs.Common.{ℕ, ◌≡◌, None, Some, List, Option, refl, sym, ap, ◌∙◌, subst}
+use Rattle.core_base.specs.declared.ops.Op.{Op}
+use Rattle.steps_base.specs.declared.acts.Act.{Act}
+use Rattle.steps_base.specs.declared.acts.Act as act
+use Rattle.steps_base.specs.declared.acts.Reply.TheVariants.{Value}
+use Rattle.steps_base.specs.declared.acts.Reply.{Reply}
+use Rattle.spec_locks.specs.declared.outcomes.Answer.{Answer}
+use Rattle.lot_steps.specs.Steps.{act_of, next_act, next_place}
+use Rattle.lot_steps.specs.declared.places.Place.{Place}
+use Rattle.core_words.specs.declared.owners.Ownership.{Ownership}
+use Rattle.core_words.specs.Indices.{word_index}
+use Rattle.core_words.specs.Steps.{CodesWith, after_step}
+use Rattle.core_words.specs.declared.views.View.{View}
+use Rattle.core_words.specs.declared.words.Word.{Word}
+use Rattle.parking_lot_core.specs.Tokens.{IsSameThread, last_of, view_of}
+use Rattle.parking_lot_core.specs.declared.lot.ParkingLot.{ParkingLot}
+use Rattle.parking_lot_core.specs.declared.sections.Section.{Section}
+use Rattle.parking_lot_core.specs.declared.tokens.Token.{Token}
+use Rattle.run_base.specs.Fitting.{Aim, AreWordsFor, Fits, IsOver, ReachedBy, aim_of, answer_of, sleeper_at}
+use Rattle.run_base.specs.Paths.{closure_of}
+use Rattle.run_base.specs.Stages.{ActNeeds, Adds, Became, IsIn, inside_of, stage_of}
+use Rattle.run_base.specs.Telling.{steps_of}
+use Rattle.run_base.specs.Turns.{HasEnded, HasTurned, IsAt}
+use Rattle.run_base.specs.Words.{at_in, kind_in, word_in}
+use Rattle.run_base.specs.declared.words.Words.{Words}
+use Rattle.run_base.proofs.Ending.{end_of, ended}
+use Rattle.run_base.proofs.Paths.{comes_here, comes_on, comes_to_end, walks_on}
+use Rattle.run_base.proofs.Leading.{places_lead}
+use Rattle.run_base.proofs.Turning.{by_stage, told, words_on}
+
+-- what the act of a place needs
+pub needs_by : (up : Type 0) (lot : ParkingLot) (words : Words) (p : Place) (a : Act) (token : Token) (section : Option Section) → IsAt up lot words p token section → act_of p ≡ a → ActNeeds (kind_in words) (at_in words) (stage_of token section) a
+needs_by up lot words p a token section at is = subst (ActNeeds (kind_in words) (at_in words) (stage_of token section)) is (places_lead up (kind_in words) (at_in words) at.4.0 p (stage_of token section) at.3 at.4.1).0
+
+module _ (up : Type 0) (lot : ParkingLot) (words : Words) (p : Place) (old new : Token) (section now : Option Section) where
+  -- an act that was done is a turn
+  pub turned_by : (a : Act) (reply : Reply) → act_of p ≡ a → closure_of a ≡ None → IsAt up lot words p old section → IsSameThread lot old new → IsIn lot now → Became up (kind_in words) (at_in words) (sleeper_at p) (stage_of old section) a reply (stage_of new now) → Adds (at_in words) a reply (steps_of old) (steps_of new) → HasTurned up lot words p reply old section new now
+  turned_by a reply is none at same inside became adds = (
+    same,
+    inside,
+    told up (at_in words) (kind_in words) p a is none (stage_of old section) (stage_of new now) reply (steps_of old) (steps_of new) became adds,
+    λ base fits. (places_lead up (kind_in words) (at_in words) base p (stage_of old section) at.3 fits).2 reply (stage_of new now)
+        (subst (λ (b : Act). Became up (kind_in words) (at_in words) (sleeper_at p) (stage_of old section) b reply (stage_of new now)) (sym is) became),
+  )
+
+-- a step on a word
+pub word_turned : (up : Type 0) (lot : ParkingLot) (words : Words) (p : Place) (old new : Token) (section : Option Section) (lock : ℕ) (op : Op) (seen : ℕ) (w : Word) → w ≡ word_in words lock → act_of p ≡ act.TheVariants.Word lock op → IsAt up lot words p old section → IsSameThread lot old new
+    → view_of new ≡ after_step w.kind (word_index w.number w.kind) op seen (view_of old) → last_of new ≡ None → CodesWith w.kind (word_index w.number w.kind) seen (view_of old).owns → HasTurned up lot words p (Value seen) old section new section
+word_turned up lot words p old new section lock op seen w e is at same stepped last coded =
+    let then = subst (λ (w : Word). view_of new ≡ after_step w.kind (word_index w.number w.kind) op seen (view_of old)) e stepped in
+    let code = subst (λ (w : Word). CodesWith w.kind (word_index w.number w.kind) seen (view_of old).owns) e coded in
+    turned_by up lot words p old new section section (act.TheVariants.Word lock op) (Value seen) is refl at same at.2
+    (by_stage (word_in words lock) op seen old section new then last code) (ap (λ (v : View). v.steps) then)
+
+module _ (up : Type 0) (lot : ParkingLot) (words : Words) (p : Place) (reply : Reply) (old new : Token) (section now : Option Section) (turned : HasTurned up lot words p reply old section new now) where
+  -- what a turn brings that ends no call
+  fits_on : (q : Place) → next_place p reply ≡ q → answer_of (next_act p reply) ≡ None → (base : List Ownership) → Fits up base p (stage_of old section) → Fits up base q (stage_of new now) × (aim_of q ≡ aim_of p)
+  fits_on q is none base fits =
+      let reached : ReachedBy up base (aim_of p) (next_place p reply) None (stage_of new now)
+      = subst (λ (o : Option Answer). ReachedBy up base (aim_of p) (next_place p reply) o (stage_of new now)) none (turned.3 base fits) in
+      subst (λ (r : Place). Fits up base r (stage_of new now) × (aim_of r ≡ aim_of p)) is reached
+
+  pub turn_leads : IsAt up lot words p old section → (q : Place) → next_place p reply ≡ q → answer_of (next_act p reply) ≡ None → IsAt up lot words q new now
+  turn_leads at q is none = (
+    turned.0.0,
+    at.1,
+    turned.1,
+    subst (λ (r : Place). AreWordsFor r (kind_in words) (at_in words)) is (words_on p reply (kind_in words) (at_in words) at.3),
+    (at.4.0, (fits_on q is none at.4.0 at.4.1).0),
+  )
+
+  -- what follows on a turn that ends no call
+  pub turn_then : (q : Place) → next_place p reply ≡ q → answer_of (next_act p reply) ≡ None → (answer : Answer) (last : Token) → HasEnded up lot words q answer new now last → HasEnded up lot words p answer old section last
+  turn_then q is none answer last rest = (
+    (rest.0.0, rest.0.1 ∙ turned.0.1),
+    walks_on (at_in words) p q (steps_of old) (steps_of new) (steps_of last) answer
+        (comes_on (at_in words) p p q (steps_of old) (steps_of old) (steps_of new) reply turned.2.0 (comes_here (at_in words) p (steps_of old)) turned.2.1 turned.2.2 (sym is)) rest.1,
+    λ base fits. let on = fits_on q is none base fits in subst (λ (aim : Aim). IsOver up base aim answer (stage_of last None)) on.1 (rest.2 base on.0),
+  )
+
+  -- a turn that ends its call
+  pub turn_ends : (answer : Answer) → answer_of (next_act p reply) ≡ Some answer → HasEnded up lot words p answer old section new
+  turn_ends answer some = (
+    turned.0,
+    comes_to_end (at_in words) p p (steps_of old) (steps_of old) (steps_of new) reply turned.2.0 answer (comes_here (at_in words) p (steps_of old)) turned.2.1 turned.2.2 (end_of (next_act p reply) answer some),
+    λ base fits. let over = subst (λ (o : Option Answer). ReachedBy up base (aim_of p) (next_place p reply) o (stage_of new now)) some (turned.3 base fits) in
+        ended up base (stage_of new now).owns (aim_of p) answer (inside_of now) (stage_of new now).last (stage_of new now).steps over,
+  )

@@ -1,0 +1,28 @@
+use Rattle.std.proofs.Common.{List, sym, refl, subst}
+use Rattle.core_base.specs.Clocks.{IsUp}
+use Rattle.lot_steps.specs.Steps.{act_of}
+use Rattle.steps_base.specs.declared.acts.Act.{Act}
+use Rattle.core_words.specs.declared.owners.Ownership.{Ownership}
+use Rattle.parking_lot_core.specs.Tokens.{view_of}
+use Rattle.run_base.specs.Fitting.{sleeper_at}
+use Rattle.run_base.specs.Stages.{ActNeeds, Became, Adds, stage_of}
+use Rattle.run_base.specs.Words.{kind_in, at_in}
+use Rattle.run_base.proofs.Leading.{places_lead}
+use Rattle.run_base.proofs.Turning.{told}
+use Rattle.run_base.proofs.driver.turn.Goals as goal
+
+pub perform-requires-clause-needs : goal.perform-requires-clause-needs
+perform-requires-clause-needs g c = let words = c.args.words in let st = stage_of c.args.token.now c.args.section.now in let fits = c.requires.fits in
+    subst (ActNeeds (kind_in c.args.words) (at_in c.args.words) (stage_of c.args.token.now c.args.section.now)) (sym c.requires.act)
+    (places_lead (IsUp g.C.Clock.tells c.args.limit) (kind_in words) (at_in words) fits.0 c.args.place st c.requires.words fits.1).0
+
+pub returns-clause-told : goal.returns-clause-told
+returns-clause-told g c = let old = (view_of c.args.token.now).steps in let new = (view_of c.perform.new.token).steps in let words = c.args.words in
+    let adds = subst (λ (a : Act). Adds (at_in c.args.words) a c.perform.result (view_of c.args.token.now).steps (view_of c.perform.new.token).steps) c.requires.act c.perform.ensures.adds in
+    let became = subst (λ (a : Act). Became (IsUp g.C.Clock.tells c.args.limit) (kind_in c.args.words) (at_in c.args.words) (sleeper_at c.args.place) (stage_of c.args.token.now c.args.section.now) a c.perform.result (stage_of c.perform.new.token c.perform.new.section)) c.requires.act c.perform.ensures.became in
+    told (IsUp g.C.Clock.tells c.args.limit) (at_in words) (kind_in words) c.args.place (act_of c.args.place) refl c.requires.no_closure (stage_of c.args.token.now c.args.section.now) (stage_of c.perform.new.token c.perform.new.section) c.perform.result old new became adds
+
+pub returns-clause-reached : goal.returns-clause-reached
+returns-clause-reached g c = let words = c.args.words in let st = stage_of c.args.token.now c.args.section.now in
+    let became = subst (λ (a : Act). Became (IsUp g.C.Clock.tells c.args.limit) (kind_in c.args.words) (at_in c.args.words) (sleeper_at c.args.place) (stage_of c.args.token.now c.args.section.now) a c.perform.result (stage_of c.perform.new.token c.perform.new.section)) c.requires.act c.perform.ensures.became in
+    λ (base : List Ownership) fits. (places_lead (IsUp g.C.Clock.tells c.args.limit) (kind_in words) (at_in words) base c.args.place st c.requires.words fits).2 c.perform.result (stage_of c.perform.new.token c.perform.new.section) became

@@ -1,0 +1,96 @@
+-- The effects of the calls of a mutex.
+use Rattle.std.specs.Prelude.{ℕ, ◌≡◌, ◌≢◌, ◌<◌, ◌==◌, not, Bool, true, false, List, [], ◌++◌, Option, None}
+use Rattle.core_base.specs.declared.ops.Op.{Op}
+use Rattle.core_base.specs.declared.ops.Op.TheVariants.{Load, Sub, Or, Exchange}
+use Rattle.spec_locks.specs.declared.calls.MutexCall.{MutexCall}
+use Rattle.spec_locks.specs.declared.calls.MutexCall.TheVariants as call
+use Rattle.steps_mutex.specs.MutexSteps.{mutex_first, is_locked, is_parked}
+use Rattle.steps_mutex.specs.declared.lock.Entry as entry
+use Rattle.lot_steps.specs.declared.places.Place.{Place}
+use Rattle.lot_steps.specs.declared.places.Place.TheVariants.{Mutex}
+use Rattle.core_words.specs.Lots.{IsWordOf}
+use Rattle.core_words.specs.Steps.{has}
+use Rattle.core_words.specs.declared.owners.Ownership.{Ownership}
+use Rattle.core_words.specs.declared.views.WordStep.{WordStep}
+use Rattle.core_words.specs.declared.words.Word.{Word}
+use Rattle.core_words.specs.declared.words.WordKind as kinds
+use Rattle.parking_lot_core.specs.declared.lot.ParkingLot.{ParkingLot}
+use Rattle.parking_lot_core.specs.declared.tokens.SectionRecord.{SectionRecord}
+use Rattle.run_base.specs.MutexFitting.{Purpose, enters, releases, hands_over, TookAt, held}
+use Rattle.spec_locks.specs.declared.outcomes.Answer.{Answer}
+use Rattle.parking_lot_core.specs.Tokens.{IsTokenOf, view_of}
+use Rattle.parking_lot_core.specs.declared.tokens.Token.{Token}
+use Rattle.run_base.specs.Paths.{step, mutex_at, at_mutex, Walks}
+
+-- a thread of the lot, and a mutex of it whose keys are numbers
+abbrev pub MeetAt : ParkingLot → Token → Word → Type 0
+MeetAt lot token word = IsTokenOf lot token × IsWordOf lot.words word
+    × (word.kind ≡ kinds.TheVariants.Mutex) × (word.number < 9223372036854775808)
+
+-- where a call of a mutex begins
+abbrev pub beginning : ℕ → MutexCall → Place
+beginning n c = Mutex n (mutex_first false c)
+
+-- its first operation on the word
+abbrev pub first_op : MutexCall → Op
+first_op call.Lock = Exchange 0 1
+first_op call.LockTimed = Exchange 0 1
+first_op call.TryLock = Or 1
+first_op call.Unlock = Sub 1
+first_op call.UnlockFair = Exchange 1 0
+first_op call.Bump = Load
+
+-- what it is for behind that
+abbrev pub purpose_in : MutexCall → Purpose
+purpose_in call.Lock = enters entry.TheVariants.Lock
+purpose_in call.LockTimed = enters entry.TheVariants.LockTimed
+purpose_in call.UnlockFair = hands_over
+purpose_in call.Bump = enters entry.TheVariants.Bump
+purpose_in _ = releases
+
+-- it goes on behind the value that its first operation saw; who is to hand the mutex over owns it
+abbrev pub IsUnfinished : ℕ → MutexCall → ℕ → List Ownership → Type 0
+IsUnfinished n call.Lock seen owns = 0 < seen
+IsUnfinished n call.LockTimed seen owns = 0 < seen
+IsUnfinished n call.TryLock seen owns = ⊥
+IsUnfinished n call.Unlock seen owns = is_parked seen ≡ true
+IsUnfinished n call.UnlockFair seen owns = (seen ≢ 1) × (has (held n) owns ≡ true)
+IsUnfinished n call.Bump seen owns = (is_parked seen ≡ true) × (has (held n) owns ≡ true)
+
+-- who saw a waiter left the section in which it took the first of the queue; who saw none took no
+-- further step
+abbrev pub TookIfParked : ℕ → Bool → List WordStep → Option SectionRecord → Type 0
+TookIfParked n true more last = TookAt n last
+TookIfParked n false more last = (more ≡ []) × (last ≡ None)
+
+-- whether the first operation of a release saw a waiter
+abbrev pub saw_waiter : MutexCall → ℕ → Bool
+saw_waiter call.UnlockFair seen = not (seen == 1)
+saw_waiter _ seen = is_parked seen
+
+-- a release took a waiter by what its first operation saw
+abbrev pub Releases : ℕ → MutexCall → List WordStep → List WordStep → Option SectionRecord → Type 0
+Releases n c old new last = (seen : ℕ) × (more : List WordStep)
+    × (new ≡ (old ++ step (mutex_at n) (first_op c) seen) ++ more)
+    × TookIfParked n (saw_waiter c seen) more last
+
+-- the word was loaded once, and told that the mutex is locked or not
+abbrev pub Sees : ℕ → Bool → List WordStep → List WordStep → Type 0
+Sees n locked old new = (seen : ℕ) × (new ≡ old ++ step (mutex_at n) Load seen)
+    × (is_locked seen ≡ locked)
+
+-- the call of a fair mutex: its unlock hands over
+abbrev pub fairly : MutexCall → MutexCall
+fairly call.Unlock = call.UnlockFair
+fairly c = c
+
+-- the steps of a call lead from its beginning to the answer
+abbrev pub HasWalked : ℕ → MutexCall → Answer → Token → Token → Type 0
+HasWalked n c answer old new =
+    Walks (at_mutex n) (beginning n c) (view_of old).steps (view_of new).steps answer
+
+-- and so they do with the first, which was taken before and saw this
+abbrev pub WalksBehind : ℕ → MutexCall → ℕ → Token → Token → Answer → Type 0
+WalksBehind n c seen old new answer = (before : List WordStep)
+    → (view_of old).steps ≡ before ++ step (mutex_at n) (first_op c) seen
+    → Walks (at_mutex n) (beginning n c) before (view_of new).steps answer

@@ -1,0 +1,214 @@
+-- The holdings of a thread in its call, at each place and at its end. Each sort of lock has a file
+-- of its own for them.
+use Rattle.std.specs.Prelude.{ℕ, ◌≡◌, ◌≢◌, List, Option, Some, None, true, false, unwrap_or, Bool}
+use Rattle.steps_rwlock_fair.specs.FairProfiles.{call_wants}
+use Rattle.core_base.specs.declared.wants.Want.TheVariants.{Exclusive}
+use Rattle.spec_locks.specs.declared.outcomes.Answer.{Answer}
+use Rattle.lot_steps.specs.Steps.{act_of, next_place, next_act, looking, HasKeys}
+use Rattle.steps_base.specs.declared.acts.Act.{Act}
+use Rattle.steps_base.specs.declared.acts.Act as act
+use Rattle.steps_base.specs.declared.acts.Reply.{Reply}
+use Rattle.lot_steps.specs.declared.places.Place.{Place}
+use Rattle.lot_steps.specs.declared.places.Place.TheVariants.{Idle, Mutex, RwLock, Once, Condvar, Semaphore}
+use Rattle.core_words.specs.declared.owners.Ownership.{Ownership}
+use Rattle.core_words.specs.declared.words.WordKind.{WordKind}
+use Rattle.steps_rwlock.specs.declared.places.Admission.{Admission}
+use Rattle.steps_rwlock.specs.declared.purposes.RwLockPurpose.{RwLockPurpose}
+use Rattle.steps_rwlock.specs.declared.purposes.RwLockPurpose.TheVariants as purpose
+use Rattle.steps_rwlock_fair.specs.declared.places.RwLockCallPlace.{RwLockCallPlace}
+use Rattle.steps_rwlock_fair.specs.declared.places.RwLockCallPlace.TheVariants as places
+use Rattle.spec_locks.specs.declared.calls.Access.{Access}
+use Rattle.spec_locks.specs.declared.calls.OnceCall.{OnceCall}
+use Rattle.spec_locks.specs.declared.calls.OnceCall.TheVariants.{CallOnce, WaitTimed}
+use Rattle.steps_once.specs.OnceProfiles.{once_wants}
+use Rattle.steps_once.specs.declared.places.OncePlace.{OncePlace}
+use Rattle.steps_once.specs.declared.places.OncePlace.TheVariants.{Look, Run, GiveUp}
+use Rattle.steps_once.specs.declared.run.RunAt.{RunAt}
+use Rattle.steps_once.specs.declared.run.RunAt.TheVariants as run
+use Rattle.steps_semaphore.specs.SemaphoreProfiles.{semaphore_wants}
+use Rattle.steps_condvar.specs.CondvarSteps.{mutex_beside}
+use Rattle.steps_condvar.specs.declared.places.CondvarPlace.{CondvarPlace}
+use Rattle.steps_condvar.specs.declared.places.CondvarPlace.TheVariants as condvars
+use Rattle.core_words.specs.declared.words.WordKind.TheVariants as kind
+use Rattle.run_base.specs.Sleepers.{condvar_sleeper, late_at}
+use Rattle.run_base.specs.CondvarFitting.{FitsCondvar, IsNotifyOver, IsWaitOver}
+use Rattle.spec_locks.specs.declared.calls.Patience.TheVariants.{Patient}
+use Rattle.run_base.specs.MutexFitting.{Purpose, purpose_at, FitsMutex, IsMutexOver}
+use Rattle.run_base.specs.RwLockFitting.{FitsCall, IsFairlyOver, IsRwLockOver, may_be_handed, purpose_in}
+use Rattle.run_base.specs.OnceFitting.{FitsOnce, IsLookOver, IsRunOver}
+use Rattle.run_base.specs.SemaphoreFitting.{FitsSemaphore, IsSemaphoreOver}
+use Rattle.run_base.specs.SemaphoreFitting as semaphore
+use Rattle.run_base.specs.Paths.{mutexes, at_mutex, rwlocks, at_rwlock, onces, at_once, semaphores, at_semaphore, condvar_at, mutex_at}
+use Rattle.run_base.specs.Stages.{Stage, ActNeeds, Became}
+use Rattle.run_base.specs.declared.sleepers.Sleeper.{Sleeper}
+use Rattle.run_base.specs.declared.driver.Stop.{Stop}
+use Rattle.run_base.specs.declared.driver.Stop.TheVariants.{Ended, Paused}
+
+abbrev pub answer_of : Act → Option Answer
+answer_of (act.TheVariants.End answer) = Some answer
+answer_of _ = None
+
+-- what a call is for, and of which lock
+pub data Aim : Type 0 where
+  nothing : Aim
+  of_mutex : ℕ → Purpose → Aim
+  of_rwlock : ℕ → Admission → RwLockPurpose → Aim
+  of_fair : ℕ → Admission → Access → Aim
+  of_once : ℕ → OnceCall → Aim
+  -- to end a run, by whether it succeeded
+  of_run : ℕ → Bool → Aim
+  -- to wait, with this mutex, up to a deadline or without one
+  of_wait : ℕ → ℕ → Bool → Aim
+  -- to notify the first or all who wait with this mutex
+  of_notify : ℕ → ℕ → Bool → Aim
+  of_semaphore : ℕ → semaphore.Purpose → Aim
+
+-- who hands the lock over releases it fairly, or bumps
+abbrev pub handing_aim : ℕ → Admission → Access → Bool → Aim
+handing_aim l a x true = of_rwlock l a (purpose.Enter x Patient)
+handing_aim l a x false = of_fair l a x
+
+abbrev pub call_aim : ℕ → Admission → RwLockCallPlace → Aim
+call_aim l a (places.HandOver x b to) = handing_aim l a x b
+call_aim l a c = of_rwlock l a (purpose_in c)
+
+-- who begins a run goes on to its closure, and behind that ends the run
+abbrev pub run_aim : ℕ → Bool → RunAt → Aim
+run_aim l forced (run.Closure poisoned) = of_once l (CallOnce forced)
+run_aim l forced (run.Close succeeded) = of_run l succeeded
+run_aim l forced (run.Enter succeeded) = of_run l succeeded
+run_aim l forced (run.Take succeeded) = of_run l succeeded
+run_aim l forced (run.Leave succeeded any) = of_run l succeeded
+
+abbrev pub once_aim : ℕ → OncePlace → Aim
+once_aim l (Look c retries at) = of_once l c
+once_aim l (Run forced at) = run_aim l forced at
+once_aim l (GiveUp retries at) = of_once l WaitTimed
+
+abbrev pub condvar_aim : ℕ → CondvarPlace → Aim
+condvar_aim l (condvars.Wait m timed at) = of_wait l m timed
+condvar_aim l (condvars.Look all) = nothing
+condvar_aim l (condvars.Notify all m at) = of_notify l m all
+
+abbrev pub aim_of : Place → Aim
+aim_of Idle = nothing
+aim_of (Mutex l at) = of_mutex l (purpose_at at)
+aim_of (RwLock l a c) = call_aim l a c
+aim_of (Once l at) = once_aim l at
+aim_of (Condvar l at) = condvar_aim l at
+aim_of (Semaphore l at) = of_semaphore l (semaphore.purpose_at at)
+
+-- for what a thread sleeps in a call, the keys under which it may be late, and whether it goes on
+-- where it is handed the lock. Nobody is moved from the queue of a lock
+abbrev pub sleeper_at : Place → Sleeper
+sleeper_at Idle = record
+    { lock = 0; want = Exclusive; late = late_at Idle; moved = None; takes_over = false }
+sleeper_at (Mutex l at) =
+    record {
+      lock = l;
+      want = Exclusive;
+      late = late_at (Mutex l at);
+      moved = None;
+      takes_over = true;
+    }
+sleeper_at (RwLock l a c) =
+    record {
+      lock = l;
+      want = unwrap_or (call_wants c) Exclusive;
+      late = late_at (RwLock l a c);
+      moved = None;
+      takes_over = may_be_handed c;
+    }
+sleeper_at (Once l at) =
+    record {
+      lock = l;
+      want = unwrap_or (once_wants at) Exclusive;
+      late = late_at (Once l at);
+      moved = None;
+      takes_over = false;
+    }
+sleeper_at (Condvar l at) = condvar_sleeper l at
+sleeper_at (Semaphore l at) =
+    record {
+      lock = l;
+      want = unwrap_or (semaphore_wants at) Exclusive;
+      late = late_at (Semaphore l at);
+      moved = None;
+      takes_over = false;
+    }
+
+-- the word of a condition variable, and that of the mutex beside it
+abbrev pub AreWordsBeside : ℕ → Option ℕ → (ℕ → WordKind) → (ℕ → ℕ) → Type 0
+AreWordsBeside l None kinds at = ⊥
+AreWordsBeside l (Some m) kinds at = (l ≢ m) × (kinds l ≡ kind.Condvar) × (at l ≡ condvar_at l)
+    × (kinds m ≡ kind.Mutex) × (at m ≡ mutex_at m)
+
+-- the keys of the call's lock are numbers, and its words are of the kinds that the call steps on
+abbrev pub AreWordsFor : Place → (ℕ → WordKind) → (ℕ → ℕ) → Type 0
+AreWordsFor Idle kinds at = Unit {0}
+AreWordsFor (Mutex l place) kinds at =
+    HasKeys (Mutex l place) × (kinds ≡ mutexes) × (at ≡ at_mutex l)
+AreWordsFor (RwLock l a place) kinds at =
+    HasKeys (RwLock l a place) × (kinds ≡ rwlocks) × (at ≡ at_rwlock l)
+AreWordsFor (Once l place) kinds at = HasKeys (Once l place) × (kinds ≡ onces) × (at ≡ at_once l)
+AreWordsFor (Condvar l place) kinds at =
+    HasKeys (Condvar l place) × AreWordsBeside l (mutex_beside place) kinds at
+AreWordsFor (Semaphore l place) kinds at = HasKeys (Semaphore l place)
+    × ((permits : ℕ) × (kinds ≡ semaphores permits)) × (at ≡ at_semaphore l)
+
+-- and behind its closure they are so still
+abbrev pub AreWordsAfter : Stop → (ℕ → WordKind) → (ℕ → ℕ) → Type 0
+AreWordsAfter (Ended answer) kinds at = Unit {0}
+AreWordsAfter (Paused place state) kinds at = AreWordsFor place kinds at
+
+-- `up` says that the time of the call is up
+module _ (up : Type 0) where
+  -- what a thread has at a place, which owned so much as it began to run, or beside what a
+  -- reader-writer place claims
+  abbrev pub Fits : List Ownership → Place → Stage → Type 0
+  Fits base Idle st = ⊥
+  Fits base (Mutex l at) st = FitsMutex up l base at st
+  Fits base (RwLock l a c) st = FitsCall up l base a c st
+  Fits base (Once l at) st = FitsOnce up l base at st
+  Fits base (Condvar l at) st = FitsCondvar up l base at st
+  Fits base (Semaphore l at) st = FitsSemaphore up l base at st
+
+  -- what an answer says at the end of a call
+  abbrev pub IsOver : List Ownership → Aim → Answer → Stage → Type 0
+  IsOver base nothing answer st = ⊥
+  IsOver base (of_mutex l purpose) answer st = IsMutexOver up l base purpose answer st
+  IsOver base (of_rwlock l a purpose) answer st = IsRwLockOver up l base a purpose answer st
+  IsOver base (of_fair l a x) answer st = IsFairlyOver l base a x answer st
+  IsOver base (of_once l c) answer st = IsLookOver up l c base answer st
+  IsOver base (of_run l succeeded) answer st = IsRunOver l succeeded base answer st
+  IsOver base (of_wait l m timed) answer st = IsWaitOver up m timed base answer st
+  IsOver base (of_notify l m all) answer st = IsNotifyOver l m all base answer st
+  IsOver base (of_semaphore l purpose) answer st = IsSemaphoreOver up l base purpose answer st
+
+  -- what a run came to: the end of its call, or a closure, which is outside all sections
+  abbrev pub IsStopped : List Ownership → Aim → Stop → Stage → Type 0
+  IsStopped base aim (Ended answer) st = IsOver base aim answer st
+  IsStopped base aim (Paused place state) st = Fits base place st
+      × (aim_of place ≡ aim) × (act_of place ≡ act.TheVariants.Closure state)
+
+  abbrev pub ReachedBy : List Ownership → Aim → Place → Option Answer → Stage → Type 0
+  ReachedBy base aim p None st = Fits base p st × (aim_of p ≡ aim)
+  ReachedBy base aim p (Some answer) st = IsOver base aim answer st
+
+  -- where a reply leads
+  abbrev pub Reached : List Ownership → Place → Reply → Stage → Type 0
+  Reached base p reply st =
+      ReachedBy base (aim_of p) (next_place p reply) (answer_of (next_act p reply)) st
+
+  -- from where it looks at the word once more, it goes on too
+  abbrev pub Looks : List Ownership → Place → Stage → Type 0
+  Looks base p st = (q : Place) → looking p ≡ Some q → Fits base q st × (aim_of q ≡ aim_of p)
+
+  -- each place's act is one that the thread may take, and each reply leads to a place that fits
+  abbrev pub PlacesLead : Type 0
+  PlacesLead = (kinds : ℕ → WordKind) (at : ℕ → ℕ) (base : List Ownership) (p : Place) (st : Stage)
+      → AreWordsFor p kinds at → Fits base p st →
+      ActNeeds kinds at st (act_of p)
+      × Looks base p st
+      × ((reply : Reply) (new : Stage) → Became up kinds at (sleeper_at p) st (act_of p) reply new
+      → Reached base p reply new)

@@ -1,0 +1,133 @@
+-- The holdings of a thread in a call of a mutex, at each place and at its end.
+use Rattle.std.specs.Prelude.{ℕ, ◌≡◌, ◌<◌, ◌*◌, ◌⊎◌, Bool, true, false, List, [], ◌∷◌, Option, Some, None}
+use Rattle.core_base.specs.Lines.{threads_of}
+use Rattle.core_base.specs.declared.keys.Keys.TheVariants.{One}
+use Rattle.core_base.specs.declared.wants.Waiter.{Waiter}
+use Rattle.spec_locks.specs.declared.outcomes.Answer.{Answer}
+use Rattle.spec_locks.specs.declared.outcomes.Answer as answers
+use Rattle.steps_mutex.specs.MutexSteps.{is_timed, entered}
+use Rattle.steps_mutex.specs.declared.places.MutexPlace.{MutexPlace}
+use Rattle.steps_mutex.specs.declared.places.MutexPlace.TheVariants.{Lock, Unlock, UnlockFair, Bump, HandOff}
+use Rattle.steps_mutex.specs.declared.hand_off.HandOffAt.{HandOffAt}
+use Rattle.steps_mutex.specs.declared.hand_off.HandOffAt as hand_off
+use Rattle.steps_mutex.specs.declared.lock.Entry.{Entry}
+use Rattle.steps_mutex.specs.declared.lock.Entry as entry
+use Rattle.steps_mutex.specs.declared.lock.LockAt.{LockAt}
+use Rattle.steps_mutex.specs.declared.lock.LockAt as lock
+use Rattle.steps_mutex.specs.declared.unlock.UnlockAt.{UnlockAt}
+use Rattle.steps_mutex.specs.declared.unlock.UnlockAt as unlock
+use Rattle.core_words.specs.Steps.{has, without}
+use Rattle.core_words.specs.Views.{owning}
+use Rattle.core_words.specs.declared.owners.Owner.TheVariants.{Exclusive}
+use Rattle.core_words.specs.declared.owners.Ownership.{Ownership}
+use Rattle.parking_lot_core.specs.declared.tokens.Did.TheVariants.{TakeFirst}
+use Rattle.parking_lot_core.specs.declared.tokens.SectionRecord.{SectionRecord}
+use Rattle.run_base.specs.Paths.{mutex_at}
+use Rattle.run_base.specs.Stages.{HasDone, Stage, TookNobodyAt, entered_now, having_taken, is_there, listed}
+
+-- what a call of a mutex is for: to enter, to end a release that has given the lock up, or to hand
+-- it over
+pub data Purpose : Type 0 where
+  enters : Entry → Purpose
+  releases : Purpose
+  hands_over : Purpose
+
+-- who bumps enters again
+abbrev pub hands_for : Bool → Purpose
+hands_for true = enters entry.TheVariants.Bump
+hands_for false = hands_over
+
+abbrev pub purpose_at : MutexPlace → Purpose
+purpose_at (Lock e retries at) = enters e
+purpose_at UnlockFair = hands_over
+purpose_at Bump = enters entry.TheVariants.Bump
+purpose_at (HandOff bumps at) = hands_for bumps
+purpose_at _ = releases
+
+-- a mutex that is owned
+abbrev pub held : ℕ → Ownership
+held n = owning (mutex_at n) Exclusive
+
+-- what a thread that enters owns beside the mutex: who bumps had it as the call began
+abbrev pub beside : ℕ → Entry → List Ownership → List Ownership
+beside n entry.TheVariants.Bump base = without (held n) base
+beside n _ base = base
+
+-- a thread that owns this, outside all sections
+abbrev pub Outside : List Ownership → Stage → Type 0
+Outside owns st = (st.owns ≡ owns) × (st.inside ≡ None)
+
+-- one that is in the section of the mutex's main key, where it has done nothing
+abbrev pub Within : ℕ → List Ownership → Stage → Type 0
+Within n owns st = (st.owns ≡ owns) × (st.inside ≡ entered_now (One (2 * n)))
+
+-- or has taken the first of the queue, if any; these have no right yet
+abbrev pub Took : ℕ → Option Waiter → List ℕ → List Ownership → Stage → Type 0
+Took n first rightless owns st = (st.owns ≡ owns)
+    × (st.inside ≡ Some (having_taken (One (2 * n)) (TakeFirst (2 * n)) (listed first) rightless))
+
+-- or has taken some thread, or none; that one has no right yet
+abbrev pub HasTook : ℕ → Bool → List Ownership → Stage → Type 0
+HasTook n any owns st = (first : Option Waiter) × (any ≡ is_there first)
+    × Took n first (threads_of (listed first)) owns st
+
+-- the section that was left last is one of this key, where the first of the queue was taken
+abbrev pub TookAt : ℕ → Option SectionRecord → Type 0
+TookAt n last = HasDone (2 * n) (TakeFirst (2 * n)) last
+
+-- a release, behind its subtraction
+abbrev pub FitsUnlock : ℕ → List Ownership → UnlockAt → Stage → Type 0
+FitsUnlock n base unlock.TheVariants.Subtract st = ⊥
+FitsUnlock n base unlock.TheVariants.Enter st = Outside base st
+FitsUnlock n base unlock.TheVariants.Take st = Within n base st
+FitsUnlock n base (unlock.TheVariants.Clear any) st = HasTook n any base st
+FitsUnlock n base (unlock.TheVariants.Leave any) st = HasTook n any base st
+
+-- an owner that saw a waiter, until its store, and behind that
+abbrev pub FitsHandOff : ℕ → List Ownership → HandOffAt → Stage → Type 0
+FitsHandOff n base hand_off.TheVariants.Enter st = (has (held n) base ≡ true) × Outside base st
+FitsHandOff n base hand_off.TheVariants.Take st = (has (held n) base ≡ true) × Within n base st
+FitsHandOff n base (hand_off.TheVariants.Store any none_left) st =
+    (has (held n) base ≡ true) × HasTook n any base st
+FitsHandOff n base (hand_off.TheVariants.Leave any) st =
+    (first : Option Waiter) × (any ≡ is_there first)
+    × Took n first [] (without (held n) base) st
+
+-- `up` says that the time of the call is up
+module _ (up : Type 0) where
+  -- who gives up is in a timed call
+  abbrev pub GaveUp : Entry → Type 0
+  GaveUp e = (is_timed e ≡ true) × up
+
+  -- a thread that enters, beside what it owns
+  abbrev pub FitsLock : ℕ → Entry → List Ownership → LockAt → Stage → Type 0
+  FitsLock n e owns lock.TheVariants.First st = Outside owns st
+  FitsLock n e owns lock.TheVariants.Load st = Outside owns st
+  FitsLock n e owns (lock.TheVariants.Decide seen) st = (seen < 4) × Outside owns st
+  FitsLock n e owns lock.TheVariants.Check st = Within n owns st
+  FitsLock n e owns (lock.TheVariants.Leave parked) st = Within n owns st
+  FitsLock n e owns lock.TheVariants.Asleep st = Outside owns st
+  FitsLock n e owns lock.TheVariants.Accept st = Outside (held n ∷ owns) st
+  FitsLock n e owns lock.TheVariants.Remove st = GaveUp e × Within n owns st
+  FitsLock n e owns lock.TheVariants.Clear st = GaveUp e × Within n owns st
+  FitsLock n e owns lock.TheVariants.GiveUp st = GaveUp e × Within n owns st
+  FitsLock n e owns _ st = ⊥
+
+  -- what a thread has in a call of a mutex, which owned so much as it began to run. The first step
+  -- of a release or a bump is taken before
+  abbrev pub FitsMutex : ℕ → List Ownership → MutexPlace → Stage → Type 0
+  FitsMutex n base (Lock e retries at) st = FitsLock n e (beside n e base) at st
+  FitsMutex n base (Unlock at) st = FitsUnlock n base at st
+  FitsMutex n base (HandOff bumps at) st = FitsHandOff n base at st
+  FitsMutex n base _ st = ⊥
+
+  -- what an answer says at the end of it
+  abbrev pub IsMutexOver : ℕ → List Ownership → Purpose → Answer → Stage → Type 0
+  IsMutexOver n base (enters e) answer st =
+      ((answer ≡ entered e) × Outside (held n ∷ beside n e base) st)
+      ⊎ ((answer ≡ answers.TheVariants.No) × GaveUp e × Outside (beside n e base) st
+      × TookNobodyAt n st.last)
+  IsMutexOver n base releases answer st =
+      (answer ≡ answers.TheVariants.Ok) × Outside base st × TookAt n st.last
+  IsMutexOver n base hands_over answer st = (answer ≡ answers.TheVariants.Ok)
+      × Outside (without (held n) base) st × TookAt n st.last

@@ -1,0 +1,328 @@
+-- The holdings of a thread between two acts of a call, and what each act needs and changes,
+-- whatever the lock is.
+use Rattle.std.specs.Prelude.{ℕ, ◌≡◌, ◌≢◌, ◌≤◌, ◌==◌, ◌+◌, not, length, ◌++◌, List, [], ◌∷◌, Option, Some, None, Bool, true, false, ◌<◌, ◌^◌, if◌then◌else◌}
+use Rattle.core_base.specs.Keys.{key_of}
+use Rattle.core_base.specs.Lines.{threads_of}
+use Rattle.core_base.specs.Words.{apply}
+use Rattle.core_base.specs.declared.keys.Keys.{Keys}
+use Rattle.core_base.specs.declared.keys.Keys.TheVariants.{One}
+use Rattle.core_base.specs.declared.keys.Line.TheVariants.{Main}
+use Rattle.core_base.specs.declared.notes.Note.{Note}
+use Rattle.core_base.specs.declared.notes.Note.TheVariants.{Normal, HandOff}
+use Rattle.core_base.specs.declared.ops.Op.{Op}
+use Rattle.core_base.specs.declared.ops.Op.TheVariants.{Load}
+use Rattle.core_base.specs.declared.requeues.Requeue.{Requeue}
+use Rattle.core_base.specs.declared.requeues.Requeue.TheVariants.{TakeOneMoveRest}
+use Rattle.core_base.specs.declared.wants.Waiter.{Waiter}
+use Rattle.core_base.specs.declared.wants.Want.{Want}
+use Rattle.core_words.specs.Rights.{MayHand, owners_given}
+use Rattle.core_words.specs.Views.{owning}
+use Rattle.core_words.specs.Steps.{MayStep, CodesWith, owns_after_step, HasAll, without_all}
+use Rattle.core_words.specs.declared.owners.Owner.{Owner}
+use Rattle.core_words.specs.declared.owners.Ownership.{Ownership}
+use Rattle.core_words.specs.declared.views.WordStep.{WordStep}
+use Rattle.core_words.specs.declared.words.WordKind.{WordKind}
+use Rattle.steps_base.specs.Acts.{holds, takes_effect}
+use Rattle.steps_base.specs.declared.acts.Act.{Act}
+use Rattle.steps_base.specs.declared.acts.Act as act
+use Rattle.steps_base.specs.declared.acts.Reply.{Reply}
+use Rattle.steps_base.specs.declared.acts.Reply.TheVariants.{Done, Value, Parked, Took, Picked, Requeued, Removed, MovedTo, Late, Woken}
+use Rattle.steps_base.specs.declared.acts.Wakes.{Wakes}
+use Rattle.steps_base.specs.declared.acts.Wakes as wakes
+use Rattle.steps_base.specs.declared.acts.Whom.{Whom}
+use Rattle.steps_base.specs.declared.acts.Whom as whom
+use Rattle.parking_lot_core.specs.Keys.{AreKeys, IsKeyOf, first_key}
+use Rattle.parking_lot_core.specs.Sections.{waiting_in, taken_in, wants_in, rightless_in, moved_in, MayNote}
+use Rattle.parking_lot_core.specs.Tokens.{view_of, last_of}
+use Rattle.parking_lot_core.specs.declared.lot.ParkingLot.{ParkingLot}
+use Rattle.parking_lot_core.specs.declared.sections.Section.{Section}
+use Rattle.parking_lot_core.specs.declared.tokens.Did.{Did}
+use Rattle.parking_lot_core.specs.declared.tokens.Did as did
+use Rattle.parking_lot_core.specs.declared.tokens.Did.TheVariants.{Nothing, TakeFirst}
+use Rattle.parking_lot_core.specs.declared.tokens.SectionRecord.{SectionRecord}
+use Rattle.parking_lot_core.specs.declared.tokens.Token.{Token}
+use Rattle.core_queues.specs.Wants.{wants_of}
+use Rattle.run_base.specs.Paths.{step}
+use Rattle.run_base.specs.Takes.{more_in, sharers_in, successor_in}
+use Rattle.run_base.specs.declared.sleepers.Sleeper.{Sleeper}
+
+-- a section that a thread is inside: what it did there, whom it took, what each of them wants,
+-- which of them have no right yet, and how many it moved to another queue
+pub record Inside : Type 0 where
+  pub keys : Keys
+  pub did : Did
+  pub taken : List ℕ
+  pub wants : List Want
+  pub rightless : List ℕ
+  pub moved : ℕ
+
+pub record Stage : Type 0 where
+  pub owns : List Ownership
+  pub inside : Option Inside
+  pub last : Option SectionRecord
+  pub steps : List WordStep
+
+abbrev pub stage : List Ownership → Option Inside → Option SectionRecord → List WordStep → Stage
+stage owns inside last steps =
+    record { owns = owns; inside = inside; last = last; steps = steps }
+
+abbrev pub inside_of : Option Section → Option Inside
+inside_of None = None
+inside_of (Some section) = Some (record {
+  keys = section.keys;
+  did = section.did;
+  taken = taken_in section;
+  wants = wants_in section;
+  rightless = rightless_in section;
+  moved = moved_in section;
+})
+
+-- who stands in the queues of a section
+abbrev pub waiting_of : Option Section → List Waiter
+waiting_of None = []
+waiting_of (Some section) = waiting_in section
+
+-- what those want whom it took
+abbrev pub wants_taken : Option Section → List Want
+wants_taken None = []
+wants_taken (Some section) = wants_in section
+
+-- whom it took
+abbrev pub threads_taken : Option Section → List ℕ
+threads_taken None = []
+threads_taken (Some section) = taken_in section
+
+abbrev pub stage_of : Token → Option Section → Stage
+stage_of token section =
+    stage (view_of token).owns (inside_of section) (last_of token) (view_of token).steps
+
+-- the section that a thread is inside, if any, is one of the lot
+abbrev pub IsIn : ParkingLot → Option Section → Type 0
+IsIn lot None = Unit {0}
+IsIn lot (Some section) = section.lot.now ≡ lot
+
+-- one in which nothing was done
+abbrev pub entered_now : Keys → Option Inside
+entered_now keys = Some (record
+    { keys = keys; did = Nothing; taken = []; wants = []; rightless = []; moved = 0 })
+
+abbrev pub first_in : List Waiter → Option Waiter
+first_in [] = None
+first_in (waiter ∷ waiters) = Some waiter
+
+-- whom a requeue takes of a line
+abbrev pub taken_of : Requeue → List Waiter → Option Waiter
+taken_of TakeOneMoveRest line = first_in line
+taken_of _ line = None
+
+abbrev pub listed : Option Waiter → List Waiter
+listed None = []
+listed (Some waiter) = waiter ∷ []
+
+-- a section of these keys, in which these were taken, of whom these have no right yet
+abbrev pub having_taken : Keys → Did → List Waiter → List ℕ → Inside
+having_taken keys did waiters rightless =
+    record {
+      keys = keys;
+      did = did;
+      taken = threads_of waiters;
+      wants = wants_of waiters;
+      rightless = rightless;
+      moved = 0;
+    }
+
+-- these were taken, and have no right yet
+abbrev pub took_as : Did → List Waiter → Option Inside → Option Inside
+took_as did waiters None = None
+took_as did waiters (Some inside) = Some (having_taken inside.keys did waiters (threads_of waiters))
+
+-- and so many were moved
+abbrev pub moving : ℕ → Option Inside → Option Inside
+moving number None = None
+moving number (Some inside) = Some (record inside { moved = number })
+
+-- each of those who were taken was given a right
+abbrev pub all_given : Option Inside → Option Inside
+all_given None = None
+all_given (Some inside) = Some (record inside { rightless = [] })
+
+abbrev pub is_there : Option Waiter → Bool
+is_there None = false
+is_there (Some waiter) = true
+
+abbrev pub note_of : Wakes → Note
+note_of wakes.TheVariants.Nobody = Normal
+note_of (wakes.TheVariants.All note) = note
+
+-- inside a section of this key
+abbrev pub HasKey : ℕ → Option Inside → Type 0
+HasKey key None = ⊥
+HasKey key (Some inside) = IsKeyOf inside.keys key
+
+-- inside one where nothing was done
+abbrev pub IsFresh : Option Inside → Type 0
+IsFresh None = ⊥
+IsFresh (Some inside) = inside.did ≡ Nothing
+
+-- inside one where nobody who was taken has a right yet
+abbrev pub IsUngiven : Option Inside → Type 0
+IsUngiven None = ⊥
+IsUngiven (Some inside) = inside.rightless ≡ inside.taken
+
+-- what those want whom it took there
+abbrev pub wanted_in : Option Inside → List Want
+wanted_in None = []
+wanted_in (Some inside) = inside.wants
+
+-- inside one that may be left with the note
+abbrev pub MayLeave : Note → Option Inside → Type 0
+MayLeave note None = ⊥
+MayLeave note (Some inside) = MayNote note inside.taken inside.rightless
+
+-- a step that leaves its thread with the right that each of them wants, whatever value it finds by
+-- which it takes effect
+abbrev pub HandsEach : WordKind → ℕ → Op → List Ownership → List Want → Type 0
+HandsEach kind at op owns wants = (seen : ℕ) → CodesWith kind at seen owns
+    → takes_effect op seen ≡ true
+    → HasAll at (owners_given kind (apply op seen) wants) (owns_after_step kind at op seen owns)
+
+-- what an act needs of the stage, by the kind of each lock's word and where it stands
+abbrev pub ActNeeds : (ℕ → WordKind) → (ℕ → ℕ) → Stage → Act → Type 0
+ActNeeds kinds at st (act.TheVariants.Word lock op) = MayStep (kinds lock) (at lock) op st.owns
+ActNeeds kinds at st (act.TheVariants.HandOver lock op) =
+    MayStep (kinds lock) (at lock) op st.owns × IsUngiven st.inside
+    × HandsEach (kinds lock) (at lock) op st.owns (wanted_in st.inside)
+ActNeeds kinds at st (act.TheVariants.Enter keys) = AreKeys keys × (st.inside ≡ None)
+ActNeeds kinds at st (act.TheVariants.Park lock key check _) =
+    MayStep (kinds lock) (at lock) Load st.owns × HasKey key st.inside
+ActNeeds kinds at st (act.TheVariants.Stand key _) = HasKey key st.inside
+ActNeeds kinds at st (act.TheVariants.Take key whom) = HasKey key st.inside × IsFresh st.inside
+ActNeeds kinds at st (act.TheVariants.Requeue from to how) =
+    HasKey from st.inside × HasKey to st.inside × (from ≢ to) × IsFresh st.inside
+ActNeeds kinds at st (act.TheVariants.Remove key) = HasKey key st.inside
+ActNeeds kinds at st (act.TheVariants.Leave keys wakes) = MayLeave (note_of wakes) st.inside
+ActNeeds kinds at st act.TheVariants.Sleep = st.inside ≡ None
+ActNeeds kinds at st act.TheVariants.Accept = Unit {0}
+ActNeeds kinds at st (act.TheVariants.Closure state) = st.inside ≡ None
+ActNeeds kinds at st _ = ⊥
+
+-- after a step on a word
+abbrev pub stepped : WordKind → ℕ → Op → ℕ → Stage → Stage
+stepped kind at op seen st =
+    stage (owns_after_step kind at op seen st.owns) st.inside None (st.steps ++ step at op seen)
+
+-- what it owns after one with which each of those who were taken is given the right that it wants
+abbrev pub owns_when_handed : WordKind → ℕ → Op → ℕ → List Want → List Ownership → List Ownership
+owns_when_handed kind at op seen wants owns =
+    without_all at (owners_given kind (apply op seen) wants) (owns_after_step kind at op seen owns)
+
+-- an exchange that finds another value hands nothing over
+abbrev pub handed : WordKind → ℕ → Op → ℕ → Stage → Stage
+handed kind at op seen st = if takes_effect op seen
+    then stage (owns_when_handed kind at op seen (wanted_in st.inside) st.owns)
+    (all_given st.inside) None (st.steps ++ step at op seen)
+    else stepped kind at op seen st
+
+-- the section that was left last is one of this key, where this was done, to so many
+abbrev pub HasLeft : ℕ → Did → ℕ → Option SectionRecord → Type 0
+HasLeft key did number last = last ≡ Some (record { key = key; did = did; number = number })
+
+-- to some number of threads
+abbrev pub HasDone : ℕ → Did → Option SectionRecord → Type 0
+HasDone key did last = (number : ℕ) × HasLeft key did number last
+
+-- it is that of a lock's main queue, where nobody was taken or moved: who gives up leaves the queue
+-- there
+abbrev pub TookNobodyAt : ℕ → Option SectionRecord → Type 0
+TookNobodyAt lock last = HasLeft (key_of lock Main) Nothing 0 last
+
+-- what a section that is left leaves behind: a record of what was done there, which counts whom it
+-- took and moved
+abbrev pub IsLeft : Option Inside → Option SectionRecord → Type 0
+IsLeft None last = ⊥
+IsLeft (Some inside) last =
+    HasLeft (first_key inside.keys) inside.did (length inside.taken + inside.moved) last
+
+-- whom a take took, by its reply; of those who were picked one at most wants more than to share,
+-- and a list holds them
+abbrev pub TookBy : ℕ → Whom → Reply → Option Inside → Option Inside → Type 0
+TookBy key whom.TheVariants.First (Took any none_left) old new =
+    (first : Option Waiter) × (any ≡ is_there first)
+    × (new ≡ took_as (TakeFirst key) (listed first) old)
+TookBy key whom.TheVariants.All (Took any none_left) old new =
+    (waiters : List Waiter) × (any ≡ not (length waiters == 0))
+    × (new ≡ took_as (did.TheVariants.TakeAll key) waiters old)
+TookBy key (whom.TheVariants.Picked start recursive) (Picked sharers successor none_left) old new =
+    (waiters : List Waiter) × (sharers ≡ sharers_in (wants_of waiters))
+    × (successor ≡ successor_in (wants_of waiters))
+    × (new ≡ took_as (did.TheVariants.TakePicked key start recursive) waiters old)
+    × (more_in (wants_of waiters) ≤ 1) × (length waiters < 2 ^ 60)
+TookBy key _ _ old new = ⊥
+
+-- what the end of its time made of a sleeper that stands under a key: it is inside the section of
+-- the key under which it may be late, it is told of the key to which it may be moved, and under any
+-- other key it has left the queue
+abbrev pub AwokeLate : ℕ → Sleeper → Stage → Reply → Stage → Type 0
+AwokeLate key sleeper st Late new =
+    (sleeper.late ≡ Some key) × (new ≡ stage st.owns (entered_now (One key)) st.last st.steps)
+AwokeLate key sleeper st (MovedTo to) new =
+    (key ≡ to) × (sleeper.moved ≡ Some to) × (new.owns ≡ st.owns) × (new.inside ≡ None)
+AwokeLate key sleeper st (Woken Normal) new =
+    (sleeper.late ≢ Some key) × (sleeper.moved ≢ Some key) × (new.owns ≡ st.owns)
+    × (new.inside ≡ None)
+AwokeLate key sleeper st _ new = ⊥
+
+-- what a sleep made of the stage, by its end
+abbrev pub Awoke : Type 0 → WordKind → ℕ → Sleeper → Stage → Reply → Stage → Type 0
+Awoke up kind at sleeper st (Woken Normal) new = (new.owns ≡ st.owns) × (new.inside ≡ None)
+Awoke up kind at sleeper st (Woken HandOff) new =
+    (owner : Owner) × MayHand kind sleeper.want owner
+    × (new ≡ stage (owning at owner ∷ st.owns) st.inside st.last st.steps)
+    × (sleeper.takes_over ≡ true)
+Awoke up kind at sleeper st Late new = (key : ℕ) × AwokeLate key sleeper st Late new × up
+Awoke up kind at sleeper st (MovedTo to) new = AwokeLate to sleeper st (MovedTo to) new × up
+    × (sleeper.late ≢ None)
+Awoke up kind at sleeper st _ new = ⊥
+
+-- after a step on a word, which found the code of owners among whom these are
+abbrev pub Stepped : WordKind → ℕ → Op → ℕ → Stage → Stage → Type 0
+Stepped kind at op seen st new = CodesWith kind at seen st.owns × (new ≡ stepped kind at op seen st)
+
+-- what an act made of the stage, by its reply
+abbrev pub Became : Type 0 → (ℕ → WordKind) → (ℕ → ℕ) → Sleeper → Stage → Act → Reply → Stage
+    → Type 0
+Became up kinds at sleeper st (act.TheVariants.Word lock op) (Value seen) new =
+    Stepped (kinds lock) (at lock) op seen st new
+Became up kinds at sleeper st (act.TheVariants.HandOver lock op) (Value seen) new =
+    CodesWith (kinds lock) (at lock) seen st.owns × (new ≡ handed (kinds lock) (at lock) op seen st)
+Became up kinds at sleeper st (act.TheVariants.Enter keys) Done new =
+    new ≡ stage st.owns (entered_now keys) st.last st.steps
+Became up kinds at sleeper st (act.TheVariants.Park lock key check _) (Parked parked) new =
+    (seen : ℕ) × (parked ≡ holds check seen) × Stepped (kinds lock) (at lock) Load seen st new
+Became up kinds at sleeper st (act.TheVariants.Stand key _) Done new = new ≡ st
+Became up kinds at sleeper st (act.TheVariants.Take key whom) reply new =
+    TookBy key whom reply st.inside new.inside × (new.owns ≡ st.owns) × (new.last ≡ st.last)
+    × (new.steps ≡ st.steps)
+Became up kinds at sleeper st (act.TheVariants.Requeue from to how)
+    (Requeued number none_left) new =
+    (first : Option Waiter) × (moved : ℕ) × (number ≡ length (listed first) + moved)
+    × (new ≡ stage st.owns
+    (moving moved (took_as (did.TheVariants.Requeue from to how) (listed first) st.inside)) st.last
+    st.steps)
+Became up kinds at sleeper st (act.TheVariants.Remove key) (Removed none_left) new = new ≡ st
+Became up kinds at sleeper st (act.TheVariants.Leave keys wakes) Done new =
+    (new.owns ≡ st.owns) × (new.inside ≡ None) × IsLeft st.inside new.last
+    × (new.steps ≡ st.steps)
+Became up kinds at sleeper st act.TheVariants.Sleep reply new =
+    Awoke up (kinds sleeper.lock) (at sleeper.lock) sleeper st reply new
+Became up kinds at sleeper st act.TheVariants.Accept Done new = new ≡ st
+Became up kinds at sleeper st _ _ new = ⊥
+
+-- the steps on words that an act adds
+abbrev pub Adds : (ℕ → ℕ) → Act → Reply → List WordStep → List WordStep → Type 0
+Adds at (act.TheVariants.Word lock op) (Value seen) old new = new ≡ old ++ step (at lock) op seen
+Adds at (act.TheVariants.HandOver lock op) (Value seen) old new =
+    new ≡ old ++ step (at lock) op seen
+Adds at (act.TheVariants.Park lock key check _) (Parked parked) old new =
+    (seen : ℕ) × (parked ≡ holds check seen) × (new ≡ old ++ step (at lock) Load seen)
+Adds at _ _ old new = new ≡ old

@@ -1,0 +1,54 @@
+-- The holdings of a thread at a place of its call, and the effect of one turn there. Then the effect of a
+-- call that ran from there to its answer.
+use Rattle.std.specs.Prelude.{◌≡◌, List, Option, None}
+use Rattle.steps_base.specs.declared.acts.Act.{Act}
+use Rattle.steps_base.specs.declared.acts.Reply.{Reply}
+use Rattle.spec_locks.specs.declared.outcomes.Answer.{Answer}
+use Rattle.lot_steps.specs.Steps.{act_of}
+use Rattle.lot_steps.specs.declared.places.Place.{Place}
+use Rattle.core_words.specs.declared.owners.Ownership.{Ownership}
+use Rattle.parking_lot_core.specs.Tokens.{IsSameThread, IsTokenOf}
+use Rattle.parking_lot_core.specs.declared.lot.ParkingLot.{ParkingLot}
+use Rattle.parking_lot_core.specs.declared.sections.Section.{Section}
+use Rattle.parking_lot_core.specs.declared.tokens.Token.{Token}
+use Rattle.run_base.specs.Fitting.{AreWordsFor, Fits, IsOver, Reached, aim_of}
+use Rattle.run_base.specs.Paths.{Told, Walks}
+use Rattle.run_base.specs.Stages.{IsIn, stage_of}
+use Rattle.run_base.specs.Telling.{steps_of}
+use Rattle.run_base.specs.Words.{AreWordsOf, at_in, kind_in}
+use Rattle.run_base.specs.declared.words.Words.{Words}
+
+-- a thread of the lot is at a place of its call, inside its section if any, with what fits there.
+-- `up` says that its time is up
+abbrev pub IsAt : Type 0 → ParkingLot → Words → Place → Token → Option Section → Type 0
+IsAt up lot words p token section = IsTokenOf lot token × AreWordsOf lot words × IsIn lot section
+    × AreWordsFor p (kind_in words) (at_in words)
+    × ((base : List Ownership) × Fits up base p (stage_of token section))
+
+-- the act of the place brought this reply, which leads on to what fits
+abbrev pub HasTurned : Type 0 → ParkingLot → Words → Place → Reply → Token → Option Section → Token
+    → Option Section → Type 0
+HasTurned up lot words p reply old section new now = IsSameThread lot old new × IsIn lot now
+    × Told (at_in words) p reply (steps_of old) (steps_of new)
+    × ((base : List Ownership) → Fits up base p (stage_of old section)
+    → Reached up base p reply (stage_of new now))
+
+-- it is at a place whose act is this
+abbrev pub MayDo : Type 0 → ParkingLot → Words → Act → Token → Option Section → Type 0
+MayDo up lot words a token section =
+    (p : Place) × IsAt up lot words p token section × (act_of p ≡ a)
+
+-- and at each such place the act brought this reply
+abbrev pub HasDone : Type 0 → ParkingLot → Words → Act → Reply → Token → Option Section → Token
+    → Option Section → Type 0
+HasDone up lot words a reply old section new now = (p : Place) → IsAt up lot words p old section
+    → act_of p ≡ a
+    → HasTurned up lot words p reply old section new now
+
+-- the call ran from the place to this answer
+abbrev pub HasEnded : Type 0 → ParkingLot → Words → Place → Answer → Token → Option Section → Token
+    → Type 0
+HasEnded up lot words p answer old section new = IsSameThread lot old new
+    × Walks (at_in words) p (steps_of old) (steps_of new) answer
+    × ((base : List Ownership) → Fits up base p (stage_of old section)
+    → IsOver up base (aim_of p) answer (stage_of new None))

@@ -1,0 +1,356 @@
+//! The acts of a thread in any call, whatever the lock is.
+ghost use Rattle.std.specs.Prelude.{◌≡◌, ◌++◌, ◌∷◌, ◌==◌, ℕ, [], None, Some, length, MatchBool};
+ghost use Rattle.core_base.specs.Clocks.{IsUp};
+ghost use Rattle.core_base.specs.Lines.{key_of as queued_under, waiter, line, lines, without};
+ghost use Rattle.steps_base.specs.declared.acts.Act.TheVariants.{Sleep};
+ghost use Rattle.core_base.specs.declared.keys.Keys.TheVariants.{One};
+ghost use Rattle.core_base.specs.declared.ops.Op.TheVariants.{Load};
+ghost use Rattle.steps_base.specs.Acts.{holds};
+ghost use Rattle.lot_steps.specs.Steps.{HasKeys};
+ghost use Rattle.core_words.specs.Lots.{IsWordOf};
+ghost use Rattle.core_words.specs.Indices.{word_index};
+ghost use Rattle.core_words.specs.Steps.{MayStep, CodesWith, after_step};
+ghost use Rattle.parking_lot_core.specs.Keys.{AreKeys};
+ghost use Rattle.parking_lot_core.specs.Sections.{waiting_in};
+ghost use Rattle.parking_lot_core.specs.Tokens.{IsTokenOf, IsSameThread, view_of, last_of};
+ghost use Rattle.run_base.specs.Fitting.{sleeper_at};
+ghost use Rattle.run_base.specs.Paths.{closure_of, step};
+ghost use Rattle.run_base.specs.Telling.{AreWaiting, HasStepped, MayFind, MayTake, MayTakeAt, StandsLast, TellsQueues, TellsTake, index_of, is_empty_at, owns_of, steps_of};
+ghost use Rattle.run_base.specs.Words.{AreWordsOf, word_in, kind_in, at_in};
+ghost use Rattle.run_base.specs.Stages.{Adds, Awoke, AwokeLate, HandsEach, HasKey, IsFresh, IsUngiven, MayLeave, IsIn, IsLeft, TookBy, handed, note_of, inside_of, stage_of, waiting_of, wanted_in, entered_now, ActNeeds, Became};
+
+use crate::sleepers::{Sleeper, sleeper_at};
+use crate::taking::{requeue, take_all, take_first, take_picked, tell_wants};
+use crate::words::Words;
+use steps_base::takes_effect;
+use lot_steps::{Act, Check, Place, Reply, Wakes, Whom};
+use parking_lot_core::{Clock, Key, Keys, Note, Op, ParkingLot, Section, Slept, Token, Want, Word};
+use std::sync::Wait;
+
+pub(crate) fn note_of(wakes: Wakes) -> Note
+    ensures { result ≡ note_of wakes }
+{
+    match wakes {
+        Wakes::Nobody => Note::Normal,
+        Wakes::All(note) => note,
+    }
+}
+
+// Loads the word inside the section, and where the check holds stands behind the last of the queue.
+fn park(
+    lot: &ParkingLot,
+    token: &mut Token,
+    word: Word,
+    section: &mut Option<Section>,
+    key: Key,
+    check: Check,
+    want: Want,
+) -> bool
+    requires own { IsTokenOf lot.now token.old × IsWordOf lot.now.words word
+        × IsIn lot.now section.old }
+    requires needs { MayTake word Load token.old × HasKey key (inside_of section.old) }
+    ensures own { IsSameThread lot.now token.old token.new × (last_of token.new ≡ None) }
+    ensures same { IsIn lot.now section.new × (inside_of section.new ≡ inside_of section.old) }
+    ensures stepped { (seen : ℕ) × (result ≡ holds check seen) × MayFind word seen token.old
+        × HasStepped word Load seen token.old token.new }
+    ensures stands { MatchBool result (StandsLast key token.old.number want section.old section.new)
+        (waiting_of section.new ≡ waiting_of section.old) }
+{
+    match section {
+        Some(inside) => {
+            let parked = check.holds(lot.word(token, word, Op::Load));
+            if parked {
+                inside.append(key, token.number(), want);
+            }
+            parked
+        }
+        None => unreachable!(),
+    }
+}
+
+// Stands behind the last of the queue.
+pub(crate) fn stand(
+    lot: &ParkingLot,
+    token: &Token,
+    section: &mut Option<Section>,
+    key: Key,
+    want: Want,
+)
+    requires { IsTokenOf lot.now token.now × IsIn lot.now section.old
+        × HasKey key (inside_of section.old) }
+    ensures same { IsIn lot.now section.new × (inside_of section.new ≡ inside_of section.old) }
+    ensures stands { StandsLast key token.now.number want section.old section.new }
+{
+    match section {
+        Some(inside) => inside.append(key, token.number(), want),
+        None => unreachable!(),
+    }
+}
+
+// One step on the word, with which the lock goes to those who were taken. The right that each of
+// them wants is laid in its record. Where an exchange finds another value nothing is handed over.
+fn hand_over<R: Wait>(
+    rt: &R,
+    lot: &ParkingLot,
+    token: &mut Token,
+    word: Word,
+    section: &mut Option<Section>,
+    op: Op,
+) -> u64
+    requires own { IsTokenOf lot.now token.old × IsWordOf lot.now.words word
+        × IsIn lot.now section.old }
+    requires may { MayTake word op token.old }
+    requires each { IsUngiven (inside_of section.old)
+        × HandsEach word.kind (index_of word) op (owns_of token.old)
+        (wanted_in (inside_of section.old)) }
+    ensures own { IsSameThread lot.now token.old token.new × IsIn lot.now section.new }
+    ensures coded { MayFind word result token.old }
+    ensures handed { stage_of token.new section.new
+        ≡ handed word.kind (index_of word) op result (stage_of token.old section.old) }
+    ensures adds { steps_of token.new ≡ steps_of token.old ++ step (index_of word) op result }
+{
+    match section {
+        Some(inside) => {
+            let seen = lot.word(token, word, op);
+            if takes_effect(op, seen) {
+                inside.give_each(rt, token, word, op.apply(seen));
+            }
+            seen
+        }
+        None => unreachable!(),
+    }
+}
+
+// The thread leaves the queue. Whether none is left there.
+fn remove(_lot: &ParkingLot, section: &mut Option<Section>, key: Key, thread: usize) -> bool
+    requires { IsIn _lot.now section.old × HasKey key (inside_of section.old) }
+    ensures same { IsIn _lot.now section.new × (inside_of section.new ≡ inside_of section.old) }
+    ensures left { AreWaiting (without thread (waiting_of section.old)) section.new
+        × (result ≡ is_empty_at key section.new) }
+{
+    match section {
+        Some(inside) => {
+            inside.remove(thread);
+            inside.count(key) == 0
+        }
+        None => unreachable!(),
+    }
+}
+
+// The thread goes into a section from outside all.
+pub(crate) fn enter<'a, R: Wait>(
+    rt: &R,
+    lot: &'a ParkingLot,
+    token: &mut Token,
+    section: &mut Option<Section<'a>>,
+    keys: Keys,
+)
+    requires { IsTokenOf lot.now token.old × AreKeys keys × (inside_of section.old ≡ None) }
+    ensures same { token.new ≡ token.old }
+    ensures entered { IsIn lot.now section.new × (inside_of section.new ≡ entered_now keys) }
+{
+    match section.replace(lot.enter(rt, token, keys)) {
+        None => {}
+        Some(_) => unreachable!(),
+    }
+}
+
+/// A thread that is outside all sections has none to leave.
+pub fn end(section: Option<Section>)
+    requires { inside_of section ≡ None }
+{
+    match section {
+        None => {}
+        Some(_) => unreachable!(),
+    }
+}
+
+pub(crate) fn leave<R: Wait>(
+    rt: &R,
+    lot: &ParkingLot,
+    token: &mut Token,
+    section: &mut Option<Section>,
+    note: Note,
+)
+    requires { IsTokenOf lot.now token.old × IsIn lot.now section.old
+        × MayLeave note (inside_of section.old) }
+    ensures own { IsSameThread lot.now token.old token.new
+        × (view_of token.new ≡ view_of token.old) }
+    ensures left { (inside_of section.new ≡ None) × IsIn lot.now section.new
+        × IsLeft (inside_of section.old) (last_of token.new) }
+{
+    match section.take() {
+        Some(inside) => inside.leave(rt, token, note),
+        None => unreachable!(),
+    }
+}
+
+#[tactic(auto, using(crate::proofs::TakesFew::picked_few, crate::proofs::TakesFew::few_waiters))]
+fn take(lot: &ParkingLot, section: &mut Option<Section>, key: Key, whom: Whom) -> Reply
+    requires { MayTakeAt lot.now key section.old }
+    ensures took { IsIn lot.now section.new
+        × TookBy key whom result (inside_of section.old) (inside_of section.new) }
+    ensures told { TellsTake key whom result section.old section.new }
+{
+    match whom {
+        Whom::First => {
+            let (any, none_left) = take_first(lot, section, key);
+            Reply::Took { any, none_left }
+        }
+        Whom::All => {
+            let (any, none_left) = take_all(lot, section, key);
+            Reply::Took { any, none_left }
+        }
+        Whom::Picked { start, recursive } => {
+            let none_left = take_picked(lot, section, key, start, recursive);
+            let (sharers, successor) = tell_wants(section);
+            Reply::Picked {
+                sharers,
+                successor,
+                none_left,
+            }
+        }
+    }
+}
+
+// The time of a sleeper is up, and it is inside the section of the key where it stands.
+fn awake_late<'a, R: Wait>(
+    rt: &R,
+    token: &mut Token,
+    sleeper: Sleeper,
+    section: &mut Option<Section<'a>>,
+    mut inside: Section<'a>,
+    key: Key,
+) -> Reply
+    requires own { IsTokenOf inside.lot.now token.old × (inside_of section.old ≡ None) }
+    requires late { inside_of (Some inside) ≡ entered_now (One key) }
+    requires stands { queued_under token.old.number (waiting_in inside) ≡ Some key }
+    ensures own { IsSameThread inside.entry.lot.now token.old token.new
+        × IsIn inside.entry.lot.now section.new
+        × (steps_of token.new ≡ steps_of token.old) }
+    ensures awoke { AwokeLate key sleeper (stage_of token.old section.old) result
+        (stage_of token.new section.new) }
+    ensures queues { TellsQueues Sleep result token.old.number section.old section.new }
+{
+    if sleeper.late == Some(key) {
+        match section.replace(inside) {
+            None => return Reply::Late,
+            Some(_) => unreachable!(),
+        }
+    }
+    if sleeper.moved == Some(key) {
+        // It may be late there too, and is so at once.
+        inside.leave(rt, token, Note::Normal);
+        return Reply::MovedTo(key);
+    }
+    // Somebody moved the thread to a queue where it does not wait. It leaves that, and tries again.
+    inside.remove(token.number());
+    inside.leave(rt, token, Note::Normal);
+    Reply::Woken(Note::Normal)
+}
+
+// Sleeps until another thread has taken this one, or its time is up. A right that was handed over
+// is the token's then.
+pub(crate) fn sleep<'a, R: Wait, C: Clock>(
+    rt: &R,
+    lot: &'a ParkingLot,
+    token: &mut Token,
+    word: Word,
+    limit: Option<(&C, u64)>,
+    sleeper: Sleeper,
+    section: &mut Option<Section<'a>>,
+) -> Reply
+    requires own { IsTokenOf lot.now token.old × IsWordOf lot.now.words word
+        × (inside_of section.old ≡ None) }
+    ensures own { IsSameThread lot.now token.old token.new × IsIn lot.now section.new
+        × (steps_of token.new ≡ steps_of token.old) }
+    ensures awoke { Awoke (IsUp C.tells limit.entry) word.kind (index_of word) sleeper
+        (stage_of token.old section.old) result (stage_of token.new section.new) }
+    ensures queues { TellsQueues Sleep result token.old.number section.old section.new }
+{
+    let limit = sleeper.late.and(limit);
+    match lot.sleep(rt, token, word, sleeper.want, limit) {
+        Slept::Woken => Reply::Woken(Note::Normal),
+        Slept::Handed(right) if sleeper.takes_over => {
+            lot.join_right(token, right);
+            Reply::Woken(Note::HandOff)
+        }
+        // Nobody hands a lock over to a thread that goes on otherwise.
+        Slept::Handed(right) => {
+            right.forget();
+            Reply::Woken(Note::Normal)
+        }
+        Slept::Late(inside, key) => awake_late(rt, token, sleeper, section, inside, key),
+    }
+}
+
+/// Does the act of a place. A sleeper may be late only where it is given a limit.
+pub(crate) fn perform<'a, R: Wait, C: Clock>(
+    rt: &R,
+    lot: &'a ParkingLot,
+    token: &mut Token,
+    words: Words,
+    limit: Option<(&C, u64)>,
+    section: &mut Option<Section<'a>>,
+    place: Place,
+    act: Act,
+) -> Reply
+    requires own { IsTokenOf lot.now token.old × AreWordsOf lot.now words
+        × IsIn lot.now section.old }
+    requires keys { HasKeys place }
+    requires needs { ActNeeds (kind_in words) (at_in words) (stage_of token.old section.old) act }
+    requires no_closure { closure_of act ≡ None }
+    ensures own { IsSameThread lot.now token.old token.new × IsIn lot.now section.new }
+    ensures became { Became (IsUp C.tells limit.entry) (kind_in words) (at_in words)
+        (sleeper_at place)
+        (stage_of token.old section.old) act result (stage_of token.new section.new) }
+    ensures adds { Adds (at_in words) act result (steps_of token.old) (steps_of token.new) }
+    ensures queues { TellsQueues act result token.old.number section.old section.new }
+{
+    match act {
+        Act::Word { lock, op } => Reply::Value(lot.word(token, words.of(lock), op)),
+        Act::HandOver { lock, op } => {
+            Reply::Value(hand_over(rt, lot, token, words.of(lock), section, op))
+        }
+        Act::Enter(keys) => {
+            enter(rt, lot, token, section, keys);
+            Reply::Done
+        }
+        Act::Park {
+            lock,
+            key,
+            check,
+            want,
+        } => Reply::Parked(park(lot, token, words.of(lock), section, key, check, want)),
+        Act::Stand { key, want } => {
+            stand(lot, token, section, key, want);
+            Reply::Done
+        }
+        Act::Take { key, whom } => take(lot, section, key, whom),
+        Act::Requeue { from, to, how } => {
+            let (number, none_left) = requeue(lot, section, from, to, how);
+            Reply::Requeued { number, none_left }
+        }
+        Act::Remove(key) => Reply::Removed {
+            none_left: remove(lot, section, key, token.number()),
+        },
+        Act::Leave { wakes, .. } => {
+            leave(rt, lot, token, section, note_of(wakes));
+            Reply::Done
+        }
+        Act::Sleep => {
+            let sleeper = sleeper_at(place);
+            sleep(
+                rt,
+                lot,
+                token,
+                words.of(sleeper.lock),
+                limit,
+                sleeper,
+                section,
+            )
+        }
+        Act::Accept => Reply::Done,
+        _ => unreachable!(),
+    }
+}

@@ -1,0 +1,145 @@
+//! Takes and moves of waiters, as acts.
+ghost use Rattle.std.specs.Prelude.{◌≡◌, ◌≢◌, ◌<◌, ◌+◌, ◌^◌, ◌==◌, not, length};
+ghost use Rattle.std.specs.List.{filter};
+ghost use Rattle.core_base.specs.Lines.{line, lines, without_first, without_key};
+ghost use Rattle.core_base.specs.Picks.{lock_picked, without_lock_picked};
+ghost use Rattle.core_base.specs.Requeues.{moved_by, requeued};
+ghost use Rattle.core_queues.specs.Wants.{wants_of};
+ghost use Rattle.parking_lot_core.specs.declared.tokens.Did.TheVariants.{TakeFirst, TakeAll, TakePicked};
+ghost use Rattle.parking_lot_core.specs.declared.tokens.Did.TheVariants as did;
+ghost use Rattle.run_base.specs.Stages.{HasKey, IsFresh, IsIn, first_in, inside_of, is_there, listed, moving, taken_of, threads_taken, took_as, waiting_of, wants_taken};
+ghost use Rattle.run_base.specs.Telling.{AreWaiting, HasTaken, MayTakeAt, is_empty_at, line_in};
+ghost use Rattle.run_base.specs.Takes.{shares, sharers_in, successor_in};
+
+use parking_lot_core::{Key, ParkingLot, Requeue, Section, Want};
+
+fn shares(want: Want) -> bool
+    ensures { result ≡ shares want }
+{
+    match want {
+        Want::Shared => true,
+        _ => false,
+    }
+}
+
+fn sharers(wants: &[Want]) -> usize
+    ensures { result ≡ sharers_in wants.now }
+{
+    wants.iter().filter(|want| shares(**want)).count()
+}
+
+fn successor(wants: &[Want]) -> Option<Want>
+    ensures { result ≡ successor_in wants.now }
+{
+    for k in 0..wants.len() {
+        if !shares(wants[k]) {
+            return Some(wants[k]);
+        }
+    }
+    None
+}
+
+/// Whether it took one, and whether none is left.
+pub(crate) fn take_first(_lot: &ParkingLot, section: &mut Option<Section>, key: Key) -> (bool, bool)
+    requires { MayTakeAt _lot.now key section.old }
+    ensures did { HasTaken _lot.now (TakeFirst key) (listed (first_in (line_in key section.old)))
+        section.old section.new }
+    ensures any { result.0 ≡ is_there (first_in (line_in key section.old)) }
+    ensures left { AreWaiting (without_first key (waiting_of section.old)) section.new
+        × (result.1 ≡ is_empty_at key section.new) }
+{
+    match section {
+        Some(inside) => {
+            let first = inside.take_first(key);
+            (first.is_some(), inside.count(key) == 0)
+        }
+        None => unreachable!(),
+    }
+}
+
+/// Whether it took any, and whether none is left.
+pub(crate) fn take_all(_lot: &ParkingLot, section: &mut Option<Section>, key: Key) -> (bool, bool)
+    requires { MayTakeAt _lot.now key section.old }
+    ensures did { HasTaken _lot.now (TakeAll key)
+        (line_in key section.old) section.old section.new }
+    ensures any { result.0 ≡ not (is_empty_at key section.old) }
+    ensures left { AreWaiting (without_key key (waiting_of section.old)) section.new
+        × (result.1 ≡ is_empty_at key section.new) }
+{
+    match section {
+        Some(inside) => {
+            inside.take_all(key);
+            (inside.taken().len() != 0, inside.count(key) == 0)
+        }
+        None => unreachable!(),
+    }
+}
+
+/// Whether none is left.
+pub(crate) fn take_picked(
+    _lot: &ParkingLot,
+    section: &mut Option<Section>,
+    key: Key,
+    start: Option<Want>,
+    recursive: bool,
+) -> bool
+    requires { MayTakeAt _lot.now key section.old }
+    ensures did { HasTaken _lot.now (TakePicked key start recursive)
+        (lock_picked start recursive (line_in key section.old)) section.old section.new }
+    ensures wants { wants_taken section.new
+        ≡ wants_of (lock_picked start recursive (line_in key section.old)) }
+    ensures left { AreWaiting
+        (without_lock_picked start recursive key (waiting_of section.old)) section.new
+        × (result ≡ is_empty_at key section.new) }
+{
+    match section {
+        Some(inside) => {
+            inside.take_picked(key, start, recursive);
+            inside.count(key) == 0
+        }
+        None => unreachable!(),
+    }
+}
+
+/// How many of those whom it took want to share, and what the first of them wants that wants more.
+pub(crate) fn tell_wants(section: &Option<Section>) -> (usize, Option<Want>)
+    ensures sharers { result.0 ≡ sharers_in (wants_taken section.now) }
+    ensures successor { result.1 ≡ successor_in (wants_taken section.now) }
+    ensures few { length (threads_taken section.now) < 2 ^ 60 }
+{
+    match section {
+        Some(inside) => {
+            // So many fit into a list.
+            let _taken = inside.taken();
+            (sharers(inside.wants()), successor(inside.wants()))
+        }
+        None => (0, None),
+    }
+}
+
+/// How many it took and moved, and whether none is left where they stood.
+pub(crate) fn requeue(
+    _lot: &ParkingLot,
+    section: &mut Option<Section>,
+    from: Key,
+    to: Key,
+    how: Requeue,
+) -> (usize, bool)
+    requires { MayTakeAt _lot.now from section.old × HasKey to (inside_of section.old)
+        × (from ≢ to) }
+    ensures did { IsIn _lot.now section.new × (inside_of section.new
+        ≡ moving (length (moved_by how (line_in from section.old)))
+        (took_as (did.Requeue from to how) (listed (taken_of how (line_in from section.old))) (inside_of section.old))) }
+    ensures number { result.0 ≡ length (listed (taken_of how (line_in from section.old)))
+        + length (moved_by how (line_in from section.old)) }
+    ensures left { AreWaiting (requeued how from to (waiting_of section.old)) section.new
+        × (result.1 ≡ is_empty_at from section.new) }
+{
+    match section {
+        Some(inside) => {
+            inside.requeue(from, to, how);
+            (inside.number(), inside.count(from) == 0)
+        }
+        None => unreachable!(),
+    }
+}

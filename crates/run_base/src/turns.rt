@@ -1,0 +1,168 @@
+//! Turns whose act is known where their call is compiled. A call does most of its work by these,
+//! and all else by `run_from`.
+ghost use Rattle.core_base.specs.Clocks.{IsUp};
+ghost use Rattle.steps_base.specs.declared.acts.Act.TheVariants as acts;
+ghost use Rattle.steps_base.specs.declared.acts.Reply.TheVariants.{Done, Requeued, Took, Value};
+ghost use Rattle.steps_base.specs.declared.acts.Whom.TheVariants as whom;
+ghost use Rattle.std.specs.Prelude.{◌≡◌};
+ghost use Rattle.lot_steps.specs.Steps.{act_of};
+ghost use Rattle.run_base.specs.Telling.{StandsLast, TellsQueues, TellsRequeue, TellsTake};
+ghost use Rattle.run_base.specs.Turns.{HasDone, HasTurned, IsAt, MayDo};
+
+pub use crate::acting::end;
+use crate::acting::{enter, leave, note_of, sleep, stand};
+use crate::sleepers::sleeper_at;
+use crate::taking::{requeue, take_first};
+use crate::words::Words;
+use lot_steps::{Place, Reply, Wakes};
+use parking_lot_core::{Clock, Key, Keys, Op, ParkingLot, Requeue, Section, Token, Want};
+use std::sync::Wait;
+
+/// A turn with one operation on the word of a lock. It answers what the word was.
+#[inline]
+pub fn turn_word<C: Clock>(
+    lot: &ParkingLot,
+    token: &mut Token,
+    words: Words,
+    _limit: Option<(&C, u64)>,
+    _section: &Option<Section>,
+    lock: usize,
+    op: Op,
+) -> u64
+    requires { MayDo (IsUp C.tells _limit) lot.now words
+        (acts.Word lock op) token.old _section.now }
+    ensures { HasDone (IsUp C.tells _limit.entry) lot.now words (acts.Word lock op) (Value result)
+        token.old _section.now token.new _section.now }
+{
+    lot.word(token, words.of(lock), op)
+}
+
+/// A turn that enters a section.
+#[inline]
+pub fn turn_enter<'a, R: Wait, C: Clock>(
+    rt: &R,
+    lot: &'a ParkingLot,
+    token: &mut Token,
+    _words: Words,
+    _limit: Option<(&C, u64)>,
+    section: &mut Option<Section<'a>>,
+    keys: Keys,
+)
+    requires { MayDo (IsUp C.tells _limit) lot.now _words (acts.Enter keys) token.old section.old }
+    ensures { HasDone (IsUp C.tells _limit.entry) lot.now _words (acts.Enter keys) Done
+        token.old section.old token.new section.new }
+{
+    enter(rt, lot, token, section, keys);
+}
+
+/// A turn that stands behind the last of a queue.
+#[inline]
+pub fn turn_stand<C: Clock>(
+    lot: &ParkingLot,
+    token: &Token,
+    _words: Words,
+    _limit: Option<(&C, u64)>,
+    section: &mut Option<Section>,
+    key: Key,
+    want: Want,
+)
+    requires { MayDo (IsUp C.tells _limit) lot.now _words
+        (acts.Stand key want) token.now section.old }
+    ensures done { HasDone (IsUp C.tells _limit.entry) lot.now _words (acts.Stand key want) Done
+        token.now section.old token.now section.new }
+    ensures stands { StandsLast key token.now.number want section.old section.new }
+{
+    stand(lot, token, section, key, want);
+}
+
+/// A turn that takes the first of a queue. Whether there was any, and whether none is left.
+#[inline]
+pub fn turn_take_first<C: Clock>(
+    lot: &ParkingLot,
+    _token: &Token,
+    _words: Words,
+    _limit: Option<(&C, u64)>,
+    section: &mut Option<Section>,
+    key: Key,
+) -> (bool, bool)
+    requires { MayDo (IsUp C.tells _limit) lot.now _words
+        (acts.Take key whom.First) _token.now section.old }
+    ensures done { HasDone (IsUp C.tells _limit.entry) lot.now _words (acts.Take key whom.First)
+        (Took result.0 result.1)
+        _token.now section.old _token.now section.new }
+    ensures told { TellsTake key whom.First (Took result.0 result.1) section.old section.new }
+{
+    take_first(lot, section, key)
+}
+
+/// A turn that moves waiters from one queue to another, and may take the first. How many these are,
+/// and whether none is left where they stood.
+#[inline]
+pub fn turn_requeue<C: Clock>(
+    lot: &ParkingLot,
+    _token: &Token,
+    _words: Words,
+    _limit: Option<(&C, u64)>,
+    section: &mut Option<Section>,
+    from: Key,
+    to: Key,
+    how: Requeue,
+) -> (usize, bool)
+    requires { MayDo (IsUp C.tells _limit) lot.now _words
+        (acts.Requeue from to how) _token.now section.old }
+    ensures done { HasDone (IsUp C.tells _limit.entry) lot.now _words (acts.Requeue from to how)
+        (Requeued result.0 result.1)
+        _token.now section.old _token.now section.new }
+    ensures told { TellsRequeue from to how result.0 result.1 section.old section.new }
+{
+    requeue(lot, section, from, to, how)
+}
+
+/// A turn that leaves the section of these keys, and wakes those whom the thread took there.
+#[inline]
+pub fn turn_leave<R: Wait, C: Clock>(
+    rt: &R,
+    lot: &ParkingLot,
+    token: &mut Token,
+    _words: Words,
+    _limit: Option<(&C, u64)>,
+    section: &mut Option<Section>,
+    _keys: Keys,
+    wakes: Wakes,
+)
+    requires { MayDo (IsUp C.tells _limit) lot.now _words
+        (acts.Leave _keys wakes) token.old section.old }
+    ensures { HasDone (IsUp C.tells _limit.entry) lot.now _words (acts.Leave _keys wakes) Done
+        token.old section.old token.new section.new }
+{
+    leave(rt, lot, token, section, note_of(wakes));
+}
+
+/// A turn that sleeps at a place until another thread has woken this one, or its time is up.
+#[inline]
+pub fn turn_sleep<'a, R: Wait, C: Clock>(
+    rt: &R,
+    lot: &'a ParkingLot,
+    token: &mut Token,
+    words: Words,
+    limit: Option<(&C, u64)>,
+    section: &mut Option<Section<'a>>,
+    place: Place,
+) -> Reply
+    requires at { IsAt (IsUp C.tells limit) lot.now words place token.old section.old }
+    requires act { act_of place ≡ acts.Sleep }
+    ensures turned { HasTurned (IsUp C.tells limit.entry) lot.now words place result token.old
+        section.old token.new section.new }
+    ensures queues { TellsQueues acts.Sleep result token.old.number section.old section.new }
+{
+    let sleeper = sleeper_at(place);
+    sleep(
+        rt,
+        lot,
+        token,
+        words.of(sleeper.lock),
+        limit,
+        sleeper,
+        section,
+    )
+}

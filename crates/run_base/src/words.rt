@@ -1,0 +1,45 @@
+//! The words on which a call steps.
+ghost use Rattle.std.specs.Prelude.{◌≡◌};
+ghost use Rattle.run_base.specs.Words.{alone, both, word_in};
+
+use parking_lot_core::Word;
+
+/// The word of a lock, and where a call steps on the word of a second lock, that one too.
+#[derive(Clone, Copy)]
+pub struct Words {
+    one: Word,
+    other: Option<Word>,
+}
+
+impl Words {
+    /// Those of a call that steps on one word: it stands for any lock's.
+    pub fn alone(word: Word) -> Words
+        ensures { result ≡ alone word }
+    {
+        Words {
+            one: word,
+            other: None,
+        }
+    }
+
+    /// Those of a call that steps on two: the second where its own lock's number is asked for, and
+    /// else the first.
+    pub fn both(word: Word, other: Word) -> Words
+        ensures { result ≡ both word other }
+    {
+        Words {
+            one: word,
+            other: Some(other),
+        }
+    }
+
+    /// The word of the lock of this number.
+    pub(crate) fn of(self, lock: usize) -> Word
+        ensures { result ≡ word_in self lock }
+    {
+        match self.other {
+            Some(other) if other.number() == lock => other,
+            _ => self.one,
+        }
+    }
+}

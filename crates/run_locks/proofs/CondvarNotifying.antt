@@ -1,0 +1,66 @@
+-- The first step of a notification, and the rest behind it.
+use Rattle.std.proofs.Common.{ℕ, false, true, not, ◌&&◌, ◌≡◌, ◌≢◌, ◌==◌, ◌+◌, ◌-◌, ◌++◌, Bool, List, if◌then◌else◌, inl, inr, sym, refl, ap, ◌∙◌, subst, eq-eqb, ne_eqb, arith}
+use Rattle.std.proofs.lemmas.Bool.{false≢true}
+use Rattle.core_base.specs.declared.ops.Op.TheVariants.{Load}
+use Rattle.steps_base.specs.declared.acts.Act.TheVariants.{End}
+use Rattle.steps_base.specs.declared.acts.Next.TheVariants.{At, End as Over}
+use Rattle.steps_base.specs.declared.acts.Reply.TheVariants.{Value}
+use Rattle.spec_locks.specs.declared.outcomes.Answer.{Answer}
+use Rattle.steps_condvar.specs.CondvarSteps.{is_shown, notified}
+use Rattle.steps_condvar.specs.declared.notify.NotifyAt.TheVariants as notify
+use Rattle.steps_condvar.specs.declared.places.CondvarPlace.TheVariants.{Notify}
+use Rattle.lot_steps.specs.Steps.{condvar_goes, next_act, next_place}
+use Rattle.lot_steps.specs.declared.places.Place.{Place}
+use Rattle.lot_steps.specs.declared.places.Place.TheVariants.{Condvar}
+use Rattle.core_words.specs.declared.views.WordStep.{WordStep}
+use Rattle.parking_lot_core.specs.Tokens.{last_of}
+use Rattle.parking_lot_core.specs.declared.tokens.Token.{Token}
+use Rattle.run_base.specs.CondvarFitting.{AnswersBy}
+use Rattle.run_base.specs.Paths.{Walks, condvar_at, mutex_at, step}
+use Rattle.run_base.specs.Telling.{steps_of}
+use Rattle.run_base.proofs.Paths.{ends_at_once, goes_on}
+use Rattle.run_locks.specs.CondvarCalls.{HasNotified, Notifies, TellsMoved, at_condvar, notify_begin, notify_behind}
+
+-- beside another mutex the word of the condition variable stands at its own place
+own_word : (n m : ℕ) → m ≢ n → at_condvar n m n ≡ condvar_at n
+own_word n m ne = ap (λ (b : Bool). if b then mutex_at m else condvar_at n) (ne_eqb m n ne)
+
+module _ (n : ℕ) (all : Bool) (seen : ℕ) (answer : Answer) (old mid : List WordStep) (added : mid ≡ old ++ step (condvar_at n) Load seen) where
+  beside : (m : ℕ) → m ≢ n → mid ≡ old ++ step (at_condvar n m n) Load seen
+  beside m ne = added ∙ ap (λ i. old ++ step i Load seen) (sym (own_word n m ne))
+
+  -- it saw that nobody waits
+  pub nobody_waits : seen ≡ 0 → answer ≡ notified all 0 → Notifies n all answer old mid
+  nobody_waits zero told = (
+    n + 1,
+    ends_at_once (at_condvar n (n + 1)) (notify_begin n all) n Load seen old mid answer refl (beside (n + 1) (λ e. omega arith))
+        (subst (λ v. next_act (notify_begin n all) (Value v) ≡ End answer) (sym zero) (ap End (sym told))),
+  )
+
+  leads : (m : ℕ) → seen ≡ m + 1 → next_place (notify_begin n all) (Value seen) ≡ notify_behind n m all
+  leads m e =
+      let some : (seen == 0) ≡ false = ne_eqb seen 0 (λ none. omega arith) in
+      let back : seen - 1 ≡ m = omega arith in
+      ap (λ (b : Bool). condvar_goes n (if b then Over (notified all 0) else At (Notify all (seen - 1) notify.Enter))) some
+      ∙ ap (λ k. Condvar n (Notify all k notify.Enter)) back
+
+  -- or that a mutex is shown
+  pub some_wait : (m : ℕ) → m ≢ n → seen ≡ m + 1 → (new : List WordStep) → HasNotified n m all answer mid new → Notifies n all answer old new
+  some_wait m ne shown new behind = (
+    m,
+    goes_on (at_condvar n m) (notify_begin n all) n Load seen old mid new answer refl (beside m ne)
+        (subst (λ (p : Place). Walks (at_condvar n m) p mid new answer) (sym (leads m shown)) behind),
+  )
+
+-- a value that shows another mutex than one is another value
+shows_else : (m first seen : ℕ) → first ≡ m + 1 → is_shown seen m ≡ false → seen ≢ first
+shows_else m first seen shown other same =
+    let here : seen ≡ m + 1 = same ∙ shown in
+    let some : (seen == 0) ≡ false = ne_eqb seen 0 (λ none. omega arith) in
+    let back : (seen - 1 == m) ≡ true = eq-eqb (seen - 1) m (omega arith) in
+    false≢true (sym other ∙ ap (λ (b : Bool). not b && (seen - 1 == m)) some ∙ back)
+
+-- what its sections tell of a notification that goes on behind its first look
+pub tells_moved : (n m : ℕ) (all : Bool) (first : ℕ) (answer : Answer) (old new : Token) → first ≡ m + 1 → (more : List WordStep) × (steps_of new ≡ steps_of old ++ more) → AnswersBy n m all answer (last_of new) (steps_of new) → TellsMoved n all first answer old new
+tells_moved n m all first answer old new shown more (inl none) = inl (none.0, (more, (none.2.0, none.2.1, none.2.3, shows_else m first none.2.1 shown none.2.2, none.1)))
+tells_moved n m all first answer old new shown more (inr moved) = inr (m, moved.0, moved.1, shown, moved.2, moved.3, more)

@@ -1,0 +1,13 @@
+pub mod CondvarCalling
+pub mod CondvarNotifying
+pub mod Coming
+pub mod CondvarGoing
+pub mod MutexGoing
+pub mod RwLockBumpFull
+pub mod RwLockCalling
+pub mod RwLockCourses
+pub mod RwLockTakes
+pub mod RwLockFull
+pub mod RwLockRights
+pub mod RwLockFairCalls
+mod RwLockHalves

@@ -1,0 +1,43 @@
+use Rattle.std.proofs.Common.{◌≡◌, true, false, refl, rules}
+use Rattle.core_base.specs.Clocks.{IsUp}
+use Rattle.steps_base.specs.declared.acts.Reply.TheVariants.{Value}
+use Rattle.steps_condvar.specs.declared.wait.Stands.TheVariants.{Listed}
+use Rattle.steps_condvar.specs.declared.wait.WaitAt.TheVariants as wait
+use Rattle.steps_mutex.specs.MutexSteps.{is_parked}
+use Rattle.steps_mutex.specs.declared.unlock.UnlockAt.TheVariants as unlock
+use Rattle.run_locks.specs.CondvarCourses.{releases_at, wait_at}
+use Rattle.run_locks.proofs.Coming.{begins, comes}
+use Rattle.run_locks.proofs.CondvarGoing.{released_on, releases_on}
+use Rattle.run_locks.proofs.wait_courses.release.Goals as goal
+
+pub fall_asleep-requires : goal.fall_asleep-requires
+fall_asleep-requires g c = let pair = c.args.pair in let at = wait_at pair.condvar pair.mutex c.args.timed in let seen = c.turn_word-seen.result in
+    let alone : is_parked c.turn_word-seen.result ≡ false = search rules in
+    let here = begins (IsUp g.C.Clock.tells c.args.limit) c.args.lot.now pair.words (at (releases_at unlock.Subtract)) c.args.token.now c.args.section c.requires in
+    let released = comes here (Value seen) c.turn_word-seen.new.token c.args.section c.turn_word-seen.ensures refl (at (wait.Asleep Listed))
+    (released_on pair.condvar pair.mutex c.args.timed seen alone) in
+    released.at
+
+pub returns-then-not-is_parked : goal.returns-then-not-is_parked
+returns-then-not-is_parked g c = let pair = c.args.pair in let at = wait_at pair.condvar pair.mutex c.args.timed in let seen = c.turn_word-seen.result in
+    let alone : is_parked c.turn_word-seen.result ≡ false = search rules in
+    let here = begins (IsUp g.C.Clock.tells c.args.limit) c.args.lot.now pair.words (at (releases_at unlock.Subtract)) c.args.token.now c.args.section c.requires in
+    let released = comes here (Value seen) c.turn_word-seen.new.token c.args.section c.turn_word-seen.ensures refl (at (wait.Asleep Listed))
+    (released_on pair.condvar pair.mutex c.args.timed seen alone) in
+    released.ends c.fall_asleep.result c.fall_asleep.new.token c.fall_asleep.ensures
+
+pub wake_first_and_sleep-requires : goal.wake_first_and_sleep-requires
+wake_first_and_sleep-requires g c = let pair = c.args.pair in let at = wait_at pair.condvar pair.mutex c.args.timed in let seen = c.turn_word-seen.result in
+    let parked : is_parked c.turn_word-seen.result ≡ true = search rules in
+    let here = begins (IsUp g.C.Clock.tells c.args.limit) c.args.lot.now pair.words (at (releases_at unlock.Subtract)) c.args.token.now c.args.section c.requires in
+    let released = comes here (Value seen) c.turn_word-seen.new.token c.args.section c.turn_word-seen.ensures refl (at (releases_at unlock.Enter))
+    (releases_on pair.condvar pair.mutex c.args.timed seen parked) in
+    released.at
+
+pub returns : goal.returns
+returns g c = let pair = c.args.pair in let at = wait_at pair.condvar pair.mutex c.args.timed in let seen = c.turn_word-seen.result in
+    let parked : is_parked c.turn_word-seen.result ≡ true = search rules in
+    let here = begins (IsUp g.C.Clock.tells c.args.limit) c.args.lot.now pair.words (at (releases_at unlock.Subtract)) c.args.token.now c.args.section c.requires in
+    let released = comes here (Value seen) c.turn_word-seen.new.token c.args.section c.turn_word-seen.ensures refl (at (releases_at unlock.Enter))
+    (releases_on pair.condvar pair.mutex c.args.timed seen parked) in
+    released.ends c.wake_first_and_sleep.result c.wake_first_and_sleep.new.token c.wake_first_and_sleep.ensures

@@ -1,0 +1,119 @@
+//! The calls of a condition variable.
+ghost use Rattle.std.specs.Prelude.{◌≡◌, ◌≢◌, Bool, None};
+ghost use Rattle.core_base.specs.Clocks.{IsUp};
+ghost use Rattle.parking_lot_core.specs.Tokens.{IsSameThread};
+ghost use Rattle.parking_lot_core.specs.declared.tokens.Token.{Token};
+ghost use Rattle.steps_condvar.specs.CondvarSteps.{notified};
+ghost use Rattle.run_base.specs.CondvarFitting.{IsNotifyOver, IsWaitOver, OwnsIt};
+ghost use Rattle.run_base.specs.Stages.{stage_of};
+ghost use Rattle.run_base.specs.Telling.{owns_of, steps_of};
+ghost use Rattle.run_base.specs.Words.{both};
+ghost use Rattle.run_locks.specs.CondvarCalls.{HasLooked, HasNotified, HasWaited, MeetBeside, MeetsCondvar, Notifies, TellsMoved};
+
+use crate::condvar_courses::Pair;
+use crate::notify_courses::notify_through;
+use crate::wait_courses::wait_through;
+use spec_locks::Answer;
+use run_base::words::Words;
+use parking_lot_core::{Clock, ParkingLot, Token, Word};
+use std::sync::Wait;
+
+fn pair_of(condvar: Word, mutex: Word) -> Pair
+    ensures { result ≡ record
+        { words = both condvar mutex; condvar = condvar.number; mutex = mutex.number } }
+{
+    Pair {
+        words: Words::both(condvar, mutex),
+        condvar: condvar.number(),
+        mutex: mutex.number(),
+    }
+}
+
+/// Releases a mutex, which the thread owns, and locks it again once the thread is notified, or
+/// where its time is up in a timed wait. It answers with the mutex: that another one is shown, and
+/// this one was not released; that the thread was notified; or that its time was up before.
+#[cold]
+#[inline(never)]
+pub fn wait<R: Wait, C: Clock>(
+    rt: &R,
+    lot: &ParkingLot,
+    token: &mut Token,
+    condvar: Word,
+    mutex: Word,
+    limit: Option<(&C, u64)>,
+    timed: bool,
+) -> Answer
+    requires own { MeetBeside lot.now token.old condvar mutex }
+    requires owned { OwnsIt mutex.number (owns_of token.old) }
+    ensures own { IsSameThread lot.now token.old token.new }
+    ensures path { HasWaited condvar.number mutex.number timed result (steps_of token.old)
+        (steps_of token.new) }
+    ensures over { IsWaitOver (IsUp C.tells limit.entry) mutex.number timed
+        (owns_of token.old) result
+        (stage_of token.new None) }
+{
+    wait_through(rt, lot, token, pair_of(condvar, mutex), limit, timed)
+}
+
+// The rest of a notification whose first step saw this mutex: it wakes the first who waits with it,
+// or all, or moves them to its queue.
+#[cold]
+#[inline(never)]
+fn notify_shown<R: Wait>(
+    rt: &R,
+    lot: &ParkingLot,
+    token: &mut Token,
+    condvar: Word,
+    mutex: Word,
+    all: bool,
+) -> Answer
+    requires own { MeetBeside lot.now token.old condvar mutex }
+    ensures own { IsSameThread lot.now token.old token.new }
+    ensures path { HasNotified condvar.number mutex.number all result (steps_of token.old)
+        (steps_of token.new) }
+    ensures over { IsNotifyOver condvar.number mutex.number all (owns_of token.old) result
+        (stage_of token.new None) }
+{
+    notify_through(rt, lot, token, pair_of(condvar, mutex), all)
+}
+
+/// The step with which each notification begins, as all callers make it themselves. It answers what
+/// it sees of the condition variable: where that is 0 nobody waits, and the notification is over.
+#[inline]
+pub fn begin_notify(lot: &ParkingLot, token: &mut Token, condvar: Word) -> u64
+    requires own { MeetsCondvar lot.now token.old condvar }
+    ensures own { IsSameThread lot.now token.old token.new }
+    ensures looked { HasLooked lot.now.words.count condvar.number result token.old token.new }
+    ensures nobody { result ≡ 0 → (all : Bool)
+        → Notifies condvar.number all (notified all 0) (steps_of token.old) (steps_of token.new) }
+{
+    lot.look_shown(token, condvar)
+}
+
+/// The rest of a notification whose first step saw that a mutex is shown. It wakes the first who
+/// waits, or all: those whose mutex somebody owns it moves to the queue of that, but for the first
+/// where nobody owns it. It answers how many it took and moved, of the first whether there was one.
+#[cold]
+#[inline(never)]
+pub fn notify_behind<R: Wait>(
+    rt: &R,
+    lot: &ParkingLot,
+    token: &mut Token,
+    condvar: Word,
+    all: bool,
+    seen: u64,
+) -> Answer
+    requires own { MeetsCondvar lot.now token.old condvar }
+    requires looked { (before : Token)
+        × HasLooked lot.now.words.count condvar.number seen before token.old }
+    requires some { seen ≢ 0 }
+    ensures own { IsSameThread lot.now token.old token.new }
+    ensures path { (before : Token)
+        → HasLooked lot.now.words.count condvar.number seen before token.old
+        → Notifies condvar.number all result (steps_of before) (steps_of token.new) }
+    ensures owns { owns_of token.new ≡ owns_of token.old }
+    ensures record { TellsMoved condvar.number all seen result token.old token.new }
+{
+    let mutex = lot.mutex_shown(token, condvar, seen);
+    notify_shown(rt, lot, token, condvar, mutex, all)
+}

@@ -1,0 +1,76 @@
+//! The straight courses of waits and of notifications, where nothing comes between. Anything else
+//! leads off them, to the driver, which goes on through the places one by one.
+ghost use Rattle.std.specs.Prelude.{◌≡◌};
+ghost use Rattle.core_base.specs.Clocks.{IsUp};
+ghost use Rattle.run_base.specs.Turns.{HasEnded, IsAt};
+ghost use Rattle.run_locks.specs.CondvarCourses.{IsOfCondvar, notify_at, wait_at};
+
+use spec_locks::Answer;
+use steps_condvar::{CondvarPlace, NotifyAt, WaitAt};
+use run_base::driver::{Stop, run_from};
+use run_base::words::Words;
+use lot_steps::Place;
+use parking_lot_core::{Clock, ParkingLot, Section, Token};
+use std::sync::Wait;
+
+/// A condition variable and a mutex, by their numbers, and their words.
+#[derive(Clone, Copy)]
+pub(crate) struct Pair {
+    pub words: Words,
+    pub condvar: usize,
+    pub mutex: usize,
+}
+
+impl Pair {
+    // Where a thread stands that waits.
+    pub(crate) fn waits(self, timed: bool, at: WaitAt) -> Place
+        ensures { result ≡ wait_at self.condvar self.mutex timed at }
+    {
+        Place::Condvar {
+            lock: self.condvar,
+            at: CondvarPlace::Wait {
+                mutex: self.mutex,
+                timed,
+                at,
+            },
+        }
+    }
+
+    // Where one stands that notifies.
+    pub(crate) fn notifies(self, all: bool, at: NotifyAt) -> Place
+        ensures { result ≡ notify_at self.condvar self.mutex all at }
+    {
+        Place::Condvar {
+            lock: self.condvar,
+            at: CondvarPlace::Notify {
+                all,
+                mutex: self.mutex,
+                at,
+            },
+        }
+    }
+}
+
+// The rest of a call, from a place off its straight course.
+#[cold]
+#[inline(never)]
+pub(crate) fn rest<'a, R: Wait, C: Clock>(
+    rt: &R,
+    lot: &'a ParkingLot,
+    token: &mut Token,
+    words: Words,
+    limit: Option<(&C, u64)>,
+    section: Option<Section<'a>>,
+    place: Place,
+) -> Answer
+    requires at { IsAt (IsUp C.tells limit) lot.now words place token.old section }
+    requires call { IsOfCondvar place }
+    ensures { HasEnded (IsUp C.tells limit.entry) lot.now words place result token.old section.entry
+        token.new }
+{
+    match run_from(rt, lot, token, words, limit, section, place) {
+        Stop::Ended(answer) => answer,
+        // No call of a condition variable runs a closure.
+        Stop::Paused { .. } => unreachable!(),
+    }
+}

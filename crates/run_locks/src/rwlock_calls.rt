@@ -1,0 +1,371 @@
+//! The calls of a reader-writer lock, each from its first step to its answer.
+ghost use Rattle.std.specs.Prelude.{◌≡◌, List, None, MatchResult};
+ghost use Rattle.steps_base.specs.declared.acts.Reply.TheVariants.{Value};
+ghost use Rattle.core_base.specs.Clocks.{IsUp};
+ghost use Rattle.steps_rwlock.specs.declared.purposes.RwLockPurpose.TheVariants.{Enter};
+ghost use Rattle.lot_steps.specs.Steps.{next_place};
+ghost use Rattle.core_words.specs.Lots.{IsWordOf};
+ghost use Rattle.core_words.specs.declared.owners.Ownership.{Ownership};
+ghost use Rattle.core_words.specs.declared.words.WordKind.TheVariants.{RwLock};
+ghost use Rattle.parking_lot_core.specs.Tokens.{IsTokenOf, IsSameThread};
+ghost use Rattle.parking_lot_core.specs.declared.tokens.Token.{Token};
+ghost use Rattle.run_locks.specs.Halves.{HasBegun, HasEnded};
+ghost use Rattle.run_locks.specs.declared.rwlock_calls.Rest.TheVariants.{GoesOn, Missed};
+ghost use Rattle.run_base.specs.Fitting.{AreWordsFor, Fits, IsOver, Reached, aim_of, of_rwlock};
+ghost use Rattle.run_base.specs.Paths.{Rests, Walks, at_rwlock};
+ghost use Rattle.run_base.specs.RwLockCalls.{AnswersCall, BeginsWith, HasWalkedRwLock, MeetsAt, WakesBy, rwlock_begin, rwlock_deciding};
+ghost use Rattle.run_base.specs.Stages.{stage_of};
+ghost use Rattle.run_base.specs.Telling.{owns_of, steps_of};
+ghost use Rattle.run_base.specs.Words.{alone, kind_in, at_in};
+
+use crate::rwlock_courses::{Course, answer_with, course_of, opening};
+use spec_locks::{Access, Answer, Downgrade, Patience};
+use run_base::driver::{Stop, answer_of, run};
+use run_base::words::Words;
+use steps_rwlock::places::{RwLockAt, RwLockPlace};
+use steps_rwlock::{Admission, RwLockPurpose};
+use steps_rwlock_fair::RwLockCallPlace;
+use lot_steps::{Place, Reply, advance};
+use parking_lot_core::pauses::{SHORT_PAUSE, pause};
+use parking_lot_core::{Clock, Op, ParkingLot, Token, Word};
+use std::sync::Wait;
+
+/// The rest of a call, which the fast half leaves to the slow one.
+#[derive(Clone, Copy)]
+pub enum Rest {
+    /// Its first step saw this, and it goes on.
+    GoesOn(u64),
+    /// Its first step saw one value, and the exchange by which it takes its right found another.
+    Missed { seen: u64, found: u64 },
+}
+
+/// Runs a call that steps on one word from a place to its answer.
+pub(crate) fn run_out<R: Wait, C: Clock>(
+    rt: &R,
+    lot: &ParkingLot,
+    token: &mut Token,
+    word: Word,
+    limit: Option<(&C, u64)>,
+    start: Place,
+) -> Answer
+    requires own { IsTokenOf lot.now token.old × IsWordOf lot.now.words word }
+    requires words { AreWordsFor start (kind_in (alone word)) (at_in (alone word)) }
+    requires kind { word.kind ≡ RwLock }
+    requires fits { (base : List Ownership)
+        × Fits (IsUp C.tells limit) base start (stage_of token.old None) }
+    ensures own { IsSameThread lot.now token.old token.new }
+    ensures path { Walks (at_in (alone word)) start (steps_of token.old)
+        (steps_of token.new) result }
+    ensures over { (base : List Ownership)
+        → Fits (IsUp C.tells limit.entry) base start (stage_of token.old None)
+        → IsOver (IsUp C.tells limit.entry) base (aim_of start) result (stage_of token.new None) }
+{
+    match run(rt, lot, token, Words::alone(word), limit, start) {
+        Stop::Ended(answer) => answer,
+        // No call of a lock runs a closure.
+        Stop::Paused { .. } => unreachable!(),
+    }
+}
+
+// Where a call goes on whose first step saw this.
+fn place_behind(lock: usize, admission: Admission, purpose: RwLockPurpose, seen: u64) -> Place
+    ensures { result ≡ next_place (rwlock_begin lock admission purpose) (Value seen) }
+{
+    let first = Place::RwLock {
+        lock,
+        admission,
+        at: RwLockCallPlace::begin(purpose),
+    };
+    first.after(Reply::Value(seen))
+}
+
+// Where a call decides by what its first step saw.
+fn deciding(lock: usize, admission: Admission, purpose: RwLockPurpose, seen: u64) -> Place
+    ensures { result ≡ rwlock_deciding lock admission purpose seen }
+{
+    Place::RwLock {
+        lock,
+        admission,
+        at: RwLockCallPlace::Plain(RwLockPlace {
+            purpose,
+            retries: false,
+            at: RwLockAt::Decide(seen),
+        }),
+    }
+}
+
+// A purpose to enter, where it lasts.
+#[inline(always)]
+fn entering(access: Access, patience: Patience) -> &'static RwLockPurpose
+    ensures { result.now ≡ Enter access patience }
+{
+    use Access::{Exclusive, Shared, Upgradable};
+    use Patience::{Patient, Timed, Try};
+    use RwLockPurpose::Enter;
+    match (access, patience) {
+        (Shared, Patient) => &Enter {
+            access: Shared,
+            patience: Patient,
+        },
+        (Shared, Timed) => &Enter {
+            access: Shared,
+            patience: Timed,
+        },
+        (Shared, Try) => &Enter {
+            access: Shared,
+            patience: Try,
+        },
+        (Upgradable, Patient) => &Enter {
+            access: Upgradable,
+            patience: Patient,
+        },
+        (Upgradable, Timed) => &Enter {
+            access: Upgradable,
+            patience: Timed,
+        },
+        (Upgradable, Try) => &Enter {
+            access: Upgradable,
+            patience: Try,
+        },
+        (Exclusive, Patient) => &Enter {
+            access: Exclusive,
+            patience: Patient,
+        },
+        (Exclusive, Timed) => &Enter {
+            access: Exclusive,
+            patience: Timed,
+        },
+        (Exclusive, Try) => &Enter {
+            access: Exclusive,
+            patience: Try,
+        },
+    }
+}
+
+// The same purpose, where it lasts.
+#[inline(always)]
+fn lasting(purpose: RwLockPurpose) -> &'static RwLockPurpose
+    ensures { result.now ≡ purpose }
+{
+    use RwLockPurpose::{Downgrade as Lessen, Enter, Release, Upgrade};
+    match purpose {
+        Enter { access, patience } => entering(access, patience),
+        Release(Access::Shared) => &Release(Access::Shared),
+        Release(Access::Upgradable) => &Release(Access::Upgradable),
+        Release(Access::Exclusive) => &Release(Access::Exclusive),
+        Lessen(Downgrade::ToShared) => &Lessen(Downgrade::ToShared),
+        Lessen(Downgrade::ToUpgradable) => &Lessen(Downgrade::ToUpgradable),
+        Lessen(Downgrade::UpgradableToShared) => &Lessen(Downgrade::UpgradableToShared),
+        Upgrade(Patience::Patient) => &Upgrade(Patience::Patient),
+        Upgrade(Patience::Timed) => &Upgrade(Patience::Timed),
+        Upgrade(Patience::Try) => &Upgrade(Patience::Try),
+    }
+}
+
+// The same by reference: what a cold call is given by value lies in a local of its caller, which
+// every call would set to zero.
+#[cold]
+#[inline(never)]
+fn rest_behind<R: Wait, C: Clock>(
+    rt: &R,
+    lot: &ParkingLot,
+    token: &mut Token,
+    word: &Word,
+    admission: &Admission,
+    limit: &Option<(&C, u64)>,
+    purpose: &RwLockPurpose,
+    seen: u64,
+) -> Answer
+    requires own { MeetsAt lot.now token.old word.now admission.now }
+    requires fits { (base : List Ownership) × Fits (IsUp C.tells limit.now) base
+        (next_place (rwlock_begin word.now.number admission.now purpose.now) (Value seen)) (stage_of token.old None) }
+    ensures own { IsSameThread lot.now token.old token.new }
+    ensures path { Walks (at_rwlock word.now.number)
+        (next_place (rwlock_begin word.now.number admission.now purpose.now) (Value seen))
+        (steps_of token.old) (steps_of token.new) result }
+    ensures over { (base : List Ownership) → Fits (IsUp C.tells limit.now) base
+        (next_place (rwlock_begin word.now.number admission.now purpose.now) (Value seen)) (stage_of token.old None)
+        → IsOver (IsUp C.tells limit.now) base
+        (aim_of (next_place (rwlock_begin word.now.number admission.now purpose.now) (Value seen))) result (stage_of token.new None) }
+{
+    let start = place_behind(word.number(), *admission, *purpose, seen);
+    run_out(rt, lot, token, *word, *limit, start)
+}
+
+/// The slow half of a call whose first step saw this, and that goes on.
+#[inline(always)]
+pub fn behind<R: Wait, C: Clock>(
+    rt: &R,
+    lot: &ParkingLot,
+    token: &mut Token,
+    word: &Word,
+    admission: &Admission,
+    limit: &Option<(&C, u64)>,
+    purpose: RwLockPurpose,
+    seen: u64,
+) -> Answer
+    requires own { MeetsAt lot.now token.old word.now admission.now }
+    requires begun { (before : Token) × (base : List Ownership)
+        × BeginsWith word.now.number purpose base (owns_of before)
+        × HasBegun word.now admission.now purpose (GoesOn seen) before token.old }
+    ensures own { IsSameThread lot.now token.old token.new }
+    ensures over { (before : Token) (base : List Ownership)
+        → BeginsWith word.now.number purpose base (owns_of before)
+        → HasBegun word.now admission.now purpose (GoesOn seen) before token.old
+        → HasEnded (IsUp C.tells limit.now) word.now admission.now purpose result before token.new }
+{
+    rest_behind(
+        rt,
+        lot,
+        token,
+        word,
+        admission,
+        limit,
+        lasting(purpose),
+        seen,
+    )
+}
+
+// The same by reference. A thread whose exchange missed met another, and would meet it again at
+// once. So it pauses once, for 0.7 microseconds where a round takes 11 nanoseconds: meanwhile the
+// other thread keeps the word's cache line, and takes many turns as if it were alone.
+#[cold]
+#[inline(never)]
+fn rest_missed<R: Wait, C: Clock>(
+    rt: &R,
+    lot: &ParkingLot,
+    token: &mut Token,
+    word: &Word,
+    admission: &Admission,
+    limit: &Option<(&C, u64)>,
+    purpose: &RwLockPurpose,
+    expected: u64,
+    found: u64,
+) -> Answer
+    requires own { MeetsAt lot.now token.old word.now admission.now }
+    requires reached { (base : List Ownership) × Reached (IsUp C.tells limit.now) base
+        (rwlock_deciding word.now.number admission.now purpose.now expected) (Value found) (stage_of token.old None) }
+    ensures own { IsSameThread lot.now token.old token.new }
+    ensures path { Rests (at_rwlock word.now.number)
+        (rwlock_deciding word.now.number admission.now purpose.now expected) (Value found)
+        (steps_of token.old) (steps_of token.new) result }
+    ensures over { (base : List Ownership) → Reached (IsUp C.tells limit.now) base
+        (rwlock_deciding word.now.number admission.now purpose.now expected) (Value found) (stage_of token.old None)
+        → IsOver (IsUp C.tells limit.now) base
+        (of_rwlock word.now.number admission.now purpose.now) result
+        (stage_of token.new None) }
+{
+    let place = deciding(word.number(), *admission, *purpose, expected);
+    let (next, act) = advance(place, Reply::Value(found));
+    match answer_of(act) {
+        Some(answer) => answer,
+        None => {
+            pause(SHORT_PAUSE);
+            run_out(rt, lot, token, *word, *limit, next)
+        }
+    }
+}
+
+/// The slow half of a call whose first step saw one value, and whose exchange found another.
+#[inline(always)]
+pub fn missed<R: Wait, C: Clock>(
+    rt: &R,
+    lot: &ParkingLot,
+    token: &mut Token,
+    word: &Word,
+    admission: &Admission,
+    limit: &Option<(&C, u64)>,
+    purpose: RwLockPurpose,
+    seen: u64,
+    found: u64,
+) -> Answer
+    requires own { MeetsAt lot.now token.old word.now admission.now }
+    requires begun { (before : Token) × (base : List Ownership)
+        × BeginsWith word.now.number purpose base (owns_of before)
+        × HasBegun word.now admission.now purpose (Missed seen found) before token.old }
+    ensures own { IsSameThread lot.now token.old token.new }
+    ensures over { (before : Token) (base : List Ownership)
+        → BeginsWith word.now.number purpose base (owns_of before)
+        → HasBegun word.now admission.now purpose (Missed seen found) before token.old
+        → HasEnded (IsUp C.tells limit.now) word.now admission.now purpose result before token.new }
+{
+    rest_missed(
+        rt,
+        lot,
+        token,
+        word,
+        admission,
+        limit,
+        lasting(purpose),
+        seen,
+        found,
+    )
+}
+
+/// The fast half of a call of who has the right that it needs: a step or two, which are all where it
+/// meets nobody. Else it answers what is left to `behind` or `missed`.
+#[inline(always)]
+pub fn call_fast<C: Clock>(
+    lot: &ParkingLot,
+    token: &mut Token,
+    word: &Word,
+    admission: &Admission,
+    _limit: &Option<(&C, u64)>,
+    purpose: RwLockPurpose,
+) -> Result<Answer, Rest>
+    requires own { MeetsAt lot.now token.old word.now admission.now }
+    requires right { (base : List Ownership)
+        × BeginsWith word.now.number purpose base (owns_of token.old) }
+    ensures own { IsSameThread lot.now token.old token.new }
+    ensures over { MatchResult result
+        (λ answer. HasEnded (IsUp C.tells _limit.now) word.now admission.now purpose answer
+        token.old token.new)
+        (λ rest. HasBegun word.now admission.now purpose rest token.old token.new) }
+{
+    let seen = lot.word(token, *word, opening(purpose));
+    match course_of(*admission, purpose, seen) {
+        Course::Ends(answer) => Ok(answer),
+        Course::GoesOn => Err(Rest::GoesOn(seen)),
+        Course::Takes => {
+            let to = purpose.taken(seen);
+            let found = lot.word_again(token, *word, Op::Exchange { from: seen, to });
+            if found == seen {
+                return Ok(answer_with(purpose));
+            }
+            Err(Rest::Missed { seen, found })
+        }
+    }
+}
+
+/// A whole call of who has the right that it needs. Where it meets nobody it is a step or two, with
+/// no further call.
+#[inline(always)]
+pub fn call<R: Wait, C: Clock>(
+    rt: &R,
+    lot: &ParkingLot,
+    token: &mut Token,
+    word: &Word,
+    admission: &Admission,
+    limit: &Option<(&C, u64)>,
+    purpose: RwLockPurpose,
+) -> Answer
+    requires own { MeetsAt lot.now token.old word.now admission.now }
+    requires right { (base : List Ownership)
+        × BeginsWith word.now.number purpose base (owns_of token.old) }
+    ensures own { IsSameThread lot.now token.old token.new }
+    ensures path { HasWalkedRwLock word.now.number admission.now purpose result token.old
+        token.new }
+    ensures over { (base : List Ownership)
+        → BeginsWith word.now.number purpose base (owns_of token.old)
+        → AnswersCall (IsUp C.tells limit.now) word.now.number base admission.now purpose result
+        (stage_of token.new None) }
+    ensures record { WakesBy word.now.number admission.now purpose token.old token.new }
+{
+    match call_fast(lot, token, word, admission, limit, purpose) {
+        Ok(answer) => answer,
+        Err(Rest::GoesOn(seen)) => { behind(rt, lot, token, word, admission, limit, purpose, seen) }
+        Err(Rest::Missed { seen, found }) => {
+            missed(rt, lot, token, word, admission, limit, purpose, seen, found)
+        }
+    }
+}

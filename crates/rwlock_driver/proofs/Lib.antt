@@ -1,8 +1,0 @@
-pub mod RwLockBumpFull
-pub mod RwLockCalling
-pub mod RwLockCourses
-pub mod RwLockTakes
-pub mod RwLockFull
-pub mod RwLockRights
-pub mod RwLockFairCalls
-mod RwLockHalves

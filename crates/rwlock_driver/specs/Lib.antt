@@ -1,3 +1,0 @@
-pub mod RwLockRefusals
-pub mod Courses
-pub mod Halves

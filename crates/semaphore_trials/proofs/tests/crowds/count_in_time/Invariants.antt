@@ -1,5 +1,0 @@
-use Rattle.run_semaphore.specs.Users.{IsTokenOf, lot_of}
-use Rattle.semaphore_trials.proofs.tests.crowds.count_in_time.Given as goal
-
-abbrev pub invariant-loop : goal.invariant-loop
-invariant-loop g l = IsTokenOf (lot_of l.semaphore) l.token

@@ -1,5 +1,0 @@
-use Rattle.run_semaphore.specs.Users.{IsTokenOf}
-use Rattle.semaphore_trials.proofs.tests.crowds.one_waits.Given as goal
-
-abbrev pub invariant-loop : goal.invariant-loop
-invariant-loop g l = IsTokenOf l.lot l.token

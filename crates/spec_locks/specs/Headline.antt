@@ -1,0 +1,154 @@
+-- The headline: what any list of steps comes to, said of the abstract locks alone. There is no word
+-- here, no place of a call, and no queue of the machine.
+use Rattle.std.specs.Prelude.{ℕ, Bool, true, false, Option, Some, None, ◌||◌, ◌≡◌, ◌≢◌, ◌≤◌, ◌<◌, ◌⊎◌, List, [], ◌∷◌, length, get_or}
+use Rattle.core_base.specs.declared.keys.Keys.TheVariants.{One}
+use Rattle.core_base.specs.declared.wants.Want.{Want}
+use Rattle.core_base.specs.declared.wants.Want.TheVariants.{Exclusive, Upgradable}
+use Rattle.core_base.specs.Keys.{key_of}
+use Rattle.spec_locks.specs.declared.calls.Step.{Step}
+use Rattle.spec_locks.specs.declared.kinds.Kind.{Kind}
+use Rattle.spec_locks.specs.declared.kinds.Kind.TheVariants as kind
+use Rattle.spec_locks.specs.declared.outcomes.Outcome.{Outcome}
+use Rattle.spec_locks.specs.Locks.{Sort, Semaphore, LockState, Rules, Taken, Owns, IsSomePending, readers, standing, times}
+use Rattle.spec_locks.specs.Purposes.{Purpose, Enters, Releases, Converts, Bumps, CallsOnce, Awaits, Waits, Notifies, Recall, Blank, Saw, SawOwner, HasMoved, WasMoved, WasNotified, MayWait}
+use Rattle.spec_locks.specs.Sites.{Line, Main, Second, IsOpen, counts_some, has_readers, is_full}
+use Rattle.spec_locks.specs.Runs.{LocksState, Stance, rules_at, IsOpening, IsStep}
+
+abbrev pub sort_in : LocksState → ℕ → Sort
+sort_in w l = (rules_at w l).sort
+
+-- ---------------------------------------------------------------- threads that wake the next waiter
+
+-- the right that a call is to have in the end; a wait, its mutex again
+abbrev pub want_of : Option Purpose → Option Want
+want_of None = None
+want_of (Some (Enters l x how)) = Some x
+want_of (Some (Releases l x fair)) = None
+want_of (Some (Converts l x y how)) = Some y
+want_of (Some (Bumps l x)) = Some x
+want_of (Some (CallsOnce l forced)) = None
+want_of (Some (Awaits l forced timed)) = None
+want_of (Some (Waits l m timed)) = Some Exclusive
+want_of (Some (Notifies l all)) = None
+
+-- the mutex that a notification has seen
+abbrev pub mutex_seen : Recall → Option ℕ
+mutex_seen Blank = None
+mutex_seen (Saw m) = Some m
+mutex_seen (SawOwner m owned) = Some m
+mutex_seen (HasMoved m number) = Some m
+mutex_seen WasMoved = None
+mutex_seen WasNotified = None
+
+-- a call that wakes those that it takes from the main line of l: a release that hands nothing over,
+-- a conversion that lets others in, a writer beside readers that has given up, a call that runs the
+-- closure of a `Once`; a wait, of its mutex, and a notification, of the mutex that it has seen
+abbrev pub WakesWaiters : Sort → Option Purpose → Option ℕ → Recall → ℕ → Type 0
+WakesWaiters sort None gave_up recalls l = ⊥
+WakesWaiters sort (Some (Enters k x how)) gave_up recalls l =
+    (k ≡ l) × (gave_up ≡ Some l) × (has_readers sort ≡ true)
+WakesWaiters sort (Some (Releases k x fair)) gave_up recalls l =
+    (k ≡ l) × ((fair ≡ false) ⊎ (x ≡ Upgradable))
+WakesWaiters sort (Some (Converts k x y how)) gave_up recalls l =
+    (k ≡ l) × ((y ≢ Exclusive) ⊎ ((gave_up ≡ Some l) × (has_readers sort ≡ true)))
+WakesWaiters sort (Some (Bumps k x)) gave_up recalls l = (k ≡ l) × (x ≢ Exclusive)
+WakesWaiters sort (Some (CallsOnce k forced)) gave_up recalls l = k ≡ l
+WakesWaiters sort (Some (Awaits k forced timed)) gave_up recalls l = ⊥
+WakesWaiters sort (Some (Waits k m timed)) gave_up recalls l = m ≡ l
+WakesWaiters sort (Some (Notifies k all)) gave_up recalls l = mutex_seen recalls ≡ Some l
+
+-- a thread is inside the section of a line, or enters it next
+abbrev pub IsAtLine : LocksState → ℕ → ℕ → Line → Type 0
+IsAtLine w t l m =
+    (w.inside (key_of l m) ≡ Some t) ⊎ ((w.stances t).enters ≡ Some (One (key_of l m)))
+
+-- it is there, in a call that wakes those that it takes; or it was woken, is about to try again, and
+-- will pass the turn on
+abbrev pub IsDebtor : LocksState → ℕ → ℕ → Line → Type 0
+IsDebtor w t l Main =
+    (IsAtLine w t l Main
+    × WakesWaiters (sort_in w l) (w.calls t).purpose (w.calls t).gave_up (w.calls t).recalls l)
+    ⊎ (((w.calls t).retries ≡ Some l)
+    × (counts_some (sort_in w l) (want_of (w.calls t).purpose) ≡ true))
+IsDebtor w t l Second = IsAtLine w t l Second
+
+-- some thread is such a debtor, and is awake
+pub record IsLookedAfter (w : LocksState) (l : ℕ) (m : Line) : Type 0 where
+  pub debtor : ℕ
+  pub debt : IsDebtor w debtor l m
+  pub awake : (w.stances debtor).asleep ≡ false
+
+-- ---------------------------------------------------------------- nobody is forgotten
+
+-- nobody bars the way of the first waiter of the main line: nobody owns the mutex, no writer is
+-- there, nobody runs the `Once` for which a call waits, or a permit is free
+abbrev pub IsOpenNow : Rules → LockState → Type 0
+IsOpenNow r s = IsOpen r.sort s ⊎ ((r.sort ≡ Semaphore) × (readers s < r.limit))
+
+-- it owns what it waited for; a writer of a lock that is shared may be pending
+abbrev pub HasOrPends : Sort → LockState → ℕ → Want → Type 0
+HasOrPends sort s t x = Owns s t x
+    ⊎ ((x ≡ Exclusive) × (has_readers sort ≡ true) × IsSomePending s.pending t)
+
+-- it has what it waited for, and the thread inside the section has yet to wake it
+pub record IsHandedOver (w : LocksState) (t : ℕ) : Type 0 where
+  pub lock : ℕ
+  pub by : ℕ
+  pub want : Want
+  pub waited : MayWait (w.calls t).purpose lock × (want_of (w.calls t).purpose ≡ Some want)
+  pub owner : HasOrPends (sort_in w lock) (w.locks lock) t want
+  pub inside : w.inside (key_of lock Main) ≡ Some by
+
+-- it is awake, runs no closure, and enters no section next: no other thread keeps it from going on
+abbrev pub GoesFreely : Stance → Type 0
+GoesFreely stance =
+    (stance.asleep ≡ false) × (stance.in_closure ≡ false) × (stance.enters ≡ None)
+
+-- in a state in which these locks were once at their limit
+pub record NobodyForgotten (w : LocksState) (was_full : ℕ → Bool) : Type 0 where
+  -- a thread that waits for a lock whose way nobody bars is looked after
+  pub main : (t l : ℕ) → 1 ≤ times t (w.locks l).queue → IsOpenNow (rules_at w l) (w.locks l)
+      → (has_readers (sort_in w l) ≡ true → was_full l ≡ false)
+      → IsLookedAfter w l Main
+  -- and so is a writer aside when the last reader has gone
+  pub second : (l : ℕ) → (w.locks l).aside ≢ None → readers (w.locks l) ≡ 0
+      → IsLookedAfter w l Second
+  -- a thread that was taken is in the hand of one that is inside a section of the lock
+  pub in_hand : (t l : ℕ) (h : Taken) → (w.locks l).taken t ≡ Some h
+      → (m : Line) × (w.inside (key_of l m) ≡ Some h.by)
+  -- and a thread that sleeps, but stands in no queue and is in no hand, was handed its lock
+  pub asleep : (t : ℕ) → (w.stances t).asleep ≡ true → ((l : ℕ) → standing t (w.locks l) ≡ 0)
+      → IsHandedOver w t
+  -- a thread that is inside a section goes on freely
+  pub inside : (t l : ℕ) (m : Line) → w.inside (key_of l m) ≡ Some t → GoesFreely (w.stances t)
+
+-- ---------------------------------------------------------------- the headline
+
+-- the locks that were at their limit by then: those that were so before, and those that are so now
+abbrev pub full_by : (ℕ → Bool) → LocksState → ℕ → Bool
+full_by before w l = before l || is_full (rules_at w l) (w.locks l)
+
+-- the steps with their outcomes lead from w to v by steps of the abstract locks, and in each state
+-- on the way nobody is forgotten
+abbrev pub Behaves : (ℕ → Bool) → LocksState → List Step → List Outcome → LocksState → Type 0
+Behaves full w [] [] v = NobodyForgotten w full × (v ≡ w)
+Behaves full w (s ∷ ss) (o ∷ os) v =
+    NobodyForgotten w full
+    × ((u : LocksState) × IsStep w s o u × Behaves (full_by full u) u ss os v)
+Behaves full w [] (o ∷ os) v = ⊥
+Behaves full w (s ∷ ss) [] v = ⊥
+
+-- so many threads over locks of these kinds, and nothing has happened yet
+pub record Opens (kinds : List Kind) (threads : ℕ) (w : LocksState) : Type 0 where
+  pub opening : IsOpening w
+  pub threads_there : w.threads ≡ threads
+  pub locks_there : w.size ≡ length kinds
+  pub kinds_there : (l : ℕ) → w.kinds l ≡ get_or kinds l kind.Mutex
+
+-- from their opening state so many threads, over locks of these kinds, may tell this of these steps
+pub record MayTell (kinds : List Kind) (threads : ℕ) (steps : List Step)
+    (told : List Outcome) : Type 0 where
+  pub first : LocksState
+  pub last : LocksState
+  pub opens : Opens kinds threads first
+  pub behaves : Behaves (λ l. false) first steps told last

@@ -1,0 +1,34 @@
+-- The picker of a reader-writer lock's main queue picks whom the abstract lock says.
+use Rattle.std.specs.Prelude.{ℕ, Option, ◌≡◌, ◌≢◌, List, map}
+use Rattle.core_base.specs.declared.wants.Waiter.{Waiter}
+use Rattle.core_base.specs.declared.wants.Want.{Want}
+use Rattle.core_base.specs.Lines.{line}
+use Rattle.core_base.specs.Picks.{lock_picked, without_lock_picked}
+use Rattle.spec_locks.specs.Locks.{Sort, Queued, is_recursive, picked, unpicked}
+
+-- a waiter of a lock's queue
+abbrev pub queued_of : Waiter → Queued
+queued_of x = record { thread = x.thread; want = x.want }
+
+-- who stands under a key, as a lock's queue
+abbrev pub queue_under : ℕ → List Waiter → List Queued
+queue_under key waiters = map queued_of (line key waiters)
+
+-- what a thread that keeps a right of its own, or none, picks of the line of a key
+pub record PicksAsTheLockSays (sort : Sort) (start : Option Want) (key : ℕ)
+    (waiters : List Waiter) : Type 0 where
+  -- it takes just those whom the lock says, in order
+  pub taken : map queued_of (lock_picked start (is_recursive sort) (line key waiters))
+      ≡ picked sort start (queue_under key waiters)
+  -- it leaves just the others, in order
+  pub left : queue_under key (without_lock_picked start (is_recursive sort) key waiters)
+      ≡ unpicked sort start (queue_under key waiters)
+  -- and every other line stays as it was
+  pub elsewhere : (k : ℕ) → k ≢ key
+      → line k (without_lock_picked start (is_recursive sort) key waiters) ≡ line k waiters
+
+-- whatever it keeps, and whoever waits for whatever; a thread may stand there twice
+abbrev pub PickersPickAsTheLocksSay : Type 0
+PickersPickAsTheLocksSay =
+    (sort : Sort) (start : Option Want) (key : ℕ) (waiters : List Waiter)
+    → PicksAsTheLockSays sort start key waiters

@@ -1,0 +1,301 @@
+-- The purpose of each call of a lock, and the cases that the call is made of.
+use Rattle.std.specs.Prelude.{ℕ, Bool, true, false, Option, Some, None, ◌≡◌, ◌≢◌, ◌⊎◌}
+use Rattle.core_base.specs.declared.wants.Want.{Want}
+use Rattle.core_base.specs.declared.wants.Want.TheVariants.{Exclusive, Upgradable, Shared, Wait, CallOnce}
+use Rattle.spec_locks.specs.declared.kinds.Kind.{Kind}
+use Rattle.spec_locks.specs.declared.kinds.Kind as kind
+use Rattle.spec_locks.specs.declared.calls.Call.{Call}
+use Rattle.spec_locks.specs.declared.calls.Call as call
+use Rattle.spec_locks.specs.declared.calls.MutexCall.{MutexCall}
+pub use Rattle.spec_locks.specs.declared.calls.Patience.{Patience}
+pub use Rattle.spec_locks.specs.declared.calls.Patience.TheVariants.{Patient, Timed, Try}
+use Rattle.spec_locks.specs.declared.calls.MutexCall as mutex_call
+use Rattle.spec_locks.specs.declared.calls.Access.{Access}
+use Rattle.spec_locks.specs.declared.calls.Access.TheVariants as access
+use Rattle.spec_locks.specs.declared.calls.Downgrade.{Downgrade}
+use Rattle.spec_locks.specs.declared.calls.Downgrade.TheVariants as downgrade
+use Rattle.spec_locks.specs.declared.calls.RwLockCall.{RwLockCall}
+use Rattle.spec_locks.specs.declared.calls.RwLockCall.TheVariants as rwlock_call
+use Rattle.spec_locks.specs.declared.calls.CondvarCall.{CondvarCall}
+use Rattle.spec_locks.specs.declared.calls.CondvarCall.TheVariants as condvar_call
+use Rattle.spec_locks.specs.declared.calls.OnceCall.{OnceCall}
+use Rattle.spec_locks.specs.declared.calls.OnceCall.TheVariants as once_call
+use Rattle.spec_locks.specs.declared.calls.SemaphoreCall.{SemaphoreCall}
+use Rattle.spec_locks.specs.declared.calls.SemaphoreCall.TheVariants as semaphore_call
+use Rattle.spec_locks.specs.Onces.{Start, Rest}
+use Rattle.spec_locks.specs.Locks.{Rules, Mutex, Normal, Recursive, Once, Condvar, Semaphore, LockCase, Enter, Pend, Settle, Leave, Convert, Park, Aside, TakeFirst, TakeAside, TakePicked, Wake, HandOff, Late, Rollback, OfOnce, Look, Show, Hide, OfCondvar, SeeOwner}
+
+-- what a call of a lock is for
+pub data Purpose : Type 0 where
+  Enters : (lock : ℕ) → (want : Want) → Patience → Purpose
+  Releases : (lock : ℕ) → (right : Want) → (fair : Bool) → Purpose
+  Converts : (lock : ℕ) → (right want : Want) → Patience → Purpose
+  Bumps : (lock : ℕ) → (right : Want) → Purpose
+  -- of a `Once`: it runs a closure, or waits for another's run, up to a deadline or without one
+  CallsOnce : (lock : ℕ) → (forced : Bool) → Purpose
+  Awaits : (lock : ℕ) → (forced timed : Bool) → Purpose
+  -- of a condition variable: it gives the mutex up until it is notified, up to a deadline or
+  -- without one; or it notifies the first, or all
+  Waits : (lock mutex : ℕ) → (timed : Bool) → Purpose
+  Notifies : (lock : ℕ) → (all : Bool) → Purpose
+
+-- a fair mutex is released fairly by any release
+abbrev pub mutex_purpose : Bool → ℕ → MutexCall → Purpose
+mutex_purpose fair l mutex_call.TheVariants.Lock = Enters l Exclusive Patient
+mutex_purpose fair l mutex_call.TheVariants.LockTimed = Enters l Exclusive Timed
+mutex_purpose fair l mutex_call.TheVariants.TryLock = Enters l Exclusive Try
+mutex_purpose fair l mutex_call.TheVariants.Unlock = Releases l Exclusive fair
+mutex_purpose fair l mutex_call.TheVariants.UnlockFair = Releases l Exclusive true
+mutex_purpose fair l mutex_call.TheVariants.Bump = Bumps l Exclusive
+
+-- what a thread wants that is to have a right
+abbrev pub wanted : Access → Want
+wanted access.Shared = Shared
+wanted access.Upgradable = Upgradable
+wanted access.Exclusive = Exclusive
+
+-- the greater right of a downgrade, and the lesser one
+abbrev pub from_of : Downgrade → Access
+from_of downgrade.ToShared = access.Exclusive
+from_of downgrade.ToUpgradable = access.Exclusive
+from_of downgrade.UpgradableToShared = access.Upgradable
+
+abbrev pub to_of : Downgrade → Access
+to_of downgrade.ToShared = access.Shared
+to_of downgrade.ToUpgradable = access.Upgradable
+to_of downgrade.UpgradableToShared = access.Shared
+
+-- a shared right is given up as by any release, in a fair release and in a bump too
+abbrev pub is_fair_bump : Want → Bool
+is_fair_bump Shared = false
+is_fair_bump x = true
+
+abbrev pub rwlock_purpose : ℕ → RwLockCall → Purpose
+rwlock_purpose l (rwlock_call.Enter x how) = Enters l (wanted x) how
+rwlock_purpose l (rwlock_call.Release x) = Releases l (wanted x) false
+rwlock_purpose l (rwlock_call.Downgrade d) =
+    Converts l (wanted (from_of d)) (wanted (to_of d)) Patient
+rwlock_purpose l (rwlock_call.Upgrade how) = Converts l Upgradable Exclusive how
+rwlock_purpose l (rwlock_call.ReleaseFair x) = Releases l (wanted x) (is_fair_bump (wanted x))
+rwlock_purpose l (rwlock_call.Bump x) = Bumps l (wanted x)
+
+abbrev pub once_purpose : ℕ → OnceCall → Purpose
+once_purpose l (once_call.CallOnce forced) = CallsOnce l forced
+once_purpose l (once_call.Wait forced) = Awaits l forced false
+once_purpose l once_call.WaitTimed = Awaits l false true
+
+abbrev pub condvar_purpose : ℕ → CondvarCall → Purpose
+condvar_purpose l (condvar_call.Wait m timed) = Waits l m timed
+condvar_purpose l (condvar_call.Notify all) = Notifies l all
+
+-- a permit is a shared right
+abbrev pub semaphore_purpose : ℕ → SemaphoreCall → Purpose
+semaphore_purpose l (semaphore_call.Acquire how) = Enters l Shared how
+semaphore_purpose l semaphore_call.Release = Releases l Shared false
+
+-- what a call of a lock of this kind is for; nothing where the kind lacks the call
+abbrev pub purpose_of : Kind → Call → Option Purpose
+purpose_of kind.TheVariants.Mutex (call.TheVariants.Mutex l c) = Some (mutex_purpose false l c)
+purpose_of kind.TheVariants.Fair (call.TheVariants.Mutex l c) = Some (mutex_purpose true l c)
+purpose_of (kind.TheVariants.RwLock limit) (call.TheVariants.RwLock l c) = Some (rwlock_purpose l c)
+purpose_of (kind.TheVariants.Recursive limit) (call.TheVariants.RwLock l c) =
+    Some (rwlock_purpose l c)
+purpose_of kind.TheVariants.Condvar (call.TheVariants.Condvar l c) = Some (condvar_purpose l c)
+purpose_of kind.TheVariants.Once (call.TheVariants.Once l c) = Some (once_purpose l c)
+purpose_of (kind.TheVariants.Semaphore permits) (call.TheVariants.Semaphore l c) =
+    Some (semaphore_purpose l c)
+purpose_of kind.TheVariants.Mutex (call.TheVariants.RwLock l c) = None
+purpose_of kind.TheVariants.Mutex (call.TheVariants.Once l c) = None
+purpose_of kind.TheVariants.Mutex (call.TheVariants.Condvar l c) = None
+purpose_of kind.TheVariants.Fair (call.TheVariants.RwLock l c) = None
+purpose_of kind.TheVariants.Fair (call.TheVariants.Once l c) = None
+purpose_of kind.TheVariants.Fair (call.TheVariants.Condvar l c) = None
+purpose_of (kind.TheVariants.RwLock limit) (call.TheVariants.Mutex l c) = None
+purpose_of (kind.TheVariants.RwLock limit) (call.TheVariants.Once l c) = None
+purpose_of (kind.TheVariants.RwLock limit) (call.TheVariants.Condvar l c) = None
+purpose_of (kind.TheVariants.Recursive limit) (call.TheVariants.Mutex l c) = None
+purpose_of (kind.TheVariants.Recursive limit) (call.TheVariants.Once l c) = None
+purpose_of (kind.TheVariants.Recursive limit) (call.TheVariants.Condvar l c) = None
+purpose_of kind.TheVariants.Condvar (call.TheVariants.Mutex l c) = None
+purpose_of kind.TheVariants.Condvar (call.TheVariants.RwLock l c) = None
+purpose_of kind.TheVariants.Condvar (call.TheVariants.Once l c) = None
+purpose_of kind.TheVariants.Once (call.TheVariants.Mutex l c) = None
+purpose_of kind.TheVariants.Once (call.TheVariants.RwLock l c) = None
+purpose_of kind.TheVariants.Once (call.TheVariants.Condvar l c) = None
+purpose_of kind.TheVariants.Mutex (call.TheVariants.Semaphore l c) = None
+purpose_of kind.TheVariants.Fair (call.TheVariants.Semaphore l c) = None
+purpose_of (kind.TheVariants.RwLock limit) (call.TheVariants.Semaphore l c) = None
+purpose_of (kind.TheVariants.Recursive limit) (call.TheVariants.Semaphore l c) = None
+purpose_of kind.TheVariants.Condvar (call.TheVariants.Semaphore l c) = None
+purpose_of kind.TheVariants.Once (call.TheVariants.Semaphore l c) = None
+purpose_of (kind.TheVariants.Semaphore permits) (call.TheVariants.Mutex l c) = None
+purpose_of (kind.TheVariants.Semaphore permits) (call.TheVariants.RwLock l c) = None
+purpose_of (kind.TheVariants.Semaphore permits) (call.TheVariants.Once l c) = None
+purpose_of (kind.TheVariants.Semaphore permits) (call.TheVariants.Condvar l c) = None
+
+-- what a call of a condition variable remembers of its own steps, and of what a notification did to
+-- it
+pub data Recall : Type 0 where
+  Blank : Recall
+  -- a notification has seen this mutex shown
+  Saw : (mutex : ℕ) → Recall
+  -- and inside both sections, whether somebody owns it
+  SawOwner : (mutex : ℕ) → (owned : Bool) → Recall
+  -- it has taken and moved so many
+  HasMoved : (mutex number : ℕ) → Recall
+  -- a wait was moved to its mutex: to its queue, or into a hand
+  WasMoved : Recall
+  -- and was woken since, or handed its mutex, or left that queue
+  WasNotified : Recall
+
+-- the lock of which a call is
+abbrev pub lock_for : Purpose → ℕ
+lock_for (Enters l x how) = l
+lock_for (Releases l x fair) = l
+lock_for (Converts l x y how) = l
+lock_for (Bumps l x) = l
+lock_for (CallsOnce l forced) = l
+lock_for (Awaits l forced timed) = l
+lock_for (Waits l m timed) = l
+lock_for (Notifies l all) = l
+
+-- a call that may sleep until it has the lock, or until a `Once` is run
+abbrev pub MayWait : Option Purpose → ℕ → Type 0
+MayWait (Some (Enters l x how)) k = (l ≡ k) × (how ≢ Try)
+MayWait (Some (Converts l x y how)) k = (l ≡ k) × (how ≢ Try)
+MayWait (Some (Bumps l x)) k = l ≡ k
+MayWait (Some (CallsOnce l forced)) k = l ≡ k
+MayWait (Some (Awaits l forced timed)) k = l ≡ k
+MayWait (Some (Waits l m timed)) k = (l ≡ k) ⊎ (m ≡ k)
+MayWait (Some (Releases l x fair)) k = ⊥
+MayWait (Some (Notifies l all)) k = ⊥
+MayWait None k = ⊥
+
+-- a call that releases the lock; a bump does so until it has, and then it enters; and a call that
+-- runs a closure, once its run has begun
+abbrev pub IsReleasing : Option Purpose → Bool → ℕ → Type 0
+IsReleasing (Some (Releases l x fair)) released k = l ≡ k
+IsReleasing (Some (Bumps l x)) released k = (l ≡ k) × (released ≡ false)
+IsReleasing (Some (CallsOnce l forced)) released k = (l ≡ k) × (released ≡ true)
+IsReleasing (Some (Waits l m timed)) released k = (m ≡ k) × (released ≡ false)
+IsReleasing purpose released k = ⊥
+
+-- the rules of a lock of each kind
+abbrev pub rules_of : Kind → Rules
+rules_of kind.TheVariants.Mutex = record { sort = Mutex; limit = 0 }
+rules_of kind.TheVariants.Fair = record { sort = Mutex; limit = 0 }
+rules_of (kind.TheVariants.RwLock limit) = record { sort = Normal; limit = limit }
+rules_of (kind.TheVariants.Recursive limit) = record { sort = Recursive; limit = limit }
+rules_of kind.TheVariants.Condvar = record { sort = Condvar; limit = 0 }
+rules_of kind.TheVariants.Once = record { sort = Once; limit = 0 }
+rules_of (kind.TheVariants.Semaphore permits) = record { sort = Semaphore; limit = permits }
+
+-- ---------------------------------------------------------------- which cases a call is made of
+
+-- a call that enters: it gives up only where it has a deadline, and goes back only after it gave up
+abbrev pub EntersBy : Want → Patience → Option ℕ → LockCase → Type 0
+EntersBy x p gave_up (Enter y) = y ≡ x
+EntersBy x p gave_up Pend = (x ≡ Exclusive) × (p ≢ Try)
+EntersBy x p gave_up Settle = x ≡ Exclusive
+EntersBy x p gave_up (Park y) = (y ≡ x) × (p ≢ Try)
+EntersBy x p gave_up Aside = x ≡ Exclusive
+EntersBy x p gave_up Late = (p ≡ Timed) × (gave_up ≡ None)
+EntersBy x p gave_up Rollback = gave_up ≢ None
+EntersBy x p gave_up (TakePicked start) = (gave_up ≢ None) × (start ≡ None)
+EntersBy x p gave_up Wake = gave_up ≢ None
+EntersBy x p gave_up case = ⊥
+
+-- a call that releases: a fair one hands over in place of waking, but the upgradable one where the
+-- limit would be passed
+abbrev pub ReleasesBy : Want → Bool → LockCase → Type 0
+ReleasesBy x fair (Leave y) = y ≡ x
+ReleasesBy x fair (TakeFirst w) = Unit {0}
+ReleasesBy x fair (TakeAside u) = x ≡ Shared
+ReleasesBy x fair (TakePicked start) = (x ≢ Shared) × (start ≡ None)
+ReleasesBy x fair Wake = (fair ≡ false) ⊎ (x ≡ Upgradable)
+ReleasesBy x fair (HandOff y successor) = (fair ≡ true) × (y ≡ x)
+ReleasesBy x fair case = ⊥
+
+-- a call that converts never lets its right go
+abbrev pub ConvertsBy : Want → Want → Patience → Option ℕ → LockCase → Type 0
+ConvertsBy x y p gave_up (Convert a b) = (a ≡ x) × (b ≡ y)
+ConvertsBy x y p gave_up Settle = y ≡ Exclusive
+ConvertsBy x y p gave_up Aside = y ≡ Exclusive
+ConvertsBy x y p gave_up Late = (p ≡ Timed) × (gave_up ≡ None)
+ConvertsBy x y p gave_up Rollback = gave_up ≢ None
+ConvertsBy x y p gave_up (TakePicked start) =
+    ((y ≢ Exclusive) × (start ≡ Some y)) ⊎ ((gave_up ≢ None) × (start ≡ Some x))
+ConvertsBy x y p gave_up Wake = (y ≢ Exclusive) ⊎ (gave_up ≢ None)
+ConvertsBy x y p gave_up case = ⊥
+
+-- what a bump does before it enters again: it gives its right up once
+abbrev pub GivesWay : Want → Bool → LockCase → Type 0
+GivesWay x released (Leave y) = ReleasesBy x (is_fair_bump x) (Leave y) × (released ≡ false)
+GivesWay x released (HandOff y successor) =
+    ReleasesBy x (is_fair_bump x) (HandOff y successor) × (released ≡ false)
+GivesWay x released case = ReleasesBy x (is_fair_bump x) case
+
+-- a call that runs a closure, or waits while another runs one; its run ends the wait of all
+abbrev pub CallsOnceBy : Bool → LockCase → Type 0
+CallsOnceBy forced (OfOnce (Start by)) = by ≡ forced
+CallsOnceBy forced (OfOnce (Rest x by)) = (x ≡ CallOnce) × (by ≡ forced)
+CallsOnceBy forced (OfOnce case) = Unit {0}
+CallsOnceBy forced Wake = Unit {0}
+CallsOnceBy forced case = ⊥
+
+-- a call that only waits: it gives up where it has a deadline
+abbrev pub AwaitsBy : Bool → Bool → Option ℕ → LockCase → Type 0
+AwaitsBy forced timed gave_up (OfOnce (Rest x by)) = (x ≡ Wait) × (by ≡ forced)
+AwaitsBy forced timed gave_up Late = (timed ≡ true) × (gave_up ≡ None)
+AwaitsBy forced timed gave_up case = ⊥
+
+-- what a wait does to its condition variable: it gives up only where it has a deadline, and hides
+-- only after it gave up
+abbrev pub WaitsThere : ℕ → Bool → Option ℕ → Bool → LockCase → Type 0
+WaitsThere m timed gave_up released (OfCondvar (Show shown)) = (shown ≡ m) × (released ≡ false)
+WaitsThere m timed gave_up released (OfCondvar Hide) = gave_up ≢ None
+WaitsThere m timed gave_up released (Park x) = (x ≡ Wait) × (released ≡ false)
+WaitsThere m timed gave_up released Late = (timed ≡ true) × (gave_up ≡ None)
+WaitsThere m timed gave_up released case = ⊥
+
+-- it releases its mutex once
+abbrev pub ReleasesOnce : Bool → LockCase → Type 0
+ReleasesOnce released (Leave y) = (y ≡ Exclusive) × (released ≡ false)
+ReleasesOnce released case = ReleasesBy Exclusive false case
+
+-- and has it again by that release alone; it gives up in the queue of the mutex too, where it was
+-- moved there
+abbrev pub WaitsBeside : Bool → Option ℕ → Bool → Recall → LockCase → Type 0
+WaitsBeside timed gave_up released recalls Late = (timed ≡ true) × (recalls ≡ WasMoved)
+WaitsBeside timed gave_up released recalls case =
+    ReleasesOnce released case ⊎ ((released ≡ true) × EntersBy Exclusive Patient gave_up case)
+
+-- what a notification does to its condition variable, and to the mutex that it has seen; its move
+-- is one event of both
+abbrev pub NotifiesThere : Recall → LockCase → Type 0
+NotifiesThere recalls (OfCondvar (Look seen)) = recalls ≡ Blank
+NotifiesThere recalls (OfCondvar Hide) = Unit {0}
+NotifiesThere recalls case = ⊥
+
+abbrev pub NotifiesBeside : Recall → ℕ → LockCase → Type 0
+NotifiesBeside recalls m (SeeOwner owned) = recalls ≡ Saw m
+NotifiesBeside recalls m Wake = (number : ℕ) × (recalls ≡ HasMoved m number)
+NotifiesBeside recalls m case = ⊥
+
+-- the call does this to this lock; gave_up is the lock whose queue it left because its time was up,
+-- released whether it has given its right up: a bump enters only then
+abbrev pub IsMadeOf : Purpose → Option ℕ → Bool → Recall → ℕ → LockCase → Type 0
+IsMadeOf (Enters l x p) gave_up released recalls k case = (k ≡ l) × EntersBy x p gave_up case
+IsMadeOf (Releases l x fair) gave_up released recalls k case = (k ≡ l) × ReleasesBy x fair case
+IsMadeOf (Converts l x y p) gave_up released recalls k case =
+    (k ≡ l) × ConvertsBy x y p gave_up case
+IsMadeOf (Bumps l x) gave_up released recalls k case =
+    (k ≡ l) × (GivesWay x released case ⊎ ((released ≡ true) × EntersBy x Patient gave_up case))
+IsMadeOf (CallsOnce l forced) gave_up released recalls k case = (k ≡ l) × CallsOnceBy forced case
+IsMadeOf (Awaits l forced timed) gave_up released recalls k case =
+    (k ≡ l) × AwaitsBy forced timed gave_up case
+IsMadeOf (Waits l m timed) gave_up released recalls k case =
+    ((k ≡ l) × WaitsThere m timed gave_up released case)
+    ⊎ ((k ≡ m) × WaitsBeside timed gave_up released recalls case)
+IsMadeOf (Notifies l all) gave_up released recalls k case =
+    ((k ≡ l) × NotifiesThere recalls case) ⊎ NotifiesBeside recalls k case

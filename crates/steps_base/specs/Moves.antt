@@ -1,0 +1,279 @@
+-- Where a step takes its thread in the machine, by its act: into sections and lines, out of them,
+-- and into hands. For locks of every sort, by the row of a place, the rows that replies lead to,
+-- and the deeds.
+use Rattle.std.specs.Prelude.{ℕ, Bool, true, false, Option, Some, None, if◌then◌else◌, ◌≡◌, ◌≢◌, ◌≤◌, ◌⊎◌, List, [], ◌∷◌}
+use Rattle.core_base.specs.declared.keys.Keys.TheVariants.{One}
+use Rattle.core_base.specs.declared.notes.Note.TheVariants.{Normal, HandOff as HandOffNote}
+use Rattle.core_base.specs.declared.ops.Op.{Op}
+use Rattle.core_base.specs.declared.wants.Want.{Want}
+use Rattle.core_base.specs.declared.wants.Want.TheVariants.{Exclusive}
+use Rattle.core_base.specs.Keys.{key_of}
+use Rattle.steps_base.specs.declared.acts.Act.{Act}
+use Rattle.steps_base.specs.declared.acts.Act.TheVariants as act
+use Rattle.steps_base.specs.declared.acts.Check.{Check}
+use Rattle.steps_base.specs.declared.acts.Next.{Next}
+use Rattle.steps_base.specs.declared.acts.Next.TheVariants.{At, End as Ends}
+use Rattle.steps_base.specs.declared.acts.Reply.{Reply}
+use Rattle.steps_base.specs.declared.acts.Reply.TheVariants.{Done, Value, Parked, Took, Picked, Removed, TakenBy, HandedBy, Woken}
+use Rattle.steps_base.specs.declared.acts.Wakes.{Wakes}
+use Rattle.steps_base.specs.declared.acts.Whom as whom
+use Rattle.steps_base.specs.Acts.{holds, takes_effect, wakes_taken, any_picked}
+use Rattle.steps_base.specs.Profiles.{Profile, blank, hand, in_hand}
+use Rattle.steps_base.specs.Stations.{Station, station_by, nowhere}
+use Rattle.spec_locks.specs.Locks.{Rules, Queued, Aside, HandOff, Late as GivesUp, Park, TakeAside, TakePicked, Wake, standing, times, unpicked, without}
+use Rattle.spec_locks.specs.Sites.{Site, Claim, Has, Pends, Deed, Line, Main, Second, End, In, Out, Mark, Clear, FindNobody, Case, is_empty}
+use Rattle.spec_locks.specs.Codes.{code}
+
+-- the row of the next place, or of none
+abbrev pub row_of : Next Profile → Profile
+row_of (At row) = row
+row_of (Ends answer) = blank
+
+-- a thread at a place: its row, where each reply leads it, and what it does then, where whomever it
+-- takes is no part of the place
+pub record Move : Type 0 where
+  pub row : Profile
+  pub next : Reply → Profile
+  pub deeds : (whom : Option ℕ) → Reply → List Deed
+
+abbrev pub station_of : Move → Station
+station_of x = station_by x.row
+
+abbrev pub station_then : Move → Reply → Station
+station_then x told = station_by (x.next told)
+
+-- inside the section of a line, and nowhere else
+abbrev pub inside_of : Line → Station
+inside_of m = record nowhere { inside = Some m }
+
+-- ---------------------------------------------------------------- what a thread may be told
+
+-- of a lock, and of whom it takes, if anybody
+abbrev pub Hears : Type 1
+Hears = Rules → Site → ℕ → Option ℕ → Reply → Type 0
+
+-- nobody is inside a section
+abbrev pub IsFree : Site → Line → Type 0
+IsFree s m = (u : ℕ) → (s.doing u).inside ≢ Some m
+
+-- it stands in a line, and whether nobody else does
+abbrev pub StandsAlone : Site → ℕ → Line → Bool → Type 0
+StandsAlone s t Main alone =
+    (1 ≤ times t s.lock.queue) × (alone ≡ is_empty (without t s.lock.queue))
+StandsAlone s t Second alone = s.lock.aside ≡ Some t
+
+-- who is taken of the second queue, and whether somebody is left in the main one
+abbrev pub MayTake : Rules → Site → Option Want → Line → Option ℕ → Bool → Type 0
+MayTake r s start Main whom none_left = none_left ≡ is_empty (unpicked r.sort start s.lock.queue)
+MayTake r s start Second whom none_left = whom ≡ s.lock.aside
+
+-- ---------------------------------------------------------------- deeds
+
+-- of a step on the word: nobody is woken by it, or handed the lock
+abbrev pub AreOfWord : List Deed → Type 0
+AreOfWord [] = Unit {0}
+AreOfWord (End ∷ []) = Unit {0}
+AreOfWord (Mark m ∷ []) = Unit {0}
+AreOfWord (Clear m ∷ []) = Unit {0}
+AreOfWord (Case Wake ∷ ds) = ⊥
+AreOfWord (Case (HandOff right successor) ∷ ds) = ⊥
+AreOfWord (Case case ∷ []) = Unit {0}
+AreOfWord (Case case ∷ End ∷ []) = Unit {0}
+AreOfWord (Case case ∷ Mark m ∷ []) = Unit {0}
+AreOfWord (Case case ∷ Clear m ∷ []) = Unit {0}
+AreOfWord ds = ⊥
+
+-- out of a section, and where the thread keeps a right of its own, the end of its call
+abbrev pub AreLeaving : List Deed → Type 0
+AreLeaving (Out ∷ []) = Unit {0}
+AreLeaving (Out ∷ End ∷ []) = Unit {0}
+AreLeaving ds = ⊥
+
+-- a thread stands behind the last of a line
+abbrev pub parks_in : Line → Want → Deed
+parks_in Main x = Case (Park x)
+parks_in Second x = Case Aside
+
+-- it takes whomever there is of the second line
+abbrev pub takes_aside : Option ℕ → Deed
+takes_aside None = FindNobody Second
+takes_aside (Some u) = Case (TakeAside u)
+
+-- ---------------------------------------------------------------- acts
+
+-- it stays where it is, in no line and in nobody's hand
+pub record StaysPut (x : Move) : Type 0 where
+  pub out : (station_of x).stands ≡ None
+  pub free : (station_of x).hand ≡ None
+  pub deeds : (seen : ℕ) → AreOfWord (x.deeds None (Value seen))
+  pub goes : (seen : ℕ) → station_then x (Value seen) ≡ station_of x
+
+-- it goes into the section of a line
+pub record GoesIn (x : Move) (hears : Hears) (m : Line) (told : Reply) : Type 0 where
+  pub out : (station_of x).inside ≡ None
+  pub free : (station_of x).hand ≡ None
+  pub deeds : x.deeds None told ≡ In m ∷ []
+  pub goes : station_then x told ≡ record (station_of x) { inside = Some m }
+  pub may : (r : Rules) (s : Site) (t : ℕ) → IsFree s m → hears r s t None told
+
+-- where the test holds, it stands behind the last
+pub record Parks (x : Move) (hears : Hears) (m : Line) (check : Check) (want : Want) : Type 0 where
+  pub was : station_of x ≡ inside_of m
+  pub parks : x.deeds None (Parked true) ≡ parks_in m want ∷ []
+  pub parked : station_then x (Parked true)
+      ≡ record (inside_of m) { stands = Some m; waits = Some want }
+  pub turns : x.deeds None (Parked false) ≡ []
+  pub turned : station_then x (Parked false) ≡ inside_of m
+  pub may : (r : Rules) (s : Site) (t : ℕ) (b : Bool) → b ≡ holds check (code r s)
+      → standing t s.lock ≡ 0 → hears r s t None (Parked b)
+
+-- it takes those of the main line whom the lock lets in beside what it keeps
+pub record Picks (x : Move) (hears : Hears) (start : Option Want) : Type 0 where
+  pub was : station_of x ≡ inside_of Main
+  pub deeds : (n : ℕ) (y : Option Want) (none_left : Bool)
+      → x.deeds None (Picked n y none_left) ≡ Case (TakePicked start) ∷ []
+  pub goes : (n : ℕ) (y : Option Want) (none_left : Bool)
+      → station_then x (Picked n y none_left)
+      ≡ record (inside_of Main) { carries = in_hand (any_picked n y) false }
+  pub may : (r : Rules) (s : Site) (t n : ℕ) (y : Option Want) (none_left : Bool)
+      → MayTake r s start Main None none_left → hears r s t None (Picked n y none_left)
+
+-- it takes the writer aside
+pub record TakesAside (x : Move) (hears : Hears) : Type 0 where
+  pub was : station_of x ≡ inside_of Second
+  pub deeds : (u : Option ℕ) (any none_left : Bool)
+      → x.deeds u (Took any none_left) ≡ takes_aside u ∷ []
+  pub goes : (any none_left : Bool)
+      → station_then x (Took any none_left)
+      ≡ record (inside_of Second) { carries = in_hand any false }
+  pub may : (r : Rules) (s : Site) (t : ℕ) (any none_left : Bool)
+      → hears r s t s.lock.aside (Took any none_left)
+
+-- its time is up, and it leaves the line in which it stands
+pub record LeavesLine (x : Move) (hears : Hears) (m : Line) : Type 0 where
+  pub want : Want
+  pub was : station_of x ≡ record (inside_of m) { stands = Some m; waits = Some want }
+  pub deeds : (none_left : Bool) → x.deeds None (Removed none_left) ≡ Case GivesUp ∷ []
+  pub goes : (none_left : Bool) → station_then x (Removed none_left) ≡ inside_of m
+  pub may : (r : Rules) (s : Site) (t : ℕ) (none_left : Bool) → StandsAlone s t m none_left
+      → hears r s t None (Removed none_left)
+
+-- it goes out of the section of a line, and wakes whom it has in hand, if anybody
+pub record GoesOut (x : Move) (hears : Hears) (m : Line) (wakes : Wakes) : Type 0 where
+  pub any : Bool
+  pub notes : wakes ≡ wakes_taken any Normal
+  pub inside : (station_of x).inside ≡ Some m
+  pub carries : (station_of x).carries ≡ in_hand any false
+  pub free : (station_of x).hand ≡ None
+  pub deeds : AreLeaving (x.deeds None Done)
+  pub goes : station_then x Done ≡ record (station_of x) { inside = None; carries = None }
+  pub may : (r : Rules) (s : Site) (t : ℕ) → s.lock.taken t ≡ None → hears r s t None Done
+
+-- ---------------------------------------------------------------- a right is handed over
+
+-- what a thread claims that was handed what it wanted: a writer beside readers is pending, with
+-- nothing to fall back to
+abbrev pub claim_handed : Bool → Want → Claim
+claim_handed false Exclusive = Pends false
+claim_handed alone x = Has x
+
+-- whom the right goes to that one alone can have, if to anybody, and what it wants
+abbrev pub heir_of : Option ℕ → Option Want → Option Queued
+heir_of (Some u) (Some x) = Some (record { thread = u; want = x })
+heir_of whom x = None
+
+-- the bit of the main line behind it, which stands where somebody is left
+abbrev pub bit_left : Bool → Deed
+bit_left none_left = if none_left then Clear Main else Mark Main
+
+-- it hands a right of its own over to all whom it has in hand, where its operation takes effect
+pub record HandsOver (x : Move) (op : Op) : Type 0 where
+  pub right : Want
+  -- what the one of them wants that wants more than to share
+  pub successor : Option Want
+  pub any : Bool
+  pub none_left : Bool
+  pub was : station_of x ≡ record (inside_of Main) { carries = in_hand any false }
+  pub deeds : (whom : Option ℕ) (seen : ℕ) → takes_effect op seen ≡ true
+      → x.deeds whom (Value seen)
+      ≡ Case (HandOff right (heir_of whom successor)) ∷ bit_left none_left ∷ []
+  pub goes : (seen : ℕ) → takes_effect op seen ≡ true
+      → station_then x (Value seen) ≡ record (inside_of Main) { carries = in_hand any true }
+  pub fails : (whom : Option ℕ) (seen : ℕ) → takes_effect op seen ≡ false
+      → x.deeds whom (Value seen) ≡ []
+  pub stays : (seen : ℕ) → takes_effect op seen ≡ false → station_then x (Value seen) ≡ station_of x
+
+-- then it goes out of the section, and tells them
+pub record TellsHanded (x : Move) (hears : Hears) (wakes : Wakes) : Type 0 where
+  pub any : Bool
+  pub notes : wakes ≡ wakes_taken any HandOffNote
+  pub was : station_of x ≡ record (inside_of Main) { carries = in_hand any true }
+  pub deeds : AreLeaving (x.deeds None Done)
+  pub goes : station_then x Done ≡ nowhere
+  pub may : (r : Rules) (s : Site) (t : ℕ) → s.lock.taken t ≡ None → hears r s t None Done
+
+-- and who was told so ends its call
+pub record Accepts (x : Move) (hears : Hears) : Type 0 where
+  pub was : station_of x ≡ nowhere
+  pub deeds : x.deeds None Done ≡ End ∷ []
+  pub goes : station_then x Done ≡ nowhere
+  pub may : (r : Rules) (s : Site) (t : ℕ) → hears r s t None Done
+
+-- in the hand of a thread, it may be handed what it wants, which it claims then
+pub record IsGiven (x : Move) (u : ℕ) (want : Want) (alone : Bool) : Type 0 where
+  pub goes : station_then x (HandedBy u alone) ≡ record nowhere { hand = hand u true }
+  pub claims : (x.next (HandedBy u alone)).doing
+      ≡ record x.row.doing { claims = Some (claim_handed alone want) }
+
+-- and is told so when that thread leaves the section
+pub record WasGiven (x : Move) (u : ℕ) : Type 0 where
+  pub was : station_of x ≡ record nowhere { hand = hand u true }
+  pub goes : station_then x (Woken HandOffNote) ≡ nowhere
+  pub doing : (x.next (Woken HandOffNote)).doing ≡ x.row.doing
+
+-- ---------------------------------------------------------------- all acts
+
+-- at a lock, which is recursive or not, by the act
+abbrev pub Moves : ℕ → Bool → Move → Hears → Act → Type 0
+Moves l recursive x hears (act.Word k op) = (k ≡ l) × StaysPut x
+Moves l recursive x hears (act.Enter keys) =
+    (m : Line) × (keys ≡ One (key_of l m)) × GoesIn x hears m Done
+Moves l recursive x hears (act.Park k key check want) =
+    (m : Line) × (k ≡ l) × (key ≡ key_of l m) × Parks x hears m check want
+Moves l recursive x hears (act.Take key (whom.TheVariants.Picked start b)) =
+    (key ≡ key_of l Main) × (b ≡ recursive) × Picks x hears start
+Moves l recursive x hears (act.Take key whom.TheVariants.First) =
+    (key ≡ key_of l Second) × TakesAside x hears
+Moves l recursive x hears (act.Remove key) = (m : Line) × (key ≡ key_of l m) × LeavesLine x hears m
+Moves l recursive x hears (act.Leave keys wakes) =
+    (m : Line) × (keys ≡ One (key_of l m)) × GoesOut x hears m wakes
+Moves l recursive x hears act.Sleep = Unit {0}
+Moves l recursive x hears (act.End answer) = Unit {0}
+Moves l recursive x hears act = ⊥
+
+-- ---------------------------------------------------------------- what befalls a thread asleep
+
+-- asleep in a line, it may be taken
+pub record Sleeps (x : Move) (m : Line) : Type 0 where
+  pub want : Want
+  pub was : station_of x ≡ record nowhere { stands = Some m; waits = Some want }
+  pub taken : (u : ℕ) → station_then x (TakenBy u) ≡ record nowhere { hand = hand u false }
+  pub wants : (u : ℕ) → (x.next (TakenBy u)).wants ≡ Some want
+  pub doing : (u : ℕ) → (x.next (TakenBy u)).doing ≡ x.row.doing
+
+-- in the hand of a thread, it may be woken, and tries again
+pub record IsHeld (x : Move) (u : ℕ) : Type 0 where
+  pub want : Want
+  pub wants : x.row.wants ≡ Some want
+  pub was : station_of x ≡ record nowhere { hand = hand u false }
+  pub woken : station_then x (Woken Normal) ≡ nowhere
+  pub doing : (x.next (Woken Normal)).doing ≡ record x.row.doing { retries = Some want }
+
+-- who stands in a line sleeps there or is inside its section, only a pending writer stands aside,
+-- and who is in a hand is so to be woken
+pub record Waits (x : Move) : Type 0 where
+  pub aside : x.row.stands ≡ Some Second
+      → (x.row.wants ≡ Some Exclusive)
+      × ((falls_back : Bool) × (x.row.doing.claims ≡ Some (Pends falls_back)))
+  pub stands : (m : Line) → x.row.stands ≡ Some m → ((station_of x).inside ≡ Some m) ⊎ Sleeps x m
+  pub held : (u : ℕ) (handed : Bool) → x.row.hand ≡ hand u handed → (handed ≡ false) × IsHeld x u

@@ -1,0 +1,327 @@
+-- Where each step in a call of a condition variable takes its thread in the machine, at each of its
+-- two locks.
+use Rattle.std.specs.Prelude.{ℕ, Bool, true, false, Option, Some, None, ◌≡◌, ◌⊎◌, List, [], ◌∷◌, if◌then◌else◌, not}
+use Rattle.core_base.specs.declared.keys.Keys.TheVariants.{One, Two}
+use Rattle.core_base.specs.declared.notes.Note.TheVariants.{Normal, HandOff as HandOffNote}
+use Rattle.core_base.specs.declared.requeues.Requeue.{Requeue}
+use Rattle.core_base.specs.declared.requeues.Requeue.TheVariants as requeue
+use Rattle.core_base.specs.declared.wants.Want.TheVariants.{Exclusive, Wait as WaitHere}
+use Rattle.core_base.specs.Keys.{key_of}
+use Rattle.spec_locks.specs.declared.calls.CondvarCall.TheVariants as call
+use Rattle.steps_base.specs.declared.acts.Act.{Act}
+use Rattle.steps_base.specs.declared.acts.Act.TheVariants as act
+use Rattle.steps_base.specs.declared.acts.Next.{Next}
+use Rattle.steps_base.specs.declared.acts.Next.TheVariants.{At, End as Over}
+use Rattle.steps_base.specs.declared.acts.Reply.{Reply}
+use Rattle.steps_base.specs.declared.acts.Reply.TheVariants.{Done, Value, Parked, Took, Requeued, Removed, TakenBy, MovedTo, HandedBy, Woken}
+use Rattle.steps_base.specs.declared.acts.Wakes.{Wakes}
+use Rattle.steps_base.specs.declared.acts.Whom.TheVariants.{First}
+use Rattle.steps_base.specs.Acts.{wakes_taken}
+use Rattle.steps_base.specs.Moves.{Accepts, AreLeaving, AreOfWord, Hears, IsFree, LeavesLine, Move, Parks, inside_of, station_of, station_then}
+use Rattle.steps_base.specs.Profiles.{Profile, blank, hand, in_hand}
+use Rattle.steps_base.specs.Stations.{Station, station_by, nowhere}
+use Rattle.spec_locks.specs.Condvars.{BeginsWait, CondvarNeeded, condvar_leads, CondvarDeed, CondvarSite, EndsWait, GoesIn, GoesOut, LeaveList, MoveAll, MoveFirst, StandLast, line_of, moved_of, taken_of}
+use Rattle.spec_locks.specs.Locks.{HasTakenNobody, Owns, Queued, Rights, Rules}
+use Rattle.spec_locks.specs.Sites.{Begin, Bring, Deed, Has, In, Main, MarkBrought, MarkOwned, Needed, Site, after_deed, idle}
+use Rattle.spec_locks.specs.Purposes.{Waits}
+use Rattle.spec_locks.specs.Runs.{new_call}
+use Rattle.steps_mutex.specs.MutexDeeds.{takes}
+use Rattle.steps_condvar.specs.declared.notify.NotifyAt.{NotifyAt}
+use Rattle.steps_condvar.specs.declared.places.CondvarPlace.{CondvarPlace}
+use Rattle.steps_condvar.specs.declared.places.CondvarPlace.TheVariants.{Wait, Look, Notify}
+use Rattle.steps_condvar.specs.declared.wait.WaitAt.{WaitAt}
+use Rattle.steps_condvar.specs.declared.wait.WaitAt.TheVariants as wait
+use Rattle.steps_condvar.specs.CondvarSteps.{condvar_act, condvar_first, condvar_looking, condvar_next}
+use Rattle.steps_condvar.specs.CondvarProfiles.{condvar_profile, mutex_side, wait_row}
+use Rattle.steps_condvar.specs.CondvarDeeds.{IsAt, IsAway, condvar_deeds}
+use Rattle.steps_condvar.specs.CondvarMutex.{MayHearBeside, beside_deeds}
+use Rattle.steps_condvar.specs.CondvarWaits.{MayHearWaiter, TakesFirst, waiter_deeds}
+use Rattle.steps_condvar.specs.CondvarCalls.{IsReached, call_at}
+
+-- ---------------------------------------------------------------- a thread at a place, seen at each of its locks
+
+abbrev pub row_there : Next CondvarPlace → Profile
+row_there (At p) = condvar_profile p
+row_there (Over answer) = blank
+
+abbrev pub row_beside : Next CondvarPlace → Profile
+row_beside (At p) = mutex_side p
+row_beside (Over answer) = blank
+
+-- at the condition variable
+abbrev pub there : CondvarPlace → Station
+there p = station_by (condvar_profile p)
+
+abbrev pub there_then : CondvarPlace → Reply → Station
+there_then p told = station_by (row_there (condvar_next p told))
+
+-- at the mutex beside it; of these waiters it moves some, and whomever it takes there is no part of
+-- the place
+abbrev pub deeds_beside : List Queued → CondvarPlace → Option ℕ → Reply → List Deed
+deeds_beside q (Wait m timed at) whom told = waiter_deeds at whom told
+deeds_beside q (Look all) whom told = []
+deeds_beside q (Notify all m at) whom told = beside_deeds all q at told
+
+abbrev pub beside : List Queued → CondvarPlace → Move
+beside q p = record {
+  row = mutex_side p;
+  next = λ told. row_beside (condvar_next p told);
+  deeds = λ whom told. deeds_beside q p whom told;
+}
+
+-- what it may be told there, whatever the condition variable is
+abbrev pub hears_beside : CondvarPlace → Hears
+hears_beside (Wait m timed at) r s t whom told = MayHearWaiter r s t at whom told
+hears_beside (Look all) r s t whom told = Unit {0}
+hears_beside (Notify all m at) r s t whom told = (v : CondvarSite)
+    → MayHearBeside r s v t m all at told
+
+-- ---------------------------------------------------------------- at the condition variable
+
+-- of a step on the word, or at the mutex: nobody goes in or out, and nobody stands or is moved
+abbrev pub StayThere : List CondvarDeed → Type 0
+StayThere [] = Unit {0}
+StayThere (GoesIn ∷ ds) = ⊥
+StayThere (GoesOut ∷ ds) = ⊥
+StayThere (StandLast ∷ ds) = ⊥
+StayThere (LeaveList ∷ ds) = ⊥
+StayThere (MoveFirst ∷ ds) = ⊥
+StayThere (MoveAll ∷ ds) = ⊥
+StayThere (d ∷ ds) = StayThere ds
+
+pub record StaysThere (p : CondvarPlace) (told : Reply) : Type 0 where
+  pub deeds : StayThere (condvar_deeds p told)
+  pub goes : there_then p told ≡ there p
+
+-- it goes into the section
+pub record GoesInThere (p : CondvarPlace) (told : Reply) : Type 0 where
+  pub out : (there p).inside ≡ None
+  pub deeds : condvar_deeds p told ≡ GoesIn ∷ []
+  pub goes : there_then p told ≡ record (there p) { inside = Some Main }
+
+-- it stands behind the last, and waits to be notified
+pub record StandsThere (p : CondvarPlace) : Type 0 where
+  pub was : there p ≡ inside_of Main
+  pub deeds : condvar_deeds p Done ≡ StandLast ∷ []
+  pub goes : there_then p Done
+      ≡ record (inside_of Main) { stands = Some Main; waits = Some WaitHere }
+
+-- its time is up, and it leaves the queue
+pub record LeavesThere (p : CondvarPlace) : Type 0 where
+  pub was : there p ≡ record (inside_of Main) { stands = Some Main; waits = Some WaitHere }
+  pub deeds : (none_left : Bool) → condvar_deeds p (Removed none_left) ≡ LeaveList ∷ []
+  pub goes : (none_left : Bool) → there_then p (Removed none_left) ≡ inside_of Main
+
+-- out of the section, and where another mutex is shown its call ends
+abbrev pub AreLeavingThere : List CondvarDeed → Type 0
+AreLeavingThere (GoesOut ∷ []) = Unit {0}
+AreLeavingThere (GoesOut ∷ EndsWait ∷ []) = Unit {0}
+AreLeavingThere ds = ⊥
+
+pub record GoesOutThere (p : CondvarPlace) : Type 0 where
+  pub inside : (there p).inside ≡ Some Main
+  pub deeds : AreLeavingThere (condvar_deeds p Done)
+  pub goes : there_then p Done ≡ record (there p) { inside = None }
+
+-- ---------------------------------------------------------------- at the mutex
+
+-- as of any step on the word; or a notification sets the parked bit
+abbrev pub StayBeside : List Deed → Type 0
+StayBeside (MarkOwned ∷ []) = Unit {0}
+StayBeside (MarkBrought ∷ []) = Unit {0}
+StayBeside ds = AreOfWord ds
+
+-- it stays where it is; while it releases the mutex it may stand in its queue, or be in a hand
+pub record StaysBeside (x : Move) (told : Reply) : Type 0 where
+  pub deeds : StayBeside (x.deeds None told)
+  pub goes : station_then x told ≡ station_of x
+
+pub record GoesInBeside (x : Move) (hears : Hears) (told : Reply) : Type 0 where
+  pub out : (station_of x).inside ≡ None
+  pub deeds : x.deeds None told ≡ In Main ∷ []
+  pub goes : station_then x told ≡ record (station_of x) { inside = Some Main }
+  pub may : (r : Rules) (s : Site) (t : ℕ) → IsFree s Main → hears r s t None told
+
+-- a release takes the first, if anybody waits: it may be its own thread
+pub record TakesBeside (x : Move) (hears : Hears) : Type 0 where
+  pub inside : (station_of x).inside ≡ Some Main
+  pub empty_handed : (station_of x).carries ≡ None
+  pub deeds : (whom : Option ℕ) (any none_left : Bool)
+      → x.deeds whom (Took any none_left) ≡ takes whom
+  pub goes : (any none_left : Bool)
+      → station_then x (Took any none_left) ≡ record (station_of x) { carries = in_hand any false }
+  pub may : (r : Rules) (s : Site) (t : ℕ) (whom : Option ℕ) (any none_left : Bool)
+      → TakesFirst s whom any none_left
+      → HasTakenNobody s.lock t → hears r s t whom (Took any none_left)
+
+-- it goes out of the section, and wakes whom it has in hand, if anybody
+pub record GoesOutBeside (x : Move) (wakes : Wakes) : Type 0 where
+  pub any : Bool
+  pub notes : wakes ≡ wakes_taken any Normal
+  pub inside : (station_of x).inside ≡ Some Main
+  pub carries : (station_of x).carries ≡ in_hand any false
+  pub deeds : AreLeaving (x.deeds None Done)
+  pub goes : station_then x Done ≡ record (station_of x) { inside = None; carries = None }
+
+-- ---------------------------------------------------------------- at both
+
+-- a notification moves the first waiter, or all; of a mutex that nobody owns it takes the first of
+-- them
+pub record MovesWaiters (q : List Queued) (p : CondvarPlace) (all locked : Bool)
+    (told : Reply) : Type 0 where
+  pub inside : ((there p) ≡ inside_of Main) × (station_of (beside q p) ≡ inside_of Main)
+  pub deeds_there : condvar_deeds p told ≡ (if all then MoveAll else MoveFirst) ∷ []
+  pub deeds_beside : deeds_beside q p None told
+      ≡ Bring (taken_of locked (moved_of all q)) (line_of locked (moved_of all q)) ∷ []
+  pub stays : there_then p told ≡ there p
+  pub carries : station_then (beside q p) told
+      ≡ record (inside_of Main) { carries = in_hand (not locked) false }
+
+-- what is moved, by how
+abbrev pub MovesBy : List Queued → CondvarPlace → Requeue → Type 0
+MovesBy q p requeue.One = (number : ℕ) (none_left : Bool)
+    → MovesWaiters q p false true (Requeued number none_left)
+MovesBy q p requeue.All = (number : ℕ) (none_left : Bool)
+    → MovesWaiters q p true true (Requeued number none_left)
+MovesBy q p requeue.TakeOneMoveRest = (number : ℕ) (none_left : Bool)
+    → MovesWaiters q p true false (Requeued number none_left)
+
+-- by the act: what is done under the key of one of the two locks leaves the thread where it is at
+-- the other
+abbrev pub CondvarMoves : ℕ → ℕ → List Queued → CondvarPlace → Act → Type 0
+CondvarMoves c m q p (act.Word k op) =
+    ((k ≡ c) ⊎ (k ≡ m)) ×
+    ((seen : ℕ) → StaysThere p (Value seen) × StaysBeside (beside q p) (Value seen))
+CondvarMoves c m q p (act.Enter keys) =
+    ((keys ≡ One (key_of c Main)) × GoesInThere p Done × StaysBeside (beside q p) Done)
+    ⊎ (((keys ≡ One (key_of m Main)) × StaysThere p Done
+    × GoesInBeside (beside q p) (hears_beside p) Done)
+    ⊎ ((keys ≡ Two (key_of c Main) (key_of m Main)) × GoesInThere p Done
+    × GoesInBeside (beside q p) (hears_beside p) Done))
+CondvarMoves c m q p (act.Stand key want) =
+    (key ≡ key_of c Main) × (want ≡ WaitHere) × StandsThere p × StaysBeside (beside q p) Done
+CondvarMoves c m q p (act.Park k key check want) =
+    (k ≡ m) × (key ≡ key_of m Main) × Parks (beside q p) (hears_beside p) Main check want
+    × ((parked : Bool) → StaysThere p (Parked parked))
+CondvarMoves c m q p (act.Take key First) =
+    ((key ≡ key_of m Main) × TakesBeside (beside q p) (hears_beside p)
+    × ((any none_left : Bool) → StaysThere p (Took any none_left)))
+    ⊎ ((key ≡ key_of c Main)
+    × ((none_left : Bool) → MovesWaiters q p false false (Took true none_left)))
+CondvarMoves c m q p (act.Requeue from to how) =
+    (from ≡ key_of c Main) × (to ≡ key_of m Main) × MovesBy q p how
+CondvarMoves c m q p (act.Remove key) =
+    ((key ≡ key_of c Main) × LeavesThere p
+    × ((none_left : Bool) → StaysBeside (beside q p) (Removed none_left)))
+    ⊎ ((key ≡ key_of m Main) × ((none_left : Bool) → StaysThere p (Removed none_left))
+    × LeavesLine (beside q p) (hears_beside p) Main)
+CondvarMoves c m q p (act.Leave keys wakes) =
+    ((keys ≡ One (key_of c Main)) × GoesOutThere p × StaysBeside (beside q p) Done)
+    ⊎ (((keys ≡ One (key_of m Main)) × StaysThere p Done × GoesOutBeside (beside q p) wakes)
+    ⊎ ((keys ≡ Two (key_of c Main) (key_of m Main)) × GoesOutThere p
+    × GoesOutBeside (beside q p) wakes))
+CondvarMoves c m q p act.Accept = StaysThere p Done × Accepts (beside q p) (hears_beside p)
+CondvarMoves c m q p act.Sleep = Unit {0}
+CondvarMoves c m q p act = ⊥
+
+-- each place that calls come to moves as its act says
+abbrev pub WaitsMove : Type 0
+WaitsMove =
+    (c m : ℕ) (timed : Bool) (at : WaitAt) → IsReached (Wait m timed at)
+    → CondvarMoves c m [] (Wait m timed at) (condvar_act c (Wait m timed at))
+
+abbrev pub NotifiesMove : Type 0
+NotifiesMove =
+    (c m : ℕ) (q : List Queued) (all : Bool) (at : NotifyAt) → IsReached (Notify all m at)
+    → CondvarMoves c m q (Notify all m at) (condvar_act c (Notify all m at))
+
+-- before its first look it stands nowhere, whatever the mutex that it sees then
+abbrev pub LooksMove : Type 0
+LooksMove = (c m : ℕ) (all : Bool) → CondvarMoves c m [] (Look all) (condvar_act c (Look all))
+
+-- ---------------------------------------------------------------- what befalls a waiter
+
+-- who stands in the queue of the condition variable is taken or moved: it stands there no more, and
+-- is in a hand at the mutex, or stands there
+pub record SleepsThere (p : CondvarPlace) : Type 0 where
+  pub was : ((there p).stands ≡ Some Main) × ((station_of (beside [] p)).stands ≡ None)
+      × ((station_of (beside [] p)).hand ≡ None)
+  pub taken : (u : ℕ) → (there_then p (TakenBy u)
+      ≡ record (there p) { stands = None; waits = None })
+      × (station_then (beside [] p) (TakenBy u)
+      ≡ record (station_of (beside [] p)) { hand = hand u false })
+  pub moved : (key : ℕ) →
+      (there_then p (MovedTo key) ≡ record (there p) { stands = None; waits = None })
+      × (station_then (beside [] p) (MovedTo key)
+      ≡ record (station_of (beside [] p)) { stands = Some Main; waits = Some Exclusive })
+
+-- who stands in that of the mutex is taken
+pub record SleepsBeside (p : CondvarPlace) : Type 0 where
+  pub was : ((station_of (beside [] p)).stands ≡ Some Main) × ((there p).stands ≡ None)
+  pub taken : (u : ℕ) → (there_then p (TakenBy u) ≡ there p)
+      × (station_then (beside [] p) (TakenBy u)
+      ≡ record (station_of (beside [] p)) { stands = None; waits = None; hand = hand u false })
+
+-- who is in a hand is handed the mutex, or woken, and then stands nowhere
+pub record IsHeldBeside (p : CondvarPlace) (u : ℕ) : Type 0 where
+  pub was : ((station_of (beside [] p)).hand ≡ hand u false)
+      × ((station_of (beside [] p)).stands ≡ None) × ((there p).stands ≡ None)
+  pub handed : (alone : Bool) → (there_then p (HandedBy u alone) ≡ there p)
+      × (station_then (beside [] p) (HandedBy u alone)
+      ≡ record (station_of (beside [] p)) { hand = hand u true })
+  pub woken : (there_then p (Woken Normal) ≡ there p)
+      × (station_then (beside [] p) (Woken Normal)
+      ≡ record (station_of (beside [] p)) { hand = None })
+
+-- who was handed the mutex is told so
+pub record WasGivenBeside (p : CondvarPlace) (u : ℕ) : Type 0 where
+  pub was : ((station_of (beside [] p)).hand ≡ hand u true)
+      × ((station_of (beside [] p)).stands ≡ None) × ((there p).stands ≡ None)
+  pub told : (there_then p (Woken HandOffNote) ≡ there p)
+      × (station_then (beside [] p) (Woken HandOffNote)
+      ≡ record (station_of (beside [] p)) { hand = None })
+
+abbrev pub IsInHand : CondvarPlace → ℕ → Bool → Type 0
+IsInHand p u false = IsHeldBeside p u
+IsInHand p u true = WasGivenBeside p u
+
+-- who stands in one of the two queues is inside its section, or is so to be taken, and who is in a
+-- hand is so to be told
+pub record WaitsAtBoth (p : CondvarPlace) : Type 0 where
+  pub listed : (there p).stands ≡ Some Main → ((there p).inside ≡ Some Main) ⊎ SleepsThere p
+  pub moved : (station_of (beside [] p)).stands ≡ Some Main
+      → ((station_of (beside [] p)).inside ≡ Some Main) ⊎ SleepsBeside p
+  pub held : (u : ℕ) (handed : Bool) → (station_of (beside [] p)).hand ≡ hand u handed
+      → IsInHand p u handed
+
+abbrev pub WaitersMove : Type 0
+WaitersMove = (m : ℕ) (timed : Bool) (at : WaitAt) → IsReached (Wait m timed at)
+    → WaitsAtBoth (Wait m timed at)
+
+-- ---------------------------------------------------------------- where a call begins, and where it looks at its mutex once more
+
+-- it stands nowhere, and a wait owns its mutex
+pub record BeginsAt (v : CondvarSite) (r : Rules) (s : Site) (t c m : ℕ)
+    (timed : Bool) : Type 0 where
+  pub reached : IsReached (condvar_first (call.Wait m timed))
+  pub needed : CondvarNeeded (BeginsWait m) v t × Needed r (Begin (Some (Has Exclusive))) s t
+  pub at : IsAt (condvar_leads (BeginsWait m) v t) t (condvar_first (call.Wait m timed))
+  pub doing : (after_deed r (Begin (Some (Has Exclusive))) s t).doing t
+      ≡ (wait_row m wait.Enter).doing
+  pub stations : (there (condvar_first (call.Wait m timed)) ≡ nowhere)
+      × (station_of (beside [] (condvar_first (call.Wait m timed))) ≡ nowhere)
+  pub call : (rights : ℕ → Rights)
+      → call_at c m (condvar_first (call.Wait m timed)) rights
+      ≡ new_call (Some (Waits c m timed)) rights
+
+abbrev pub WaitsBegin : Type 0
+WaitsBegin =
+    (v : CondvarSite) (r : Rules) (s : Site) (t c m : ℕ) (timed : Bool) → IsAway v t
+    → Owns s.lock t Exclusive
+    → s.doing t ≡ idle → BeginsAt v r s t c m timed
+
+-- its rows are the same there
+abbrev pub WaitersLookAgain : Type 0
+WaitersLookAgain =
+    (p p2 : CondvarPlace) → condvar_looking p ≡ Some p2
+    → (condvar_profile p2 ≡ condvar_profile p) × (mutex_side p2 ≡ mutex_side p)

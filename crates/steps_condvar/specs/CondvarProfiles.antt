@@ -1,0 +1,361 @@
+-- The rows of the places of a condition variable, there and at the mutex beside it. A row says all
+-- that is asked of a place's thread.
+use Rattle.std.specs.Prelude.{ℕ, Bool, true, false, Option, Some, None, if◌then◌else◌, ◌==◌, ◌&&◌, ◌||◌, ◌*◌, is_none}
+use Rattle.core_base.specs.declared.notes.Note.TheVariants as note
+use Rattle.core_base.specs.declared.wants.Want.{Want}
+use Rattle.core_base.specs.declared.wants.Want.TheVariants as wants
+use Rattle.steps_base.specs.Profiles as profiles
+use Rattle.steps_base.specs.Profiles.{Hand, Profile, hand, hand_owner, in_hand, in_line}
+use Rattle.spec_locks.specs.Condvars.{Stage, Rests, Adds, Refuses, Misses, Sees, Clears, moving}
+use Rattle.spec_locks.specs.Locks.{Rights}
+use Rattle.spec_locks.specs.Purposes.{Purpose, Waits, Notifies, Recall, Blank, Saw, SawOwner, HasMoved, WasMoved, WasNotified}
+use Rattle.spec_locks.specs.Sites.{Doing, Line, Has, Main, found, idle}
+use Rattle.steps_mutex.specs.MutexProfiles.{before_release, inside, mutex_profile, owner}
+use Rattle.steps_condvar.specs.declared.notify.NotifyAt.{NotifyAt}
+use Rattle.steps_condvar.specs.declared.notify.NotifyAt.TheVariants as notify
+use Rattle.steps_condvar.specs.declared.places.CondvarPlace.{CondvarPlace}
+use Rattle.steps_condvar.specs.declared.places.CondvarPlace.TheVariants.{Wait, Look, Notify}
+use Rattle.steps_condvar.specs.declared.wait.Stands.{Stands}
+use Rattle.steps_condvar.specs.declared.wait.Stands.TheVariants as stands
+use Rattle.steps_condvar.specs.declared.wait.WaitAt.{WaitAt}
+use Rattle.steps_condvar.specs.declared.wait.WaitAt.TheVariants as wait
+
+pub record CondvarRow : Type 0 where
+  -- inside the section of the condition variable, what it is about to do there; the mutex that its
+  -- wait names, and whether it stands in the queue of the condition variable
+  pub stage : Option Stage
+  pub waits_with : Option ℕ
+  pub listed : Bool
+  -- what it does about the mutex, and whether it stands in that queue
+  pub doing : Doing
+  pub moved : Bool
+  -- in whose hand it is, and what it wants, where it waits
+  pub hand : Option Hand
+  pub wants : Option Want
+  -- on which of the two queues it is shown to owe a wake, and whether to try its mutex again
+  pub owes : Bool
+  pub owes_mutex : Bool
+  pub retries : Bool
+
+abbrev pub blank : CondvarRow
+blank = record {
+  stage = None;
+  waits_with = None;
+  listed = false;
+  doing = idle;
+  moved = false;
+  hand = None;
+  wants = None;
+  owes = false;
+  owes_mutex = false;
+  retries = false;
+}
+
+abbrev pub is_main : Option Line → Bool
+is_main (Some Main) = true
+is_main line = false
+
+-- ---------------------------------------------------------------- who waits
+
+abbrev pub is_listed : Stands → Bool
+is_listed stands.Listed = true
+is_listed s = false
+
+abbrev pub is_moved : Stands → Bool
+is_moved stands.Moved = true
+is_moved s = false
+
+-- it was handed the mutex
+abbrev pub has_mutex : Stands → Bool
+has_mutex (stands.Handed by) = true
+has_mutex (stands.Noted note.HandOff) = true
+has_mutex s = false
+
+-- it was woken, and has the mutex to lock again
+abbrev pub is_woken : Stands → Bool
+is_woken (stands.Noted note.Normal) = true
+is_woken s = false
+
+abbrev pub hand_of : Stands → Option Hand
+hand_of (stands.InHand by) = hand by false
+hand_of (stands.Handed by) = hand by true
+hand_of s = None
+
+abbrev pub taker_of : Stands → Option ℕ
+taker_of s = hand_owner (hand_of s)
+
+abbrev pub want_of : Stands → Want
+want_of s = if is_listed s then wants.Wait else wants.Exclusive
+
+-- what befell it adds to what it does about the mutex
+abbrev pub befell : Stands → Doing → Doing
+befell s d = record d {
+  retries = if is_woken s then Some wants.Exclusive else d.retries;
+  claims = if has_mutex s then Some (Has wants.Exclusive) else d.claims;
+}
+
+-- it stands somewhere since it stood behind the last
+abbrev pub standing : Stands → CondvarRow → CondvarRow
+standing s row = record row {
+  listed = is_listed s;
+  moved = is_moved s;
+  hand = hand_of s;
+  wants = Some (want_of s);
+  retries = is_woken s;
+}
+
+-- as in a call of the mutex
+abbrev pub beside : Profile → CondvarRow
+beside row = record blank {
+  doing = row.doing;
+  moved = is_main row.stands;
+  hand = row.hand;
+  wants = row.wants;
+  owes_mutex = is_main row.owes;
+  retries = row.retries;
+}
+
+-- inside the section of the condition variable
+abbrev pub waiting_at : Stage → CondvarRow
+waiting_at stage = record blank { stage = Some stage; wants = Some wants.Wait; owes = true }
+
+-- it still owns its mutex there
+abbrev pub coming : Stage → CondvarRow
+coming stage = record (waiting_at stage) { doing = owner }
+
+-- inside the section of the mutex, to which it was moved
+abbrev pub leaving_mutex : Bool → Doing → CondvarRow
+leaving_mutex moved doing =
+    record blank { doing = doing; moved = moved; wants = Some wants.Exclusive; owes_mutex = true }
+
+abbrev pub wait_row : ℕ → WaitAt → CondvarRow
+wait_row m wait.Enter = record blank { doing = owner; wants = Some wants.Wait }
+wait_row m wait.Show = coming Rests
+wait_row m wait.Stand = coming (Adds m)
+wait_row m wait.Leave = record (coming Rests) { listed = true }
+wait_row m wait.Refuse = coming (Refuses m)
+wait_row m (wait.Release s at) =
+    standing s (record (beside (mutex_profile at)) { doing = befell s (mutex_profile at).doing })
+wait_row m (wait.Asleep s) = standing s (record blank { doing = befell s idle })
+wait_row m wait.Remove = record (waiting_at Rests) { listed = true }
+wait_row m wait.Hide = waiting_at Clears
+wait_row m wait.GiveUp = waiting_at Rests
+wait_row m wait.RemoveMoved = leaving_mutex true inside
+wait_row m (wait.GiveUpMoved none_left) =
+    leaving_mutex false (record inside { empty = found Main none_left })
+wait_row m (wait.Lock timed_out at) = beside (mutex_profile at)
+
+-- ---------------------------------------------------------------- who notifies
+
+abbrev pub brings_to : Bool → Doing
+brings_to locked = record inside { brings = locked }
+
+-- it has taken the first, if any, and has the bit to set yet where it has moved others
+abbrev pub has_moved : Bool → Bool → Doing
+has_moved any sets = record inside { carries = true; covers = any; sets = sets }
+
+abbrev pub both : Stage → Doing → CondvarRow
+both stage doing = record blank
+    { stage = Some stage; doing = doing; owes = true; owes_mutex = true }
+
+-- it has moved nobody, or so many
+abbrev pub told_stage : ℕ → ℕ → Stage
+told_stage m number = if number == 0 then Misses m else Rests
+
+abbrev pub told_of : Bool → ℕ → ℕ → CondvarRow
+told_of any number m = both (told_stage m number)
+    (if number == 0 then inside else has_moved any false)
+
+abbrev pub notify_row : Bool → ℕ → NotifyAt → CondvarRow
+notify_row all m notify.Enter = blank
+notify_row all m notify.Again = both Rests inside
+notify_row all m notify.Hide = both (Sees m) inside
+notify_row all m notify.Mark = both (moving all m) inside
+notify_row all m (notify.Set seen) = both (moving all m) inside
+notify_row all m (notify.Move locked) = both (moving all m) (brings_to locked)
+notify_row all m (notify.Clear any) = both Clears (has_moved any false)
+notify_row all m (notify.MarkMoved number) = both Rests (has_moved true true)
+notify_row all m (notify.Leave any number) = told_of any number m
+
+-- ---------------------------------------------------------------- every place
+
+abbrev pub condvar_row : CondvarPlace → CondvarRow
+condvar_row (Wait m timed at) = record (wait_row m at) { waits_with = Some m }
+condvar_row (Look all) = blank
+condvar_row (Notify all m at) = notify_row all m at
+
+-- the thread that took this one and has not left its sections yet
+abbrev pub condvar_taker : CondvarPlace → Option ℕ
+condvar_taker p = hand_owner (condvar_row p).hand
+
+-- what it wants, where it waits
+abbrev pub condvar_wants : CondvarPlace → Option Want
+condvar_wants p = (condvar_row p).wants
+
+-- the key of the queue in which it stands
+abbrev pub stands_under : ℕ → ℕ → CondvarRow → Option ℕ
+stands_under c m row = if row.listed then Some (2 * c) else if row.moved then Some (2 * m) else None
+
+-- the key under which a thread sleeps in a call that may give up
+abbrev pub condvar_late_key : ℕ → CondvarPlace → Option ℕ
+condvar_late_key c (Wait m true (wait.Asleep s)) = stands_under c m (wait_row m (wait.Asleep s))
+condvar_late_key c p = None
+
+-- on the queue of a lock, from entering its section until it is left
+abbrev pub owes_by : ℕ → ℕ → ℕ → CondvarRow → Bool
+owes_by c l m row = (row.owes && (l == c)) || (row.owes_mutex && (l == m))
+
+abbrev pub condvar_owes : ℕ → ℕ → CondvarPlace → Bool
+condvar_owes c l (Wait m timed at) = owes_by c l m (wait_row m at)
+condvar_owes c l (Look all) = false
+condvar_owes c l (Notify all m at) = owes_by c l m (notify_row all m at)
+
+abbrev pub condvar_retries : CondvarPlace → Bool
+condvar_retries p = (condvar_row p).retries
+
+-- ---------------------------------------------------------------- as a place of each of its two locks
+
+abbrev pub section_in : Option Stage → Option Line
+section_in None = None
+section_in (Some stage) = Some Main
+
+-- who waits to be notified does so at the condition variable, and everybody else at the mutex
+abbrev pub wants_there : Option Want → Option Want
+wants_there (Some wants.Wait) = Some wants.Wait
+wants_there x = None
+
+abbrev pub wants_beside : Option Want → Option Want
+wants_beside (Some wants.Wait) = None
+wants_beside x = x
+
+-- whether its call has a deadline, and whether it sleeps in such a call
+abbrev pub has_deadline : CondvarPlace → Bool
+has_deadline (Wait m timed at) = timed
+has_deadline p = false
+
+abbrev pub may_give_up : CondvarPlace → Bool
+may_give_up (Wait m timed (wait.Asleep s)) = timed
+may_give_up p = false
+
+-- its time is up, and it leaves, or has left, the queue of the condition variable; or it leaves
+-- that of the mutex
+abbrev pub is_late : CondvarPlace → Bool
+is_late (Wait m timed wait.RemoveMoved) = true
+is_late (Wait m timed wait.Remove) = true
+is_late (Wait m timed wait.Hide) = true
+is_late (Wait m timed wait.GiveUp) = true
+is_late (Wait m timed (wait.Lock timed_out at)) = timed_out
+is_late p = false
+
+abbrev pub has_given_up : CondvarPlace → Bool
+has_given_up (Wait m timed wait.Remove) = false
+has_given_up (Wait m timed wait.RemoveMoved) = false
+has_given_up p = is_late p
+
+abbrev pub is_late_beside : CondvarPlace → Bool
+is_late_beside (Wait m timed wait.RemoveMoved) = true
+is_late_beside p = false
+
+-- what its call is for
+abbrev pub condvar_purpose : CondvarPlace → ℕ → Purpose
+condvar_purpose (Wait m timed at) c = Waits c m timed
+condvar_purpose (Look all) c = Notifies c all
+condvar_purpose (Notify all m at) c = Notifies c all
+
+-- whether a wait has released its mutex
+abbrev pub has_released : WaitAt → Bool
+has_released wait.Enter = false
+has_released wait.Show = false
+has_released wait.Stand = false
+has_released wait.Leave = false
+has_released wait.Refuse = false
+has_released (wait.Release s at) = (mutex_profile at).released
+has_released at = true
+
+abbrev pub condvar_released : CondvarPlace → Bool
+condvar_released (Wait m timed at) = has_released at
+condvar_released p = false
+
+-- what its call recalls
+abbrev pub stands_recalls : Stands → Recall
+stands_recalls stands.Listed = Blank
+stands_recalls stands.Moved = WasMoved
+stands_recalls (stands.InHand by) = WasMoved
+stands_recalls s = WasNotified
+
+abbrev pub wait_recalls : WaitAt → Recall
+wait_recalls (wait.Release s at) = stands_recalls s
+wait_recalls (wait.Asleep s) = stands_recalls s
+wait_recalls wait.RemoveMoved = WasMoved
+wait_recalls (wait.GiveUpMoved none_left) = WasNotified
+wait_recalls (wait.Lock timed_out at) = if timed_out then Blank else WasNotified
+wait_recalls at = Blank
+
+abbrev pub notify_recalls : ℕ → NotifyAt → Recall
+notify_recalls m (notify.Move locked) = SawOwner m locked
+notify_recalls m (notify.Clear any) = HasMoved m 1
+notify_recalls m (notify.MarkMoved number) = HasMoved m number
+notify_recalls m (notify.Leave any number) = if number == 0 then Saw m else HasMoved m number
+notify_recalls m at = Saw m
+
+abbrev pub condvar_recalls : CondvarPlace → Recall
+condvar_recalls (Wait m timed at) = wait_recalls at
+condvar_recalls (Look all) = Blank
+condvar_recalls (Notify all m at) = notify_recalls m at
+
+-- a wait owned its mutex as it began, by whether it does now
+abbrev pub owned_before : CondvarPlace → ℕ → (ℕ → Rights) → ℕ → Rights
+owned_before (Wait m timed at) l rights =
+    before_release l (is_none (wait_row m at).doing.claims) rights
+owned_before p l rights = rights
+
+-- whether it has anybody in hand, who waits for the mutex
+abbrev pub wait_carries : WaitAt → Option Bool
+wait_carries (wait.Release s at) = (mutex_profile at).carries
+wait_carries (wait.Lock timed_out at) = (mutex_profile at).carries
+wait_carries at = None
+
+abbrev pub notify_carries : NotifyAt → Option Bool
+notify_carries (notify.Clear any) = in_hand any false
+notify_carries (notify.MarkMoved number) = in_hand true false
+notify_carries (notify.Leave any number) = in_hand any false
+notify_carries at = None
+
+abbrev pub carries_beside : CondvarPlace → Option Bool
+carries_beside (Wait m timed at) = wait_carries at
+carries_beside (Look all) = None
+carries_beside (Notify all m at) = notify_carries at
+
+-- what a place says of its thread at the condition variable: nobody is in a hand there
+abbrev pub condvar_profile : CondvarPlace → Profile
+condvar_profile p = record profiles.blank {
+  doing = record idle { inside = section_in (condvar_row p).stage };
+  stands = in_line (condvar_row p).listed Main;
+  wants = wants_there (condvar_row p).wants;
+  owes = in_line (condvar_row p).owes Main;
+  timed = has_deadline p;
+  late_line = if may_give_up p then in_line (condvar_row p).listed Main else None;
+  late = is_late p;
+  gave_up = has_given_up p;
+  recalls = condvar_recalls p;
+  stage = (condvar_row p).stage;
+  names = (condvar_row p).waits_with;
+  purpose = condvar_purpose p;
+  released = condvar_released p;
+}
+
+-- and at the mutex beside it
+abbrev pub mutex_side : CondvarPlace → Profile
+mutex_side p = record profiles.blank {
+  doing = (condvar_row p).doing;
+  stands = in_line (condvar_row p).moved Main;
+  carries = carries_beside p;
+  hand = (condvar_row p).hand;
+  wants = wants_beside (condvar_row p).wants;
+  owes = in_line (condvar_row p).owes_mutex Main;
+  retries = (condvar_row p).retries;
+  timed = has_deadline p;
+  late_line = if may_give_up p then in_line (condvar_row p).moved Main else None;
+  late = is_late_beside p;
+  former = owned_before p;
+}

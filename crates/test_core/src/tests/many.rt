@@ -1,0 +1,116 @@
+//! As many threads as a lot has: whatever its number, a thread that was taken gets its note and its
+//! right.
+ghost use Rattle.std.specs.Prelude.{◌≡◌, ◌≤◌, All};
+ghost use Rattle.core_words.specs.Lots.{IsWordOf};
+ghost use Rattle.core_words.specs.declared.words.WordKind.TheVariants.{Mutex};
+ghost use Rattle.parking_lot_core.specs.Tokens.{IsNewTicketOf, IsSameThread, IsTicketOf, IsTokenOf};
+
+use super::mutexes::{try_lock, unlock};
+use super::several::told_to;
+use super::threads::try_hand_over;
+use super::{Task, in_section, next_of, same, seats_of, sleep};
+use parking_lot_core::{Key, Keys, Note, ParkingLot, Ticket, Token, Want, Word};
+use std::sync::Wait;
+
+const KEY: Key = 0;
+
+const THREADS: usize = 1024;
+
+// All but the last stand in one line, and are taken together. How many were queued.
+fn take_all<R: Wait>(rt: &R, lot: &ParkingLot, token: &mut Token, threads: usize) -> usize
+    requires { IsTokenOf lot.now token.old × (threads ≤ lot.now.records.count) }
+    ensures { IsSameThread lot.now token.old token.new }
+{
+    let mut section = lot.enter(rt, token, Keys::One(KEY));
+    for thread in 0..threads {
+        section.append(KEY, thread, Want::Exclusive);
+    }
+    section.leave(rt, token, Note::Normal);
+    let queued = lot.queued(rt, token, KEY);
+    let mut section = lot.enter(rt, token, Keys::One(KEY));
+    section.take_all(KEY);
+    section.leave(rt, token, Note::Normal);
+    queued
+}
+
+// How many were told to try again, each of whom sleeps until it is told something.
+fn count_woken<R: Wait>(rt: &R, lot: &ParkingLot, tickets: Vec<Ticket>, word: Word) -> usize
+    requires { All (IsNewTicketOf lot.now) tickets.items }
+{
+    let mut tickets = tickets;
+    let mut woken = 0usize;
+    for _ in 0..tickets.len() {
+        let Some(ticket) = next_of(lot, &mut tickets) else {
+            break;
+        };
+        if told_to(rt, lot, ticket, word) == Note::Normal {
+            woken = woken.wrapping_add(1);
+        }
+    }
+    woken
+}
+
+#[test]
+fn one_leave_wakes_1023_threads(rt: HostRuntime) {
+    let (lot, mut server, others, word) = seats_of(&rt, rt.alloc(), 1, THREADS);
+    let queued = take_all(&rt, &lot, &mut server, THREADS - 1);
+    same(&rt, queued, THREADS - 1);
+    same(&rt, count_woken(&rt, &lot, others, word), THREADS - 1);
+}
+
+// Locks the mutex, and hands it over to a thread, which unlocks it. Whether it got the mutex.
+fn serve<R: Wait>(rt: &R, lot: &ParkingLot, server: &mut Token, ticket: Ticket, word: Word) -> bool
+    requires own { IsTokenOf lot.now server.old × IsTicketOf lot.now ticket }
+    requires word { IsWordOf lot.now.words word × (word.kind ≡ Mutex) }
+    ensures { IsSameThread lot.now server.old server.new }
+{
+    let mut token = ticket.enter();
+    let Some(right) = try_lock(lot, server, word) else {
+        drop(token.leave());
+        return false;
+    };
+    in_section(rt, lot, &mut token, KEY, Task::LineUp(Want::Exclusive));
+    if let Some(left) = try_hand_over(rt, lot, server, right, 0) {
+        left.forget();
+    }
+    let handed = match sleep(rt, lot, &mut token, word, Want::Exclusive) {
+        Some(right) => {
+            unlock(lot, &mut token, right);
+            true
+        }
+        None => false,
+    };
+    drop(token.leave());
+    handed
+}
+
+// How many got the mutex, one after another.
+fn count_served<R: Wait>(
+    rt: &R,
+    lot: &ParkingLot,
+    server: &mut Token,
+    tickets: Vec<Ticket>,
+    word: Word,
+) -> usize
+    requires threads { IsTokenOf lot.now server.old × All (IsNewTicketOf lot.now) tickets.items }
+    requires word { IsWordOf lot.now.words word × (word.kind ≡ Mutex) }
+{
+    let mut tickets = tickets;
+    let mut served = 0usize;
+    for _ in 0..tickets.len() {
+        let Some(ticket) = next_of(lot, &mut tickets) else {
+            break;
+        };
+        if serve(rt, lot, server, ticket, word) {
+            served = served.wrapping_add(1);
+        }
+    }
+    served
+}
+
+#[test]
+fn a_right_goes_to_each_of_1023_threads(rt: HostRuntime) {
+    let (lot, mut server, others, word) = seats_of(&rt, rt.alloc(), 1, THREADS);
+    let served = count_served(&rt, &lot, &mut server, others, word);
+    same(&rt, served, THREADS - 1);
+}

@@ -1,0 +1,270 @@
+//! Several threads that are taken together.
+ghost use Rattle.std.specs.Prelude.{◌≡◌, ◌≤◌, ◌<◌, [], IfSome};
+ghost use Rattle.std.specs.Arc.{arc_value};
+ghost use Rattle.core_words.specs.Lots.{IsWordOf};
+ghost use Rattle.core_words.specs.RightsOf.{IsRightOf};
+ghost use Rattle.core_words.specs.declared.words.WordKind.TheVariants.{Mutex};
+ghost use Rattle.parking_lot_core.specs.Keys.{IsKeyOf};
+ghost use Rattle.parking_lot_core.specs.Sections.{MayNote, StaysIn, TookAs, rightless_in, taken_in};
+ghost use Rattle.parking_lot_core.specs.Tokens.{IsTicketOf, IsTokenOf, IsSameThread};
+ghost use Rattle.parking_lot_core.specs.declared.tokens.Did.TheVariants.{Nothing};
+
+use super::mutexes::try_lock;
+use super::parts::{Part, Score, play_beside};
+use super::{Task, in_section, same, seats_of, ticket_of, told};
+use parking_lot_core::{
+    Key, Keys, Note, ParkingLot, Right, Section, Ticket, Token, Want, Word, WordKind,
+};
+use std::alloc::Global;
+use std::process::Abort;
+use std::sync::{Arc, Wait};
+use std::thread::{Threads, join, yield_now};
+
+pub const KEY: Key = 0;
+
+const ALL_SHARED: (Want, Want, Want) = (Want::Shared, Want::Shared, Want::Shared);
+
+// The right of a mutex that is drawn for it. The mutex is pushed to those that were given.
+fn some_right(lot: &ParkingLot, token: &mut Token, given: &mut Vec<Word>) -> Option<Right>
+    requires { IsTokenOf lot.now token.old }
+    ensures own { IsSameThread lot.now token.old token.new }
+    ensures right { IfSome result (IsRightOf lot.now.words) }
+{
+    let Ok(word) = lot.new_word(token, WordKind::Mutex) else {
+        return None;
+    };
+    if given.push(word).is_err() {
+        return None;
+    }
+    try_lock(lot, token, word)
+}
+
+fn give_each<R: Wait>(
+    rt: &R,
+    lot: &ParkingLot,
+    token: &mut Token,
+    section: &mut Section,
+    given: &mut Vec<Word>,
+)
+    requires { IsTokenOf lot.now token.old × (section.old.lot.now ≡ lot.now) }
+    ensures own { IsSameThread lot.now token.old token.new }
+    ensures given { StaysIn section.old section.new × (rightless_in section.new ≡ []) }
+{
+    for _ in rt.forever() {
+        if section.rightless().is_empty() {
+            return;
+        }
+        if let Some(right) = some_right(lot, token, given) {
+            section.give_next(rt, right);
+        }
+    }
+    unreachable!()
+}
+
+#[derive(Clone, Copy)]
+enum Way {
+    TakeAll,
+    TakePicked,
+    HandOff,
+}
+
+/// Three threads line up in a section, under one of its keys.
+pub fn append_three(
+    section: &mut Section,
+    key: Key,
+    threads: (usize, usize, usize),
+    wants: (Want, Want, Want),
+)
+    requires key { IsKeyOf section.old.keys key }
+    requires threads { (threads.0 < section.old.lot.now.records.count)
+        × (threads.1 < section.old.lot.now.records.count)
+        × (threads.2 < section.old.lot.now.records.count) }
+    ensures { StaysIn section.old section.new × TookAs section.old section.new
+        × (rightless_in section.new ≡ rightless_in section.old) }
+{
+    section.append(key, threads.0, wants.0);
+    section.append(key, threads.1, wants.1);
+    section.append(key, threads.2, wants.2);
+}
+
+// Takes those who stand in the line. It gives the note that is then right for them.
+fn take_together<R: Wait>(
+    rt: &R,
+    lot: &ParkingLot,
+    token: &mut Token,
+    section: &mut Section,
+    way: Way,
+    given: &mut Vec<Word>,
+) -> Note
+    requires own { IsTokenOf lot.now token.old × (section.old.lot.now ≡ lot.now) }
+    requires section { IsKeyOf section.old.keys 0 × (section.old.did ≡ Nothing) }
+    ensures own { IsSameThread lot.now token.old token.new }
+    ensures note { StaysIn section.old section.new
+        × MayNote result (taken_in section.new) (rightless_in section.new) }
+{
+    match way {
+        Way::TakeAll => {
+            section.take_all(KEY);
+            Note::Normal
+        }
+        Way::TakePicked => {
+            section.take_picked(KEY, None, false);
+            Note::Normal
+        }
+        Way::HandOff => {
+            section.take_picked(KEY, None, false);
+            give_each(rt, lot, token, section, given);
+            Note::HandOff
+        }
+    }
+}
+
+// Three threads line up, and are taken together. It gives the mutexes whose rights they were given,
+// in their order.
+fn take_three<R: Wait>(
+    rt: &R,
+    alloc: Global,
+    lot: &ParkingLot,
+    token: &mut Token,
+    way: Way,
+) -> Vec<Word>
+    requires { IsTokenOf lot.now token.old × (lot.now.records.count ≡ 4) }
+    ensures { IsSameThread lot.now token.old token.new }
+{
+    let mut given = Vec::new(alloc);
+    let mut section = lot.enter(rt, token, Keys::One(KEY));
+    append_three(&mut section, KEY, (1, 2, 3), ALL_SHARED);
+    let note = take_together(rt, lot, token, &mut section, way, &mut given);
+    section.leave(rt, token, note);
+    given
+}
+
+/// Returns the note of a thread that was taken. It sleeps until it has one.
+pub fn told_to<R: Wait>(rt: &R, lot: &ParkingLot, ticket: Ticket, word: Word) -> Note
+    requires { IsTicketOf lot.now ticket }
+{
+    let mut token = ticket.enter();
+    let note = told(rt, lot, &mut token, word, Want::Exclusive);
+    drop(token.leave());
+    note
+}
+
+// Returns the notes of three threads that are taken together.
+fn notes_of_three<R: Wait>(
+    rt: &R,
+    alloc: Global,
+    lot: &ParkingLot,
+    seats: Four,
+    way: Way,
+) -> [Note; 3]
+    requires seats { IsTicketOf lot.now seats.one × IsTicketOf lot.now seats.two
+        × IsTicketOf lot.now seats.three × IsTicketOf lot.now seats.four }
+    requires four { lot.now.records.count ≡ 4 }
+{
+    let Four {
+        one,
+        two,
+        three,
+        four,
+        word,
+    } = seats;
+    let mut token = four.enter();
+    let given = take_three(rt, alloc, lot, &mut token, way);
+    drop(token.leave());
+    [
+        told_to(rt, lot, three, given.first().copied().unwrap_or(word)),
+        told_to(rt, lot, two, given.get(1).copied().unwrap_or(word)),
+        told_to(rt, lot, one, given.get(2).copied().unwrap_or(word)),
+    ]
+}
+
+fn each_gets<R: Wait + Abort>(rt: &R, alloc: Global, way: Way, note: Note) {
+    let (lot, seats) = seat_four(rt, alloc, 4);
+    let notes = notes_of_three(rt, alloc, &lot, seats, way);
+    same(rt, notes, [note, note, note]);
+}
+
+#[test]
+fn each_of_three_gets_its_note(rt: HostRuntime) {
+    each_gets(&rt, rt.alloc(), Way::TakeAll, Note::Normal);
+    each_gets(&rt, rt.alloc(), Way::TakePicked, Note::Normal);
+    each_gets(&rt, rt.alloc(), Way::HandOff, Note::HandOff);
+}
+
+// Lines up and sleeps. 1 where it was woken.
+pub fn sleep_in_line<R: Wait>(rt: &R, lot: &ParkingLot, token: &mut Token, word: Word) -> usize
+    requires { IsTokenOf lot.now token.old }
+{
+    in_section(rt, lot, token, KEY, Task::LineUp(Want::Shared));
+    let note = told(rt, lot, token, word, Want::Shared);
+    usize::from(note == Note::Normal)
+}
+
+// The last four seats of a lot, and a word of it.
+#[derive(Drop)]
+struct Four {
+    one: Ticket,
+    two: Ticket,
+    three: Ticket,
+    four: Ticket,
+    word: Word,
+}
+
+fn seat_four<A: Abort>(rt: &A, alloc: Global, most: usize) -> (Arc<ParkingLot>, Four)
+    requires { (4 ≤ most) × (most ≤ 1024) }
+    ensures lot { (arc_value result.0).records.count ≡ most }
+    ensures word { IsWordOf (arc_value result.0).words result.1.word × (result.1.word.kind ≡ Mutex) }
+    ensures seats { IsTicketOf (arc_value result.0) result.1.one
+        × IsTicketOf (arc_value result.0) result.1.two
+        × IsTicketOf (arc_value result.0) result.1.three
+        × IsTicketOf (arc_value result.0) result.1.four }
+{
+    let (lot, token, mut others, word) = seats_of(rt, alloc, 8, most);
+    let two = ticket_of(rt, &lot, &mut others);
+    let three = ticket_of(rt, &lot, &mut others);
+    let seats = Four {
+        one: token.leave(),
+        two,
+        three,
+        four: ticket_of(rt, &lot, &mut others),
+        word,
+    };
+    (lot, seats)
+}
+
+const SLEEPERS: (Part, Part) = (Part::SleepInLine, Part::SleepInLine);
+
+const SLEEPER_AND_WAKER: (Part, Part) = (Part::SleepInLine, Part::WakeThree);
+
+// Three sleep, and the fourth wakes them. How many of them were woken.
+fn all_four<R: Threads + Wait + Sync>(rt: &R, lot: &ParkingLot, seats: Four) -> usize
+    requires seats { IsTicketOf lot.now seats.one × IsTicketOf lot.now seats.two
+        × IsTicketOf lot.now seats.three
+        × IsTicketOf lot.now seats.four }
+    requires word { IsWordOf lot.now.words seats.word × (seats.word.kind ≡ Mutex) }
+{
+    let Four {
+        one,
+        two,
+        three,
+        four,
+        word,
+    } = seats;
+    let (some, others) = join(
+        rt,
+        move || -> (Score, Score)
+            requires { IsTicketOf lot.now one × IsTicketOf lot.now two × IsWordOf lot.now.words word × (word.kind ≡ Mutex) }
+        { play_beside(rt, lot, (one, two), word, SLEEPERS) },
+        move || -> (Score, Score)
+            requires { IsTicketOf lot.now three × IsTicketOf lot.now four × IsWordOf lot.now.words word × (word.kind ≡ Mutex) }
+        { play_beside(rt, lot, (three, four), word, SLEEPER_AND_WAKER) },
+    );
+    let ((first, _), (second, _)) = some;
+    first.saturating_add(second).saturating_add(others.0.0)
+}
+
+#[test]
+fn the_last_three_sleepers_wake_together(rt: HostRuntime) {
+    let (lot, seats) = seat_four(&rt, rt.alloc(), 1024);
+    same(&rt, all_four(&rt, &lot, seats), 3);
+}

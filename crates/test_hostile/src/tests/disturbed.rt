@@ -1,0 +1,220 @@
+//! Worked schedules that a late wake-up, a spin or a repeated line disturbs, behind each of their step
+//! lines and by each thread.
+ghost use Rattle.std.specs.Prelude.{◌≤◌, length};
+
+use super::checked::{Checked, Stop};
+use super::same;
+use super::scripts::{Deed, Line, Script, play, play_all};
+use core_queues::BucketQueues;
+use core_base::{ListQueues, Queues};
+use spec_locks::Turn;
+use std::alloc::Global;
+use std::process::Abort;
+use std::test::Fail;
+use test_replay::{
+    FAIR_RELEASES, LATE_WAITERS, MEANWHILE, MOVES, MUTEXES, ONCES, REFUSALS, RELEASES, RWLOCKS,
+    SCENES, SEMAPHORES, SHOWN_MUTEXES, Scene, Schedule,
+};
+
+/// A line of another sort between two lines.
+#[derive(Clone, Copy, Debug, PartialEq, Eq)]
+enum Disturbance {
+    Late,
+    Spin,
+    /// The thread's last line comes once more.
+    Again,
+}
+
+const DISTURBANCES: [Disturbance; 3] = [Disturbance::Late, Disturbance::Spin, Disturbance::Again];
+
+/// How many disturbed runs there were, and of how many steps.
+type Figures = (usize, usize);
+
+/// The line by which a thread disturbs a schedule behind these lines, if there is one.
+fn disturbing(lines: &[Line], thread: usize, disturbance: Disturbance) -> Option<Line> {
+    let deed = match disturbance {
+        Disturbance::Late => Deed::Takes(Turn::Late),
+        Disturbance::Spin => Deed::Takes(Turn::Spin),
+        Disturbance::Again => lines.iter().rev().find(|line| line.thread == thread)?.deed,
+    };
+    Some(Line { thread, deed })
+}
+
+/// Plays a schedule with this line between those before and those behind, and then each thread alone. It
+/// answers how many steps were checked.
+fn disturbed<Q: Queues + Drop>(
+    alloc: Global,
+    script: &Script,
+    before: &[Line],
+    line: Line,
+    behind: &[Line],
+) -> Result<usize, Stop> {
+    let mut checked = Checked::<Q>::new(alloc, script.kinds.as_slice(), script.threads)?;
+    play_all(&mut checked, before)?;
+    play(&mut checked, line)?;
+    play_all(&mut checked, behind)?;
+    for thread in 0..script.threads {
+        checked.go_on(thread)?;
+    }
+    Ok(checked.taken)
+}
+
+/// Nothing is wrong with a schedule over a kind of queues, whoever disturbs it behind so many lines.
+fn bears_at<Q: Queues + Drop, A: Abort>(
+    rt: &A,
+    alloc: Global,
+    name: &str,
+    script: &Script,
+    place: usize,
+) -> Figures
+    requires { place ≤ length script.now.lines.items }
+{
+    let (before, behind) = script.lines.split_at(place);
+    let (mut runs, mut steps) = (0usize, 0usize);
+    for thread in 0..script.threads {
+        for disturbance in DISTURBANCES {
+            let Some(line) = disturbing(before, thread, disturbance) else {
+                continue;
+            };
+            let found = disturbed::<Q>(alloc, script, before, line, behind);
+            runs = runs.wrapping_add(1);
+            steps = steps.wrapping_add(found.unwrap_or(0));
+            same(
+                rt,
+                (name, place, thread, disturbance, found.err()),
+                (name, place, thread, disturbance, None),
+            );
+        }
+    }
+    (runs, steps)
+}
+
+/// Nothing is wrong with it behind any number of lines, over both kinds of queues.
+fn bears<A: Abort>(rt: &A, alloc: Global, name: &str, script: &Script) -> Figures {
+    let (mut runs, mut steps) = (0usize, 0usize);
+    for place in 0..script.lines.len() + 1 {
+        let by_list = bears_at::<ListQueues, A>(rt, alloc, name, script, place);
+        let by_buckets = bears_at::<BucketQueues, A>(rt, alloc, name, script, place);
+        runs = runs.wrapping_add(by_list.0).wrapping_add(by_buckets.0);
+        steps = steps.wrapping_add(by_list.1).wrapping_add(by_buckets.1);
+    }
+    (runs, steps)
+}
+
+/// Nothing is wrong with the schedules of a table.
+fn all_bear<A: Abort>(rt: &A, alloc: Global, table: &[Schedule]) -> Result<Figures, Fail> {
+    let (mut runs, mut steps) = (0usize, 0usize);
+    for schedule in table {
+        if schedule.status == 0 {
+            let mut script = Script::new(alloc);
+            script.read(alloc, schedule.lines)?;
+            let found = bears(rt, alloc, schedule.name, &script);
+            runs = runs.wrapping_add(found.0);
+            steps = steps.wrapping_add(found.1);
+        }
+    }
+    Ok((runs, steps))
+}
+
+/// Nothing is wrong with a scene over any of its kinds of locks.
+fn scene_bears<A: Abort>(rt: &A, alloc: Global, scene: &Scene) -> Result<Figures, Fail> {
+    let (mut runs, mut steps) = (0usize, 0usize);
+    for world in scene.worlds {
+        let mut script = Script::new(alloc);
+        script.read(alloc, world)?;
+        script.read(alloc, scene.lines)?;
+        let found = bears(rt, alloc, scene.name, &script);
+        runs = runs.wrapping_add(found.0);
+        steps = steps.wrapping_add(found.1);
+    }
+    Ok((runs, steps))
+}
+
+#[test]
+fn disturbed_scenes_keep_their_rules(rt: HostRuntime) -> Result<(), Fail> {
+    let (mut runs, mut steps) = (0usize, 0usize);
+    for scene in SCENES.iter() {
+        let found = scene_bears(&rt, rt.alloc(), scene)?;
+        runs = runs.wrapping_add(found.0);
+        steps = steps.wrapping_add(found.1);
+    }
+    same(&rt, (runs, steps), (4212, 192920));
+    Ok(())
+}
+
+#[test]
+fn disturbed_mutexes_keep_their_rules(rt: HostRuntime) -> Result<(), Fail> {
+    let found = all_bear(&rt, rt.alloc(), &MUTEXES)?;
+    same(&rt, found, (1442, 34426));
+    Ok(())
+}
+
+#[test]
+fn disturbed_semaphores_keep_their_rules(rt: HostRuntime) -> Result<(), Fail> {
+    let found = all_bear(&rt, rt.alloc(), &SEMAPHORES)?;
+    same(&rt, found, (588, 19078));
+    Ok(())
+}
+
+#[test]
+fn disturbed_onces_keep_their_rules(rt: HostRuntime) -> Result<(), Fail> {
+    let found = all_bear(&rt, rt.alloc(), &ONCES)?;
+    same(&rt, found, (1074, 32028));
+    Ok(())
+}
+
+#[test]
+fn disturbed_reader_writer_locks_keep_their_rules(rt: HostRuntime) -> Result<(), Fail> {
+    let found = all_bear(&rt, rt.alloc(), &RWLOCKS)?;
+    same(&rt, found, (1932, 57100));
+    Ok(())
+}
+
+#[test]
+fn disturbed_fair_releases_keep_their_rules(rt: HostRuntime) -> Result<(), Fail> {
+    let found = all_bear(&rt, rt.alloc(), &FAIR_RELEASES)?;
+    same(&rt, found, (1310, 43616));
+    Ok(())
+}
+
+#[test]
+fn disturbed_releases_keep_their_rules(rt: HostRuntime) -> Result<(), Fail> {
+    let found = all_bear(&rt, rt.alloc(), &RELEASES)?;
+    same(&rt, found, (1502, 50490));
+    Ok(())
+}
+
+#[test]
+fn disturbed_moves_keep_their_rules(rt: HostRuntime) -> Result<(), Fail> {
+    let found = all_bear(&rt, rt.alloc(), &MOVES)?;
+    same(&rt, found, (1506, 85494));
+    Ok(())
+}
+
+#[test]
+fn disturbed_notifications_keep_their_rules(rt: HostRuntime) -> Result<(), Fail> {
+    let found = all_bear(&rt, rt.alloc(), &MEANWHILE)?;
+    same(&rt, found, (3318, 215640));
+    Ok(())
+}
+
+#[test]
+fn disturbed_shown_mutexes_keep_their_rules(rt: HostRuntime) -> Result<(), Fail> {
+    let found = all_bear(&rt, rt.alloc(), &SHOWN_MUTEXES)?;
+    same(&rt, found, (862, 48182));
+    Ok(())
+}
+
+#[test]
+fn disturbed_late_waiters_keep_their_rules(rt: HostRuntime) -> Result<(), Fail> {
+    let found = all_bear(&rt, rt.alloc(), &LATE_WAITERS)?;
+    same(&rt, found, (1690, 84994));
+    Ok(())
+}
+
+#[test]
+fn disturbed_refusals_keep_their_rules(rt: HostRuntime) -> Result<(), Fail> {
+    let found = all_bear(&rt, rt.alloc(), &REFUSALS)?;
+    same(&rt, found, (308, 8898));
+    Ok(())
+}

@@ -1,0 +1,6 @@
+use Rattle.parking_lot.specs.Users.{lot_of}
+use Rattle.parking_lot_core.specs.Tokens.{IsTokenOf}
+use Rattle.test_mapped.proofs.tests.reentrant.add_while_held.Given as goal
+
+abbrev pub invariant-loop-n : goal.invariant-loop-n
+invariant-loop-n g l = IsTokenOf (lot_of l.mutex.0) l.token

@@ -1,0 +1,6 @@
+use Rattle.parking_lot.specs.Users.{lot_of}
+use Rattle.parking_lot_core.specs.Tokens.{IsTokenOf}
+use Rattle.test_mutexes.proofs.tests.crowds.add_many.Given as goal
+
+abbrev pub invariant-loop : goal.invariant-loop
+invariant-loop g l = IsTokenOf (lot_of l.hall.plain) l.token

@@ -1,0 +1,5 @@
+use Rattle.run_semaphore.specs.Users.{IsTokenOf, lot_of}
+use Rattle.test_onces.proofs.tests.permits.crowds.count_in_time.Given as goal
+
+abbrev pub invariant-loop : goal.invariant-loop
+invariant-loop g l = IsTokenOf (lot_of l.semaphore) l.token

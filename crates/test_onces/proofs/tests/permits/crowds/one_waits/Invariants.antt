@@ -1,0 +1,5 @@
+use Rattle.run_semaphore.specs.Users.{IsTokenOf}
+use Rattle.test_onces.proofs.tests.permits.crowds.one_waits.Given as goal
+
+abbrev pub invariant-loop : goal.invariant-loop
+invariant-loop g l = IsTokenOf l.lot l.token

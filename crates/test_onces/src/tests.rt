@@ -1,0 +1,203 @@
+//! Calls of one `Once`, by one thread and by many.
+mod cells;
+mod crowds;
+mod meets;
+mod permits;
+mod timed;
+
+ghost use Rattle.std.specs.Prelude.{◌≡◌, ◌<◌, ◌≤◌, All, IfSome};
+ghost use Rattle.std.specs.Arc.{arc_value};
+ghost use Rattle.run_once.specs.Users.{IsTicketOf, IsTokenOf, lot_of};
+
+use parking_lot_core::{Fault, ParkingLot, Ticket, Token};
+use run_once::{Once, OnceCell, OnceFault, OnceState};
+use std::alloc::Global;
+use std::fmt::Debug;
+use std::process::Abort;
+use std::sync::atomic::Ordering::SeqCst;
+use std::sync::atomic::{AtomicBool, AtomicUsize};
+use std::sync::{Arc, Wait};
+
+/// Asserts that the thing found is the thing wanted. The tests share this one assertion, since each
+/// is proved where it stands.
+fn same<T: PartialEq + Debug + Drop>(rt: &impl Abort, found: T, wanted: T) {
+    assert_eq!(rt; found, wanted);
+}
+
+/// The same of what is true.
+fn holds(rt: &impl Abort, truth: bool) {
+    assert!(rt; truth);
+}
+
+fn next_of(lot: &ParkingLot, tickets: &mut Vec<Ticket>) -> Option<Ticket>
+    requires { All (IsTicketOf lot.now) tickets.old.items }
+    ensures left { All (IsTicketOf lot.now) tickets.new.items }
+    ensures one { IfSome result (IsTicketOf lot.now) }
+{
+    tickets.pop()
+}
+
+// Makes a lot of two words with so many threads, the token of the first, and the tickets of the
+// others. A maker of lots, and of locks in them, gives up where memory is refused, so that no test
+// has anything to drop in its midst.
+fn seats<A: Abort>(rt: &A, alloc: Global, threads: usize) -> (Arc<ParkingLot>, Token, Vec<Ticket>)
+    requires { (0 < threads) × (threads ≤ 1024) }
+    ensures { IsTokenOf (arc_value result.0) result.1
+        × All (IsTicketOf (arc_value result.0)) result.2.items }
+{
+    let Ok((lot, mut tickets)) = ParkingLot::new(alloc, 2, threads) else {
+        panic!(rt; "no lot");
+    };
+    match next_of(&lot, &mut tickets) {
+        Some(first) => (lot, first.enter(), tickets),
+        None => panic!(rt; "no seat"),
+    }
+}
+
+// A `Once` of a lot.
+fn once_of<A: Abort>(rt: &A, lot: &Arc<ParkingLot>, token: &mut Token) -> Once
+    requires { IsTokenOf (arc_value lot.now) token.old }
+    ensures token { IsTokenOf (arc_value lot.now) token.new }
+    ensures once { lot_of result ≡ arc_value lot.now }
+{
+    match Once::new(lot, token) {
+        Ok(once) => once,
+        Err(_) => panic!(rt; "no Once"),
+    }
+}
+
+// A cell of a lot.
+fn cell_of<A: Abort>(rt: &A, lot: &Arc<ParkingLot>, token: &mut Token) -> OnceCell<u64>
+    requires { IsTokenOf (arc_value lot.now) token.old }
+    ensures token { IsTokenOf (arc_value lot.now) token.new }
+    ensures cell { lot_of result ≡ arc_value lot.now }
+{
+    match OnceCell::new(lot, token) {
+        Ok(cell) => cell,
+        Err(_) => panic!(rt; "no cell"),
+    }
+}
+
+// A `Once` that one thread has for itself.
+fn once_alone<A: Abort>(rt: &A, alloc: Global) -> (Once, Token)
+    ensures { IsTokenOf (lot_of result.0) result.1 }
+{
+    let (lot, mut token, _others) = seats(rt, alloc, 1);
+    let once = once_of(rt, &lot, &mut token);
+    (once, token)
+}
+
+// How it answers, in a word.
+fn told(answer: Result<(), OnceFault<u32>>) -> &'static str {
+    match answer {
+        Ok(()) => "ok",
+        Err(OnceFault::Refused(Fault::Poisoned)) => "poisoned",
+        Err(OnceFault::Refused(_)) => "refused",
+        Err(OnceFault::Failed(_)) => "failed",
+    }
+}
+
+// A call that counts the runs of its closure.
+fn count_run<R: Wait>(rt: &R, once: &Once, token: &mut Token, runs: &AtomicUsize) -> &'static str
+    requires { IsTokenOf (lot_of once.now) token.old }
+    ensures { IsTokenOf (lot_of once.now) token.new }
+{
+    let answer: Result<(), OnceFault<u32>> = once.call_once(rt, token, move || {
+        runs.fetch_add(1, SeqCst);
+        Ok(())
+    });
+    told(answer)
+}
+
+// Asserts that such a call ends as wanted.
+fn answers<R: Wait + Abort>(
+    rt: &R,
+    once: &Once,
+    token: &mut Token,
+    runs: &AtomicUsize,
+    wanted: &'static str,
+)
+    requires { IsTokenOf (lot_of once.now) token.old }
+    ensures { IsTokenOf (lot_of once.now) token.new }
+{
+    same(rt, count_run(rt, once, token, runs), wanted);
+}
+
+// It stands as it was wanted to, and tells so by both calls that look.
+fn stands(rt: &impl Abort, once: &Once, token: &mut Token, wanted: OnceState)
+    requires { IsTokenOf (lot_of once.now) token.old }
+    ensures { IsTokenOf (lot_of once.now) token.new }
+{
+    same(rt, once.state(token), wanted);
+    same(rt, once.is_completed(token), wanted == OnceState::Done);
+}
+
+#[test]
+fn who_calls_first_runs(rt: HostRuntime) {
+    let (once, mut token) = once_alone(&rt, rt.alloc());
+    let runs = AtomicUsize::new(0);
+    stands(&rt, &once, &mut token, OnceState::New);
+    answers(&rt, &once, &mut token, &runs, "ok");
+    stands(&rt, &once, &mut token, OnceState::Done);
+    answers(&rt, &once, &mut token, &runs, "ok");
+    holds(&rt, once.wait(&rt, &mut token).is_ok());
+    once.wait_force(&rt, &mut token);
+    stands(&rt, &once, &mut token, OnceState::Done);
+    same(&rt, runs.load(SeqCst), 1);
+}
+
+#[test]
+fn what_is_made_done_runs_nothing(rt: HostRuntime) {
+    let (lot, mut token, _others) = seats(&rt, rt.alloc(), 1);
+    let Ok(once) = Once::new_completed(&lot, &mut token) else {
+        panic!(rt; "no Once");
+    };
+    let runs = AtomicUsize::new(0);
+    stands(&rt, &once, &mut token, OnceState::Done);
+    answers(&rt, &once, &mut token, &runs, "ok");
+    same(&rt, runs.load(SeqCst), 0);
+}
+
+// Its closure fails.
+fn fail<R: Wait>(rt: &R, once: &Once, token: &mut Token) -> &'static str
+    requires { IsTokenOf (lot_of once.now) token.old }
+    ensures { IsTokenOf (lot_of once.now) token.new }
+{
+    told(once.call_once(rt, token, || Err(7u32)))
+}
+
+// A forced call. Whether it was told that the run before had failed.
+fn mend<R: Wait>(rt: &R, once: &Once, token: &mut Token, poisoned: &AtomicBool) -> &'static str
+    requires { IsTokenOf (lot_of once.now) token.old }
+    ensures { IsTokenOf (lot_of once.now) token.new }
+{
+    let answer: Result<(), OnceFault<u32>> = once.call_once_force(
+        rt,
+        token,
+        move |before: OnceState| {
+            poisoned.store(matches!(before, OnceState::Poisoned), SeqCst);
+            Ok(())
+        },
+    );
+    told(answer)
+}
+
+#[test]
+fn a_failed_run_poisons(rt: HostRuntime) {
+    let (once, mut token) = once_alone(&rt, rt.alloc());
+    let runs = AtomicUsize::new(0);
+    let poisoned = AtomicBool::new(false);
+    same(&rt, fail(&rt, &once, &mut token), "failed");
+    stands(&rt, &once, &mut token, OnceState::Poisoned);
+    answers(&rt, &once, &mut token, &runs, "poisoned");
+    same(&rt, runs.load(SeqCst), 0);
+    holds(
+        &rt,
+        matches!(once.wait(&rt, &mut token), Err(Fault::Poisoned)),
+    );
+    same(&rt, mend(&rt, &once, &mut token, &poisoned), "ok");
+    holds(&rt, poisoned.load(SeqCst));
+    stands(&rt, &once, &mut token, OnceState::Done);
+    answers(&rt, &once, &mut token, &runs, "ok");
+    same(&rt, runs.load(SeqCst), 0);
+}

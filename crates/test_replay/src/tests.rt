@@ -1,0 +1,361 @@
+//! Inputs through `start`: what they answer, and what a broken device leaves.
+mod bad_input;
+mod broken;
+mod devices;
+mod text;
+
+use core_queues::BucketQueues;
+use devices::{Pieces, Refusal, Short};
+use core_base::{ListQueues, Queues};
+use lot_replay::start::start;
+use lot_world::{Answer, Call, Kind, MutexCall, Outcome, Step, Turn, World};
+use std::alloc::{AllocError, Global};
+use std::fmt::Debug;
+use std::io::BufRead;
+use std::process::Abort;
+use std::test::Fail;
+use crate::{
+    FAIR_RELEASES, LATE_WAITERS, MEANWHILE, MOVES, MUTEXES, ONCES, REFUSALS, RELEASES, RWLOCKS,
+    SEMAPHORES, SHOWN_MUTEXES, Schedule, TWO_TRIES,
+};
+
+// Asserts that the thing found is the thing wanted. All tests share this one assertion, since each
+// is proved where it stands.
+fn same<T: PartialEq + Debug + Drop>(rt: &impl Abort, found: T, wanted: T) {
+    assert_eq!(rt; found, wanted);
+}
+
+// Asserts that a condition holds.
+fn holds(rt: &impl Abort, truth: bool) {
+    assert!(rt; truth);
+}
+
+/// Returns the text and the status to which an input leads over a kind of queues.
+fn replayed_over<Q: Queues + Drop, R: BufRead + Drop>(
+    alloc: Global,
+    mut reader: R,
+) -> (Vec<u8>, u8) {
+    let mut text = Vec::new(alloc);
+    let mut errors = Vec::new(alloc);
+    let args = ["replay"];
+    let status = start::<Q, _, _, _>(alloc, &args, &mut reader, &mut text, &mut errors);
+    (text, status)
+}
+
+/// Returns the text and the status to which an input leads over buckets.
+fn replayed<R: BufRead + Drop>(alloc: Global, reader: R) -> (Vec<u8>, u8) {
+    replayed_over::<BucketQueues, R>(alloc, reader)
+}
+
+/// An input leads to this text, and to this status, over each kind of queues.
+fn leads_both_to(rt: &impl Abort, alloc: Global, input: &[u8], text: &[u8], status: u8) {
+    leads_to(
+        rt,
+        replayed_over::<ListQueues, _>(alloc, input),
+        text,
+        status,
+    );
+    leads_to(
+        rt,
+        replayed_over::<BucketQueues, _>(alloc, input),
+        text,
+        status,
+    );
+}
+
+/// An input leads to this text, and to this status.
+fn leads_to(rt: &impl Abort, replayed: (Vec<u8>, u8), text: &[u8], status: u8) {
+    let (told, ended) = replayed;
+    same(rt, told.as_slice(), text);
+    same(rt, ended, status);
+}
+
+/// Each schedule of a table leads to its text and its status, over each kind of queues.
+fn answers(rt: &impl Abort, alloc: Global, table: &[Schedule]) {
+    for schedule in table {
+        answers_over::<ListQueues>(rt, alloc, schedule);
+        answers_over::<BucketQueues>(rt, alloc, schedule);
+    }
+}
+
+fn answers_over<Q: Queues + Drop>(rt: &impl Abort, alloc: Global, schedule: &Schedule) {
+    let name = schedule.name;
+    let (text, status) = replayed_over::<Q, _>(alloc, schedule.lines);
+    same(rt, (name, text.as_slice()), (name, schedule.told));
+    same(rt, (name, status), (name, schedule.status));
+}
+
+#[test]
+fn answers_inputs(rt: HostRuntime) {
+    answers(&rt, rt.alloc(), &MUTEXES);
+}
+
+#[test]
+fn answers_inputs_of_reader_writer_locks(rt: HostRuntime) {
+    answers(&rt, rt.alloc(), &RWLOCKS);
+}
+
+#[test]
+fn answers_inputs_of_onces(rt: HostRuntime) {
+    answers(&rt, rt.alloc(), &ONCES);
+}
+
+#[test]
+fn answers_inputs_of_semaphores(rt: HostRuntime) {
+    answers(&rt, rt.alloc(), &SEMAPHORES);
+}
+
+#[test]
+fn answers_inputs_of_condition_variables(rt: HostRuntime) {
+    answers(&rt, rt.alloc(), &RELEASES);
+    answers(&rt, rt.alloc(), &MOVES);
+    answers(&rt, rt.alloc(), &MEANWHILE);
+    answers(&rt, rt.alloc(), &SHOWN_MUTEXES);
+    answers(&rt, rt.alloc(), &LATE_WAITERS);
+    answers(&rt, rt.alloc(), &REFUSALS);
+}
+
+#[test]
+fn answers_inputs_of_fair_releases_and_bumps(rt: HostRuntime) {
+    answers(&rt, rt.alloc(), &FAIR_RELEASES);
+}
+
+/// Returns the end of a replay whose input comes in pieces, and breaks off behind them, if it is
+/// to.
+fn replayed_in_pieces(alloc: Global, bytes: &[u8], len: usize, is_broken: bool) -> (Vec<u8>, u8) {
+    let pieces = Pieces {
+        bytes,
+        len,
+        is_broken,
+        looks: 0,
+    };
+    replayed(alloc, pieces)
+}
+
+#[test]
+fn reads_pieces(rt: HostRuntime) {
+    for schedule in MUTEXES.iter() {
+        for len in [1, 2, 3, 127, 128, 129, 130] {
+            let (text, ended) = replayed_in_pieces(rt.alloc(), schedule.lines, len, false);
+            same(&rt, (len, ended), (len, schedule.status));
+            same(&rt, (len, text.as_slice()), (len, schedule.told));
+        }
+    }
+}
+
+const STRANGERS: &[u8] = b"threads 1024
+lock abcdefghijklmno9 mutex
+1023 do lock abcdefghijklmno9
+1024 go
+9999999999999999999 spin
+9999999999999999999 solo
+9999999999999999999 do lock abcdefghijklmno9
+show
+";
+
+const STRANGERS_TOLD: &[u8] = b"1023 end ok
+1024 not now
+9999999999999999999 not now
+9999999999999999999 not now
+9999999999999999999 not now
+abcdefghijklmno9 1 own=1023x
+";
+
+#[test]
+fn answers_threads_that_are_not_there(rt: HostRuntime) {
+    leads_both_to(&rt, rt.alloc(), STRANGERS, STRANGERS_TOLD, 0);
+}
+
+const KINDS: [&str; 6] = ["mutex", "fair", "rwlock", "recursive", "condvar", "once"];
+
+/// An input that declares this many locks, of each kind in turn, and what `show` prints of them.
+fn many_locks(alloc: Global, count: usize) -> Result<(String, String), AllocError> {
+    let mut input = String::from_str(alloc, "threads 1024\n")?;
+    let mut shown = String::new(alloc);
+    for lock in 0..count {
+        let kind = KINDS[lock % KINDS.len()];
+        write!(input, "lock m{lock} {kind}\n")?;
+        write!(shown, "m{lock} 0\n")?;
+    }
+    input.push_str("show\n")?;
+    Ok((input, shown))
+}
+
+#[test]
+fn takes_256_locks_of_1024_threads(rt: HostRuntime) -> Result<(), Fail> {
+    let (input, shown) = many_locks(rt.alloc(), 256)?;
+    leads_both_to(&rt, rt.alloc(), input.as_bytes(), shown.as_bytes(), 0);
+    Ok(())
+}
+
+#[test]
+fn refuses_257_locks(rt: HostRuntime) -> Result<(), Fail> {
+    let (input, _) = many_locks(rt.alloc(), 257)?;
+    leads_both_to(
+        &rt,
+        rt.alloc(),
+        input.as_bytes(),
+        b"line 258 malformed\n",
+        2,
+    );
+    Ok(())
+}
+
+/// An input in which one thread gets each of so many locks, and another is refused, and what it
+/// prints.
+fn many_tries(alloc: Global, count: u32) -> Result<(String, String), AllocError> {
+    let mut input = String::from_str(alloc, "threads 2\n")?;
+    let mut told = String::new(alloc);
+    for lock in 0..count {
+        write!(input, "lock m{lock} mutex\n")?;
+    }
+    for lock in 0..count {
+        write!(input, "0 do try_lock m{lock}\n1 do try_lock m{lock}\n")?;
+        told.push_str("0 end yes\n1 end no\n")?;
+    }
+    Ok((input, told))
+}
+
+#[test]
+fn gets_each_lock_once(rt: HostRuntime) -> Result<(), Fail> {
+    for count in [4, 256] {
+        let (input, told) = many_tries(rt.alloc(), count)?;
+        leads_both_to(&rt, rt.alloc(), input.as_bytes(), told.as_bytes(), 0);
+    }
+    Ok(())
+}
+
+/// An input that looks at a lock this often, and what it prints.
+fn many_looks(alloc: Global, count: u32) -> Result<(String, String), AllocError> {
+    let mut input = String::from_str(alloc, "threads 1\nlock m mutex\n")?;
+    let mut shown = String::new(alloc);
+    for _ in 0..count {
+        input.push_str("show\n")?;
+        shown.push_str("m 0\n")?;
+    }
+    Ok((input, shown))
+}
+
+#[test]
+fn answers_100_000_lines(rt: HostRuntime) -> Result<(), Fail> {
+    let (input, shown) = many_looks(rt.alloc(), 99_998)?;
+    leads_both_to(&rt, rt.alloc(), input.as_bytes(), shown.as_bytes(), 0);
+    Ok(())
+}
+
+fn begin(call: MutexCall) -> Step {
+    Step {
+        thread: 0,
+        turn: Turn::Begin(Call::Mutex { lock: 0, call }),
+    }
+}
+
+const GO: Step = Step {
+    thread: 0,
+    turn: Turn::Go,
+};
+
+const TOLD: &[Outcome] = &[
+    Outcome::Step,
+    Outcome::End(Answer::Yes),
+    Outcome::Step,
+    Outcome::End(Answer::No),
+    Outcome::Step,
+    Outcome::End(Answer::Ok),
+];
+
+fn runs_over<Q: Queues + Drop>(rt: &impl Abort, alloc: Global) -> Result<(), Fail> {
+    let mut world = World::<Q>::new(alloc, &[Kind::Mutex], 1)?;
+    let tries = begin(MutexCall::TryLock);
+    let steps = [tries, GO, tries, GO, begin(MutexCall::Unlock), GO];
+    let mut outcomes = Vec::new(alloc);
+    same(rt, world.run(&steps, &mut outcomes), Ok(()));
+    same(rt, outcomes.as_slice(), TOLD);
+    Ok(())
+}
+
+#[test]
+fn runs_the_steps_of_an_input(rt: HostRuntime) -> Result<(), Fail> {
+    runs_over::<ListQueues>(&rt, rt.alloc())?;
+    runs_over::<BucketQueues>(&rt, rt.alloc())
+}
+
+#[test]
+fn a_failing_read_leaves_the_lines_before(rt: HostRuntime) {
+    let third_line = b"threads 1\nlock m mutex\n0 begin try_lock m\n".len();
+    for part in [third_line, third_line + 3] {
+        let found = replayed_in_pieces(rt.alloc(), &TWO_TRIES[..part], 7, true);
+        leads_to(&rt, found, b"0 step\n", 4);
+    }
+}
+
+/// Returns the end of a replay where only so many bytes can be written before a write is refused.
+fn replayed_into(alloc: Global, mut input: &[u8], room: usize, refusal: Refusal) -> (Vec<u8>, u8) {
+    let mut writer = Short::new(alloc, room, refusal, 3);
+    let mut errors = Vec::new(alloc);
+    let args = ["replay"];
+    let status = start::<BucketQueues, _, _, _>(alloc, &args, &mut input, &mut writer, &mut errors);
+    (writer.taken, status)
+}
+
+/// How often an input looks at a lock, and how many bytes can be written of what it prints.
+const ROOMS: &[(u32, usize)] = &[
+    (1, 3),
+    (1, 0),
+    (1500, 5000),
+    (1500, 5999),
+    (3000, 4096),
+    (3000, 5000),
+];
+
+#[test]
+fn a_failing_write_leaves_a_beginning(rt: HostRuntime) -> Result<(), Fail> {
+    for (looks, room) in ROOMS {
+        let (input, shown) = many_looks(rt.alloc(), *looks)?;
+        let beginning = shown.as_bytes().get(..*room);
+        for refusal in [Refusal::Fails, Refusal::TakesNothing] {
+            let (text, status) = replayed_into(rt.alloc(), input.as_bytes(), *room, refusal);
+            same(&rt, (*room, refusal, status), (*room, refusal, 4));
+            same(&rt, (*room, Some(text.as_slice())), (*room, beginning));
+        }
+    }
+    Ok(())
+}
+
+#[test]
+fn a_slow_write_loses_nothing(rt: HostRuntime) {
+    for schedule in MUTEXES.iter() {
+        let found = replayed_into(rt.alloc(), schedule.lines, 9999, Refusal::Fails);
+        leads_to(&rt, found, schedule.told, schedule.status);
+    }
+}
+
+/// Arguments that name no job.
+const WRONG: &[&[&str]] = &[
+    &[],
+    &["live"],
+    &[""],
+    &["Replay"],
+    &["replay", "live"],
+    &["replay", "replay"],
+];
+
+#[test]
+fn tells_the_usage(rt: HostRuntime) {
+    for args in WRONG {
+        let mut text = Vec::new(rt.alloc());
+        let mut errors = Vec::new(rt.alloc());
+        let mut reader = TWO_TRIES;
+        let status = start::<BucketQueues, _, _, _>(
+            rt.alloc(),
+            args,
+            &mut reader,
+            &mut text,
+            &mut errors,
+        );
+        let usage = b"usage: lotsim replay | lotsim live\n".as_slice();
+        same(&rt, (*args, errors.as_slice()), (*args, usage));
+        same(&rt, (*args, text.as_slice()), (*args, b"".as_slice()));
+        same(&rt, (*args, status), (*args, 2));
+    }
+}

@@ -1,0 +1,28 @@
+mod clocks;
+mod condvars;
+mod hand_over;
+mod kinds;
+mod onces;
+mod places;
+mod queues;
+
+use steps_base::Next;
+use spec_locks::Answer;
+use std::fmt::Debug;
+use std::process::Abort;
+
+// Asserts that the thing found is the thing wanted. All tests share this one assertion, since each
+// is proved where it stands.
+fn same<T: PartialEq + Debug + Drop>(rt: &impl Abort, found: T, wanted: T) {
+    assert_eq!(rt; found, wanted);
+}
+
+// Asserts that a condition holds.
+fn holds(rt: &impl Abort, truth: bool) {
+    assert!(rt; truth);
+}
+
+// A call ends so.
+fn ends_as<P>(rt: &impl Abort, next: &Next<P>, answer: Answer) {
+    holds(rt, matches!(next, Next::End(found) if *found == answer));
+}

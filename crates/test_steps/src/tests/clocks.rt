@@ -1,0 +1,38 @@
+//! Deadlines at their bounds, and the clock of the system.
+use super::{holds, same};
+use core_base::{Clock, SystemClock, TickClock, to_deadline};
+use std::process::Abort;
+use std::time::Duration;
+
+#[test]
+fn deadlines_are_sums(rt: HostRuntime) {
+    same(&rt, to_deadline(5, Duration::from_micros(2)), Some(2_005));
+    same(
+        &rt,
+        to_deadline(0, Duration::from_nanos(u64::MAX)),
+        Some(u64::MAX),
+    );
+    same(&rt, to_deadline(1, Duration::from_nanos(u64::MAX)), None);
+    same(&rt, to_deadline(0, Duration::from_secs(u64::MAX)), None);
+}
+
+#[test]
+fn the_system_clock_goes_on(rt: HostRuntime) {
+    let clock = SystemClock::new(&rt);
+    let before = clock.now();
+    clock.pause(u64::MAX);
+    clock.pause(20_000);
+    holds(&rt, clock.now().saturating_sub(before) >= 20_000);
+}
+
+#[test]
+fn a_look_takes_a_nanosecond(rt: HostRuntime) {
+    let clock = TickClock::new();
+    same(&rt, (clock.now(), clock.now()), (0, 1));
+    clock.pause(u64::MAX);
+    same(&rt, clock.now(), 2);
+    let far = TickClock::starting_at(1000);
+    same(&rt, far.now(), 1000);
+    far.restart();
+    same(&rt, far.now(), 1000);
+}

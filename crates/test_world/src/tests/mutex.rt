@@ -1,0 +1,190 @@
+//! Worlds of mutexes.
+use super::scripts::Line::{Calls, GoesOn, Rests, Shows, Takes};
+use super::scripts::{DONE, Line, plays, plays_anew, runs, world_of};
+use super::{holds, same};
+use core_base::{ListQueues, Want};
+use lot_steps::Owners;
+use lot_world::{Answer, Call, Debt, Kind, MutexCall, Outcome, Owner, OwnersOf, Step, Turn, World};
+use std::alloc::Global;
+use std::process::Abort;
+
+const LOCK: Call = Call::Mutex {
+    lock: 0,
+    call: MutexCall::Lock,
+};
+
+const TRY_LOCK: Call = Call::Mutex {
+    lock: 0,
+    call: MutexCall::TryLock,
+};
+
+const UNLOCK: Call = Call::Mutex {
+    lock: 0,
+    call: MutexCall::Unlock,
+};
+
+const BUMP: Call = Call::Mutex {
+    lock: 0,
+    call: MutexCall::Bump,
+};
+
+const WAKES_A_WAITER: &[Line] = &[
+    Calls(0, LOCK, DONE),
+    Takes(1, Turn::Begin(LOCK), Outcome::Step),
+    Takes(1, Turn::Go, Outcome::Step),
+    Takes(1, Turn::Go, Outcome::Step),
+    Takes(1, Turn::Spin, Outcome::Step),
+    Takes(1, Turn::Go, Outcome::Step),
+    Takes(1, Turn::Spin, Outcome::NotNow),
+    Takes(1, Turn::Go, Outcome::Step),
+    Takes(1, Turn::Go, Outcome::Step),
+    Takes(1, Turn::Go, Outcome::Sleep),
+    Takes(1, Turn::Go, Outcome::NotNow),
+    Shows(
+        0,
+        (
+            3,
+            Some((Owner::Exclusive, 0)),
+            Some((1, Want::Exclusive)),
+            None,
+        ),
+    ),
+    Takes(1, Turn::Begin(UNLOCK), Outcome::NotNow),
+    Takes(0, Turn::Begin(UNLOCK), Outcome::Step),
+    Takes(0, Turn::Go, Outcome::Step),
+    Shows(
+        0,
+        (2, None, Some((1, Want::Exclusive)), Some((Debt::Owes, 0))),
+    ),
+    GoesOn(0, DONE),
+    Shows(0, (0, None, None, Some((Debt::Retries, 1)))),
+    GoesOn(1, DONE),
+    Rests(0, 1, Some((Owner::Exclusive, 1))),
+];
+
+#[test]
+fn a_waiter_is_woken_by_the_release(rt: HostRuntime) {
+    plays_anew(&rt, rt.alloc(), &[Kind::Mutex], 2, WAKES_A_WAITER);
+}
+
+/// The owners of a lock, of which the upgradable one is 2, and the others share it.
+const LISTED: &[(Owner, usize)] = &[
+    (Owner::Upgradable, 2),
+    (Owner::Shared, 0),
+    (Owner::Shared, 1),
+    (Owner::Shared, 1),
+];
+
+#[test]
+fn who_shares_is_listed_behind_the_owners(rt: HostRuntime) {
+    let owners = Owners {
+        upgradable: Some(2),
+        ..Owners::NOBODY
+    };
+    let shares = [1, 2, 0];
+    let owners = OwnersOf::new(owners, shares.as_slice());
+    match owners.collect::<Vec<(Owner, usize)>>(rt.alloc()) {
+        Ok(listed) => same(&rt, listed.as_slice(), LISTED),
+        Err(_) => panic!(rt; "no memory"),
+    }
+}
+
+const HANDS_OVER: &[Line] = &[
+    Calls(0, LOCK, DONE),
+    Calls(1, LOCK, Outcome::Sleep),
+    Calls(2, LOCK, Outcome::Sleep),
+    // The owner sees who waits, enters the section, takes the first, and stores the word.
+    Takes(0, Turn::Begin(UNLOCK), Outcome::Step),
+    Takes(0, Turn::Go, Outcome::Step),
+    Takes(0, Turn::Go, Outcome::Step),
+    Takes(0, Turn::Go, Outcome::Step),
+    Takes(0, Turn::Go, Outcome::Step),
+    Takes(1, Turn::Go, Outcome::NotNow),
+    Takes(1, Turn::Begin(UNLOCK), Outcome::NotNow),
+    Shows(
+        0,
+        (
+            3,
+            Some((Owner::Exclusive, 1)),
+            Some((2, Want::Exclusive)),
+            Some((Debt::Owes, 0)),
+        ),
+    ),
+    // The one behind it is next.
+    Takes(0, Turn::Go, DONE),
+    Takes(1, Turn::Go, DONE),
+    Calls(1, BUMP, Outcome::Sleep),
+    Shows(
+        0,
+        (
+            3,
+            Some((Owner::Exclusive, 2)),
+            Some((1, Want::Exclusive)),
+            None,
+        ),
+    ),
+];
+
+#[test]
+fn a_fair_mutex_is_handed_to_the_first_waiter(rt: HostRuntime) {
+    plays_anew(&rt, rt.alloc(), &[Kind::Fair], 3, HANDS_OVER);
+}
+
+const RUN: &[Step] = &[
+    Step {
+        thread: 0,
+        turn: Turn::Begin(TRY_LOCK),
+    },
+    Step {
+        thread: 0,
+        turn: Turn::Go,
+    },
+    Step {
+        thread: 2,
+        turn: Turn::Begin(TRY_LOCK),
+    },
+    Step {
+        thread: 2,
+        turn: Turn::Go,
+    },
+    Step {
+        thread: 7,
+        turn: Turn::Go,
+    },
+    Step {
+        thread: 0,
+        turn: Turn::Late,
+    },
+];
+
+const TOLD: &[Outcome] = &[
+    Outcome::Sleep,
+    Outcome::Step,
+    Outcome::End(Answer::Yes),
+    Outcome::Step,
+    Outcome::End(Answer::No),
+    Outcome::NotNow,
+    Outcome::NotNow,
+];
+
+/// The run tells its outcomes behind what was told before.
+fn tells<A: Abort>(rt: &A, alloc: Global, world: &mut World<ListQueues>) {
+    let mut outcomes = Vec::new(alloc);
+    if outcomes.push(Outcome::Sleep).is_err() {
+        panic!(rt; "no memory");
+    }
+    runs(rt, world, RUN, &mut outcomes);
+    same(rt, outcomes.as_slice(), TOLD);
+}
+
+const STRANGER: &[Line] = &[Rests(1, 0, None), GoesOn(9, Outcome::NotNow)];
+
+#[test]
+fn a_run_is_its_steps(rt: HostRuntime) {
+    let mut world = world_of(&rt, rt.alloc(), &[Kind::Mutex, Kind::Mutex], 3);
+    tells(&rt, rt.alloc(), &mut world);
+    assert!(rt; world.threads() == 3 && world.locks() == 2);
+    same(&rt, world.kind(1), Kind::Mutex);
+    holds(&rt, world.place(2).is_idle());
+    plays(&rt, &mut world, STRANGER);
+}
