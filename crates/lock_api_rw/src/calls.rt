@@ -1,17 +1,17 @@
 //! Calls of a reader-writer lock with a value that give up in time.
 ghost use Rattle.std.specs.Prelude.{◌≡◌, IfErr, IfNone, IfOk, IfSome};
 ghost use Rattle.std.specs.Duration.{as_nanos};
-ghost use Rattle.lot_base.specs.Clocks.{HasElapsed, HasPassed};
+ghost use Rattle.core_base.specs.Clocks.{HasElapsed, HasPassed};
 ghost use Rattle.lock_raw.specs.Answers.{TriesOrFull, answer_by, counted_answer};
 ghost use Rattle.lock_api_rw.specs.Guards.{lock_of};
-ghost use Rattle.lot_calls.specs.declared.calls.Access.TheVariants as access;
-ghost use Rattle.lot_calls.specs.declared.calls.Patience.TheVariants.{Timed};
-ghost use Rattle.lot_calls.specs.declared.calls.RwLockCall.TheVariants.{Enter};
+ghost use Rattle.spec_locks.specs.declared.calls.Access.TheVariants as access;
+ghost use Rattle.spec_locks.specs.declared.calls.Patience.TheVariants.{Timed};
+ghost use Rattle.spec_locks.specs.declared.calls.RwLockCall.TheVariants.{Enter};
 
 use crate::guards::{RwLockReadGuard, RwLockUpgradableReadGuard, RwLockWriteGuard};
 use crate::rwlock::RwLock;
 use lock_raw::{RawRwLockTimed, RawRwLockUpgradeTimed};
-use lot_base::{Clock, Fault};
+use core_base::{Clock, Fault};
 use std::sync::Wait;
 use std::time::Duration;
 

@@ -4,15 +4,15 @@ ghost use Rattle.std.specs.Fn.{FnOnceReturnsAt, FnOnceReturnsAtMut};
 ghost use Rattle.lock_raw.specs.Answers.{IsFull, TriesOrFull};
 ghost use Rattle.lock_api.specs.Visits.{CameAndWent};
 ghost use Rattle.lock_api_rw.specs.Visits.{CameUpAndWent};
-ghost use Rattle.lot_calls.specs.declared.calls.Access.TheVariants as access;
-ghost use Rattle.lot_calls.specs.declared.calls.Patience.TheVariants.{Patient, Try};
-ghost use Rattle.lot_calls.specs.declared.calls.RwLockCall.TheVariants.{Enter, Release};
-ghost use Rattle.lot_calls.specs.declared.outcomes.Answer.TheVariants as answers;
+ghost use Rattle.spec_locks.specs.declared.calls.Access.TheVariants as access;
+ghost use Rattle.spec_locks.specs.declared.calls.Patience.TheVariants.{Patient, Try};
+ghost use Rattle.spec_locks.specs.declared.calls.RwLockCall.TheVariants.{Enter, Release};
+ghost use Rattle.spec_locks.specs.declared.outcomes.Answer.TheVariants as answers;
 
 use crate::rwlock::RwLock;
 use lock_api::mutex::run_on;
 use lock_raw::{RawRwLock, RawRwLockUpgrade};
-use lot_base::Fault;
+use core_base::Fault;
 use std::sync::Wait;
 
 fn look_at<T, U, F: FnOnce(&T) -> U>(value: &T, f: F) -> U

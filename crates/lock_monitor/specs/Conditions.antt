@@ -1,8 +1,8 @@
 -- One of several condition variables, and the steps of waits on it.
 use Rattle.std.specs.Prelude.{◌≡◌, ℕ, List, slice_index_or}
 use Rattle.lock_api.specs.Waits.{Waits}
-use Rattle.lot_calls.specs.declared.outcomes.Answer.{Answer}
-use Rattle.lot_calls.specs.declared.outcomes.Answer.TheVariants.{TwoMutexes}
+use Rattle.spec_locks.specs.declared.outcomes.Answer.{Answer}
+use Rattle.spec_locks.specs.declared.outcomes.Answer.TheVariants.{TwoMutexes}
 
 -- the one at a place is like this
 abbrev pub At : {X : Type 0} → List X → ℕ → (X → Type 0) → Type 0

@@ -7,12 +7,12 @@ ghost use Rattle.lock_api.specs.Guards.{lock_of};
 ghost use Rattle.lock_api.specs.Visits.{CameAndWent};
 ghost use Rattle.lock_raw.specs.Answers.{moved_first, notifying_answer};
 ghost use Rattle.lock_monitor.specs.Conditions.{At};
-ghost use Rattle.lot_calls.specs.declared.calls.MutexCall.TheVariants.{Lock, Unlock};
-ghost use Rattle.lot_calls.specs.declared.outcomes.Answer.TheVariants as answers;
+ghost use Rattle.spec_locks.specs.declared.calls.MutexCall.TheVariants.{Lock, Unlock};
+ghost use Rattle.spec_locks.specs.declared.outcomes.Answer.TheVariants as answers;
 
 use lock_api::condvar::TokenOf;
 use lock_api::{Condvar, Mutex, MutexGuard, RawCondvar, RawMutex};
-use lot_base::Fault;
+use core_base::Fault;
 use std::alloc::Global;
 use std::marker::Model;
 use std::sync::{Arc, Wait};

@@ -7,12 +7,12 @@ ghost use Rattle.std.specs.Prelude.{◌≡◌, ◌<◌, IfOk, false, true};
 ghost use Rattle.std.specs.Fn.{FnOnceReturnsAtMut};
 ghost use Rattle.std.specs.Iterator.Runs.{CallKeepsClosure};
 ghost use Rattle.std.specs.Sync.Condvar.{AnsweredAt, StoppedAt};
-ghost use Rattle.lot_base.specs.Clocks.{HasElapsed, HasPassed};
+ghost use Rattle.core_base.specs.Clocks.{HasElapsed, HasPassed};
 ghost use Rattle.lock_raw.specs.Answers.{late_answer};
 ghost use Rattle.lock_api.specs.Conditions.{WaitedOrNot};
 ghost use Rattle.lock_api.specs.Guards.{lock_of, value_of};
 ghost use Rattle.lock_monitor.specs.Conditions.{At, WaitsAtLast, WaitsOften};
-ghost use Rattle.lot_calls.specs.declared.outcomes.Answer.TheVariants as answers;
+ghost use Rattle.spec_locks.specs.declared.outcomes.Answer.TheVariants as answers;
 
 use crate::monitor::Monitor;
 use lock_api::condvar::TokenOf;

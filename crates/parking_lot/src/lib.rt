@@ -1,7 +1,7 @@
 //! Locks for real threads. Each call runs the steps that the simulated world runs.
 #![tactic(auto)]
 
-pub use bucket_queues::BucketQueues;
+pub use core_queues::BucketQueues;
 pub use core_team::Team;
 pub use lock_api;
 pub use lock_api::{GetThreadId, WaitTimeoutResult, advance_count};

@@ -1,6 +1,6 @@
 -- Sizes of a lot, and a ticket beside its token.
 use Rattle.std.specs.Prelude.{◌≡◌, ◌<◌, ◌≤◌, ℕ}
-use Rattle.lot_words.specs.Indices.{most_words}
+use Rattle.core_words.specs.Indices.{most_words}
 use Rattle.parking_lot_core.specs.declared.tokens.Ticket.{Ticket}
 use Rattle.parking_lot_core.specs.declared.tokens.Token.{Token}
 

@@ -7,7 +7,7 @@ ghost use Rattle.parking_lot_core.specs.Team.{AreSizes, IsIn};
 
 use crate::lot::ParkingLot;
 use crate::tokens::{Ticket, Token};
-use lot_base::Fault;
+use core_base::Fault;
 use std::alloc::Global;
 use std::sync::Arc;
 
