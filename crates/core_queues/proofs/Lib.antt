@@ -11,6 +11,6 @@ pub mod Places
 pub mod Sifted
 pub mod Opening
 pub mod Requeued
-pub mod InBuckets
+pub mod Buckets
 pub mod Halves
 pub mod Picked
