@@ -20,7 +20,7 @@ use Rattle.core_queues.proofs.Joined.{everywhere, line_without, line_first_other
 use Rattle.core_queues.proofs.Places.{same_line, lines_both, line_key_same, line_key_other, all_moved, first_moved, no_times}
 use Rattle.core_queues.proofs.Requeued.{rest_moved}
 use Rattle.core_queues.specs.Buckets.{AreApart, HasNone, IsOfBucket, both}
-use Rattle.core_queues.proofs.Buckets.{same_times}
+use Rattle.core_queues.proofs.InBuckets.{same_times}
 
 pub line_both : (k : ℕ) (xs ys : List Waiter) → line k (xs ++ ys) ≡ line k xs ++ line k ys
 line_both k xs ys = filter-append _ xs ys

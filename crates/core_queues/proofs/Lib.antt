@@ -11,6 +11,6 @@ pub mod Places
 pub mod Sifted
 pub mod Opening
 pub mod Requeued
-pub mod Buckets
+pub mod InBuckets
 pub mod Halves
 pub mod Picked

@@ -7,9 +7,9 @@ ghost use Rattle.core_queues.specs.Chains.{bucket_of};
 ghost use Rattle.core_queues.specs.Buckets.{AreApart};
 ghost use Rattle.core_queues.specs.Wants.{wants_of, taken_in_line};
 
+use crate::bucket_among;
 use crate::queueing::Queueing;
 use crate::stands::Stands;
-use crate::bucket_among;
 use core_base::{Key, Queues, Requeue, Want};
 
 impl Queueing {

@@ -18,9 +18,9 @@ use crate::table::{LotWords, Seat};
 use crate::views::View;
 use crate::words::Word;
 use core_parts::seats::{join_seat, split_seat, stir};
+use core_parts::{Permit, PermitSlot, Permits};
 use std::marker::Brand;
 use std::mem;
-use core_parts::{Permit, PermitSlot, Permits};
 
 // The word of a mutex that somebody has, and of one for which others may wait besides.
 const LOCKED: u64 = 1;

@@ -10,8 +10,8 @@ ghost use Rattle.core_words.specs.declared.words.WordKind.{WordKind};
 use crate::views::View;
 use atomic_table::{Join, Play, Split, TableRule};
 use core_parts::seats::Change;
-use std::marker::{Brand, PhantomData};
 use core_parts::{PermitSlot, Permits};
+use std::marker::{Brand, PhantomData};
 
 pub struct OwnershipRule;
 

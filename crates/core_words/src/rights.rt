@@ -12,8 +12,8 @@ use crate::views::View;
 use crate::words::Word;
 use core_base::Want;
 use core_parts::seats::{join_seat, split_seat};
-use std::marker::Brand;
 use core_parts::{PermitSlot, Permits};
+use std::marker::Brand;
 
 /// An ownership, split off the view of a seat, as who knows its word keeps it. It borrows nothing,
 /// and takes no memory.

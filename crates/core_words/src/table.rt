@@ -10,11 +10,11 @@ use crate::views::View;
 use crate::words::Word;
 use atomic_table::{Shared, Table};
 use core_base::Op;
+use core_parts::{PermitSlot, Permits};
 use std::alloc::{AllocError, Global};
 use std::marker::Brand;
 use std::sync::atomic::AtomicU32;
 use std::sync::atomic::Ordering::SeqCst;
-use core_parts::{PermitSlot, Permits};
 
 /// The seat with which a thread steps. It takes no memory, and its view is what the thread has done
 /// and owns.

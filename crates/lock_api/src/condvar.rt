@@ -8,8 +8,8 @@ ghost use Rattle.lock_raw.specs.Answers.{GivesBack, IsRefusal, moved_first, noti
 ghost use Rattle.lock_api.specs.Guards.{lock_of};
 
 use crate::guards::MutexGuard;
-use lock_raw::{RawCondvar, RawMutex};
 use core_base::Fault;
+use lock_raw::{RawCondvar, RawMutex};
 use std::fmt;
 use std::fmt::{Debug, Formatter, Write};
 use std::marker::Model;

@@ -7,9 +7,9 @@ ghost use Rattle.spec_locks.specs.declared.outcomes.Answer.TheVariants as answer
 use crate::guarded::Guarded;
 use crate::mutex::Mutex;
 use crate::taken::Taken;
+use core_parts::Open;
 use lock_raw::{RawMutex, RawMutexFair};
 use std::sync::Wait;
-use core_parts::Open;
 
 /// The mutex is taken for as long as its guard is not spent. A guard has the raw guard, of this
 /// very mutex; it can't be dropped, and `unlock` or `unlock_fair` is its end.

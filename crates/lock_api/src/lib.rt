@@ -20,8 +20,8 @@ pub use lock_raw::{
     GetThreadId, RawCondvar, RawCondvarTimed, RawMutex, RawMutexCounted, RawMutexFair,
     RawMutexTimed, advance_count,
 };
+pub use lock_values::{LockName, Mapped, Project, Shown, Then, ThenError};
 pub use mapped::MappedMutexGuard;
 pub use mutex::Mutex;
-pub use lock_values::{LockName, Mapped, Project, Shown, Then, ThenError};
 pub use reentrant::{MappedReentrantMutexGuard, ReentrantMutex, ReentrantMutexGuard};
 pub use waits::WaitTimeoutResult;

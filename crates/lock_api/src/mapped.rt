@@ -8,11 +8,11 @@ use crate::guarded::Guarded;
 use crate::guards::MutexGuard;
 use crate::shows::{Keeps, Shows, ShowsMut};
 use crate::taken::Taken;
+use core_parts::Open;
 use lock_raw::{RawMutex, RawMutexFair};
 use lock_values::{Mapped, Project, Unlocks, UnlocksFair};
 use std::ops::{Deref, DerefMut};
 use std::sync::Wait;
-use core_parts::Open;
 
 impl<K: Keeps, V: Shows> lock_values::Shows for Guarded<K, V> {
     ghost use Rattle.std.proofs.Common.{◌∙◌};

@@ -11,12 +11,12 @@ ghost use Rattle.spec_locks.specs.declared.calls.MutexCall.TheVariants.{Lock, Lo
 ghost use Rattle.spec_locks.specs.declared.outcomes.Answer.TheVariants as answers;
 
 use crate::guards::MutexGuard;
-use lock_raw::{RawMutex, RawMutexTimed};
 use core_base::{Clock, Fault};
+use core_parts::{NamesPermit, Place};
+use lock_raw::{RawMutex, RawMutexTimed};
 use std::marker::Model;
 use std::sync::{Arc, Wait};
 use std::time::Duration;
-use core_parts::{NamesPermit, Place};
 
 /// Calls a closure on a value: what the closure promises of the value as it was and as it is.
 pub fn run_on<T, U, F: FnOnce(&mut T) -> U>(value: &mut T, f: F) -> U

@@ -8,8 +8,8 @@ ghost use Rattle.core_base.specs.declared.faults.Fault.TheVariants.{LockCountFul
 ghost use Rattle.spec_locks.specs.declared.calls.MutexCall.TheVariants.{Bump, Lock, TryLock, Unlock, UnlockFair};
 ghost use Rattle.spec_locks.specs.declared.outcomes.Answer.TheVariants as answers;
 
-use lock_raw::{GetThreadId, RawMutexCounted, RawMutexFair};
 use core_base::Fault;
+use lock_raw::{GetThreadId, RawMutexCounted, RawMutexFair};
 use lock_values::{Mapped, Project, Unlocks, UnlocksFair};
 use std::marker::{Model, PhantomData};
 use std::ops::Deref;

@@ -4,8 +4,8 @@ ghost use Rattle.std.specs.Borrow.{Lends, sem};
 ghost use Rattle.core_parts.specs.PermitIds.{PermitId};
 ghost use Rattle.core_parts.specs.Written.{with_value};
 
-use std::ops::{Deref, DerefMut};
 use core_parts::Open;
+use std::ops::{Deref, DerefMut};
 
 /// A lock that is taken, and has a permit out.
 pub trait Keeps {

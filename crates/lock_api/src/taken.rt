@@ -3,9 +3,9 @@ ghost use Rattle.std.specs.Prelude.{◌≡◌};
 
 use crate::mutex::Mutex;
 use crate::shows::Keeps;
+use core_parts::Open;
 use lock_raw::RawMutex;
 use std::marker::Model;
-use core_parts::Open;
 
 /// A mutex, with the raw guard of who has taken it. The raw guard comes out only for a value that
 /// is closed then.

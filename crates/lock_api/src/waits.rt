@@ -10,8 +10,8 @@ ghost use Rattle.lock_api.specs.Waits.{NeverEnds, WaitsInTime, WaitsWhile};
 
 use crate::condvar::{Condvar, TokenOf, Waited};
 use crate::guards::MutexGuard;
-use lock_raw::{RawCondvar, RawCondvarTimed};
 use core_base::{Clock, Fault};
+use lock_raw::{RawCondvar, RawCondvarTimed};
 use std::marker::Model;
 use std::sync::Wait;
 use std::time::Duration;

@@ -10,8 +10,8 @@ ghost use Rattle.spec_locks.specs.declared.calls.RwLockCall.TheVariants.{Enter};
 
 use crate::guards::{RwLockReadGuard, RwLockUpgradableReadGuard, RwLockWriteGuard};
 use crate::rwlock::RwLock;
-use lock_raw::{RawRwLockTimed, RawRwLockUpgradeTimed};
 use core_base::{Clock, Fault};
+use lock_raw::{RawRwLockTimed, RawRwLockUpgradeTimed};
 use std::sync::Wait;
 use std::time::Duration;
 

@@ -9,8 +9,8 @@ ghost use Rattle.spec_locks.specs.declared.outcomes.Answer.TheVariants as answer
 use crate::guards::{RwLockReadGuard, RwLockUpgradableReadGuard, RwLockWriteGuard};
 use crate::held::Held;
 use crate::rights::{Reading, Upgrading, Writing};
-use lock_raw::{RawRwLockFair, RawRwLockUpgradeFair};
 use core_base::Fault;
+use lock_raw::{RawRwLockFair, RawRwLockUpgradeFair};
 use lock_values::{Open, Seen};
 use std::sync::Wait;
 

@@ -14,13 +14,13 @@ ghost use Rattle.spec_locks.specs.declared.outcomes.Answer.TheVariants as answer
 use crate::held::Held;
 use crate::rights::{Reading, Upgrading, Writing};
 use crate::rwlock::RwLock;
+use core_base::Clock;
 use lock_raw::{
     RawRwLock, RawRwLockDowngrade, RawRwLockUpgrade, RawRwLockUpgradeDowngrade,
     RawRwLockUpgradeTimed,
 };
-use core_base::Clock;
-use spec_locks::Access;
 use lock_values::{Open, Seen};
+use spec_locks::Access;
 use std::sync::Wait;
 use std::time::Duration;
 

@@ -10,8 +10,7 @@ use crate::held::Held;
 use crate::rights::{Reading, Writing};
 use crate::shows::{Holds, Shows, ShowsMut};
 use lock_raw::{RawRwLock, RawRwLockFair};
-use lock_values::{Open, Seen};
-use lock_values::{Mapped, Project, Unlocks, UnlocksFair};
+use lock_values::{Mapped, Open, Project, Seen, Unlocks, UnlocksFair};
 use std::ops::{Deref, DerefMut};
 use std::sync::Wait;
 

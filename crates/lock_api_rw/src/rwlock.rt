@@ -11,8 +11,8 @@ ghost use Rattle.spec_locks.specs.declared.outcomes.Answer.TheVariants as answer
 use crate::guards::{RwLockReadGuard, RwLockUpgradableReadGuard, RwLockWriteGuard};
 use crate::held::Held;
 use crate::rights::{Reading, Upgrading, Writing};
-use lock_raw::{RawRwLock, RawRwLockUpgrade};
 use core_base::Fault;
+use lock_raw::{RawRwLock, RawRwLockUpgrade};
 use lock_values::{NamesPlace, Place};
 use std::marker::Model;
 use std::sync::{Arc, Wait};

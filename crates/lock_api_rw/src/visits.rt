@@ -10,9 +10,9 @@ ghost use Rattle.spec_locks.specs.declared.calls.RwLockCall.TheVariants.{Enter, 
 ghost use Rattle.spec_locks.specs.declared.outcomes.Answer.TheVariants as answers;
 
 use crate::rwlock::RwLock;
+use core_base::Fault;
 use lock_api::mutex::run_on;
 use lock_raw::{RawRwLock, RawRwLockUpgrade};
-use core_base::Fault;
 use std::sync::Wait;
 
 fn look_at<T, U, F: FnOnce(&T) -> U>(value: &T, f: F) -> U

@@ -10,9 +10,9 @@ ghost use Rattle.lock_monitor.specs.Conditions.{At};
 ghost use Rattle.spec_locks.specs.declared.calls.MutexCall.TheVariants.{Lock, Unlock};
 ghost use Rattle.spec_locks.specs.declared.outcomes.Answer.TheVariants as answers;
 
+use core_base::Fault;
 use lock_api::condvar::TokenOf;
 use lock_api::{Condvar, Mutex, MutexGuard, RawCondvar, RawMutex};
-use core_base::Fault;
 use std::alloc::Global;
 use std::marker::Model;
 use std::sync::{Arc, Wait};

@@ -19,9 +19,10 @@ ghost use Rattle.lock_raw.specs.Answers.{IsRefusal, answer_by};
 ghost use Rattle.core_parts.specs.PermitIds.{PermitId};
 
 pub use condvar::{RawCondvar, RawCondvarTimed};
+use core_base::{Clock, Fault};
+use core_parts::Permit;
 pub use counted::{GetThreadId, RawMutexCounted};
 pub use counts::advance_count;
-use core_base::{Clock, Fault};
 pub use rwlock::{
     RawRwLock, RawRwLockDowngrade, RawRwLockTimed, RawRwLockUpgrade, RawRwLockUpgradeDowngrade,
     RawRwLockUpgradeTimed,
@@ -29,7 +30,6 @@ pub use rwlock::{
 pub use rwlock_fair::{RawRwLockFair, RawRwLockUpgradeFair};
 use std::sync::{Arc, Wait};
 use std::time::Duration;
-use core_parts::Permit;
 
 /// A mutex without a value. A thread that has taken it has its guard, and spends it to give the
 /// mutex up.

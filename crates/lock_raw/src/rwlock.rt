@@ -16,8 +16,8 @@ ghost use Rattle.core_words.specs.declared.views.View.{View};
 ghost use Rattle.lock_raw.specs.Answers.{IsFull, IsRefusal, TriesOrFull, answer_by, counted_answer, reading_answer, upgrade_answer};
 
 use core_base::{Clock, Fault};
-use spec_locks::Access;
 use lock_values::{Open, Place, Seen};
+use spec_locks::Access;
 use std::sync::{Arc, Wait};
 use std::time::Duration;
 

@@ -7,9 +7,9 @@ ghost use Rattle.lot_drain.specs.Drainable.{is_drainable, has_owners, is_below, 
 
 use crate::gains::{Gain, gain_of, may_pend};
 use core_base::Queues;
-use spec_locks::{Access, Kind};
 use lot_machine::Machine;
 use lot_steps::{Owners, Place};
+use spec_locks::{Access, Kind};
 
 /// The lock that is drained.
 const LOCK: usize = 0;

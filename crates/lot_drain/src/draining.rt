@@ -5,9 +5,9 @@ ghost use Rattle.lot_machine.specs.Fits.{IsShaped};
 ghost use Rattle.lot_drain.specs.Schedules.{one_more, alone_by, begin_of, go_alone, call_alone, out_of_second, out_of_main, is_up, first_up, releases, first_begin, first_release, next_turn, turn_taken, turns, most_turns, entry_of, fair_release_of, clear, schedule_of};
 
 use core_base::{Fault, Queues, main_key, second_key};
-use spec_locks::{Access, Call, Kind, MutexCall, Outcome, Patience, RwLockCall, Step, Turn};
 use lot_machine::Machine;
 use lot_steps::Place;
+use spec_locks::{Access, Call, Kind, MutexCall, Outcome, Patience, RwLockCall, Step, Turn};
 use std::alloc::Global;
 use std::marker::Model;
 

@@ -2,11 +2,11 @@
 ghost use Rattle.std.specs.Prelude.{◌≡◌};
 ghost use Rattle.lot_drain.specs.Drainable.{gain_of, may_pend, mutex_gain, call_gain, bump_gain, entry_gain, handed_gain};
 
+use lot_steps::Place;
 use spec_locks::Access;
 use steps_mutex::{HandOffAt, LockAt, MutexPlace};
 use steps_rwlock::{RwLockAt, RwLockPlace, RwLockPurpose};
 use steps_rwlock_fair::{HandOverAt, HandedAt, RwLockCallPlace};
-use lot_steps::Place;
 
 /// The right that such a call has got.
 #[derive(Clone, Copy)]

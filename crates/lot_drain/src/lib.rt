@@ -2,13 +2,13 @@
 //! it, and an owner gives its right up.
 #![tactic(auto)]
 
-pub mod course;
+pub mod course_laws;
 pub mod drainable;
 pub mod draining;
 mod gains;
-pub mod ground;
+pub mod ground_laws;
 pub mod laws;
-pub mod waits;
+pub mod waiting_laws;
 
 pub use drainable::is_drainable;
 pub use draining::schedule;

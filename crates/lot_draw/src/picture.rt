@@ -1,11 +1,11 @@
 //! The picture: one text of SVG, with no scripts and nothing from elsewhere.
 
+use crate::Recording;
 use crate::layout::{APART, Layout, MARGIN, Pixels, TITLE};
 use crate::legend::{Spot, draw_legend, legend_bottom};
 use crate::panels::{draw_panel, height_of_panel};
 use crate::texts::{put_text, title_of};
 use crate::words::height_of_words;
-use crate::Recording;
 use std::alloc::{AllocError, Global};
 use std::io;
 use std::io::Write;

@@ -4,8 +4,8 @@ ghost use Rattle.std.specs.Io.KnownBytes.{Keeps};
 ghost use Rattle.lot_draw.specs.Endings.{is_malformed};
 
 use crate::picture::draw;
-use core_base::Queues;
 use crate::{Failure, record_schedule};
+use core_base::Queues;
 use lot_replay::status::{BROKEN, DONE, MALFORMED, NO_MEMORY};
 use lot_text::{Page, print_malformed, print_no_memory, send_all};
 use std::alloc::Global;

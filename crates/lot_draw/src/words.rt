@@ -2,8 +2,8 @@
 
 use crate::layout::{COLUMN, Layout, MARGIN, Panel, Pixels, Run, runs};
 use crate::texts::put_text;
-use itoa::Buffer;
 use crate::{LockRow, Recording};
+use itoa::Buffer;
 use std::alloc::{AllocError, Global};
 use std::io;
 use std::io::Write;

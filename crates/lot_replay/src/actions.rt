@@ -7,9 +7,9 @@ ghost use Rattle.lot_replay.specs.Stages.{call_named, action_of, done_by, is_bar
 
 use crate::session::Session;
 use core_base::Queues;
-use spec_locks::{CondvarCall, OnceCall};
 use lot_text::{Name, NamedCall, NamedTurn, PlainTurn};
 use lot_world::{Call, Kind, Outcome, Step, Turn, World};
+use spec_locks::{CondvarCall, OnceCall};
 
 /// The order of a thread, of locks by their numbers.
 #[derive(Clone, Copy)]

@@ -6,9 +6,9 @@
 
 pub mod places;
 
+pub use places::{Place, advance, has_right};
+pub use spec_locks::{Answer, Call, Kind, MutexCall, OnceState, Outcome, Step, Turn};
 pub use steps_base::{
     Act, Check, Fallback, Next, Op, Owner, Owners, Pending, Phase, Reply, Wakes, Whom,
 };
-pub use spec_locks::{Answer, Call, Kind, MutexCall, OnceState, Outcome, Step, Turn};
 pub use steps_mutex::{Entry, HandOffAt, LockAt, MutexPlace, UnlockAt};
-pub use places::{Place, advance, has_right};

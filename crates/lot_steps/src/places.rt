@@ -3,9 +3,9 @@ ghost use Rattle.std.specs.Prelude.{◌≡◌};
 ghost use Rattle.steps_base.specs.Acts.{outcome_of};
 ghost use Rattle.lot_steps.specs.Steps.{HasKeys, ShowsKeys, first_place, has_right, act_of, next_place, next_act, owners_after, shares_after, taker, wants, looking, late_key, owes_on, retries_on, is_idle};
 
-use steps_base::{Act, Next, Owners, Reply};
 use core_base::{Key, Want};
 use spec_locks::{Call, Kind, Outcome};
+use steps_base::{Act, Next, Owners, Reply};
 use steps_condvar::{CondvarPlace, condvar_right};
 use steps_mutex::{MutexPlace, mutex_right};
 use steps_once::OncePlace;

@@ -6,8 +6,8 @@ mod runs;
 ghost use Rattle.lotsim.specs.Lines.{Lives};
 
 use lines::{Told, print_refused, print_told, status_of};
-use runs::tried;
 use lot_text::Page;
+use runs::tried;
 use std::alloc::Global;
 use std::io::Write;
 use std::sync::Wait;

@@ -1,12 +1,26 @@
 //! Locks for real threads. Each call runs the steps that the simulated world runs.
 #![tactic(auto)]
 
+pub use core_base::{ListQueues, LockPicker, Pick, Picker, Queues, Waiter};
 pub use core_queues::BucketQueues;
 pub use core_team::Team;
 pub use lock_api;
 pub use lock_api::{GetThreadId, WaitTimeoutResult, advance_count};
 pub use lock_api_rw;
-pub use core_base::{ListQueues, LockPicker, Pick, Picker, Queues, Waiter};
+pub use lock_values::{LockName, Mapped, Project, Shown, Then, ThenError};
+pub use lot_world;
+pub use parking_lot_core::{
+    Clock, Did, Fault, Key, Keys, Note, Op, ParkingLot, Requeue, Right, Section, SectionRecord,
+    Slept, SystemClock, TickClock, Ticket, Token, Want, Word, WordKind, to_deadline,
+};
+pub use raw_mutexes::{
+    OpenGuard, RawCondvar, RawFairMutex, RawGuard, RawMutex, RawShare, RawThreadId,
+};
+pub use raw_rwlocks::{
+    RawExclusiveGuard, RawRwLock, RawRwLockRecursive, RawSharedGuard, RawUpgradableGuard,
+};
+pub use run_once::{Once, OnceCell, OnceFault, OnceShown, OnceState};
+pub use run_semaphore::{Permit, Semaphore};
 pub use spec_locks::{
     Access, Answer, Call, CondvarCall, Downgrade, Kind, MutexCall, OnceCall, Patience, RwLockCall,
     SemaphoreCall,
@@ -16,20 +30,6 @@ pub use steps_once::{LookAt, OncePlace, RunAt};
 pub use steps_rwlock::{Admission, RwLockAt, RwLockPlace, RwLockPurpose};
 pub use steps_rwlock_fair::{HandOverAt, HandedAt, RwLockCallPlace, Taken};
 pub use steps_semaphore::{AcquireAt, ReleaseAt, SemaphorePlace, TryAt};
-pub use lot_world;
-pub use parking_lot_core::{
-    Clock, Did, Fault, Key, Keys, Note, Op, ParkingLot, Requeue, Right, Section, SectionRecord,
-    Slept, SystemClock, TickClock, Ticket, Token, Want, Word, WordKind, to_deadline,
-};
-pub use lock_values::{LockName, Mapped, Project, Shown, Then, ThenError};
-pub use raw_mutexes::{
-    OpenGuard, RawCondvar, RawFairMutex, RawGuard, RawMutex, RawShare, RawThreadId,
-};
-pub use raw_rwlocks::{
-    RawExclusiveGuard, RawRwLock, RawRwLockRecursive, RawSharedGuard, RawUpgradableGuard,
-};
-pub use run_once::{Once, OnceCell, OnceFault, OnceShown, OnceState};
-pub use run_semaphore::{Permit, Semaphore};
 
 /// A mutex of a lot, with its value.
 pub type Mutex<T> = lock_api::Mutex<RawMutex, T>;

@@ -16,10 +16,9 @@ ghost use Rattle.parking_lot_core.specs.Tokens.{IsTokenOf, IsSameThread, view_of
 use crate::lot::ParkingLot;
 use crate::tokens::Token;
 use core_base::Op;
+use core_parts::{Permit, ShareRow, Shared};
 use core_words::laws::{count_may_step, mutex_may_step};
 use core_words::{Counted, LotWords, OpenHeld, Word};
-use core_parts::{ShareRow, Shared};
-use core_parts::Permit;
 
 /// The common hold of all guards of a reentrant mutex: the ownership of the mutex, and what it says
 /// of the count word.

@@ -17,9 +17,8 @@ use crate::lot::ParkingLot;
 use crate::pauses::pause;
 use crate::sections::Section;
 use crate::tokens::{Did, Token};
-use core_queues::bucket_among;
 use core_base::{Key, Keys, Note};
-use core_queues::Queueing;
+use core_queues::{Queueing, bucket_among};
 use std::sync::atomic::Ordering::SeqCst;
 use std::sync::{Mutex, MutexGuard, Wait};
 

@@ -14,14 +14,14 @@ pub mod tokens;
 pub mod waiters;
 pub mod words;
 
-pub use counts::Kept;
-pub use lot::ParkingLot;
 pub use core_base::{
     Clock, Fault, Key, Keys, Note, Op, Requeue, SystemClock, TickClock, Waiter, Want, to_deadline,
 };
+pub use core_parts::Permit;
 pub use core_words::{Held, OpenHeld, Owner, Right, Word, WordKind};
+pub use counts::Kept;
+pub use lot::ParkingLot;
 pub use sections::Section;
 pub use sleep::Slept;
 pub use team::DEFAULT_WORDS;
 pub use tokens::{Did, SectionRecord, Ticket, Token};
-pub use core_parts::Permit;

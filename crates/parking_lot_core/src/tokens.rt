@@ -2,9 +2,9 @@
 ghost use Rattle.std.specs.Prelude.{◌≡◌, ◌==◌, not, None};
 
 use crate::expected::Expected;
-use crossbeam_utils::sync::Parker;
 use core_base::{Key, Requeue, Want};
 use core_words::Seat;
+use crossbeam_utils::sync::Parker;
 use std::marker::PhantomData;
 
 /// The waiters that a section took or moved.

@@ -3,8 +3,8 @@ ghost use Rattle.std.specs.Prelude.{◌≡◌, IfSome, None};
 ghost use Rattle.core_words.specs.RightsOf.{IsRightOf, IsFor};
 
 use crate::lot::ParkingLot;
-use core_parts::Keyed;
 use core_base::{Note, Want};
+use core_parts::Keyed;
 use core_words::{LotWords, Right, Word};
 use std::sync::Wait;
 

@@ -20,9 +20,9 @@ ghost use Rattle.parking_lot_core.specs.Tokens.{IsTokenOf, IsSameThread, view_of
 use crate::lot::ParkingLot;
 use crate::tokens::Token;
 use core_base::{Fault, Op, Want};
+use core_parts::Permit;
 use core_words::laws::{condvar_may_step, count_may_step};
 use core_words::{Held, OpenHeld, Owner, Right, Word, WordKind};
-use core_parts::Permit;
 
 impl ParkingLot {
     /// One step on a word, sequentially consistent. It answers the value before. With the step that

@@ -10,11 +10,11 @@ ghost use Rattle.raw_mutexes.specs.MutexGuards.{IsGuardOf, StaysAs};
 
 use crate::guards::RawGuard;
 use crate::raw_mutex::RawMutex;
-use lock_raw::{GetThreadId, RawMutexCounted, advance_count};
+use core_parts::Share;
 use core_words::LotWords;
 use core_words::laws::count_may_step;
+use lock_raw::{GetThreadId, RawMutexCounted, advance_count};
 use parking_lot_core::{Fault, Kept, ParkingLot, Token, Word};
-use core_parts::Share;
 use std::sync::{Arc, Wait};
 
 const ONE_THREAD: u64 = 4294967296;

@@ -18,10 +18,10 @@ ghost use Rattle.raw_mutexes.specs.Words as mutexes;
 use crate::guards::RawGuard;
 use crate::raw_mutex::RawMutex;
 use core_base::main_key;
-use spec_locks::Answer;
+use parking_lot_core::{Clock, Fault, Key, ParkingLot, Token, Word, WordKind, to_deadline};
 use run_base::driver::NO_LIMIT;
 use run_locks::condvar_calls::{begin_notify, notify_behind, wait};
-use parking_lot_core::{Clock, Fault, Key, ParkingLot, Token, Word, WordKind, to_deadline};
+use spec_locks::Answer;
 use std::sync::{Arc, Wait};
 use std::time::Duration;
 

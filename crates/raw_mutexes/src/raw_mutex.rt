@@ -24,15 +24,15 @@ ghost use Rattle.run_base.specs.Telling.{owns_of, steps_of};
 
 use crate::guards::{OpenGuard, RawGuard};
 use core_base::main_key;
-use spec_locks::{Answer, MutexCall};
-use run_base::driver::{NO_LIMIT, behind, step};
-use steps_mutex::{LOCKED, PARKED, is_locked, is_parked};
-use run_locks::unlocks::unlock_behind;
 use parking_lot_core::{
     Clock, Fault, Key, Op, ParkingLot, Permit, Token, Word, WordKind, to_deadline,
 };
+use run_base::driver::{NO_LIMIT, behind, step};
+use run_locks::unlocks::unlock_behind;
+use spec_locks::{Answer, MutexCall};
 use std::sync::{Arc, Wait};
 use std::time::Duration;
+use steps_mutex::{LOCKED, PARKED, is_locked, is_parked};
 
 /// A mutex of a lot. Its word is 1 where it is locked, and 2 where a thread may be parked, or the
 /// sum of these.

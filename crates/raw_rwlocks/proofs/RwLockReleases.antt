@@ -21,10 +21,10 @@ module _ (lock : LotRwLock) (x : Access) (old joined : Token) (same : joined.num
   pub begins_releasing : BeginsWith lock.word.number (Release x) (view_of old).owns (view_of joined).owns
   begins_releasing = (owner_for (wanted x), (view_of old).owns, refl, (λ settled. refl), ap (λ (v : View). v.owns) view)
 
-  pub released : (new : Token) (answer : Answer) → HasEnded ⊥ lock.word lock.admission (Release x) answer joined new → HasReleased lock x old new
+  pub released : (new : Token) (answer : Answer) → HasEnded ⊥ lock.word lock.settings.admission (Release x) answer joined new → HasReleased lock x old new
   released new answer ended = let over = ended.2 (view_of old).owns begins_releasing in (
     (ended.0 ∙ same, over.1),
-    subst (λ (a : Answer). Walks (at_rwlock lock.word.number) (rwlock_begin lock.word.number lock.admission (Release x)) (view_of old).steps (view_of new).steps a) over.0
-        (subst (λ (steps : List WordStep). Walks (at_rwlock lock.word.number) (rwlock_begin lock.word.number lock.admission (Release x)) steps (view_of new).steps answer) (ap (λ (v : View). v.steps) view) ended.1),
-    subst (λ (steps : List WordStep). Wakes lock.word.number lock.admission (Release x) steps (view_of new).steps (last_of new)) (ap (λ (v : View). v.steps) view) ended.3,
+    subst (λ (a : Answer). Walks (at_rwlock lock.word.number) (rwlock_begin lock.word.number lock.settings.admission (Release x)) (view_of old).steps (view_of new).steps a) over.0
+        (subst (λ (steps : List WordStep). Walks (at_rwlock lock.word.number) (rwlock_begin lock.word.number lock.settings.admission (Release x)) steps (view_of new).steps answer) (ap (λ (v : View). v.steps) view) ended.1),
+    subst (λ (steps : List WordStep). Wakes lock.word.number lock.settings.admission (Release x) steps (view_of new).steps (last_of new)) (ap (λ (v : View). v.steps) view) ended.3,
   )

@@ -15,7 +15,7 @@ word_in lock = lock.word
 
 -- how many may share it, and whether readers may read again beside a waiting writer
 abbrev pub admission_in : LotRwLock → Admission
-admission_in lock = lock.admission
+admission_in lock = lock.settings.admission
 
 abbrev pub lock_in : {recursive : ℕ} → RawRwLock recursive → LotRwLock
 lock_in lock = lock.lock

@@ -14,13 +14,13 @@ ghost use Rattle.raw_rwlocks.specs.RwLockGuards.{IsExclusiveOf, IsExclusiveOf-pr
 
 use crate::rwlock_guards::{RawExclusiveGuard, RawSharedGuard, RawUpgradableGuard};
 use crate::rwlock_rights::LotRwLock;
-use steps_base::bits::{count_in, has_writer};
-use spec_locks::{Access, Downgrade, Patience};
-use run_base::driver::FOR_EVER;
 use lock_values::{Open, Place, Seen, calls};
 use parking_lot_core::{Fault, Key, ParkingLot, Token, Want};
+use run_base::driver::FOR_EVER;
 use run_locks::rwlock_calls::Rest;
+use spec_locks::{Access, Downgrade, Patience};
 use std::sync::{Arc, Wait};
+use steps_base::bits::{count_in, has_writer};
 
 // So many may share a lock for which nothing else is chosen.
 const MOST_READERS: u64 = 1152921504606846974;

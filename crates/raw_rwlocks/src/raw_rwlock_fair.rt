@@ -6,8 +6,8 @@ ghost use Rattle.core_words.specs.declared.words.WordKind.TheVariants.{RwLock};
 
 use crate::raw_rwlock::RawRwLock;
 use crate::rwlock_guards::{RawExclusiveGuard, RawSharedGuard, RawUpgradableGuard};
-use spec_locks::Access;
 use parking_lot_core::{Fault, Token};
+use spec_locks::Access;
 use std::sync::Wait;
 
 impl<const RECURSIVE: bool> lock_raw::RawRwLockFair for RawRwLock<RECURSIVE> {

@@ -1,8 +1,8 @@
 //! Calls of a reader-writer lock that give up in time.
 use crate::raw_rwlock::RawRwLock;
 use crate::rwlock_guards::{RawExclusiveGuard, RawSharedGuard, RawUpgradableGuard};
-use spec_locks::{Access, Patience};
 use parking_lot_core::{Clock, Fault, Token, to_deadline};
+use spec_locks::{Access, Patience};
 use std::sync::Wait;
 use std::time::Duration;
 

@@ -29,17 +29,17 @@ ghost use Rattle.parking_lot_core.specs.declared.tokens.Token.{Token};
 ghost use Rattle.run_locks.specs.Halves.{HasBegun, HasEnded};
 
 use core_base::{main_key, second_key};
-use spec_locks::{Access, Answer, Downgrade, Patience};
+use core_words::LotWords;
+use parking_lot_core::{Clock, Fault, Held, Key, Op, ParkingLot, Token, Want, Word, WordKind};
 use run_base::driver::FOR_EVER;
+use run_locks::rwlock_calls::{Rest, behind, call, call_fast, missed};
+use run_locks::rwlock_courses::{Settings, greater, lesser};
+use run_locks::rwlock_fair_calls::{bump, release_exclusive, release_upgradable};
+use spec_locks::{Access, Answer, Downgrade, Patience};
+use std::sync::{Arc, Wait};
 use steps_rwlock::places::WRITER;
 use steps_rwlock::purposes::wanted;
 use steps_rwlock::{Admission, RwLockPurpose};
-use core_words::LotWords;
-use parking_lot_core::{Clock, Fault, Held, Key, Op, ParkingLot, Token, Want, Word, WordKind};
-use run_locks::rwlock_calls::{Rest, behind, call, call_fast, missed};
-use run_locks::rwlock_courses::{greater, lesser};
-use run_locks::rwlock_fair_calls::{bump, release_exclusive, release_upgradable};
-use std::sync::{Arc, Wait};
 
 // Takes a word that is 0.
 const ENTER: Op = Op::Exchange {
@@ -52,10 +52,10 @@ const ENTER: Op = Op::Exchange {
 pub struct LotRwLock {
     lot: Arc<ParkingLot>,
     word: Word,
-    admission: Admission,
+    settings: Settings,
     ghost drawn: { IsWordOf (arc_value lot).words word × (word.kind ≡ RwLock)
         × (word.number < 9223372036854775808)
-        × (admission.limit < 2 ^ 60 - 1) },
+        × (settings.admission.limit < 2 ^ 60 - 1) },
 }
 
 impl LotRwLock {
@@ -84,11 +84,11 @@ impl LotRwLock {
             return Err(Fault::NoMemory);
         };
         let word = lot.new_word(token, WordKind::RwLock)?;
-        let admission = Admission { recursive, limit };
+        let settings = Settings::new(Admission { recursive, limit });
         Ok(LotRwLock {
             lot,
             word,
-            admission,
+            settings,
         })
     }
 
@@ -201,7 +201,7 @@ impl LotRwLock {
     {
         let lot: &ParkingLot = &self.lot;
         let purpose = RwLockPurpose::Enter { access, patience };
-        match call_fast(lot, token, &self.word, &self.admission, limit, purpose) {
+        match call_fast(lot, token, &self.word, &self.settings, limit, purpose) {
             Ok(answer) => Ok(self.entered(lot, token, limit, access, patience, answer)),
             Err(rest) => Err(rest),
         }
@@ -229,7 +229,7 @@ impl LotRwLock {
             before token.new }
     {
         let lot: &ParkingLot = &self.lot;
-        let (word, admission) = (&self.word, &self.admission);
+        let (word, admission) = (&self.word, &self.settings.admission);
         let purpose = RwLockPurpose::Enter { access, patience };
         match rest {
             Rest::GoesOn(seen) => {
@@ -322,7 +322,7 @@ impl LotRwLock {
         let lot: &ParkingLot = &self.lot;
         self.join(lot, token, wanted(access), right);
         let purpose = RwLockPurpose::Release(access);
-        match call_fast(lot, token, &self.word, &self.admission, FOR_EVER, purpose) {
+        match call_fast(lot, token, &self.word, &self.settings, FOR_EVER, purpose) {
             Ok(_answer) => None,
             Err(rest) => Some(rest),
         }
@@ -345,7 +345,7 @@ impl LotRwLock {
             → HasReleased self.now access before token.new }
     {
         let lot: &ParkingLot = &self.lot;
-        let (word, admission) = (&self.word, &self.admission);
+        let (word, admission) = (&self.word, &self.settings.admission);
         let purpose = RwLockPurpose::Release(access);
         match rest {
             Rest::GoesOn(seen) => {
@@ -392,7 +392,7 @@ impl LotRwLock {
     {
         let lot: &ParkingLot = &self.lot;
         self.join(lot, token, Want::Exclusive, right);
-        release_exclusive(rt, lot, token, &self.word, &self.admission);
+        release_exclusive(rt, lot, token, &self.word, &self.settings.admission);
     }
 
     /// Gives the upgradable right up, and hands the lock to those who wait.
@@ -409,7 +409,7 @@ impl LotRwLock {
     {
         let lot: &ParkingLot = &self.lot;
         self.join(lot, token, Want::Upgradable, right);
-        release_upgradable(rt, lot, token, &self.word, &self.admission);
+        release_upgradable(rt, lot, token, &self.word, &self.settings.admission);
     }
 
     /// Gives a right up where others wait for it, and waits for it again.
@@ -443,7 +443,7 @@ impl LotRwLock {
     {
         let lot: &ParkingLot = &self.lot;
         self.join(lot, token, wanted(access), right);
-        match bump(rt, lot, token, &self.word, &self.admission, access) {
+        match bump(rt, lot, token, &self.word, &self.settings.admission, access) {
             Answer::Ok => Ok(self.split(lot, token, wanted(access))),
             _ => Err(Fault::ReadersFull),
         }
@@ -477,7 +477,7 @@ impl LotRwLock {
             lot,
             token,
             &self.word,
-            &self.admission,
+            &self.settings,
             FOR_EVER,
             RwLockPurpose::Downgrade(downgrade),
         );
@@ -521,7 +521,7 @@ impl LotRwLock {
             lot,
             token,
             &self.word,
-            &self.admission,
+            &self.settings,
             limit,
             RwLockPurpose::Upgrade(patience),
         );

@@ -22,10 +22,10 @@ ghost use Rattle.run_base.specs.Stages.{Adds, Awoke, AwokeLate, HandsEach, HasKe
 use crate::sleepers::{Sleeper, sleeper_at};
 use crate::taking::{requeue, take_all, take_first, take_picked, tell_wants};
 use crate::words::Words;
-use steps_base::takes_effect;
 use lot_steps::{Act, Check, Place, Reply, Wakes, Whom};
 use parking_lot_core::{Clock, Key, Keys, Note, Op, ParkingLot, Section, Slept, Token, Want, Word};
 use std::sync::Wait;
+use steps_base::takes_effect;
 
 pub(crate) fn note_of(wakes: Wakes) -> Note
     ensures { result ≡ note_of wakes }

@@ -18,10 +18,10 @@ ghost use Rattle.run_base.specs.Telling.{TellsQueues, owns_of, steps_of};
 
 use crate::acting::{end, perform};
 use crate::words::Words;
-use spec_locks::{Answer, MutexCall, OnceState};
 use lot_steps::{Act, MutexPlace, Place, Reply};
 use parking_lot_core::pauses::{SHORT_PAUSE, pause};
 use parking_lot_core::{Clock, Op, ParkingLot, Section, Token, Word};
+use spec_locks::{Answer, MutexCall, OnceState};
 use std::sync::Wait;
 
 // The most loads in place of an act that leads to sleep, in one call. With the pauses before them

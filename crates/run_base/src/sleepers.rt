@@ -7,12 +7,12 @@ ghost use Rattle.run_base.specs.Fitting.{sleeper_at};
 ghost use Rattle.run_base.specs.RwLockFitting.{may_be_handed};
 
 use core_base::main_key;
+use lot_steps::Place;
+use parking_lot_core::{Key, Want};
 use steps_condvar::{CondvarPlace, WaitAt};
 use steps_rwlock::park::ParkAt;
 use steps_rwlock::places::RwLockAt;
 use steps_rwlock_fair::RwLockCallPlace;
-use lot_steps::Place;
-use parking_lot_core::{Key, Want};
 
 /// The aim of a thread that sleeps, the key under which it may be late, and the key to which it may
 /// be moved meanwhile.

@@ -13,9 +13,9 @@ ghost use Rattle.run_locks.specs.CondvarCalls.{HasLooked, HasNotified, HasWaited
 use crate::condvar_courses::Pair;
 use crate::notify_courses::notify_through;
 use crate::wait_courses::wait_through;
-use spec_locks::Answer;
-use run_base::words::Words;
 use parking_lot_core::{Clock, ParkingLot, Token, Word};
+use run_base::words::Words;
+use spec_locks::Answer;
 use std::sync::Wait;
 
 fn pair_of(condvar: Word, mutex: Word) -> Pair

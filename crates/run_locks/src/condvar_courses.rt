@@ -5,13 +5,13 @@ ghost use Rattle.core_base.specs.Clocks.{IsUp};
 ghost use Rattle.run_base.specs.Turns.{HasEnded, IsAt};
 ghost use Rattle.run_locks.specs.CondvarCourses.{IsOfCondvar, notify_at, wait_at};
 
-use spec_locks::Answer;
-use steps_condvar::{CondvarPlace, NotifyAt, WaitAt};
-use run_base::driver::{Stop, run_from};
-use run_base::words::Words;
 use lot_steps::Place;
 use parking_lot_core::{Clock, ParkingLot, Section, Token};
+use run_base::driver::{Stop, run_from};
+use run_base::words::Words;
+use spec_locks::Answer;
 use std::sync::Wait;
+use steps_condvar::{CondvarPlace, NotifyAt, WaitAt};
 
 /// A condition variable and a mutex, by their numbers, and their words.
 #[derive(Clone, Copy)]

@@ -7,14 +7,14 @@ ghost use Rattle.run_locks.specs.CondvarCourses.{notify_at};
 
 use crate::condvar_courses::{Pair, rest};
 use core_base::main_key;
-use spec_locks::Answer;
-use steps_condvar::{NotifyAt, shows};
-use run_base::driver::NO_LIMIT;
-use run_base::turns::{end, turn_enter, turn_leave, turn_requeue, turn_take_first, turn_word};
-use steps_mutex::{LOCKED, PARKED, is_locked};
 use lot_steps::{Reply, Wakes};
 use parking_lot_core::{Keys, Note, Op, ParkingLot, Requeue, Section, Token};
+use run_base::driver::NO_LIMIT;
+use run_base::turns::{end, turn_enter, turn_leave, turn_requeue, turn_take_first, turn_word};
+use spec_locks::Answer;
 use std::sync::Wait;
+use steps_condvar::{NotifyAt, shows};
+use steps_mutex::{LOCKED, PARKED, is_locked};
 
 // Leaves both sections, and wakes the one that it took there, if any.
 fn leave_both<'a, R: Wait>(

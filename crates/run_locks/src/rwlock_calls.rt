@@ -18,17 +18,17 @@ ghost use Rattle.run_base.specs.Stages.{stage_of};
 ghost use Rattle.run_base.specs.Telling.{owns_of, steps_of};
 ghost use Rattle.run_base.specs.Words.{alone, kind_in, at_in};
 
-use crate::rwlock_courses::{Course, answer_with, course_of, opening};
-use spec_locks::{Access, Answer, Downgrade, Patience};
-use run_base::driver::{Stop, answer_of, run};
-use run_base::words::Words;
-use steps_rwlock::places::{RwLockAt, RwLockPlace};
-use steps_rwlock::{Admission, RwLockPurpose};
-use steps_rwlock_fair::RwLockCallPlace;
+use crate::rwlock_courses::{Course, Settings, answer_with, course_of, opening};
 use lot_steps::{Place, Reply, advance};
 use parking_lot_core::pauses::{SHORT_PAUSE, pause};
 use parking_lot_core::{Clock, Op, ParkingLot, Token, Word};
+use run_base::driver::{Stop, answer_of, run};
+use run_base::words::Words;
+use spec_locks::{Access, Answer, Downgrade, Patience};
 use std::sync::Wait;
+use steps_rwlock::places::{RwLockAt, RwLockPlace};
+use steps_rwlock::{Admission, RwLockPurpose};
+use steps_rwlock_fair::RwLockCallPlace;
 
 /// The rest of a call, which the fast half leaves to the slow one.
 #[derive(Clone, Copy)]
@@ -309,21 +309,21 @@ pub fn call_fast<C: Clock>(
     lot: &ParkingLot,
     token: &mut Token,
     word: &Word,
-    admission: &Admission,
+    settings: &Settings,
     _limit: &Option<(&C, u64)>,
     purpose: RwLockPurpose,
 ) -> Result<Answer, Rest>
-    requires own { MeetsAt lot.now token.old word.now admission.now }
+    requires own { MeetsAt lot.now token.old word.now settings.now.admission }
     requires right { (base : List Ownership)
         × BeginsWith word.now.number purpose base (owns_of token.old) }
     ensures own { IsSameThread lot.now token.old token.new }
     ensures over { MatchResult result
-        (λ answer. HasEnded (IsUp C.tells _limit.now) word.now admission.now purpose answer
+        (λ answer. HasEnded (IsUp C.tells _limit.now) word.now settings.now.admission purpose answer
         token.old token.new)
-        (λ rest. HasBegun word.now admission.now purpose rest token.old token.new) }
+        (λ rest. HasBegun word.now settings.now.admission purpose rest token.old token.new) }
 {
     let seen = lot.word(token, *word, opening(purpose));
-    match course_of(*admission, purpose, seen) {
+    match course_of(*settings, purpose, seen) {
         Course::Ends(answer) => Ok(answer),
         Course::GoesOn => Err(Rest::GoesOn(seen)),
         Course::Takes => {
@@ -345,27 +345,48 @@ pub fn call<R: Wait, C: Clock>(
     lot: &ParkingLot,
     token: &mut Token,
     word: &Word,
-    admission: &Admission,
+    settings: &Settings,
     limit: &Option<(&C, u64)>,
     purpose: RwLockPurpose,
 ) -> Answer
-    requires own { MeetsAt lot.now token.old word.now admission.now }
+    requires own { MeetsAt lot.now token.old word.now settings.now.admission }
     requires right { (base : List Ownership)
         × BeginsWith word.now.number purpose base (owns_of token.old) }
     ensures own { IsSameThread lot.now token.old token.new }
-    ensures path { HasWalkedRwLock word.now.number admission.now purpose result token.old
+    ensures path { HasWalkedRwLock word.now.number settings.now.admission purpose result token.old
         token.new }
     ensures over { (base : List Ownership)
         → BeginsWith word.now.number purpose base (owns_of token.old)
-        → AnswersCall (IsUp C.tells limit.now) word.now.number base admission.now purpose result
+        → AnswersCall (IsUp C.tells limit.now) word.now.number base settings.now.admission purpose result
         (stage_of token.new None) }
-    ensures record { WakesBy word.now.number admission.now purpose token.old token.new }
+    ensures record { WakesBy word.now.number settings.now.admission purpose token.old token.new }
 {
-    match call_fast(lot, token, word, admission, limit, purpose) {
+    match call_fast(lot, token, word, settings, limit, purpose) {
         Ok(answer) => answer,
-        Err(Rest::GoesOn(seen)) => { behind(rt, lot, token, word, admission, limit, purpose, seen) }
+        Err(Rest::GoesOn(seen)) => {
+            behind(
+                rt,
+                lot,
+                token,
+                word,
+                &settings.admission,
+                limit,
+                purpose,
+                seen,
+            )
+        }
         Err(Rest::Missed { seen, found }) => {
-            missed(rt, lot, token, word, admission, limit, purpose, seen, found)
+            missed(
+                rt,
+                lot,
+                token,
+                word,
+                &settings.admission,
+                limit,
+                purpose,
+                seen,
+                found,
+            )
         }
     }
 }

@@ -1,17 +1,46 @@
 //! How a call of a reader-writer lock begins, and what it does about the value that its first step
 //! saw. The fast half of each call is made of these, so they are inlined, with what they read in a
 //! word.
-ghost use Rattle.std.specs.Prelude.{◌≡◌};
+ghost use Rattle.std.specs.Prelude.{◌≡◌, ◌<◌, ◌*◌, ◌^◌, nat_le};
+ghost use Rattle.spec_locks.specs.Codes as codes;
 ghost use Rattle.steps_rwlock.specs.RwLockSteps as steps;
 ghost use Rattle.run_locks.specs.Courses as courses;
 ghost use Rattle.run_base.specs.RwLockCalls.{first_op};
 
-use steps_base::bits::{count_in, has_aside, has_parked};
 use core_base::{Op, Want};
 use spec_locks::{Access, Answer, Downgrade, Patience};
-use steps_rwlock::places::WRITER;
+use steps_base::bits::{count_in, has_aside, has_parked};
+use steps_rwlock::places::{READER, WRITER};
 use steps_rwlock::purposes::{self, entered, wanted};
 use steps_rwlock::{Admission, RwLockPurpose};
+
+/// The settings of a reader-writer lock, with the least word whose count is at the limit. The fast
+/// half of a call compares that word with the one that it saw, and shifts neither.
+#[derive(Clone, Copy)]
+pub struct Settings {
+    pub admission: Admission,
+    full: u64,
+    ghost whole: { full ≡ admission.limit * 16 },
+}
+
+impl Settings {
+    /// Makes the settings of a lock. The limit is below `2^60`.
+    pub fn new(admission: Admission) -> Settings
+        requires { admission.limit < 2 ^ 60 }
+        ensures { result.admission ≡ admission }
+    {
+        let full = admission.limit * READER;
+        Settings { admission, full }
+    }
+
+    // Whether the count in a word is at the limit.
+    #[inline(always)]
+    fn fill(self, seen: u64) -> bool
+        ensures { result ≡ nat_le self.admission.limit (codes.count_in seen) }
+    {
+        self.full <= seen
+    }
+}
 
 /// The rest of a call, from its first step on.
 #[derive(Clone, Copy)]
@@ -86,25 +115,26 @@ fn writing(patience: Patience, seen: u64) -> Course
 }
 
 #[inline(always)]
-fn reading(admission: Admission, patience: Patience, blocked: bool, seen: u64) -> Course
-    ensures { result ≡ courses.reading admission patience blocked seen }
+fn reading(settings: Settings, patience: Patience, blocked: bool, seen: u64) -> Course
+    ensures { result ≡ courses.reading settings.admission patience blocked seen }
 {
     if blocked {
         return kept_out(patience);
     }
-    if admission.limit <= count_in(seen) {
+    if settings.fill(seen) {
         return Course::Ends(Answer::ReadersFull);
     }
     Course::Takes
 }
 
 #[inline(always)]
-fn entering(admission: Admission, access: Access, patience: Patience, seen: u64) -> Course
-    ensures { result ≡ courses.entering admission access patience seen }
+fn entering(settings: Settings, access: Access, patience: Patience, seen: u64) -> Course
+    ensures { result ≡ courses.entering settings.admission access patience seen }
 {
     match access {
         Access::Shared | Access::Upgradable => {
-            reading(admission, patience, admission.blocks(access, seen), seen)
+            let blocked = settings.admission.blocks(access, seen);
+            reading(settings, patience, blocked, seen)
         }
         Access::Exclusive => writing(patience, seen),
     }
@@ -136,11 +166,11 @@ fn leaving(waited_for: bool) -> Course
 
 /// Returns the rest of a call whose first step saw this.
 #[inline(always)]
-pub(crate) fn course_of(admission: Admission, purpose: RwLockPurpose, seen: u64) -> Course
-    ensures { result ≡ courses.course_of admission purpose seen }
+pub(crate) fn course_of(settings: Settings, purpose: RwLockPurpose, seen: u64) -> Course
+    ensures { result ≡ courses.course_of settings.admission purpose seen }
 {
     match purpose {
-        RwLockPurpose::Enter { access, patience } => entering(admission, access, patience, seen),
+        RwLockPurpose::Enter { access, patience } => entering(settings, access, patience, seen),
         RwLockPurpose::Upgrade(patience) => upgrading(patience, seen),
         RwLockPurpose::Release(Access::Shared) => leaving(has_aside(seen) && count_in(seen) == 1),
         RwLockPurpose::Release(_) | RwLockPurpose::Downgrade(_) => leaving(has_parked(seen)),

@@ -18,14 +18,14 @@ ghost use Rattle.run_base.specs.Stages.{stage_of};
 ghost use Rattle.run_base.specs.Telling.{owns_of, steps_of};
 
 use crate::rwlock_calls::run_out;
-use spec_locks::{Access, Answer};
+use lot_steps::{Next, Place, Reply};
+use parking_lot_core::{Op, ParkingLot, Token, Word};
 use run_base::driver::NO_LIMIT;
+use spec_locks::{Access, Answer};
+use std::sync::Wait;
 use steps_rwlock::Admission;
 use steps_rwlock::places::WRITER;
 use steps_rwlock_fair::{HandOverAt, RwLockCallPlace};
-use lot_steps::{Next, Place, Reply};
-use parking_lot_core::{Op, ParkingLot, Token, Word};
-use std::sync::Wait;
 
 // Leaves a word that tells of nobody but the exclusive owner.
 const LEAVE_ALONE: Op = Op::Exchange {

@@ -14,13 +14,13 @@ ghost use Rattle.parking_lot_core.specs.Tokens.{IsSameThread};
 ghost use Rattle.run_locks.specs.MutexCourses.{locked_and_parked, taken_on, unlocks_at};
 
 use core_base::main_key;
+use lot_steps::Wakes;
+use parking_lot_core::{Keys, Note, Op, ParkingLot, Section, Token, Word};
 use run_base::driver::NO_LIMIT;
 use run_base::turns::{end, turn_enter, turn_leave, turn_take_first, turn_word};
 use run_base::words::Words;
-use steps_mutex::PARKED;
-use lot_steps::Wakes;
-use parking_lot_core::{Keys, Note, Op, ParkingLot, Section, Token, Word};
 use std::sync::Wait;
+use steps_mutex::PARKED;
 
 // Leaves the section, and wakes the one that it took there, if any.
 fn leave_and_wake<'a, R: Wait>(

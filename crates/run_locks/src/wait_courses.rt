@@ -13,15 +13,15 @@ ghost use Rattle.run_locks.specs.MutexCourses.{taken_on};
 
 use crate::condvar_courses::{Pair, rest};
 use core_base::main_key;
-use spec_locks::Answer;
-use steps_condvar::{Stands, WaitAt, shown, shows};
+use lot_steps::{Reply, Wakes};
+use parking_lot_core::{Clock, Keys, Note, Op, ParkingLot, Section, Token, Want};
 use run_base::turns::{
     end, turn_enter, turn_leave, turn_sleep, turn_stand, turn_take_first, turn_word,
 };
-use steps_mutex::{Entry, LOCKED, LockAt, MutexPlace, PARKED, is_locked, is_parked};
-use lot_steps::{Reply, Wakes};
-use parking_lot_core::{Clock, Keys, Note, Op, ParkingLot, Section, Token, Want};
+use spec_locks::Answer;
 use std::sync::Wait;
+use steps_condvar::{Stands, WaitAt, shown, shows};
+use steps_mutex::{Entry, LOCKED, LockAt, MutexPlace, PARKED, is_locked, is_parked};
 
 // Returns the answer of a wait that was notified.
 fn notified_answer(timed: bool) -> Answer

@@ -6,7 +6,7 @@ mod once_calls;
 pub mod once_cell;
 pub mod showing;
 
-pub use spec_locks::OnceState;
 pub use once::{Once, OnceFault};
 pub use once_cell::OnceCell;
 pub use showing::OnceShown;
+pub use spec_locks::OnceState;

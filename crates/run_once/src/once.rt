@@ -20,15 +20,15 @@ ghost use Rattle.run_once.specs.OnceCalls.{Closes, EndsRun, HasSeen};
 ghost use Rattle.run_once.specs.Looks.{CameTo, FoundDone, came_by};
 
 use crate::once_calls::{Look, begin, begin_behind, close};
-use steps_base::bits::{is_done, is_poisoned, is_running};
 use core_base::{main_key, to_deadline};
-use spec_locks::{Answer, OnceCall, OnceState};
-use run_base::driver::FOR_EVER;
-use steps_once::{DONE, RUNNING};
 use core_words::laws::once_may_step;
 use parking_lot_core::{Clock, Fault, Key, Op, ParkingLot, Token, Word, WordKind};
+use run_base::driver::FOR_EVER;
+use spec_locks::{Answer, OnceCall, OnceState};
 use std::sync::{Arc, Wait};
 use std::time::Duration;
+use steps_base::bits::{is_done, is_poisoned, is_running};
+use steps_once::{DONE, RUNNING};
 use thiserror::Error;
 
 /// Why a call of a `Once` came to no end that is done.

@@ -17,14 +17,14 @@ ghost use Rattle.run_base.specs.Stages.{stage_of};
 ghost use Rattle.run_base.specs.Telling.{owns_of, steps_of};
 ghost use Rattle.run_once.specs.OnceCalls.{Closes, EndsRun, HasSeen, LookOwns, LooksBy, MeetsOnce};
 
-use steps_base::bits::is_marked;
-use spec_locks::{Answer, OnceCall, OnceState};
-use run_base::driver::{NO_LIMIT, Stop, answer_of, run};
-use run_base::words::Words;
-use steps_once::{DONE, OncePlace, POISONED, RunAt};
 use lot_steps::{Place, Reply, advance};
 use parking_lot_core::{Clock, Op, ParkingLot, Token, Word};
+use run_base::driver::{NO_LIMIT, Stop, answer_of, run};
+use run_base::words::Words;
+use spec_locks::{Answer, OnceCall, OnceState};
 use std::sync::Wait;
+use steps_base::bits::is_marked;
+use steps_once::{DONE, OncePlace, POISONED, RunAt};
 
 /// The end of a call of a `Once`, or its closure.
 pub(crate) enum Look {

@@ -3,8 +3,8 @@ ghost use Rattle.std.specs.Prelude.{◌≡◌, ℕ};
 ghost use Rattle.parking_lot_core.specs.Tokens.{IsTokenOf};
 
 use crate::once::Once;
-use spec_locks::OnceState;
 use parking_lot_core::Token;
+use spec_locks::OnceState;
 use std::fmt;
 use std::fmt::{Debug, Formatter, Write};
 

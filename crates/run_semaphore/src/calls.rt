@@ -17,14 +17,14 @@ ghost use Rattle.run_base.specs.Telling.{owns_of, steps_of};
 ghost use Rattle.run_base.specs.Words.{alone, at_in, kind_in};
 ghost use Rattle.run_semaphore.specs.Calls.{HasAdded, HasFound, HasLooked, MeetsSemaphore, deciding, trying, waking};
 
-use spec_locks::Answer;
+use core_words::laws::{semaphore_may_step, semaphore_trades};
+use lot_steps::Place;
+use parking_lot_core::{Clock, Op, ParkingLot, Token, Word};
 use run_base::driver::{NO_LIMIT, Stop, run};
 use run_base::words::Words;
-use steps_semaphore::{AcquireAt, ReleaseAt, SemaphorePlace, TryAt};
-use lot_steps::Place;
-use core_words::laws::{semaphore_may_step, semaphore_trades};
-use parking_lot_core::{Clock, Op, ParkingLot, Token, Word};
+use spec_locks::Answer;
 use std::sync::Wait;
+use steps_semaphore::{AcquireAt, ReleaseAt, SemaphorePlace, TryAt};
 
 /// One load of the word, with which each call begins that wants a permit.
 #[inline(always)]

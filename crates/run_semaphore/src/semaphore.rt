@@ -22,14 +22,14 @@ ghost use Rattle.run_base.specs.Telling.{owns_of, steps_of};
 ghost use Rattle.run_semaphore.specs.Calls.{HasReleased, HasWaited, HasWalked, StaysAs, answer_by, deciding, trying};
 
 use crate::calls::{acquire_behind, give, give_all, look, take, try_behind, wake_first};
-use steps_base::bits::has_parked;
 use core_base::{main_key, to_deadline};
-use spec_locks::Answer;
-use run_base::driver::FOR_EVER;
-use steps_semaphore::free_permits;
 use parking_lot_core::{Clock, Fault, Held, Key, ParkingLot, Token, Want, Word};
+use run_base::driver::FOR_EVER;
+use spec_locks::Answer;
 use std::sync::{Arc, Wait};
 use std::time::Duration;
+use steps_base::bits::has_parked;
+use steps_semaphore::free_permits;
 
 /// Lets so many threads at once hold a permit as it has permits. Others wait until one is given
 /// back.

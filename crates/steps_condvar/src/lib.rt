@@ -6,7 +6,7 @@ pub mod notify;
 pub mod places;
 pub mod wait;
 
-pub use spec_locks::CondvarCall;
 pub use notify::NotifyAt;
 pub use places::{CondvarPlace, condvar_right, shown, shows};
+pub use spec_locks::CondvarCall;
 pub use wait::{Stands, WaitAt};

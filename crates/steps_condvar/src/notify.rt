@@ -17,9 +17,9 @@ ghost use Rattle.std.specs.Prelude.{◌≡◌, ◌<◌, ◌^◌};
 ghost use Rattle.steps_condvar.specs.CondvarSteps.{marks, again_next, moved_all, moved_one, notified, next_notify, move_act, notify_act};
 
 use crate::places::shows;
-use steps_base::{Act, Next, Reply, Wakes, Whom};
 use core_base::{Keys, Note, Op, Requeue, main_key};
 use spec_locks::Answer;
+use steps_base::{Act, Next, Reply, Wakes, Whom};
 use steps_mutex::places::{LOCKED, PARKED, is_locked};
 
 /// Where a thread stands that notifies.

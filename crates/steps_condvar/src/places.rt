@@ -13,9 +13,9 @@ ghost use Rattle.steps_condvar.specs.CondvarSteps.{HasMutexKey, condvar_act, con
 
 use crate::notify::{NotifyAt, next_notify, notified, notify_act};
 use crate::wait::{Stands, WaitAt, next_wait, wait_act};
-use steps_base::{Act, Next, Owners, Reply};
 use core_base::{Key, Op, Want, main_key};
 use spec_locks::{CondvarCall, Outcome};
+use steps_base::{Act, Next, Owners, Reply};
 use steps_mutex::MutexPlace;
 
 /// Where a thread stands in a call of a condition variable.

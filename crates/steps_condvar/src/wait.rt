@@ -20,9 +20,9 @@ ghost use Rattle.steps_condvar.specs.CondvarProfiles.{is_woken, taker_of, want_o
 ghost use Rattle.steps_condvar.specs.CondvarSteps.{befalls, behind, first_lock, late_place, relocked, released, waited, stands_after, asleep_next, next_wait, wait_act};
 
 use crate::places::{shown, shows};
-use steps_base::{Act, Next, Reply, Wakes};
 use core_base::{Keys, Line, Note, Op, Want, main_key};
 use spec_locks::Answer;
+use steps_base::{Act, Next, Reply, Wakes};
 use steps_mutex::{Entry, LockAt, MutexPlace, UnlockAt};
 
 /// The state of a waiter, by what has befallen it since it joined the queue.

@@ -10,9 +10,9 @@ ghost use Rattle.std.specs.Prelude.{◌≡◌, ◌<◌, ◌^◌};
 ghost use Rattle.steps_mutex.specs.MutexSteps.{next_hand_off, looked, hand_off_word, hand_off_store, hand_off_act};
 
 use crate::places::{LOCKED, MutexPlace, PARKED};
-use steps_base::{Act, Next, Reply, Wakes, Whom};
 use core_base::{Keys, Note, Op, main_key};
 use spec_locks::Answer;
+use steps_base::{Act, Next, Reply, Wakes, Whom};
 
 /// Where an owner stands that saw `PARKED` in `unlock_fair` or `bump`.
 #[derive(Clone, Copy)]

@@ -20,9 +20,9 @@ ghost use Rattle.std.specs.Prelude.{◌≡◌, ◌<◌, ◌^◌};
 ghost use Rattle.steps_mutex.specs.MutexSteps.{is_timed, enters, entered, next_lock, still_retries, lock_act, decided, lock_owners};
 
 use crate::places::{LOCKED, MutexPlace, NOT_PARKED, PARKED, is_locked};
-use steps_base::{Act, Check, Next, Owners, Reply, Wakes};
 use core_base::{Keys, Note, Op, Want, main_key};
 use spec_locks::Answer;
+use steps_base::{Act, Check, Next, Owners, Reply, Wakes};
 
 /// For which call a thread enters.
 #[derive(Clone, Copy)]

@@ -14,9 +14,9 @@ ghost use Rattle.steps_mutex.specs.MutexSteps.{is_locked, is_parked, mutex_first
 use crate::hand_off::{HandOffAt, hand_off_act, looked, next_hand_off};
 use crate::lock::{Entry, LockAt, lock_act, lock_owners, next_lock, still_retries};
 use crate::unlock::{UnlockAt, next_unlock, unlock_act};
-use steps_base::{Act, Next, Owners, Reply};
 use core_base::{Line, Op, Want};
 use spec_locks::{Answer, MutexCall, Outcome};
+use steps_base::{Act, Next, Owners, Reply};
 
 pub const LOCKED: u64 = 1;
 

@@ -11,9 +11,9 @@ ghost use Rattle.std.specs.Prelude.{◌≡◌, ◌<◌, ◌^◌};
 ghost use Rattle.steps_mutex.specs.MutexSteps.{next_unlock, unlock_act};
 
 use crate::places::{LOCKED, NOT_PARKED, is_parked};
-use steps_base::{Act, Next, Reply, Wakes, Whom};
 use core_base::{Keys, Note, Op, main_key};
 use spec_locks::Answer;
+use steps_base::{Act, Next, Reply, Wakes, Whom};
 
 /// Where a thread stands in `unlock`.
 #[derive(Clone, Copy)]

@@ -9,9 +9,9 @@ ghost use Rattle.std.specs.Prelude.{◌≡◌, ◌<◌, ◌^◌};
 ghost use Rattle.steps_once.specs.OnceSteps.{give_up_act, next_give_up};
 
 use crate::places::NOT_MARKED;
-use steps_base::{Act, Next, Reply, Wakes};
 use core_base::{Keys, Op, main_key};
 use spec_locks::Answer;
+use steps_base::{Act, Next, Reply, Wakes};
 
 /// A place of a thread that gives up, inside the section of the queue.
 #[derive(Clone, Copy)]

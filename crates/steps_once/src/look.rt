@@ -15,10 +15,10 @@ ghost use Rattle.std.specs.Prelude.{◌≡◌, ◌<◌, ◌^◌};
 ghost use Rattle.steps_once.specs.OnceSteps.{is_forced, is_timed, runs, want_of, when_done, course_of, started, marked, begins_run, gives_up, looked, next_look, still_retries, check_of, decided, look_act};
 
 use crate::places::{MARKED, RUNNING};
-use steps_base::bits::{is_done, is_marked, is_poisoned, is_running};
-use steps_base::{Act, Check, Next, Reply, Wakes};
 use core_base::{Keys, Note, Op, Want, main_key};
 use spec_locks::{Answer, OnceCall};
+use steps_base::bits::{is_done, is_marked, is_poisoned, is_running};
+use steps_base::{Act, Check, Next, Reply, Wakes};
 
 /// Where a thread stands that looks, or waits.
 #[derive(Clone, Copy)]

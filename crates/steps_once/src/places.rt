@@ -19,10 +19,10 @@ use crate::look::{
     still_retries, want_of,
 };
 use crate::run::{RunAt, next_run, phase_behind, run_act, state_before};
-use steps_base::bits::{is_poisoned, is_running};
-use steps_base::{Act, Next, Owners, Phase, Reply};
 use core_base::{Line, Want};
 use spec_locks::{OnceCall, Outcome};
+use steps_base::bits::{is_poisoned, is_running};
+use steps_base::{Act, Next, Owners, Phase, Reply};
 
 pub const DONE: u64 = 1;
 

@@ -11,10 +11,10 @@ ghost use Rattle.std.specs.Prelude.{◌≡◌, ◌<◌, ◌^◌};
 ghost use Rattle.steps_once.specs.OnceSteps.{found, state_before, phase_behind, word_behind, ended, next_run, run_act};
 
 use crate::places::{DONE, POISONED};
-use steps_base::bits::{is_marked, is_poisoned};
-use steps_base::{Act, Next, Phase, Reply, Wakes, Whom};
 use core_base::{Keys, Note, Op, main_key};
 use spec_locks::{Answer, OnceState};
+use steps_base::bits::{is_marked, is_poisoned};
+use steps_base::{Act, Next, Phase, Reply, Wakes, Whom};
 
 /// Where a thread stands that runs its closure, or ends its run.
 #[derive(Clone, Copy)]

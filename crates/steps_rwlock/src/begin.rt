@@ -4,8 +4,8 @@ ghost use Rattle.steps_rwlock.specs.RwLockBegins.{first_at, rwlock_first, has_ac
 
 use crate::places::{Admission, RwLockAt, RwLockPlace};
 use crate::purposes::RwLockPurpose;
-use steps_base::Owners;
 use spec_locks::{Access, Kind, Patience};
+use steps_base::Owners;
 
 impl Admission {
     /// Returns the settings of a lock of this kind. Where the kind is no reader-writer lock, nobody

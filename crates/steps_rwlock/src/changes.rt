@@ -5,9 +5,9 @@ ghost use Rattle.steps_rwlock.specs.RwLockSteps.{came_change, settles, gives_cha
 use crate::enter::Decision;
 use crate::places::{Admission, RwLockAt, RwLockPlace};
 use crate::purposes::RwLockPurpose;
+use spec_locks::{Access, Downgrade};
 use steps_base::bits::count_in;
 use steps_base::{Fallback, Owners, Pending};
-use spec_locks::{Access, Downgrade};
 
 /// The effect of an operation on the owners.
 #[derive(Clone, Copy)]

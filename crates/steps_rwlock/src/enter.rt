@@ -17,10 +17,10 @@ ghost use Rattle.steps_rwlock.specs.RwLockSteps.{wanted, decision, decided_for, 
 use crate::park::ParkAt;
 use crate::places::{Admission, PARKED, RwLockAt, RwLockPlace};
 use crate::purposes::{RwLockPurpose, entered};
-use steps_base::bits::{count_in, has_parked};
-use steps_base::{Act, Next, Reply};
 use core_base::{Keys, Op, main_key};
 use spec_locks::{Access, Answer, Patience};
+use steps_base::bits::{count_in, has_parked};
+use steps_base::{Act, Next, Reply};
 
 /// The decision of a thread that enters, about a word that it saw.
 #[derive(Clone, Copy, PartialEq, Eq)]

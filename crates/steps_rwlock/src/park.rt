@@ -16,9 +16,9 @@ ghost use Rattle.steps_rwlock.specs.RwLockProfiles.{is_inside};
 
 use crate::places::{Admission, NOT_PARKED, NOT_WRITER_PARKED, RwLockAt, RwLockPlace};
 use crate::purposes::wanted;
-use steps_base::{Act, Check, Next, Reply, Wakes};
 use core_base::{Keys, Line, Note, Op};
 use spec_locks::{Access, Answer, Outcome};
+use steps_base::{Act, Check, Next, Reply, Wakes};
 
 #[derive(Clone, Copy)]
 pub enum ParkAt {

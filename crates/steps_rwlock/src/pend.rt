@@ -15,10 +15,10 @@ use crate::park::ParkAt;
 use crate::places::{RwLockAt, RwLockPlace, WRITER_PARKED};
 use crate::purposes::entered;
 use crate::release::wakes;
-use steps_base::bits::{count_in, has_aside, has_parked};
-use steps_base::{Act, Next, Reply};
 use core_base::{Keys, Line};
 use spec_locks::Answer;
+use steps_base::bits::{count_in, has_aside, has_parked};
+use steps_base::{Act, Next, Reply};
 
 pub(super) fn count_act(lock: usize, seen: u64) -> Act
     requires { lock < 2 ^ 63 }

@@ -11,10 +11,10 @@ use crate::park::{ParkAt, next_park, park_act};
 use crate::pend::{count_act, counted, next_count, rolled_back};
 use crate::purposes::{RwLockPurpose, wanted};
 use crate::release::{WakeAt, gave_way, next_wake, wake_act};
-use steps_base::bits::{has_aside, is_blocked};
-use steps_base::{Act, Next, Reply};
 use core_base::{Keys, Line, Op, Want};
 use spec_locks::{Access, Outcome, Patience};
+use steps_base::bits::{has_aside, is_blocked};
+use steps_base::{Act, Next, Reply};
 
 pub const PARKED: u64 = 1;
 

@@ -17,10 +17,10 @@ ghost use Rattle.steps_rwlock.specs.RwLockSteps.{wakes, wakes_or_ends, gave_way,
 use crate::park::{clears, unparked};
 use crate::places::{Admission, RwLockAt, RwLockPlace};
 use crate::purposes::{RwLockPurpose, entered};
-use steps_base::bits::{count_in, has_aside, has_parked};
-use steps_base::{Act, Next, Reply, Wakes, Whom};
 use core_base::{Keys, Line, Note, Want};
 use spec_locks::{Access, Answer};
+use steps_base::bits::{count_in, has_aside, has_parked};
+use steps_base::{Act, Next, Reply, Wakes, Whom};
 
 #[derive(Clone, Copy)]
 pub enum WakeAt {

@@ -4,8 +4,8 @@ ghost use Rattle.steps_rwlock_fair.specs.FairBegins.{release_first, plain_first,
 
 use crate::hand_over::HandOverAt;
 use crate::places::RwLockCallPlace;
-use steps_base::Owners;
 use spec_locks::{Access, Downgrade, RwLockCall};
+use steps_base::Owners;
 use steps_rwlock::places::WRITER;
 use steps_rwlock::{RwLockPlace, RwLockPurpose, has_access};
 

@@ -15,10 +15,10 @@ ghost use Rattle.steps_rwlock_fair.specs.FairSteps.{token_of, tokens, any_taken,
 ghost use Rattle.steps_rwlock_fair.specs.FairProfiles.{owes_handing};
 
 use crate::places::{RwLockCallPlace, enters_again};
-use steps_base::bits::{count_in, has_parked};
-use steps_base::{Act, Next, Reply, Wakes, Whom};
 use core_base::{Keys, Note, Op, Want, main_key};
 use spec_locks::{Access, Answer};
+use steps_base::bits::{count_in, has_parked};
+use steps_base::{Act, Next, Reply, Wakes, Whom};
 use steps_rwlock::Admission;
 use steps_rwlock::places::{PARKED, READER, UPGRADABLE, WRITER};
 use steps_rwlock::purposes::token;

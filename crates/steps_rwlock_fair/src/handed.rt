@@ -8,9 +8,9 @@ ghost use Rattle.std.specs.Prelude.{◌≡◌};
 ghost use Rattle.steps_rwlock_fair.specs.FairSteps.{accept_act, handed_act, handed_woken, handed_next};
 
 use crate::places::{RwLockCallPlace, entering};
-use steps_base::{Act, Next, Reply};
 use core_base::{Note, Op};
 use spec_locks::{Access, Patience};
+use steps_base::{Act, Next, Reply};
 use steps_rwlock::purposes::entered;
 use steps_rwlock::{RwLockAt, RwLockPlace, RwLockPurpose};
 

@@ -9,10 +9,10 @@ ghost use Rattle.steps_rwlock_fair.specs.FairProfiles.{call_taker, call_wants, c
 
 use crate::hand_over::{HandOverAt, hand_over_act, hand_over_next};
 use crate::handed::{HandedAt, handed_act, handed_next, handed_woken};
-use steps_base::bits::{count_in, has_parked, has_writer};
-use steps_base::{Act, Next, Owners, Reply};
 use core_base::{Line, Note, Op, Want};
 use spec_locks::{Access, Answer, Outcome, Patience};
+use steps_base::bits::{count_in, has_parked, has_writer};
+use steps_base::{Act, Next, Owners, Reply};
 use steps_rwlock::park::ParkAt;
 use steps_rwlock::purposes::wanted;
 use steps_rwlock::{Admission, RwLockAt, RwLockPlace, RwLockPurpose};

@@ -17,9 +17,9 @@ ghost use Rattle.std.specs.Prelude.{◌≡◌, ◌<◌, ◌^◌};
 ghost use Rattle.steps_semaphore.specs.SemaphoreSteps.{acquired, next_acquire, still_retries, acquire_act, decided, acquire_shares};
 
 use crate::places::{NOT_PARKED, ONE_FREE, PARKED, is_free};
-use steps_base::{Act, Check, Next, Reply, Wakes};
 use core_base::{Keys, Note, Op, Want, main_key};
 use spec_locks::Answer;
+use steps_base::{Act, Check, Next, Reply, Wakes};
 
 /// Where a thread stands that waits for a permit.
 #[derive(Clone, Copy)]

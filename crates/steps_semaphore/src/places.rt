@@ -12,9 +12,9 @@ ghost use Rattle.steps_semaphore.specs.SemaphoreSteps.{free_permits, is_free, se
 use crate::acquire::{AcquireAt, acquire_act, acquire_shares, next_acquire, still_retries};
 use crate::release::{ReleaseAt, next_release, release_act, release_shares};
 use crate::tries::{TryAt, next_try, try_act, try_shares};
-use steps_base::{Act, Next, Reply};
 use core_base::{Line, Want};
 use spec_locks::{Outcome, Patience, SemaphoreCall};
+use steps_base::{Act, Next, Reply};
 
 pub const PARKED: u64 = 1;
 

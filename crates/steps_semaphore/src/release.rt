@@ -11,10 +11,10 @@ ghost use Rattle.std.specs.Prelude.{◌≡◌, ◌<◌, ◌^◌};
 ghost use Rattle.steps_semaphore.specs.SemaphoreSteps.{next_release, release_act, release_shares};
 
 use crate::places::{NOT_PARKED, ONE_FREE};
-use steps_base::bits::has_parked;
-use steps_base::{Act, Next, Reply, Wakes, Whom};
 use core_base::{Keys, Note, Op, main_key};
 use spec_locks::Answer;
+use steps_base::bits::has_parked;
+use steps_base::{Act, Next, Reply, Wakes, Whom};
 
 /// Where a thread stands that gives a permit back.
 #[derive(Clone, Copy)]

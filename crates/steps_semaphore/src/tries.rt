@@ -8,9 +8,9 @@ ghost use Rattle.std.specs.Prelude.{◌≡◌, ◌<◌, ◌^◌};
 ghost use Rattle.steps_semaphore.specs.SemaphoreSteps.{looked, next_try, try_act, try_shares};
 
 use crate::places::{ONE_FREE, is_free};
-use steps_base::{Act, Next, Reply};
 use core_base::Op;
 use spec_locks::Answer;
+use steps_base::{Act, Next, Reply};
 
 /// Where a thread stands that only tries.
 #[derive(Clone, Copy)]

@@ -15,7 +15,6 @@ pub mod rwlocks;
 pub mod scenes;
 pub mod schedule;
 pub mod semaphores;
-
 #[cfg(test)]
 mod tests;
 

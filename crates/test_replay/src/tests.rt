@@ -4,9 +4,13 @@ mod broken;
 mod devices;
 mod text;
 
+use crate::{
+    FAIR_RELEASES, LATE_WAITERS, MEANWHILE, MOVES, MUTEXES, ONCES, REFUSALS, RELEASES, RWLOCKS,
+    SEMAPHORES, SHOWN_MUTEXES, Schedule, TWO_TRIES,
+};
+use core_base::{ListQueues, Queues};
 use core_queues::BucketQueues;
 use devices::{Pieces, Refusal, Short};
-use core_base::{ListQueues, Queues};
 use lot_replay::start::start;
 use lot_world::{Answer, Call, Kind, MutexCall, Outcome, Step, Turn, World};
 use std::alloc::{AllocError, Global};
@@ -14,10 +18,6 @@ use std::fmt::Debug;
 use std::io::BufRead;
 use std::process::Abort;
 use std::test::Fail;
-use crate::{
-    FAIR_RELEASES, LATE_WAITERS, MEANWHILE, MOVES, MUTEXES, ONCES, REFUSALS, RELEASES, RWLOCKS,
-    SEMAPHORES, SHOWN_MUTEXES, Schedule, TWO_TRIES,
-};
 
 // Asserts that the thing found is the thing wanted. All tests share this one assertion, since each
 // is proved where it stands.

@@ -6,10 +6,10 @@ mod onces;
 mod places;
 mod queues;
 
-use steps_base::Next;
 use spec_locks::Answer;
 use std::fmt::Debug;
 use std::process::Abort;
+use steps_base::Next;
 
 // Asserts that the thing found is the thing wanted. All tests share this one assertion, since each
 // is proved where it stands.

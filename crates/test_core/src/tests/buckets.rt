@@ -4,8 +4,8 @@ ghost use Rattle.parking_lot_core.specs.Tokens.{IsSameThread, IsTicketOf, IsToke
 
 use super::parts::{Part, play};
 use super::{Task, holds, in_section, lot_of, same, ticket_of, word_of};
-use core_queues::{bits_for, bucket_among};
 use core_base::main_key;
+use core_queues::{bits_for, bucket_among};
 use parking_lot_core::{Key, Keys, Note, ParkingLot, Requeue, Ticket, Token, WordKind};
 use std::alloc::Global;
 use std::process::Abort;

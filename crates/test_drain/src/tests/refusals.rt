@@ -2,8 +2,8 @@
 //! In a run where none is refused, they try what is answered then.
 
 use super::same;
-use core_queues::BucketQueues;
 use core_base::{Fault, ListQueues, Queues, Want};
+use core_queues::BucketQueues;
 use lot_replay::replay::replay;
 use lot_world::{Answer, Call, Debt, Kind, MutexCall, Outcome, Owner, Step, Turn, World};
 use std::alloc::Global;

@@ -1,8 +1,8 @@
 //! Schedules with a `drain`, as lines in and lines out, over both kinds of queues.
 use super::rows::{DRAINED, ROWS, WORKED};
 use super::{holds, same};
-use core_queues::BucketQueues;
 use core_base::{ListQueues, Queues};
+use core_queues::BucketQueues;
 use lot_replay::replay::replay;
 use std::alloc::{AllocError, Global};
 use std::process::Abort;

@@ -3,10 +3,10 @@ ghost use Rattle.std.specs.Prelude.{◌≤◌, ◌≡◌, ◌<◌, All, length, 
 ghost use Rattle.spec_locks.specs.Kinds.{fits};
 
 use super::{holds, same};
-use core_queues::BucketQueues;
 use core_base::{ListQueues, Queues};
-use spec_locks::{Access, Downgrade, Patience, RwLockCall};
+use core_queues::BucketQueues;
 use lot_world::{Call, Kind, MutexCall, Outcome, Step, Turn, World};
+use spec_locks::{Access, Downgrade, Patience, RwLockCall};
 use std::alloc::Global;
 use std::process::Abort;
 

@@ -4,11 +4,11 @@ ghost use Rattle.spec_locks.specs.Kinds.{fits};
 
 use core_base::{Queues, main_key};
 use lot_world::{Debt, Kind, MOST_LOCKS, MOST_THREADS, Outcome, Owner, Step, Turn, World};
+use std::alloc::{AllocError, Global};
 use test_checker::{
     Right, Seen, SeenLock, SeenOwner, SeenThread, SeenWaiter, Standing, Violation, Watch,
     check_state, check_step,
 };
-use std::alloc::{AllocError, Global};
 
 /// Why a checked run stops.
 #[derive(Clone, Copy, Debug, PartialEq, Eq)]

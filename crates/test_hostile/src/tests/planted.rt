@@ -5,12 +5,12 @@ use core_base::Want;
 use spec_locks::{
     Access, Answer, Call, CondvarCall, Downgrade, Kind, MutexCall, Outcome, RwLockCall, Step, Turn,
 };
+use std::alloc::{AllocError, Global};
+use std::test::Fail;
 use test_checker::{
     Right, Seen, SeenLock, SeenOwner, SeenThread, SeenWaiter, Standing, Violation, Watch,
     check_state, check_step,
 };
-use std::alloc::{AllocError, Global};
-use std::test::Fail;
 
 /// A lock: its kind, its word, its owners, its waiters, those aside, those that owe, and those that try
 /// again.

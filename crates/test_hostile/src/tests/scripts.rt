@@ -2,8 +2,8 @@
 
 use super::checked::{Checked, Stop};
 use core_base::Queues;
-use spec_locks::{Call, CondvarCall, Kind, Outcome, Step, Turn};
 use lot_text::{Command, Name, NamedCall, NamedTurn, Names, meaning};
+use spec_locks::{Call, CondvarCall, Kind, Outcome, Step, Turn};
 use std::alloc::{AllocError, Global};
 
 /// The deed that a line asks of a thread.

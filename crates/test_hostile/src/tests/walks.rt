@@ -3,15 +3,15 @@ ghost use Rattle.std.specs.Prelude.{◌≤◌, ◌<◌};
 
 use super::checked::{Checked, Stop};
 use super::same;
-use core_queues::BucketQueues;
 use core_base::{ListQueues, Queues};
+use core_queues::BucketQueues;
 use spec_locks::{
     Access, Call, CondvarCall, Downgrade, Kind, MutexCall, OnceCall, Patience, RwLockCall,
     SemaphoreCall, Step, Turn,
 };
-use test_checker::{Seen, Standing};
 use std::alloc::Global;
 use std::process::Abort;
+use test_checker::{Seen, Standing};
 
 /// Numbers that look random, from one on.
 #[derive(Clone, Copy)]

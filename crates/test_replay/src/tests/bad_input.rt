@@ -1,8 +1,8 @@
 //! Bad input, with the exact text and the status that it leads to.
 
 use super::{leads_both_to, replayed_over, same};
-use core_queues::BucketQueues;
 use core_base::{ListQueues, Queues};
+use core_queues::BucketQueues;
 use std::alloc::{AllocError, Global};
 use std::process::Abort;
 use std::test::Fail;

@@ -3,12 +3,12 @@
 
 use super::{holds, same};
 use arrayvec::ArrayVec;
+use lot_text::{
+    Command, LINE_LEN, Name, NamedCall, NamedTurn, Page, Reading, meaning, print_turn, read_line,
+};
 use spec_locks::{
     Access, Answer, Downgrade, Kind, MutexCall, OnceCall, OnceState, Outcome, Patience, RwLockCall,
     SemaphoreCall,
-};
-use lot_text::{
-    Command, LINE_LEN, Name, NamedCall, NamedTurn, Page, Reading, meaning, print_turn, read_line,
 };
 use std::alloc::Global;
 use std::process::Abort;

@@ -2,11 +2,11 @@
 ghost use Rattle.steps_condvar.specs.CondvarSteps.{HasMutexKey};
 
 use super::{ends_as, holds, same};
-use steps_base::{Act, Next, Reply, Wakes, Whom};
 use core_base::{Keys, Note, Op, Requeue, Want};
 use spec_locks::{Answer, CondvarCall, Outcome};
-use steps_condvar::CondvarPlace;
 use std::process::Abort;
+use steps_base::{Act, Next, Reply, Wakes, Whom};
+use steps_condvar::CondvarPlace;
 
 const WAIT: CondvarCall = CondvarCall::Wait {
     mutex: 5,

@@ -1,12 +1,12 @@
 //! Words and notes of hand-overs, against tables worked out by hand.
 
 use super::holds;
-use steps_base::{Act, Next, Reply, Wakes};
 use core_base::{Note, Op, Want};
 use spec_locks::{Access, RwLockCall};
+use std::process::Abort;
+use steps_base::{Act, Next, Reply, Wakes};
 use steps_rwlock::Admission;
 use steps_rwlock_fair::{HandOverAt, RwLockCallPlace, Taken};
-use std::process::Abort;
 
 fn admission(recursive: bool) -> Admission {
     Admission {

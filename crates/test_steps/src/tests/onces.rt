@@ -1,10 +1,10 @@
 //! Calls of a `Once` alone, by the values that their word would have.
 use super::{ends_as, holds, same};
-use steps_base::{Act, Next, Reply, Wakes};
 use core_base::{Keys, Note, Op, Want};
 use spec_locks::{Answer, OnceCall, OnceState, Outcome};
-use steps_once::{NOT_MARKED, OncePlace};
 use std::process::Abort;
+use steps_base::{Act, Next, Reply, Wakes};
+use steps_once::{NOT_MARKED, OncePlace};
 
 /// A reply to a call, and its next act, where a test asks for that.
 type Turn = (Reply, Option<Act>);

@@ -1,13 +1,13 @@
 //! The places of any sort of lock: what a thread does there, and where it goes on.
 use super::{holds, same};
 use core_base::{Keys, Note};
-use spec_locks::{OnceCall, Patience, SemaphoreCall};
-use steps_once::{OncePlace, RunAt};
 use lot_steps::{
     Act, Answer, Call, Entry, HandOffAt, Kind, LockAt, MutexCall, MutexPlace, Op, Outcome, Owners,
     Phase, Place, Reply, UnlockAt, Wakes, advance, has_right,
 };
+use spec_locks::{OnceCall, Patience, SemaphoreCall};
 use std::process::Abort;
+use steps_once::{OncePlace, RunAt};
 
 fn call(call: MutexCall) -> Call {
     Call::Mutex { lock: 3, call }

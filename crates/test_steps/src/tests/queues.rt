@@ -2,11 +2,11 @@
 ghost use Rattle.std.specs.Prelude.{◌≡◌, ◌<◌, ◌≤◌, length, vec_capacity, vec_len};
 
 use super::{holds, same};
-use core_queues::BucketQueues;
 use core_base::{
     Fault, Key, ListQueues, LockPicker, Op, Pick, Picker, Queues, Requeue, Waiter, Want, main_key,
     second_key,
 };
+use core_queues::BucketQueues;
 use std::alloc::Global;
 use std::process::Abort;
 use std::test::Fail;

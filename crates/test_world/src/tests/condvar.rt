@@ -3,8 +3,8 @@ use super::holds;
 use super::scripts::Line::{Calls, GoesOn, Rests, Shows, Takes};
 use super::scripts::{DONE, Line, plays, plays_anew, surprise, world_of};
 use core_base::{ListQueues, Want};
-use spec_locks::CondvarCall;
 use lot_world::{Answer, Call, Debt, Kind, MutexCall, Outcome, Owner, Turn, World};
+use spec_locks::CondvarCall;
 use std::process::Abort;
 
 const KINDS: &[Kind] = &[Kind::Mutex, Kind::Condvar];

@@ -3,8 +3,8 @@ use super::scripts::Line::{Calls, GoesOn, Rests, Shows};
 use super::scripts::{DONE, Line, plays, plays_anew, world_of};
 use super::{holds, same};
 use core_base::{ListQueues, Want};
-use spec_locks::{Access, Patience, RwLockCall};
 use lot_world::{Call, Kind, Outcome, Owner, World};
+use spec_locks::{Access, Patience, RwLockCall};
 use std::alloc::Global;
 use std::process::Abort;
 

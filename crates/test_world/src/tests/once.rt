@@ -3,10 +3,10 @@ use super::scripts::Line::{Calls, GoesOn, Rests, Shows, Takes};
 use super::scripts::{DONE, Line, plays_anew};
 use super::{holds, same};
 use core_base::{Note, Want};
-use spec_locks::{OnceCall, OnceState};
-use steps_once::{LookAt, OncePlace};
 use lot_steps::{Answer, Call, Kind, Place, Reply};
 use lot_world::{Debt, Outcome, Owner, Turn};
+use spec_locks::{OnceCall, OnceState};
+use steps_once::{LookAt, OncePlace};
 
 const RUN: Call = Call::Once {
     lock: 0,

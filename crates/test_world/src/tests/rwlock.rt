@@ -1,11 +1,11 @@
 ghost use Rattle.std.specs.Prelude.{◌≡◌};
 
 use super::{holds, same};
-use steps_base::{Act, Next, Reply};
 use core_base::Keys;
 use spec_locks::{Access, Answer, Downgrade, Patience};
-use steps_rwlock::{Admission, RwLockAt, RwLockPlace, RwLockPurpose};
 use std::process::Abort;
+use steps_base::{Act, Next, Reply};
+use steps_rwlock::{Admission, RwLockAt, RwLockPlace, RwLockPurpose};
 
 const NORMAL: Admission = Admission {
     recursive: false,

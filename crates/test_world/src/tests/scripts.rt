@@ -4,8 +4,8 @@ ghost use Rattle.std.specs.Prelude.{◌≤◌, ◌≡◌, All, length, true};
 ghost use Rattle.spec_locks.specs.Kinds.{fits};
 
 use super::same;
-use core_queues::BucketQueues;
 use core_base::{ListQueues, Queues, Want};
+use core_queues::BucketQueues;
 use lot_world::{Answer, Call, Debt, Kind, Outcome, Owner, Step, Turn, World};
 use std::alloc::Global;
 use std::process::Abort;

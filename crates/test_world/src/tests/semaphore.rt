@@ -2,9 +2,9 @@
 use super::scripts::Line::{Calls, GoesOn, Rests, Shows, Takes};
 use super::scripts::{DONE, Line, plays_anew};
 use core_base::Want;
-use spec_locks::{Patience, SemaphoreCall};
 use lot_steps::{Answer, Call, Kind};
 use lot_world::{Debt, Outcome, Owner, Turn};
+use spec_locks::{Patience, SemaphoreCall};
 
 const ACQUIRE: Call = Call::Semaphore {
     lock: 0,

@@ -10,8 +10,8 @@ use Rattle.atomic_table.specs.contracts.badge.Badge as badge
 use Rattle.atomic_table.proofs.Fields.{HandData}
 use base.Fml.{fex}
 use Rattle.core_parts.proofs.Ghostly.{forks, two}
-use Rattle.core_parts.specs.contracts.cut.{ended, clauses}
-use Rattle.core_parts.specs.contracts.cut.Key.{name as #self}
+use Rattle.core_parts.specs.contracts.seats.cut.{ended, clauses}
+use Rattle.core_parts.specs.contracts.seats.cut.Key.{name as #self}
 use Rattle.core_parts.proofs.seats.cut.Statement.{statement}
 use Rattle.core_parts.proofs.seats.cut.Code as code
 

@@ -8,8 +8,8 @@ use Rattle.atomic_table.specs.contracts.shared.Shared as table
 use Rattle.atomic_table.specs.contracts.shared.Seat as seat
 use Rattle.atomic_table.proofs.Fields.{HandData}
 use Rattle.core_parts.proofs.Ghostly.{absorbs, merged}
-use Rattle.core_parts.specs.contracts.merge.{ended, clauses}
-use Rattle.core_parts.specs.contracts.merge.Key.{name as #self}
+use Rattle.core_parts.specs.contracts.seats.merge.{ended, clauses}
+use Rattle.core_parts.specs.contracts.seats.merge.Key.{name as #self}
 use Rattle.core_parts.proofs.seats.merge.Statement.{statement}
 use Rattle.core_parts.proofs.seats.merge.Code as code
 

@@ -9,8 +9,8 @@ use Rattle.atomic_table.specs.contracts.shared.Shared as table
 use Rattle.atomic_table.specs.contracts.shared.Seat as seat
 use Rattle.atomic_table.proofs.Fields.{HandData}
 use Rattle.core_parts.proofs.Ghostly.{stirs, after}
-use Rattle.core_parts.specs.contracts.stir.{ended, clauses}
-use Rattle.core_parts.specs.contracts.stir.Key.{name as #self}
+use Rattle.core_parts.specs.contracts.seats.stir.{ended, clauses}
+use Rattle.core_parts.specs.contracts.seats.stir.Key.{name as #self}
 use Rattle.core_parts.proofs.seats.stir.Statement.{statement}
 use Rattle.core_parts.proofs.seats.stir.Code as code
 

@@ -1,4 +1,4 @@
-use Rattle.core_queues.proofs.Buckets.{bucket_append}
+use Rattle.core_queues.proofs.InBuckets.{bucket_append}
 use Rattle.core_queues.proofs.queueing.Queueing.append.Goals as goal
 
 pub invariant_of-self-clause-of_bucket : goal.invariant_of-self-clause-of_bucket

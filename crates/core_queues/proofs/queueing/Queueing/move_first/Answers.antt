@@ -1,6 +1,6 @@
 use Rattle.std.proofs.Common.{◌≡◌, sym, []}
 use Rattle.core_base.specs.Lines.{line}
-use Rattle.core_queues.proofs.Buckets.{bucket_first}
+use Rattle.core_queues.proofs.InBuckets.{bucket_first}
 use Rattle.core_queues.proofs.Halves.{apart_moved, in_another, moved_over, none_over}
 use Rattle.core_queues.proofs.queueing.Queueing.move_first.Goals as goal
 

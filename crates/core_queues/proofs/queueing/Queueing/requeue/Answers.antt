@@ -1,7 +1,7 @@
 use Rattle.std.proofs.Common.{◌≡◌, rules}
 use Rattle.core_base.specs.Lines.{lines}
 use Rattle.core_base.specs.Requeues.{requeued}
-use Rattle.core_queues.proofs.Buckets.{bucket_requeued}
+use Rattle.core_queues.proofs.InBuckets.{bucket_requeued}
 use Rattle.core_queues.proofs.queueing.Queueing.requeue.Goals as goal
 
 pub invariant_of-self-clause-of_bucket : goal.invariant_of-self-clause-of_bucket

@@ -1,6 +1,6 @@
 use Rattle.std.proofs.Common.{◌∙◌, ap}
 use Rattle.core_queues.specs.Wants.{wants_of}
-use Rattle.core_queues.proofs.Buckets.{bucket_key}
+use Rattle.core_queues.proofs.InBuckets.{bucket_key}
 use Rattle.core_queues.proofs.Picked.{picked-everybody}
 use Rattle.core_queues.proofs.queueing.Queueing.take_all.Goals as goal
 

@@ -1,4 +1,4 @@
-use Rattle.core_queues.proofs.Buckets.{bucket_first}
+use Rattle.core_queues.proofs.InBuckets.{bucket_first}
 use Rattle.core_queues.proofs.queueing.Queueing.take_first.Goals as goal
 
 pub invariant_of-self-clause-of_bucket : goal.invariant_of-self-clause-of_bucket

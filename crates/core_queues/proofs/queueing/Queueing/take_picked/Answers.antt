@@ -1,5 +1,5 @@
 use Rattle.core_base.specs.Picks.{lock_answer, next_picker}
-use Rattle.core_queues.proofs.Buckets.{bucket_picked}
+use Rattle.core_queues.proofs.InBuckets.{bucket_picked}
 use Rattle.core_queues.proofs.queueing.Queueing.take_picked.Goals as goal
 
 pub invariant_of-self-clause-of_bucket : goal.invariant_of-self-clause-of_bucket

@@ -24,12 +24,12 @@ bump-requires-clause-right g c = ((view_of c.args.token.now).owns, (owner_for (w
 
 pub split-requires-clause-held : goal.split-requires-clause-held
 split-requires-clause-held g c = let over = c.bump.ensures.over (view_of c.args.token.now).owns (owner_for (wanted c.args.access), (view_of c.args.token.now).owns, refl, (λ settled. refl), ap (λ (v : View). v.owns) c.join.ensures.joined ∙ ap (λ (w : Want). owning (rwlock_at c.args.self.now.word.number) (owner_for w) ∷ (view_of c.args.token.now).owns) c.wanted.ensures) in
-    let right = (entered_right ⊥ c.args.self.now.word.number (view_of c.args.token.now).owns c.args.self.now.admission c.args.access Patient c.bump.result (stage_of c.bump.new.token None) over (inl c.in-Ok.is)).1 in
+    let right = (entered_right ⊥ c.args.self.now.word.number (view_of c.args.token.now).owns c.args.self.now.settings.admission c.args.access Patient c.bump.result (stage_of c.bump.new.token None) over (inl c.in-Ok.is)).1 in
     subst (λ (w : Want). has (owning (rwlock_at c.args.self.now.word.number) (owner_for w)) (view_of c.bump.new.token).owns ≡ true) (sym c.wanted-in-Ok.ensures) (has_right c.args.self.now.word.number (owner_for (wanted c.args.access)) (view_of c.args.token.now).owns (view_of c.bump.new.token).owns right)
 
 pub returns-in-Ok-clause-token : goal.returns-in-Ok-clause-token
 returns-in-Ok-clause-token g c = let over = c.bump.ensures.over (view_of c.args.token.now).owns (owner_for (wanted c.args.access), (view_of c.args.token.now).owns, refl, (λ settled. refl), ap (λ (v : View). v.owns) c.join.ensures.joined ∙ ap (λ (w : Want). owning (rwlock_at c.args.self.now.word.number) (owner_for w) ∷ (view_of c.args.token.now).owns) c.wanted.ensures) in
-    let right = (entered_right ⊥ c.args.self.now.word.number (view_of c.args.token.now).owns c.args.self.now.admission c.args.access Patient c.bump.result (stage_of c.bump.new.token None) over (inl c.in-Ok.is)).1 in (
+    let right = (entered_right ⊥ c.args.self.now.word.number (view_of c.args.token.now).owns c.args.self.now.settings.admission c.args.access Patient c.bump.result (stage_of c.bump.new.token None) over (inl c.in-Ok.is)).1 in (
       search rules,
       (
         search rules,
@@ -40,12 +40,12 @@ returns-in-Ok-clause-token g c = let over = c.bump.ensures.over (view_of c.args.
 
 pub returns-in_default : goal.returns-in_default
 returns-in_default g c = let over = c.bump.ensures.over (view_of c.args.token.now).owns (owner_for (wanted c.args.access), (view_of c.args.token.now).owns, refl, (λ settled. refl), ap (λ (v : View). v.owns) c.join.ensures.joined ∙ ap (λ (w : Want). owning (rwlock_at c.args.self.now.word.number) (owner_for w) ∷ (view_of c.args.token.now).owns) c.wanted.ensures) in
-    let full = bump_full c.args.self.now.word.number (view_of c.args.token.now).owns c.args.self.now.admission c.args.access c.bump.result (stage_of c.bump.new.token None) over c.in_default.not-Ok in
-    let walked = subst (λ (answer : Answer). Walks (at_rwlock c.args.self.now.word.number) (RwLock c.args.self.now.word.number c.args.self.now.admission (Glance c.args.access)) (view_of c.args.token.now).steps (view_of c.bump.new.token).steps answer) full.0
-    (subst (λ (steps : List WordStep). Walks (at_rwlock c.args.self.now.word.number) (RwLock c.args.self.now.word.number c.args.self.now.admission (Glance c.args.access)) steps (view_of c.bump.new.token).steps c.bump.result) (ap (λ (v : View). v.steps) c.join.ensures.joined) c.bump.ensures.path) in record {
+    let full = bump_full c.args.self.now.word.number (view_of c.args.token.now).owns c.args.self.now.settings.admission c.args.access c.bump.result (stage_of c.bump.new.token None) over c.in_default.not-Ok in
+    let walked = subst (λ (answer : Answer). Walks (at_rwlock c.args.self.now.word.number) (RwLock c.args.self.now.word.number c.args.self.now.settings.admission (Glance c.args.access)) (view_of c.args.token.now).steps (view_of c.bump.new.token).steps answer) full.0
+    (subst (λ (steps : List WordStep). Walks (at_rwlock c.args.self.now.word.number) (RwLock c.args.self.now.word.number c.args.self.now.settings.admission (Glance c.args.access)) steps (view_of c.bump.new.token).steps c.bump.result) (ap (λ (v : View). v.steps) c.join.ensures.joined) c.bump.ensures.path) in record {
       token = (search rules, (search rules, full.2));
       right = refl;
       path = walked;
       counted = full.1;
-      full = bump_sees_full c.args.access c.args.self.now.word.number c.args.self.now.admission c.args.token.now c.bump.new.token walked;
+      full = bump_sees_full c.args.access c.args.self.now.word.number c.args.self.now.settings.admission c.args.token.now c.bump.new.token walked;
     }

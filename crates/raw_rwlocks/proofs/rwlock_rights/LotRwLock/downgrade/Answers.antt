@@ -35,6 +35,6 @@ returns-clause-token g c = let n = c.args.self.now.word.number in let owns = (vi
 pub returns-clause-path : goal.returns-clause-path
 returns-clause-path g c = let n = c.args.self.now.word.number in let owns = (view_of c.args.token.now).owns in
     let over = c.call.ensures.over owns (joined_beside n c.greater.result (wanted (from_of c.args.downgrade)) owns (view_of c.join.new.token).owns c.greater.ensures (ap (λ (v : View). v.owns) c.join.ensures.joined)) in
-    subst (λ (steps : List WordStep). Walks (at_rwlock c.args.self.now.word.number) (rwlock_begin c.args.self.now.word.number c.args.self.now.admission (Downgrade c.args.downgrade)) (view_of c.args.token.now).steps steps Ok) (sym (ap (λ (v : View). v.steps) c.split.ensures.left))
-    (subst (λ (answer : Answer). Walks (at_rwlock c.args.self.now.word.number) (rwlock_begin c.args.self.now.word.number c.args.self.now.admission (Downgrade c.args.downgrade)) (view_of c.args.token.now).steps (view_of c.call.new.token).steps answer) over.0
-    (subst (λ (steps : List WordStep). Walks (at_rwlock c.args.self.now.word.number) (rwlock_begin c.args.self.now.word.number c.args.self.now.admission (Downgrade c.args.downgrade)) steps (view_of c.call.new.token).steps c.call.result) (ap (λ (v : View). v.steps) c.join.ensures.joined) c.call.ensures.path))
+    subst (λ (steps : List WordStep). Walks (at_rwlock c.args.self.now.word.number) (rwlock_begin c.args.self.now.word.number c.args.self.now.settings.admission (Downgrade c.args.downgrade)) (view_of c.args.token.now).steps steps Ok) (sym (ap (λ (v : View). v.steps) c.split.ensures.left))
+    (subst (λ (answer : Answer). Walks (at_rwlock c.args.self.now.word.number) (rwlock_begin c.args.self.now.word.number c.args.self.now.settings.admission (Downgrade c.args.downgrade)) (view_of c.args.token.now).steps (view_of c.call.new.token).steps answer) over.0
+    (subst (λ (steps : List WordStep). Walks (at_rwlock c.args.self.now.word.number) (rwlock_begin c.args.self.now.word.number c.args.self.now.settings.admission (Downgrade c.args.downgrade)) steps (view_of c.call.new.token).steps c.call.result) (ap (λ (v : View). v.steps) c.join.ensures.joined) c.call.ensures.path))

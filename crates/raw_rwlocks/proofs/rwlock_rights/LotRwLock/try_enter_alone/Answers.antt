@@ -16,18 +16,18 @@ use Rattle.raw_rwlocks.proofs.rwlock_rights.LotRwLock.try_enter_alone.Goals as g
 pub split-requires-clause-held : goal.split-requires-clause-held
 split-requires-clause-held c = let zero : c.word-seen.result ≡ 0 = search rules in let lock = c.args.self.now in
     has_right lock.word.number owners.Exclusive (view_of c.args.token.now).owns (view_of c.word-seen.new.token).owns
-    (took lock.word lock.drawn.1 lock.admission lock.drawn.3 c.word-seen.result c.args.token.now c.word-seen.new.token c.word-seen.ensures.stepped c.word-seen.ensures.own.1 c.word-seen.ensures.coded zero)
+    (took lock.word lock.drawn.1 lock.settings.admission lock.drawn.3 c.word-seen.result c.args.token.now c.word-seen.new.token c.word-seen.ensures.stepped c.word-seen.ensures.own.1 c.word-seen.ensures.coded zero)
 
 pub returns-then-seen-eq0-clause-token : goal.returns-then-seen-eq0-clause-token
 returns-then-seen-eq0-clause-token c = let zero : c.word-seen.result ≡ 0 = search rules in let lock = c.args.self.now in let owns = (view_of c.args.token.now).owns in
-    let right = took lock.word lock.drawn.1 lock.admission lock.drawn.3 c.word-seen.result c.args.token.now c.word-seen.new.token c.word-seen.ensures.stepped c.word-seen.ensures.own.1 c.word-seen.ensures.coded zero in
+    let right = took lock.word lock.drawn.1 lock.settings.admission lock.drawn.3 c.word-seen.result c.args.token.now c.word-seen.new.token c.word-seen.ensures.stepped c.word-seen.ensures.own.1 c.word-seen.ensures.coded zero in
     (search rules, (search rules, λ settled. ap (λ (v : View). v.owns) c.split.ensures.left ∙ left_beside lock.word.number owners.Exclusive owns (view_of c.word-seen.new.token).owns right settled))
 
 pub returns-then-seen-eq0-clause-path : goal.returns-then-seen-eq0-clause-path
 returns-then-seen-eq0-clause-path c = let zero : c.word-seen.result ≡ 0 = search rules in let lock = c.args.self.now in
-    subst (λ (steps : List WordStep). Walks (at_rwlock c.args.self.now.word.number) (rwlock_begin c.args.self.now.word.number c.args.self.now.admission (Enter access.Exclusive Try)) (view_of c.args.token.now).steps steps Yes) (sym (ap (λ (v : View). v.steps) c.split.ensures.left))
-    (tried lock.word lock.drawn.1 lock.admission lock.drawn.3 c.word-seen.result c.args.token.now c.word-seen.new.token c.word-seen.ensures.stepped true (eq-eqb c.word-seen.result 0 zero))
+    subst (λ (steps : List WordStep). Walks (at_rwlock c.args.self.now.word.number) (rwlock_begin c.args.self.now.word.number c.args.self.now.settings.admission (Enter access.Exclusive Try)) (view_of c.args.token.now).steps steps Yes) (sym (ap (λ (v : View). v.steps) c.split.ensures.left))
+    (tried lock.word lock.drawn.1 lock.settings.admission lock.drawn.3 c.word-seen.result c.args.token.now c.word-seen.new.token c.word-seen.ensures.stepped true (eq-eqb c.word-seen.result 0 zero))
 
 pub returns-clause-path : goal.returns-clause-path
 returns-clause-path c = let some : (c.word-seen.result == 0) ≡ false = search rules in let lock = c.args.self.now in
-    tried lock.word lock.drawn.1 lock.admission lock.drawn.3 c.word-seen.result c.args.token.now c.word-seen.new.token c.word-seen.ensures.stepped false some
+    tried lock.word lock.drawn.1 lock.settings.admission lock.drawn.3 c.word-seen.result c.args.token.now c.word-seen.new.token c.word-seen.ensures.stepped false some
