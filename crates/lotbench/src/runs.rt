@@ -7,11 +7,7 @@ ghost use Rattle.std.proofs.Props.{props};
 ghost use Rattle.std.specs.Arc.{arc_value};
 ghost use Rattle.crossbeam_utils.specs.Padded.{padded_value};
 ghost use Rattle.lotbench.specs.Desks.{desk_lot};
-ghost use Rattle.parking_lot.specs.CondvarUsers.{lot_of as condvar_lot};
-ghost use Rattle.parking_lot.specs.RwLockUsers.{lot_of as rwlot_of};
-ghost use Rattle.parking_lot.specs.OnceUsers.{lot_of as once_lot};
-ghost use Rattle.parking_lot.specs.SemaphoreUsers.{lot_of as semaphore_lot};
-ghost use Rattle.parking_lot.specs.Users.{lot_of};
+ghost use Rattle.parking_lot.specs.Names.{lot_of, lot_of_condvar, lot_of_once, lot_of_rwlock, lot_of_semaphore};
 ghost use Rattle.parking_lot_core.specs.Tokens.{IsTicketOf, IsTokenOf};
 
 use crate::condvars::{
@@ -61,10 +57,10 @@ struct Bench {
     semaphores: Box<Semaphores>,
     desk: Box<Desk>,
     desks: Desks,
-    ghost together: { (rwlot_of rwlocks.value.raw ≡ lot_of mutexes.value.raw)
-        × (once_lot done.value ≡ lot_of mutexes.value.raw)
-        × (semaphore_lot semaphores.value.one ≡ lot_of mutexes.value.raw)
-        × (condvar_lot desk.value.filled ≡ lot_of mutexes.value.raw)
+    ghost together: { (lot_of_rwlock rwlocks.value.raw ≡ lot_of mutexes.value.raw)
+        × (lot_of_once done.value ≡ lot_of mutexes.value.raw)
+        × (lot_of_semaphore semaphores.value.one ≡ lot_of mutexes.value.raw)
+        × (lot_of_condvar desk.value.filled ≡ lot_of mutexes.value.raw)
         × All (λ padded. desk_lot (padded_value padded) ≡ lot_of mutexes.value.raw) desks.items
         × All (λ padded. lot_of (padded_value padded) ≡ lot_of mutexes.value.raw) rows.value.plain.items
         × All (λ padded. lot_of (padded_value padded) ≡ lot_of mutexes.value.raw) rows.value.fair.items } by { Prim.hlevel props },
@@ -144,8 +140,8 @@ fn bench_for(alloc: Global, plan: Plan) -> Result<(Bench, Ticket, Vec<Ticket>), 
 // Calls it so many times.
 #[inline(never)]
 fn call_once<R: Wait>(rt: &R, once: &Once, token: &mut Token, times: u64)
-    requires { IsTokenOf (once_lot once.now) token.old }
-    ensures { IsTokenOf (once_lot once.now) token.new }
+    requires { IsTokenOf (lot_of_once once.now) token.old }
+    ensures { IsTokenOf (lot_of_once once.now) token.new }
 {
     for _ in 0..times {
         let answer = once.call_once(rt, token, || Err(Fault::Poisoned));
@@ -201,7 +197,7 @@ fn way_of(mode: Mode) -> Option<Way> {
 
 // Returns the desk at which a thread works, and how many work there.
 fn desk_of(plan: Plan, bench: &Bench, number: usize) -> (&Desk, u64)
-    ensures { condvar_lot result.0.now.filled ≡ lot_of bench.now.mutexes.value.raw }
+    ensures { lot_of_condvar result.0.now.filled ≡ lot_of bench.now.mutexes.value.raw }
 {
     let (pair, threads) = pair_of(plan, number);
     match bench.desks.get(pair) {

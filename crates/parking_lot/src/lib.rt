@@ -3,6 +3,7 @@
 
 pub use core_base::{ListQueues, LockPicker, Pick, Picker, Queues, Waiter};
 pub use core_queues::BucketQueues;
+pub use core_team::Team;
 pub use lock_api;
 pub use lock_api::{GetThreadId, WaitTimeoutResult, advance_count};
 pub use lock_api_rw;
@@ -68,6 +69,10 @@ pub type MappedReentrantMutexGuard<'a, T, P> = lock_api::MappedReentrantMutexGua
 /// Nobody wakes by itself. `notify_one` tells whether anybody waited, and `notify_all` how many
 /// did.
 pub type Condvar = lock_api::Condvar<RawCondvar>;
+
+/// A value of a lot that one thread at a time may use, and `N` condition variables on which threads
+/// wait for a change of it.
+pub type Monitor<T, const N: usize> = lock_monitor::Monitor<RawCondvar, T, N>;
 
 /// A value of a lot that many threads may read, or one may write. A writer that waits keeps further
 /// readers out.

@@ -1,0 +1,7 @@
+//! A value under a mutex, with the condition variables on which its threads wait.
+#![tactic(auto)]
+
+pub mod monitor;
+pub mod waits;
+
+pub use monitor::Monitor;
