@@ -325,7 +325,20 @@ fn share_of(plan: Plan, pair: usize) -> u64 {
     (plan.operations / pairs).saturating_add(more)
 }
 
-// Puts one more desk into the row, at which so many operations are to be done.
+// Puts one more desk into the row.
+fn put_desk(lot: &ParkingLot, row: &mut Desks, desk: Desk) -> Result<(), Fault>
+    requires { All (λ padded. desk_lot (padded_value padded) ≡ lot.now) row.old.items
+        × (desk_lot desk ≡ lot.now) }
+    ensures { All (λ padded. desk_lot (padded_value padded) ≡ lot.now) row.new.items }
+{
+    let _ = lot;
+    match row.push(CachePadded::new(desk)) {
+        Ok(()) => Ok(()),
+        Err(_) => Err(Fault::NoMemory),
+    }
+}
+
+// Makes one more desk in the row, at which so many operations are to be done.
 fn add_desk(
     lot: &Arc<ParkingLot>,
     token: &mut Token,
@@ -340,10 +353,7 @@ fn add_desk(
         row.new.items }
 {
     let desk = desk_for(lot, token, operations)?;
-    match row.push(CachePadded::new(desk)) {
-        Ok(()) => Ok(()),
-        Err(_) => Err(Fault::NoMemory),
-    }
+    put_desk(lot, row, desk)
 }
 
 /// Makes a desk for each pair of threads, drawn from the lot.
