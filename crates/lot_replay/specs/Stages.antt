@@ -15,8 +15,8 @@ use Rattle.spec_locks.specs.declared.calls.OnceCall.{OnceCall}
 use Rattle.spec_locks.specs.declared.calls.OnceCall.TheVariants.{CallOnce, Wait, WaitTimed}
 use Rattle.spec_locks.specs.Kinds.{fits, is_condvar}
 use Rattle.lot_machine.specs.Machine.{State, kind_at, opening, is_possible, after, after_steps, step_outcome, solo}
-use Rattle.lot_drain.specs.Drainable.{is_drainable}
-use Rattle.lot_drain.specs.Schedules.{schedule_of}
+use Rattle.lot_world.specs.Drainable.{is_drainable}
+use Rattle.lot_world.specs.Schedules.{schedule_of}
 use Rattle.lot_text.specs.declared.grammar.Command.{Command}
 use Rattle.lot_text.specs.declared.grammar.Command as command
 use Rattle.lot_text.specs.declared.grammar.NamedTurn.{NamedTurn}

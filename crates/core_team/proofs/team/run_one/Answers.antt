@@ -1,4 +1,0 @@
-use Rattle.core_team.proofs.team.run_one.Goals as goal
-
-pub returns : goal.returns
-returns g c = record { entered = _; left = _; is_of = c.enter-token.ensures; met = c.f-answer.ensures }
