@@ -1,7 +1,8 @@
 -- How a thread's call began, by its place and by what the thread owns now.
 use Rattle.std.proofs.Common.{ℕ, Bool, true, false, Some, ◌≡◌, ◌-◌, ◌≤◌, refl, sym, ◌∙◌, ap, arith}
 use Rattle.spec_locks.specs.Locks.{Rights, with_right, without_right}
-use Rattle.spec_locks.specs.Purposes.{Patience, Enters, Releases, Converts, Bumps}
+use Rattle.spec_locks.specs.Purposes.{Enters, Releases, Converts, Bumps}
+use Rattle.spec_locks.specs.declared.calls.Patience.{Patience}
 use Rattle.spec_locks.specs.Runs.{no_rights, one_less_at, one_more_at}
 use Rattle.core_base.specs.declared.keys.Line.TheVariants.{Main, Second}
 use Rattle.core_base.specs.declared.wants.Want.{Want}

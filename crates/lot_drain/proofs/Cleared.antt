@@ -10,7 +10,8 @@ use Rattle.spec_locks.specs.declared.outcomes.Outcome.TheVariants as outcome
 use Rattle.spec_locks.specs.Calls.{lock_in}
 use Rattle.spec_locks.specs.Codes.{code}
 use Rattle.spec_locks.specs.Locks.{IsLockState, MayEnter, Owns, readers, rights_of}
-use Rattle.spec_locks.specs.Purposes.{Enters, Patient, purpose_of, rules_of}
+use Rattle.spec_locks.specs.Purposes.{Enters, purpose_of, rules_of}
+use Rattle.spec_locks.specs.declared.calls.Patience.TheVariants.{Patient}
 use Rattle.spec_locks.specs.Runs.{HasRight, purpose_at}
 use Rattle.spec_locks.specs.Sites.{has_readers}
 use Rattle.lot_steps.specs.declared.places.Place.TheVariants.{Idle}

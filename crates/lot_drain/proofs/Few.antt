@@ -10,7 +10,9 @@ use Rattle.spec_locks.specs.declared.outcomes.Outcome.{Outcome}
 use Rattle.spec_locks.specs.declared.outcomes.Outcome.TheVariants as outcome
 use Rattle.spec_locks.specs.Onces.{Start, Fail, Rest}
 use Rattle.spec_locks.specs.Locks.{LockState, LockCase, Needs, Owns, Queued, Rights, Taken, Enter, Pend, Settle, Leave, Convert, Park, Aside, TakeFirst, TakeAside, TakePicked, Wake, HandOff, Late, Rollback, OfOnce, OfCondvar, SeeOwner, Look, after_case, one_if_some, putting, rights_of, with_right, without_right}
-use Rattle.spec_locks.specs.Purposes.{Purpose, Enters, Releases, Converts, Bumps, CallsOnce, Awaits, Waits, Notifies, Patience, Patient, Timed, Try, Recall, lock_for}
+use Rattle.spec_locks.specs.Purposes.{Purpose, Enters, Releases, Converts, Bumps, CallsOnce, Awaits, Waits, Notifies, Recall, lock_for}
+use Rattle.spec_locks.specs.declared.calls.Patience.{Patience}
+use Rattle.spec_locks.specs.declared.calls.Patience.TheVariants.{Patient, Timed, Try}
 use Rattle.spec_locks.specs.Runs.{Agrees, AnswerHolds, AreLockStates, AtLock, CallState, Event, GoesOn, LocksState, MayHappen, Moves, Nothing, going_on, gives_up, locks_after, new_call, EntersAnswer, ConvertsAnswer, Keeps, Gains, Loses, Replaces, HasRight, no_call, no_rights, purpose_at, rights_in, rules_at, unless_ended, woken}
 use Rattle.spec_locks.proofs.Rights.{others_keep, regained}
 use Rattle.lot_laws.proofs.hands.Rights.{others_have}

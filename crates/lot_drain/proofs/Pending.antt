@@ -8,7 +8,9 @@ use Rattle.spec_locks.specs.declared.outcomes.Answer.TheVariants as answer
 use Rattle.spec_locks.specs.declared.outcomes.Outcome.{Outcome}
 use Rattle.spec_locks.specs.declared.outcomes.Outcome.TheVariants as outcome
 use Rattle.spec_locks.specs.Locks.{LockState, LockCase, Needs, Rights, Taken, Leave, TakeFirst, TakeAside, TakePicked, Wake, HandOff, after_case, one_if_some, putting, rights_of, with_right}
-use Rattle.spec_locks.specs.Purposes.{MayWait, Purpose, Enters, Releases, Converts, Bumps, CallsOnce, Awaits, Waits, Notifies, Patience, Patient, Timed, Try, ReleasesBy, lock_for}
+use Rattle.spec_locks.specs.Purposes.{MayWait, Purpose, Enters, Releases, Converts, Bumps, CallsOnce, Awaits, Waits, Notifies, ReleasesBy, lock_for}
+use Rattle.spec_locks.specs.declared.calls.Patience.{Patience}
+use Rattle.spec_locks.specs.declared.calls.Patience.TheVariants.{Patient, Timed, Try}
 use Rattle.spec_locks.specs.Runs.{Agrees, AnswerHolds, AreLockStates, AtLock, BumpsAnswer, CallState, ConvertsAnswer, EntersAnswer, Event, Gains, GoesOn, Keeps, LocksState, Loses, MayDo, MayHappen, Moves, Nothing, Replaces, going_on, locks_after, no_call, rights_in, rules_at, unless_ended, woken}
 use Rattle.spec_locks.proofs.Rights.{left}
 use Rattle.lot_laws.proofs.hands.Rights.{giver_has}

@@ -20,7 +20,8 @@ use Rattle.steps_once.specs.OnceSteps.{marked}
 use Rattle.spec_locks.specs.Runs.{AreLockStates}
 use Rattle.spec_locks.specs.Sites.{Line, Main, Second, counts_some, has_readers}
 pub use Rattle.spec_locks.specs.Headline.{want_of, mutex_seen, WakesWaiters, IsOpenNow, HasOrPends, GoesFreely}
-use Rattle.spec_locks.specs.Purposes.{Purpose, Enters, Releases, Converts, Bumps, CallsOnce, Awaits, MayWait, Try, Waits, Notifies}
+use Rattle.spec_locks.specs.Purposes.{Purpose, Enters, Releases, Converts, Bumps, CallsOnce, Awaits, MayWait, Waits, Notifies}
+use Rattle.spec_locks.specs.declared.calls.Patience.TheVariants.{Try}
 use Rattle.lot_laws.specs.Refinement.{RunsClosure, lock_state, locks_of, call_at}
 use Rattle.lot_laws.specs.Stations.{doing_on}
 use Rattle.lot_laws.specs.SitesOf.{rules_in, key_of}

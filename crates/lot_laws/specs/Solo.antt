@@ -18,7 +18,9 @@ use Rattle.lot_steps.specs.Steps.{act_of, beside_of, lock_of}
 use Rattle.lot_machine.specs.Machine.{State, place_at, word_at, kind_at, section_at, go_of, after_steps, runs_closure}
 use Rattle.spec_locks.specs.Locks.{Sort, Mutex, Recursive, Rules, LockState, first_thread, Queued, MayEnter, IsBlocked, Owns, count, readers, with_right}
 use Rattle.spec_locks.specs.Sites.{Line, Main, Second, has_readers}
-use Rattle.spec_locks.specs.Purposes.{rules_of, Purpose, Enters, Releases, Converts, Bumps, CallsOnce, Awaits, Patience, Patient, Try, Waits, Notifies}
+use Rattle.spec_locks.specs.Purposes.{rules_of, Purpose, Enters, Releases, Converts, Bumps, CallsOnce, Awaits, Waits, Notifies}
+use Rattle.spec_locks.specs.declared.calls.Patience.{Patience}
+use Rattle.spec_locks.specs.declared.calls.Patience.TheVariants.{Patient, Try}
 use Rattle.spec_locks.specs.Codes.{has_parked}
 use Rattle.spec_locks.specs.Onces.{Phase, New, Poisoned, InProgress, Done}
 use Rattle.spec_locks.specs.Runs.{LocksState, IsFull, IsRun, rules_at, rights_in, ShowsOther}

@@ -15,7 +15,9 @@ use Rattle.steps_base.specs.Rows.{is_acting, taken_of, IsWaiting, HasClaimed, Wa
 use Rattle.spec_locks.specs.Headline.{WakesWaiters, want_of}
 use Rattle.spec_locks.specs.Locks.{Sort, Taken, Knows, wants_exclusive}
 use Rattle.spec_locks.specs.Locks as sorts
-use Rattle.spec_locks.specs.Purposes.{Purpose, Enters, Releases, Converts, Bumps, CallsOnce, Awaits, Waits, Notifies, MayWait, IsReleasing, lock_for, Patience, Try, Timed, Patient, Recall}
+use Rattle.spec_locks.specs.Purposes.{Purpose, Enters, Releases, Converts, Bumps, CallsOnce, Awaits, Waits, Notifies, MayWait, IsReleasing, lock_for, Recall}
+use Rattle.spec_locks.specs.declared.calls.Patience.{Patience}
+use Rattle.spec_locks.specs.declared.calls.Patience.TheVariants.{Try, Timed, Patient}
 use Rattle.spec_locks.specs.Runs.{IsTimed}
 use Rattle.spec_locks.specs.Sites.{Claim, Doing, Has, Pends, counts_some, has_readers}
 

@@ -5,7 +5,8 @@ use Rattle.core_base.specs.declared.wants.Want.{Want}
 use Rattle.core_base.specs.declared.wants.Want.TheVariants.{Exclusive}
 use Rattle.spec_locks.specs.Condvars.{Stage}
 use Rattle.spec_locks.specs.Locks.{Rights, Taken}
-use Rattle.spec_locks.specs.Purposes.{Purpose, Enters, Try, Recall, Blank}
+use Rattle.spec_locks.specs.Purposes.{Purpose, Enters, Recall, Blank}
+use Rattle.spec_locks.specs.declared.calls.Patience.TheVariants.{Try}
 use Rattle.spec_locks.specs.Sites.{Doing, Line, idle}
 
 -- in whose hand a thread is, and whether it was handed the lock since

@@ -16,7 +16,8 @@ use Rattle.steps_mutex.specs.MutexSteps.{is_timed}
 use Rattle.steps_base.specs.Profiles.{hand, hand_owner, in_hand, in_line, Profile, blank}
 use Rattle.spec_locks.specs.Locks.{Rights}
 use Rattle.spec_locks.specs.Runs.{one_more_at, one_less_at}
-use Rattle.spec_locks.specs.Purposes.{Purpose, Enters, Releases, Bumps, Patient, Timed}
+use Rattle.spec_locks.specs.Purposes.{Purpose, Enters, Releases, Bumps}
+use Rattle.spec_locks.specs.declared.calls.Patience.TheVariants.{Patient, Timed}
 use Rattle.spec_locks.specs.Sites.{Doing, Line, Has, Main, idle, found}
 
 -- ---------------------------------------------------------------- what a thread does about the lock

@@ -4,7 +4,9 @@ use Rattle.core_base.specs.declared.wants.Want.{Want}
 use Rattle.core_base.specs.declared.wants.Want.TheVariants.{Shared}
 use Rattle.steps_base.specs.Profiles.{hand, hand_owner, in_hand, in_line, Profile, blank}
 use Rattle.spec_locks.specs.Locks.{Rights}
-use Rattle.spec_locks.specs.Purposes.{Enters, Releases, Patience, Patient, Timed, Try as OnlyTry}
+use Rattle.spec_locks.specs.Purposes.{Enters, Releases}
+use Rattle.spec_locks.specs.declared.calls.Patience.{Patience}
+use Rattle.spec_locks.specs.declared.calls.Patience.TheVariants.{Patient, Timed, Try as OnlyTry}
 use Rattle.spec_locks.specs.Runs.{one_more_at}
 use Rattle.spec_locks.specs.Sites.{Doing, Line, Has, Main, idle}
 use Rattle.steps_semaphore.specs.declared.acquire.AcquireAt.{AcquireAt}

@@ -40,7 +40,9 @@ use Rattle.lot_laws.specs.Stations.{station, station_at}
 use Rattle.lot_laws.specs.SitesOf.{AreCondvars, AreCounted, IsSteady, IsWorld, RunsInClosures, key_of, FitsItsLock, is_mutex, rules_in}
 use Rattle.spec_locks.specs.Locks.{readers, Rules, MayEnter, IsBlocked}
 use Rattle.spec_locks.specs.Locks as locks
-use Rattle.spec_locks.specs.Purposes.{Bumps, Patience, Patient, Purpose, Releases, Timed, Try, mutex_purpose, purpose_of, rules_of, rwlock_purpose}
+use Rattle.spec_locks.specs.Purposes.{Bumps, Purpose, Releases, mutex_purpose, purpose_of, rules_of, rwlock_purpose}
+use Rattle.spec_locks.specs.declared.calls.Patience.{Patience}
+use Rattle.spec_locks.specs.declared.calls.Patience.TheVariants.{Patient, Timed, Try}
 use Rattle.spec_locks.specs.Runs.{IsFull, rules_at, purpose_at}
 use Rattle.spec_locks.specs.Picks.{queued_of}
 use Rattle.lot_laws.specs.Refinement.{lock_state, locks_of, owner_at}

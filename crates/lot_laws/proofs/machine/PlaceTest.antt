@@ -13,7 +13,9 @@ use Rattle.steps_base.specs.Profiles.{Hand, Profile, in_line}
 use Rattle.steps_base.proofs.RowCheck.{both, is_line, is_try, no_line}
 use Rattle.spec_locks.specs.Codes.{has_aside}
 use Rattle.spec_locks.specs.Condvars.{Stage}
-use Rattle.spec_locks.specs.Purposes.{Recall, Blank, Purpose, Enters, Converts, Patience, Try, once_purpose}
+use Rattle.spec_locks.specs.Purposes.{Recall, Blank, Purpose, Enters, Converts, once_purpose}
+use Rattle.spec_locks.specs.declared.calls.Patience.{Patience}
+use Rattle.spec_locks.specs.declared.calls.Patience.TheVariants.{Try}
 use Rattle.spec_locks.specs.Sites.{Line, Main, Second}
 use Rattle.steps_mutex.specs.declared.lock.Entry.{Entry}
 use Rattle.steps_mutex.specs.declared.lock.Entry.TheVariants as entry
