@@ -33,7 +33,7 @@ use Rattle.lot_laws.proofs.sites.WakesAt.{IsWokenAt}
 use Rattle.lot_laws.proofs.sites.WakesAt as wakes_at
 use Rattle.lot_laws.proofs.sites.ToldAt as told_at
 use Rattle.lot_laws.proofs.sites.ToldAt.{IsToldAt, HeldHere, same_hands}
-pub use Rattle.lot_laws.proofs.sites.ActsKept.{AlikeAt, alike_put, lock_by, follows_by, goes_steady, operated, word_goes, place_goes, enter_goes, leave_goes, nobody_inside}
+pub use Rattle.lot_laws.proofs.sites.ActsKept.{AlikeAt, lock_by, follows_by, goes_steady, operated, word_goes, place_goes, enter_goes, leave_goes, nobody_inside}
 use Rattle.std.specs.Prelude.{sum}
 use Rattle.lot_machine.specs.Machine.{unshared_then, State, hand_over_told, shares_handed_over, unlocked, place_at, word_at, owners_at, shares_at, filled_at, kind_at, queue_at, put, state_with_sections, section_at, queues_without_first, state_after_reply, state_after_telling, state_after_hand_over, state_after_act, reply_to}
 use Rattle.lot_laws.specs.Refinement.{taken_at, lock_state}
