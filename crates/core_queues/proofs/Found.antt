@@ -22,7 +22,7 @@ leads_from : (records : List (Option Record)) (ends : Option Ends) (xs : List Wa
 leads_from records ends xs None a h = a
 leads_from records ends xs (Some b) a h = leads_behind records (first_in ends) xs b a h
 
--- who is first behind a thread stands there
+-- a thread that is first behind a thread stands there
 pub first_stands : (before : Option ℕ) (xs : List Waiter) (y : Waiter) (ys : List Waiter) → behind before xs ≡ y ∷ ys → 1 ≤ times y.thread xs
 first_stands None xs y ys is = rw is (times_here y ys)
 first_stands (Some b) [] y ys is = absurd cc

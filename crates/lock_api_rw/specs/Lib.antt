@@ -1,2 +1,3 @@
 pub mod Guards
 pub mod Written
+pub mod Visits

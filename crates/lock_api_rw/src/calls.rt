@@ -1,89 +1,19 @@
-//! Calls of a reader-writer lock with a value that give up in time, and calls that run a closure on
-//! the value.
-ghost use Rattle.std.specs.Prelude.{◌≡◌, IfErr, IfNone, IfOk, IfSome, MatchResult};
+//! Calls of a reader-writer lock with a value that give up in time.
+ghost use Rattle.std.specs.Prelude.{◌≡◌, IfErr, IfNone, IfOk, IfSome};
 ghost use Rattle.std.specs.Duration.{as_nanos};
-ghost use Rattle.std.specs.Fn.{FnOnceReturnsAt, FnOnceReturnsAtMut};
 ghost use Rattle.core_base.specs.Clocks.{HasElapsed, HasPassed};
-ghost use Rattle.lock_raw.specs.Answers.{IsFull, TriesOrFull, answer_by, counted_answer};
-ghost use Rattle.lock_api.specs.Visits.{CameAndWent};
+ghost use Rattle.lock_raw.specs.Answers.{TriesOrFull, answer_by, counted_answer};
 ghost use Rattle.lock_api_rw.specs.Guards.{lock_of};
 ghost use Rattle.spec_locks.specs.declared.calls.Access.TheVariants as access;
-ghost use Rattle.spec_locks.specs.declared.calls.Patience.TheVariants.{Patient, Timed};
-ghost use Rattle.spec_locks.specs.declared.calls.RwLockCall.TheVariants.{Enter, Release};
-ghost use Rattle.spec_locks.specs.declared.outcomes.Answer.TheVariants as answers;
+ghost use Rattle.spec_locks.specs.declared.calls.Patience.TheVariants.{Timed};
+ghost use Rattle.spec_locks.specs.declared.calls.RwLockCall.TheVariants.{Enter};
 
 use crate::guards::{RwLockReadGuard, RwLockUpgradableReadGuard, RwLockWriteGuard};
 use crate::rwlock::RwLock;
 use core_base::{Clock, Fault};
-use lock_api::mutex::run_on;
-use lock_raw::{RawRwLock, RawRwLockTimed, RawRwLockUpgradeTimed};
+use lock_raw::{RawRwLockTimed, RawRwLockUpgradeTimed};
 use std::sync::Wait;
 use std::time::Duration;
-
-fn look_at<T, U, F: FnOnce(&T) -> U>(value: &T, f: F) -> U
-    requires { F.IsAlwaysCallable f }
-    ensures { FnOnceReturnsAt F.FnOnce f value.now result }
-{
-    f(value)
-}
-
-impl<R: RawRwLock, T> RwLock<R, T> {
-    /// Comes in to read, runs a closure on the value, and goes: what the closure promises of the
-    /// value that it found.
-    ///
-    /// # Errors
-    ///
-    /// `ReadersFull`, where as many share the lock as may. The closure was not run.
-    pub fn with_read<W: Wait, U, F: FnOnce(&T) -> U + Drop>(
-        &self,
-        rt: &W,
-        token: &mut R::Token,
-        f: F,
-    ) -> Result<U, Fault>
-        requires token { R.is_token_of (R.lot_of self.now) token.old }
-        requires callable { F.IsAlwaysCallable f }
-        ensures token { R.is_token_of (R.lot_of self.now) token.new × R.stays token.old token.new }
-        ensures ran { MatchResult result
-            (λ answer. (found : T) × FnOnceReturnsAt F.FnOnce f found answer) IsFull }
-        ensures path { MatchResult result
-            (λ _. CameAndWent (R.walked self.now) (R.woke self.now)
-            (Enter access.Shared Patient) answers.Ok (Release access.Shared) token.old token.new)
-            (λ _. R.walked self.now
-            (Enter access.Shared Patient) answers.ReadersFull token.old token.new) }
-        ensures full { IfErr result (λ _. R.saw_full self.now access.Shared token.old token.new) }
-    {
-        match self.read(rt, token) {
-            Ok(guard) => {
-                let answer = look_at(&*guard, f);
-                guard.unlock(rt, token);
-                Ok(answer)
-            }
-            Err(fault) => Err(fault),
-        }
-    }
-
-    /// Takes the lock, runs a closure on the value, and gives the lock up: what the closure
-    /// promises of the value that it found.
-    pub fn with_write<W: Wait, U, F: FnOnce(&mut T) -> U>(
-        &self,
-        rt: &W,
-        token: &mut R::Token,
-        f: F,
-    ) -> U
-        requires token { R.is_token_of (R.lot_of self.now) token.old }
-        requires callable { F.IsAlwaysCallable f }
-        ensures token { R.is_token_of (R.lot_of self.now) token.new × R.stays token.old token.new }
-        ensures ran { (found : T) × (left : T) × FnOnceReturnsAtMut F.FnOnce f found result left }
-        ensures path { CameAndWent (R.walked self.now) (R.woke self.now)
-            (Enter access.Exclusive Patient) answers.Ok (Release access.Exclusive)
-            token.old token.new }
-    {
-        let mut guard = self.write(rt, token);
-        let answer = run_on(&mut *guard, f);
-        guard.unlock(rt, token);
-        answer
-    }
-}
 
 impl<R: RawRwLockTimed, T> RwLock<R, T> {
     /// Waits until no writer keeps readers out, and comes in to read. None only where so much time,

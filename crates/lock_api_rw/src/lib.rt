@@ -11,6 +11,7 @@ pub mod rights;
 pub mod rwlock;
 pub mod showing;
 pub mod shows;
+mod visits;
 
 pub use guards::{RwLockReadGuard, RwLockUpgradableReadGuard, RwLockWriteGuard};
 pub use lock_raw::{

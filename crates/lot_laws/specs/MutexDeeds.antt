@@ -18,7 +18,7 @@ mutex_station at = station_by (mutex_row at)
 
 -- ---------------------------------------------------------------- the deeds of each step
 
--- who does it, if not the thread itself
+-- the thread that does it, if not the thread itself
 pub record Act : Type 0 where
   pub by : ℕ
   pub deed : Deed
@@ -27,7 +27,7 @@ abbrev pub acts : ℕ → List Deed → List Act
 acts t [] = []
 acts t (d ∷ ds) = record { by = t; deed = d } ∷ acts t ds
 
--- whom it hands the lock to claims it from then on
+-- a thread to which it hands the lock claims it from then on
 abbrev pub claims_of : Option ℕ → List Act
 claims_of None = []
 claims_of (Some u) = record { by = u; deed = Begin (Some (Has Exclusive)) } ∷ []

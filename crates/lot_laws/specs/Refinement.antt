@@ -63,7 +63,7 @@ stance_of p = stance_by (act_of p) (looking p)
 
 -- ---------------------------------------------------------------- calls
 
--- what a thread's call has come to, by its place and by what it owns now
+-- the state of a thread's call, by its place and by what it owns now
 abbrev pub call_on : Option ℕ → Profile → (ℕ → Rights) → CallState
 call_on None row rights = no_call
 call_on (Some l) row rights = call_by l row rights

@@ -107,15 +107,15 @@ AreWaiting at l m (x ∷ q) =
 abbrev pub Waits : (ℕ → ℕ → Station) → (ℕ → List Waiter) → Type 0
 Waits at queue = (l : ℕ) (m : Line) → AreWaiting at l m (queue (key_of l m))
 
--- whom a thread has in hand
+-- the threads that a thread has in hand
 pub record HandsBy (one : ℕ → Type 0) (at : ℕ → ℕ → Station) : Type 0 where
-  -- who has somebody in hand, by its place, has one
+  -- a thread with somebody in hand, by its place, has one
   pub carried : (t l : ℕ) (b : Bool) → (at t l).carries ≡ Some b
       → (u : ℕ) × ((at u l).hand ≡ hand t b)
   -- and there no second, where it takes one at a time
   pub alone : (t l u v : ℕ) (b c : Bool) → one l → (at u l).hand ≡ hand t b
       → (at v l).hand ≡ hand t c → v ≡ u
-  -- who is in the hand of a thread, is so by that one's place
+  -- a thread in the hand of another is so by that one's place
   pub taken : (t u l : ℕ) (b : Bool) → (at u l).hand ≡ hand t b → (at t l).carries ≡ Some b
 
 abbrev pub carried_at : Place → ℕ → Option Bool
@@ -171,7 +171,7 @@ pub record HasNumbers (w : State) : Type 0 where
   pub locks : length w.shares ≡ length w.locks
   pub threads : (l : ℕ) → length (shares_at w l) ≡ length w.places
 
--- what holds between any two steps
+-- facts between any two steps
 pub record IsSteady (w : State) : Type 0 where
   pub sites : AreSites w
   pub stands : Stands w
@@ -199,7 +199,7 @@ abbrev pub stage_or : Option Stage → Stage
 stage_or None = Rests
 stage_or (Some stage) = stage
 
--- who is inside the section, and what for by its place
+-- the thread inside the section, and its aim by its place
 abbrev pub inside_as : Option ℕ → (ℕ → Option Stage) → Option Inside
 inside_as None stage = None
 inside_as (Some t) stage = Some (record { thread = t; stage = stage_or (stage t) })
@@ -224,7 +224,7 @@ AreCondvars w = (l : ℕ) → (rules_in w l).sort ≡ CondvarSort → IsCondvar 
 abbrev pub RunsInClosures : State → Type 0
 RunsInClosures w = (t l : ℕ) → (lock_state w l).phase ≡ InProgress t → RunsClosure w t l
 
--- what a world keeps from step to step
+-- a world keeps this from step to step
 pub record IsWorld (w : State) : Type 0 where
   pub shaped : IsShaped w
   pub steady : IsSteady w
@@ -268,7 +268,7 @@ pub record Goes (w v : State) (l : ℕ) (ds : List Act) : Type 0 where
   pub follows : SiteFollows w v l ds
   pub stands : Stands v
 
--- of any number of locks
+-- for any number of locks
 pub record GoesAll (w v : State) (ds : ℕ → List Act) : Type 0 where
   pub follows : FollowAll w v ds
   pub stands : Stands v

@@ -100,7 +100,7 @@ OnlyTries (Some (Enters l x Try)) = Unit {0}
 OnlyTries (Some (Converts l x y Try)) = Unit {0}
 OnlyTries purpose = ⊥
 
--- what a call answers that has entered
+-- the answer of a call that has entered
 abbrev pub entered_answer : Patience → Answer
 entered_answer Patient = answer.TheVariants.Ok
 entered_answer how = answer.TheVariants.Yes
@@ -130,7 +130,7 @@ abbrev pub WaitsAlone : Patience → LockState → ℕ → Want → Outcome → 
 WaitsAlone Try s t x o s2 = o ≡ outcome.TheVariants.End answer.TheVariants.No
 WaitsAlone how s t x o s2 = SleepsLast s t x o s2
 
--- what a call comes to that waits for a right; clear says that no bit of the word is set
+-- the end of a call that waits for a right; clear says that no bit of the word is set
 pub record EntersAlone (clear : Type 0) (w : LocksState) (t l : ℕ) (x : Want) (how : Patience)
     (o : Outcome)
     (v : LocksState) : Type 0 where
@@ -148,7 +148,7 @@ pub record EntersAlone (clear : Type 0) (w : LocksState) (t l : ℕ) (x : Want) 
 abbrev pub DowngradesAlone : ℕ → Want → Outcome → LockState → Type 0
 DowngradesAlone t y o s2 = (o ≡ outcome.TheVariants.End answer.TheVariants.Ok) × Owns s2 t y
 
--- what a call comes to that turns its right into another
+-- the end of a call that turns its right into another
 abbrev pub ConvertsAlone : LockState → ℕ → Want → Patience → Outcome → LockState → Type 0
 ConvertsAlone s t Exclusive how o s2 =
     (readers s ≡ 0 → (o ≡ outcome.TheVariants.End (entered_answer how)) × Owns s2 t Exclusive)
@@ -208,7 +208,7 @@ pub record BumpsShared (unparked : Type 0) (later : ℕ → LocksState) (w : Loc
 abbrev pub RunsAlone : OnceState → ℕ → Outcome → LockState → Type 0
 RunsAlone found t o s2 = (o ≡ outcome.TheVariants.Closure found) × (s2.phase ≡ InProgress t)
 
--- what a call comes to that runs a closure, by how far the `Once` has come
+-- the end of a call that runs a closure, by how far the `Once` has come
 abbrev pub CallsOnceAlone : Phase → LockState → ℕ → Bool → Outcome → LockState → Type 0
 CallsOnceAlone New s t forced o s2 = RunsAlone once_state.TheVariants.New t o s2
 CallsOnceAlone Poisoned s t true o s2 = RunsAlone once_state.TheVariants.Poisoned t o s2
@@ -225,8 +225,7 @@ AwaitsAlone Poisoned s t false timed o s2 =
     o ≡ outcome.TheVariants.End answer.TheVariants.Poisoned
 AwaitsAlone phase s t forced timed o s2 = SleepsLast s t Wait o s2
 
--- what a wait comes to: it sleeps behind the last, its mutex let go, or ends where another mutex is
--- shown
+-- the end of a wait: it sleeps behind the last, its mutex let go, or ends where another mutex is shown
 pub record CondvarWaitsAlone (w : LocksState) (t l m : ℕ) (o : Outcome) (v : LocksState) : Type 0 where
   pub other : ShowsOther (w.locks l) m → o ≡ outcome.TheVariants.End answer.TheVariants.TwoMutexes
   pub own : (ShowsOther (w.locks l) m → ⊥)
@@ -261,7 +260,7 @@ EndsBy words later w t None o v = Unit {0}
 abbrev pub locks_behind : State → ℕ → ℕ → LocksState
 locks_behind w t steps = locks_of (after_steps w (replicate steps (go_of t)))
 
--- what a call comes to, by what it is for
+-- the end of a call, by its goal
 abbrev pub EndsAlone : State → ℕ → Option Purpose → Outcome → State → Type 0
 EndsAlone w t purpose o v =
     EndsBy (word_at w) (locks_behind w t) (locks_of w) t purpose o (locks_of v)

@@ -6,7 +6,7 @@ pub use Rattle.steps_base.specs.Profiles.{Hand, Of, hand, hand_owner, in_hand}
 pub use Rattle.steps_base.specs.Stations.{Station, station_by, nowhere}
 use Rattle.spec_locks.specs.Sites.{Doing, idle}
 
--- what it does about the lock l
+-- its deeds at the lock l
 abbrev pub doing_on : Place → ℕ → Doing
 doing_on p l = if calls p l then (profile p).doing else if is_lock l (beside_of p)
     then (profile_beside p).doing else idle

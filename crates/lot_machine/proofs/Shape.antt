@@ -148,7 +148,7 @@ below_behind_requeue n requeue.TheVariants.TakeOneMoveRest xs h = tt
 
 -- ---------------------------------------------------------------- lines and sections
 
--- what the shape says of them
+-- tells what the shape says of them
 record IsLined (w : State) : Type 0 where
   few : length w.locks ≤ 256
   sections : length w.sections ≡ 2 * length w.locks
@@ -317,7 +317,7 @@ filled_shaped : (w : State) (keys : Keys) (who : Option ℕ) → IsShaped w → 
 filled_shaped w (One key) who s = shaped (state_with_sections w (One key) who) (filled_lined w (One key) who (lined w s)) (suits w s) s.shown
 filled_shaped w (Two first second) who s = shaped (state_with_sections w (Two first second) who) (filled_lined w (Two first second) who (lined w s)) (suits w s) s.shown
 
--- whatever befalls a thread suits it
+-- all that befalls a thread suits it
 befallen_fits : (locks : ℕ) (kinds : ℕ → Kind) (p : Place) (reply : Reply) → Befalls reply → ReplyFits locks kinds p reply
 befallen_fits locks kinds p (TakenBy u) h = tt
 befallen_fits locks kinds p (MovedTo key) h = tt

@@ -101,7 +101,7 @@ once_on l (once.GiveUp again give_up.Remove) = tt
 once_on l (once.GiveUp again give_up.Clear) = refl
 once_on l (once.GiveUp again give_up.Leave) = tt
 
--- who works on no condition variable
+-- a thread that works on no condition variable
 away : (w : State) (l : ℕ) (a : Act) → IsOn l a → is_condvar (kind_at w l) ≡ false → Writes w a
 away w l (Word k f) on other = λ of. absurd (let x : is_condvar (kind_at w l) ≡ true = subst (λ j. is_condvar (kind_at w j) ≡ true) on of in let y : false ≡ true = sym other ∙ x in cc)
 away w l (HandOver k f) on other = λ of. absurd (let x : is_condvar (kind_at w l) ≡ true = subst (λ j. is_condvar (kind_at w j) ≡ true) on of in let y : false ≡ true = sym other ∙ x in cc)

@@ -16,12 +16,12 @@ ghost use Rattle.lot_laws.specs.Owing.{OwesSince};
 ghost use Rattle.lot_laws.specs.WorldRuns.{IsWorldRun, Tells, SleepersStay, TouchesOnlyByGoing, TriesAtOnce};
 ghost use Rattle.lot_laws.specs.Solo.{IsUnderWay, HasItsWay, HasWhatItReads, IsBarred, OnlyTries, Rests, EndsAlone, IsSoloRun};
 ghost use Rattle.lot_machine.specs.Views.{StandUnder, owners_of, queue_of, debts_of};
-ghost use Rattle.lot_drain.specs.Drains.{IsDrainable, IsDrain};
-ghost use Rattle.lot_drain.specs.Drainable.{is_drainable};
-ghost use Rattle.lot_drain.specs.Schedules.{schedule_of};
+ghost use Rattle.lot_world.specs.Drains.{IsDrainable, IsDrain};
+ghost use Rattle.lot_world.specs.Drainable.{is_drainable};
+ghost use Rattle.lot_world.specs.Schedules.{schedule_of};
 
+use crate::{is_drainable, schedule};
 use core_base::{Fault, Queues, main_key, second_key};
-use lot_drain::{is_drainable, schedule};
 use lot_machine::{DebtBook, Debts, Machine, OwnersOf, QueueOf};
 use lot_steps::{Call, Kind, Outcome, Place, Step, Turn};
 use std::alloc::Global;

@@ -1,11 +1,15 @@
 //! The operations on condition variables.
-ghost use Rattle.std.specs.Prelude.{◌≡◌, IfOk};
+ghost use Rattle.std.specs.Prelude.{◌≡◌, ◌≤◌, All, IfOk};
 ghost use Rattle.std.specs.Arc.{arc_value};
-ghost use Rattle.parking_lot.specs.CondvarUsers.{lot_of as condvar_lot};
-ghost use Rattle.parking_lot.specs.Users.{IsTokenOf, lock_of, lot_of};
+ghost use Rattle.crossbeam_utils.specs.Padded.{padded_value};
+ghost use Rattle.lotbench.specs.Desks.{desk_lot};
+ghost use Rattle.parking_lot.specs.Names.{IsTokenOf, lock_of, lot_of, lot_of_condvar};
 
 use crate::made::{both, unless_refused};
+use crate::plans::Plan;
+use crossbeam_utils::CachePadded;
 use parking_lot::{Condvar, Fault, Mutex, MutexGuard, ParkingLot, Token};
+use std::alloc::Global;
 use std::sync::{Arc, Wait};
 
 // How many items a queue holds.
@@ -103,7 +107,7 @@ pub(crate) struct Desk {
     tally: Mutex<Tally>,
     pub(crate) filled: Condvar,
     emptied: Condvar,
-    ghost together: { (condvar_lot filled ≡ lot_of tally) × (condvar_lot emptied ≡ lot_of tally) },
+    ghost together: { (lot_of_condvar filled ≡ lot_of tally) × (lot_of_condvar emptied ≡ lot_of tally) },
 }
 
 /// How many words they take of their lot.
@@ -117,7 +121,7 @@ pub(crate) fn desk_for(
 ) -> Result<Desk, Fault>
     requires { IsTokenOf (arc_value lot.now) token.old }
     ensures token { IsTokenOf (arc_value lot.now) token.new }
-    ensures made { IfOk result (λ desk. condvar_lot desk.filled ≡ arc_value lot.now) }
+    ensures made { IfOk result (λ desk. lot_of_condvar desk.filled ≡ arc_value lot.now) }
 {
     let tally = Tally {
         came: 0,
@@ -138,7 +142,7 @@ pub(crate) fn desk_for(
 
 /// How many operations were done there.
 pub(crate) fn done_at<R: Wait>(rt: &R, desk: &Desk, token: &mut Token) -> u64
-    requires { IsTokenOf (condvar_lot desk.now.filled) token.old }
+    requires { IsTokenOf (lot_of_condvar desk.now.filled) token.old }
 {
     desk.tally.with(rt, token, |tally: &mut Tally| tally.done)
 }
@@ -146,8 +150,8 @@ pub(crate) fn done_at<R: Wait>(rt: &R, desk: &Desk, token: &mut Token) -> u64
 /// Notifies the first of nobody, so many times.
 #[inline(never)]
 pub(crate) fn notify_nobody<R: Wait>(rt: &R, condvar: &Condvar, token: &mut Token, times: u64)
-    requires { IsTokenOf (condvar_lot condvar.now) token.old }
-    ensures { IsTokenOf (condvar_lot condvar.now) token.new }
+    requires { IsTokenOf (lot_of_condvar condvar.now) token.old }
+    ensures { IsTokenOf (lot_of_condvar condvar.now) token.new }
 {
     for _ in 0..times {
         condvar.notify_one(rt, token);
@@ -163,10 +167,10 @@ fn wait_while<'d, R: Wait, F: FnMut(&mut Tally) -> bool + Drop>(
     guard: MutexGuard<'d, Tally>,
     condition: F,
 ) -> MutexGuard<'d, Tally>
-    requires token { IsTokenOf (condvar_lot condvar.now) token.old }
-    requires condvar { lot_of (lock_of guard) ≡ condvar_lot condvar.now }
+    requires token { IsTokenOf (lot_of_condvar condvar.now) token.old }
+    requires condvar { lot_of (lock_of guard) ≡ lot_of_condvar condvar.now }
     requires callable { F.IsAlwaysCallable condition }
-    ensures token { IsTokenOf (condvar_lot condvar.now) token.new }
+    ensures token { IsTokenOf (lot_of_condvar condvar.now) token.new }
     ensures guard { lock_of result ≡ lock_of guard.entry }
 {
     match condvar.wait_while(rt, token, guard, condition) {
@@ -177,8 +181,8 @@ fn wait_while<'d, R: Wait, F: FnMut(&mut Tally) -> bool + Drop>(
 
 // Waits until all of so many have come, of whom the last notifies the others.
 fn meet<R: Wait>(rt: &R, desk: &Desk, token: &mut Token, threads: u64) -> bool
-    requires { IsTokenOf (condvar_lot desk.now.filled) token.old }
-    ensures { IsTokenOf (condvar_lot desk.now.filled) token.new }
+    requires { IsTokenOf (lot_of_condvar desk.now.filled) token.old }
+    ensures { IsTokenOf (lot_of_condvar desk.now.filled) token.new }
 {
     let mut guard = desk.tally.lock(rt, token);
     match guard.meet(threads) {
@@ -203,8 +207,8 @@ fn meet<R: Wait>(rt: &R, desk: &Desk, token: &mut Token, threads: u64) -> bool
 
 // Waits for its turn, and gives it to the next. Whether anything was left to do.
 fn take_turn<R: Wait>(rt: &R, desk: &Desk, token: &mut Token, number: u64, threads: u64) -> bool
-    requires { IsTokenOf (condvar_lot desk.now.filled) token.old }
-    ensures { IsTokenOf (condvar_lot desk.now.filled) token.new }
+    requires { IsTokenOf (lot_of_condvar desk.now.filled) token.old }
+    ensures { IsTokenOf (lot_of_condvar desk.now.filled) token.new }
 {
     let guard = desk.tally.lock(rt, token);
     let mut guard = wait_while(rt, &desk.filled, token, guard, move |tally: &mut Tally| {
@@ -218,8 +222,8 @@ fn take_turn<R: Wait>(rt: &R, desk: &Desk, token: &mut Token, number: u64, threa
 
 // Waits for a place, and puts an item there. Whether one was left to put.
 fn send<R: Wait>(rt: &R, desk: &Desk, token: &mut Token) -> bool
-    requires { IsTokenOf (condvar_lot desk.now.filled) token.old }
-    ensures { IsTokenOf (condvar_lot desk.now.filled) token.new }
+    requires { IsTokenOf (lot_of_condvar desk.now.filled) token.old }
+    ensures { IsTokenOf (lot_of_condvar desk.now.filled) token.new }
 {
     let guard = desk.tally.lock(rt, token);
     let mut guard = wait_while(rt, &desk.emptied, token, guard, |tally: &mut Tally| {
@@ -238,8 +242,8 @@ fn send<R: Wait>(rt: &R, desk: &Desk, token: &mut Token) -> bool
 
 // Waits for an item, and takes it. Whether one came.
 fn receive<R: Wait>(rt: &R, desk: &Desk, token: &mut Token) -> bool
-    requires { IsTokenOf (condvar_lot desk.now.filled) token.old }
-    ensures { IsTokenOf (condvar_lot desk.now.filled) token.new }
+    requires { IsTokenOf (lot_of_condvar desk.now.filled) token.old }
+    ensures { IsTokenOf (lot_of_condvar desk.now.filled) token.new }
 {
     let guard = desk.tally.lock(rt, token);
     let mut guard = wait_while(rt, &desk.filled, token, guard, |tally: &mut Tally| {
@@ -261,8 +265,8 @@ pub(crate) enum Way {
 
 // The number of a thread, by the order in which they come.
 fn come_to<R: Wait>(rt: &R, desk: &Desk, token: &mut Token) -> u64
-    requires { IsTokenOf (condvar_lot desk.now.filled) token.old }
-    ensures { IsTokenOf (condvar_lot desk.now.filled) token.new }
+    requires { IsTokenOf (lot_of_condvar desk.now.filled) token.old }
+    ensures { IsTokenOf (lot_of_condvar desk.now.filled) token.new }
 {
     let mut guard = desk.tally.lock(rt, token);
     let number = guard.come();
@@ -278,8 +282,8 @@ pub(crate) fn work_at<R: Wait>(
     way: Way,
     threads: u64,
 ) -> u64
-    requires { IsTokenOf (condvar_lot desk.now.filled) token.old }
-    ensures { IsTokenOf (condvar_lot desk.now.filled) token.new }
+    requires { IsTokenOf (lot_of_condvar desk.now.filled) token.old }
+    ensures { IsTokenOf (lot_of_condvar desk.now.filled) token.new }
 {
     let number = come_to(rt, desk, token);
     let mut done = 0u64;
@@ -296,4 +300,74 @@ pub(crate) fn work_at<R: Wait>(
         done = done.wrapping_add(1);
     }
     done
+}
+
+// The most pairs of threads.
+const PAIRS: usize = 32;
+
+/// How many words the desks of all pairs take of their lot.
+pub(crate) const DESKS: usize = PAIRS * DESK;
+
+/// Desks of one lot, each on cache lines of its own.
+pub(crate) type Desks = Vec<CachePadded<Desk>>;
+
+// Returns how many pairs the threads of a plan make. The last thread may be alone.
+fn pairs_of(plan: Plan) -> u64
+    ensures { 1 ≤ result }
+{
+    (plan.threads as u64).div_ceil(2).max(1)
+}
+
+// Returns how many operations a pair is to do.
+fn share_of(plan: Plan, pair: usize) -> u64 {
+    let pairs = pairs_of(plan);
+    let more = u64::from((pair as u64) < plan.operations % pairs);
+    (plan.operations / pairs).saturating_add(more)
+}
+
+// Puts one more desk into the row, at which so many operations are to be done.
+fn add_desk(
+    lot: &Arc<ParkingLot>,
+    token: &mut Token,
+    row: &mut Desks,
+    operations: u64,
+) -> Result<(), Fault>
+    requires token { IsTokenOf (arc_value lot.now) token.old }
+    requires row { All (λ padded. desk_lot (padded_value padded) ≡ arc_value lot.now)
+        row.old.items }
+    ensures token { IsTokenOf (arc_value lot.now) token.new }
+    ensures row { All (λ padded. desk_lot (padded_value padded) ≡ arc_value lot.now)
+        row.new.items }
+{
+    let desk = desk_for(lot, token, operations)?;
+    match row.push(CachePadded::new(desk)) {
+        Ok(()) => Ok(()),
+        Err(_) => Err(Fault::NoMemory),
+    }
+}
+
+/// Makes a desk for each pair of threads, drawn from the lot.
+pub(crate) fn desks_of(
+    alloc: Global,
+    lot: &Arc<ParkingLot>,
+    token: &mut Token,
+    plan: Plan,
+) -> Result<Desks, Fault>
+    requires { IsTokenOf (arc_value lot.now) token.old }
+    ensures token { IsTokenOf (arc_value lot.now) token.new }
+    ensures made { IfOk result (λ row.
+        All (λ padded. desk_lot (padded_value padded) ≡ arc_value lot.now) row.items) }
+{
+    let mut row = Vec::new(alloc);
+    for pair in 0..PAIRS {
+        add_desk(lot, token, &mut row, share_of(plan, pair))?;
+    }
+    Ok(row)
+}
+
+/// Returns the number of a thread's pair, and how many threads the pair has. The last thread may be
+/// alone.
+pub(crate) fn pair_of(plan: Plan, number: usize) -> (usize, u64) {
+    let alone = number % 2 == 0 && number.saturating_add(1) == plan.threads;
+    (number / 2, if alone { 1 } else { 2 })
 }

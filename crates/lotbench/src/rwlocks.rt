@@ -1,7 +1,7 @@
 //! The operations on reader-writer locks.
 ghost use Rattle.std.specs.Prelude.{◌≡◌, IfOk};
 ghost use Rattle.std.specs.Arc.{arc_value};
-ghost use Rattle.parking_lot.specs.RwLockUsers.{lot_of};
+ghost use Rattle.parking_lot.specs.Names.{lot_of_rwlock};
 ghost use Rattle.parking_lot_core.specs.Tokens.{IsTokenOf};
 
 use crate::made::{both, unless_refused};
@@ -18,7 +18,7 @@ pub(crate) struct RwLocks {
     pub(crate) raw: RawRwLock<false>,
     pub(crate) value: RwLock<u64>,
     pub(crate) recursive: RecursiveRwLock<u64>,
-    ghost together: { (lot_of value ≡ lot_of raw) × (lot_of recursive ≡ lot_of raw) },
+    ghost together: { (lot_of_rwlock value ≡ lot_of_rwlock raw) × (lot_of_rwlock recursive ≡ lot_of_rwlock raw) },
 }
 
 /// How many words they take of their lot.
@@ -28,7 +28,7 @@ pub(crate) const RWLOCKS: usize = 3;
 pub(crate) fn rwlocks_of(lot: &Arc<ParkingLot>, token: &mut Token) -> Result<RwLocks, Fault>
     requires { IsTokenOf (arc_value lot.now) token.old }
     ensures token { IsTokenOf (arc_value lot.now) token.new }
-    ensures made { IfOk result (λ locks. lot_of locks.raw ≡ arc_value lot.now) }
+    ensures made { IfOk result (λ locks. lot_of_rwlock locks.raw ≡ arc_value lot.now) }
 {
     let raw = RawRwLock::<false>::new(lot, token);
     let value = unless_refused(RwLock::new(lot, token, 0));
@@ -43,7 +43,7 @@ pub(crate) fn rwlocks_of(lot: &Arc<ParkingLot>, token: &mut Token) -> Result<RwL
 
 /// The value that was written.
 pub(crate) fn value_in<R: Wait>(rt: &R, lock: &RwLock<u64>, token: &mut Token) -> u64
-    requires { IsTokenOf (lot_of lock.now) token.old }
+    requires { IsTokenOf (lot_of_rwlock lock.now) token.old }
 {
     lock.with_write(rt, token, |value: &mut u64| *value)
 }

@@ -1,7 +1,7 @@
 //! The operations on semaphores.
 ghost use Rattle.std.specs.Prelude.{◌≡◌, IfOk};
 ghost use Rattle.std.specs.Arc.{arc_value};
-ghost use Rattle.parking_lot.specs.SemaphoreUsers.{lot_of};
+ghost use Rattle.parking_lot.specs.Names.{lot_of_semaphore};
 ghost use Rattle.parking_lot_core.specs.Tokens.{IsTokenOf};
 
 use crate::made::both;
@@ -13,7 +13,7 @@ use std::sync::{Arc, Wait};
 pub(crate) struct Semaphores {
     pub(crate) one: Semaphore,
     pub(crate) two: Semaphore,
-    ghost together: { lot_of two ≡ lot_of one },
+    ghost together: { lot_of_semaphore two ≡ lot_of_semaphore one },
 }
 
 /// How many words they take of their lot.
@@ -23,7 +23,7 @@ pub(crate) const SEMAPHORES: usize = 2;
 pub(crate) fn semaphores_of(lot: &Arc<ParkingLot>, token: &mut Token) -> Result<Semaphores, Fault>
     requires { IsTokenOf (arc_value lot.now) token.old }
     ensures token { IsTokenOf (arc_value lot.now) token.new }
-    ensures made { IfOk result (λ semaphores. lot_of semaphores.one ≡ arc_value lot.now) }
+    ensures made { IfOk result (λ semaphores. lot_of_semaphore semaphores.one ≡ arc_value lot.now) }
 {
     let one = Semaphore::new(lot, token, 1);
     let two = Semaphore::new(lot, token, 2);
@@ -33,8 +33,8 @@ pub(crate) fn semaphores_of(lot: &Arc<ParkingLot>, token: &mut Token) -> Result<
 
 #[inline(never)]
 pub(crate) fn hold_permit<R: Wait>(rt: &R, semaphore: &Semaphore, token: &mut Token, times: u64)
-    requires { IsTokenOf (lot_of semaphore.now) token.old }
-    ensures { IsTokenOf (lot_of semaphore.now) token.new }
+    requires { IsTokenOf (lot_of_semaphore semaphore.now) token.old }
+    ensures { IsTokenOf (lot_of_semaphore semaphore.now) token.new }
 {
     for _ in 0..times {
         semaphore.acquire(rt, token).release(rt, token);

@@ -6,6 +6,7 @@ pub use core_queues::BucketQueues;
 pub use lock_api;
 pub use lock_api::{GetThreadId, WaitTimeoutResult, advance_count};
 pub use lock_api_rw;
+pub use lock_monitor::Team;
 pub use lock_values::{LockName, Mapped, Project, Shown, Then, ThenError};
 pub use lot_world;
 pub use parking_lot_core::{
@@ -18,8 +19,7 @@ pub use raw_mutexes::{
 pub use raw_rwlocks::{
     RawExclusiveGuard, RawRwLock, RawRwLockRecursive, RawSharedGuard, RawUpgradableGuard,
 };
-pub use run_once::{Once, OnceCell, OnceFault, OnceShown, OnceState};
-pub use run_semaphore::{Permit, Semaphore};
+pub use run_signals::{Once, OnceCell, OnceFault, OnceShown, OnceState, Permit, Semaphore};
 pub use spec_locks::{
     Access, Answer, Call, CondvarCall, Downgrade, Kind, MutexCall, OnceCall, Patience, RwLockCall,
     SemaphoreCall,
@@ -68,6 +68,10 @@ pub type MappedReentrantMutexGuard<'a, T, P> = lock_api::MappedReentrantMutexGua
 /// Nobody wakes by itself. `notify_one` tells whether anybody waited, and `notify_all` how many
 /// did.
 pub type Condvar = lock_api::Condvar<RawCondvar>;
+
+/// A value of a lot that one thread at a time may use, and `N` condition variables on which threads
+/// wait for a change of it.
+pub type Monitor<T, const N: usize> = lock_monitor::Monitor<RawCondvar, T, N>;
 
 /// A value of a lot that many threads may read, or one may write. A writer that waits keeps further
 /// readers out.

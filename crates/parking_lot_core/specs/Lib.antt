@@ -5,3 +5,4 @@ pub mod Pairs
 pub mod Sections
 pub mod Sleeps
 pub mod Counts
+pub mod Team

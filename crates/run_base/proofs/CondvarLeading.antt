@@ -60,7 +60,7 @@ use Rattle.run_base.specs.Paths.{at_mutex, condvar_at, mutex_at, mutexes, step}
 use Rattle.run_base.specs.Stages.{ActNeeds, Awoke, Became, HasKey, Inside, IsLeft, IsFresh, MayLeave, Stage, Stepped, entered_now, having_taken, listed, moving, note_of, stage, took_as}
 use Rattle.run_base.specs.declared.sleepers.Sleeper.{Sleeper}
 
--- what is known of a mutex's places
+-- tells what is known of a mutex's places
 abbrev pub MutexPlacesLead : Type 0 → Type 0
 MutexPlacesLead up = (n : ℕ) (base : List Ownership) (at : MutexPlace) (st : Stage) → FitsMutex up n base at st →
     ActNeeds mutexes (at_mutex n) st (mutex_act n at) × Looks up base (Mutex n at) st

@@ -46,12 +46,12 @@ pub end_of : (a : Act) (answer : Answer) → answer_of a ≡ Some answer → a �
 end_of (act.TheVariants.End x) answer e = cc
 end_of a answer e = absurd cc
 
--- what a closure needs
+-- tells what a closure needs
 closure_act : (a : Act) (state : OnceState) → closure_of a ≡ Some state → a ≡ act.TheVariants.Closure state
 closure_act (act.TheVariants.Closure s) state e = cc
 closure_act a state e = absurd cc
 
--- who comes to a closure is outside all sections, and stops there
+-- a thread that comes to a closure is outside all sections, and stops there
 pub closes_outside : (kinds : ℕ → WordKind) (at : ℕ → ℕ) (st : Stage) (a : Act) (state : OnceState) → closure_of a ≡ Some state → ActNeeds kinds at st a → st.inside ≡ None
 closes_outside kinds at st a state e needs = subst (ActNeeds kinds at st) (closure_act a state e) needs
 

@@ -101,7 +101,7 @@ module _ (up : Type 0) (n : ℕ) (base : List Ownership) (st : Stage) where
   unlock_needs (unlock.TheVariants.Leave false) f = subst (MayLeave Normal) (sym f.2.1) refl
   unlock_needs (unlock.TheVariants.Leave true) f = subst (MayLeave Normal) (sym f.2.1) refl
 
-  -- what the place's act needs is there
+  -- the needs of the place's act are there
   pub needs : (at : MutexPlace) → FitsMutex up n base at st → Can (mutex_act n at)
   needs (at_mutex_place.Lock e retries at) f = lock_needs e at f
   needs (at_mutex_place.Unlock at) f = unlock_needs at f

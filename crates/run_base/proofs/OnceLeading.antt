@@ -85,7 +85,7 @@ module _ (l : ℕ) (base : List Ownership) (st : Stage) where
   give_up_needs up give_up.Clear f = (once_steps (once_at l) st.owns).clear_parked
   give_up_needs up give_up.Leave f = subst (MayLeave Normal) (sym f.1.1) refl
 
-  -- what the place's act needs is there
+  -- the needs of the place's act are there
   needs : (up : Type 0) (at : OncePlace) → FitsOnce up l base at st → Can (once_act l at)
   needs up (Look c retries at) f = look_needs c at f
   needs up (Run forced at) f = run_needs at f

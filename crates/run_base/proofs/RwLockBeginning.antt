@@ -59,7 +59,7 @@ begins_with l a (purpose.Upgrade Try) = refl
 begins_with l a (purpose.Upgrade Patient) = refl
 begins_with l a (purpose.Upgrade Timed) = refl
 
--- who has the right that its call needs may take the first step
+-- a thread that has the right that its call needs may take the first step
 pub may_begin : (l : ℕ) (c : RwLockPurpose) (base owns : List Ownership) → BeginsWith l c base owns → MayStep kinds.RwLock (rwlock_at l) (first_op c) owns
 may_begin l (purpose.Enter access.Shared how) base owns b = (rwlock_steps (rwlock_at l) owns).load
 may_begin l (purpose.Enter access.Upgradable how) base owns b = (rwlock_steps (rwlock_at l) owns).load
@@ -74,7 +74,7 @@ may_begin l (purpose.Upgrade Try) base owns b = (rwlock_steps (rwlock_at l) owns
 may_begin l (purpose.Upgrade Patient) base owns b = (rwlock_steps (rwlock_at l) owns).upgrade (has_right l owners.Upgradable base owns b)
 may_begin l (purpose.Upgrade Timed) base owns b = (rwlock_steps (rwlock_at l) owns).upgrade (has_right l owners.Upgradable base owns b)
 
--- what the first step came to
+-- tells what the first step came to
 abbrev pub ComesBegun : Type 0 → ℕ → List Ownership → Admission → RwLockPurpose → Next RwLockPlace → Stage → Type 0
 ComesBegun up l base a q (At p) st = Kept up l base a p st × (p.purpose ≡ q)
 ComesBegun up l base a q (End answer) st = (st.inside ≡ None) × AnswersCall up l base a q answer st

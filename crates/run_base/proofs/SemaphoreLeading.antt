@@ -89,7 +89,7 @@ module _ (permits l : ℕ) (base : List Ownership) (st : Stage) where
   release_needs (release.Leave true) f = subst (MayLeave Normal) (sym f.2.1) refl
   release_needs (release.Leave false) f = subst (MayLeave Normal) (sym f.2.1) refl
 
-  -- what the place's act needs is there
+  -- the needs of the place's act are there
   needs : (up : Type 0) (at : SemaphorePlace) → FitsSemaphore up l base at st → Can (semaphore_act l at)
   needs up (Acquire timed retries at) f = acquire_needs up timed at f
   needs up (Try at) f = try_needs at f
@@ -125,7 +125,7 @@ module _ (permits l : ℕ) (base : List Ownership) (st : Stage) where
   clears seen few = unchanged (And 18446744073709551614) seen
       (omega (arith, few, and-not 64 (2 ^ 0) seen (omega arith) (omega (arith, few)), and_comm seen (2 ^ 64 - 1 - 2 ^ 0), and_comm seen (2 ^ 0), and_pow seen 0))
 
-  -- what a thread does that has looked ends no call
+  -- a thread that has looked ends no call
   decides_on : (seen : ℕ) → answer_of (decided l seen) ≡ None
   decides_on seen = by_look (is_free seen) (seen == 0)
     where

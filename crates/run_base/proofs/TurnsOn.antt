@@ -29,7 +29,7 @@ use Rattle.run_base.proofs.Paths.{comes_here, comes_on, comes_to_end, walks_on}
 use Rattle.run_base.proofs.Leading.{places_lead}
 use Rattle.run_base.proofs.Turning.{by_stage, told, words_on}
 
--- what the act of a place needs
+-- tells what the act of a place needs
 pub needs_by : (up : Type 0) (lot : ParkingLot) (words : Words) (p : Place) (a : Act) (token : Token) (section : Option Section) → IsAt up lot words p token section → act_of p ≡ a → ActNeeds (kind_in words) (at_in words) (stage_of token section) a
 needs_by up lot words p a token section at is = subst (ActNeeds (kind_in words) (at_in words) (stage_of token section)) is (places_lead up (kind_in words) (at_in words) at.4.0 p (stage_of token section) at.3 at.4.1).0
 
@@ -54,7 +54,7 @@ word_turned up lot words p old new section lock op seen w e is at same stepped l
     (by_stage (word_in words lock) op seen old section new then last code) (ap (λ (v : View). v.steps) then)
 
 module _ (up : Type 0) (lot : ParkingLot) (words : Words) (p : Place) (reply : Reply) (old new : Token) (section now : Option Section) (turned : HasTurned up lot words p reply old section new now) where
-  -- what a turn brings that ends no call
+  -- tells what a turn brings that ends no call
   fits_on : (q : Place) → next_place p reply ≡ q → answer_of (next_act p reply) ≡ None → (base : List Ownership) → Fits up base p (stage_of old section) → Fits up base q (stage_of new now) × (aim_of q ≡ aim_of p)
   fits_on q is none base fits =
       let reached : ReachedBy up base (aim_of p) (next_place p reply) None (stage_of new now)
@@ -70,7 +70,7 @@ module _ (up : Type 0) (lot : ParkingLot) (words : Words) (p : Place) (reply : R
     (at.4.0, (fits_on q is none at.4.0 at.4.1).0),
   )
 
-  -- what follows on a turn that ends no call
+  -- tells what follows on a turn that ends no call
   pub turn_then : (q : Place) → next_place p reply ≡ q → answer_of (next_act p reply) ≡ None → (answer : Answer) (last : Token) → HasEnded up lot words q answer new now last → HasEnded up lot words p answer old section last
   turn_then q is none answer last rest = (
     (rest.0.0, rest.0.1 ∙ turned.0.1),

@@ -48,7 +48,7 @@ abbrev pub answer_of : Act → Option Answer
 answer_of (act.TheVariants.End answer) = Some answer
 answer_of _ = None
 
--- what a call is for, and of which lock
+-- the goal of a call, and its lock
 pub data Aim : Type 0 where
   nothing : Aim
   of_mutex : ℕ → Purpose → Aim
@@ -63,7 +63,7 @@ pub data Aim : Type 0 where
   of_notify : ℕ → ℕ → Bool → Aim
   of_semaphore : ℕ → semaphore.Purpose → Aim
 
--- who hands the lock over releases it fairly, or bumps
+-- a thread that hands the lock over releases it fairly, or bumps
 abbrev pub handing_aim : ℕ → Admission → Access → Bool → Aim
 handing_aim l a x true = of_rwlock l a (purpose.Enter x Patient)
 handing_aim l a x false = of_fair l a x
@@ -72,7 +72,7 @@ abbrev pub call_aim : ℕ → Admission → RwLockCallPlace → Aim
 call_aim l a (places.HandOver x b to) = handing_aim l a x b
 call_aim l a c = of_rwlock l a (purpose_in c)
 
--- who begins a run goes on to its closure, and behind that ends the run
+-- a thread that begins a run goes on to its closure, and then ends the run
 abbrev pub run_aim : ℕ → Bool → RunAt → Aim
 run_aim l forced (run.Closure poisoned) = of_once l (CallOnce forced)
 run_aim l forced (run.Close succeeded) = of_run l succeeded
@@ -163,8 +163,8 @@ AreWordsAfter (Paused place state) kinds at = AreWordsFor place kinds at
 
 -- `up` says that the time of the call is up
 module _ (up : Type 0) where
-  -- what a thread has at a place, which owned so much as it began to run, or beside what a
-  -- reader-writer place claims
+  -- the stage of a thread at a place, which owned so much as it began to run, or beside what a reader-writer
+  -- place claims
   abbrev pub Fits : List Ownership → Place → Stage → Type 0
   Fits base Idle st = ⊥
   Fits base (Mutex l at) st = FitsMutex up l base at st
@@ -173,7 +173,7 @@ module _ (up : Type 0) where
   Fits base (Condvar l at) st = FitsCondvar up l base at st
   Fits base (Semaphore l at) st = FitsSemaphore up l base at st
 
-  -- what an answer says at the end of a call
+  -- the answer at the end of a call is true
   abbrev pub IsOver : List Ownership → Aim → Answer → Stage → Type 0
   IsOver base nothing answer st = ⊥
   IsOver base (of_mutex l purpose) answer st = IsMutexOver up l base purpose answer st
@@ -185,7 +185,7 @@ module _ (up : Type 0) where
   IsOver base (of_notify l m all) answer st = IsNotifyOver l m all base answer st
   IsOver base (of_semaphore l purpose) answer st = IsSemaphoreOver up l base purpose answer st
 
-  -- what a run came to: the end of its call, or a closure, which is outside all sections
+  -- the end of a run: the end of its call, or a closure, which is outside all sections
   abbrev pub IsStopped : List Ownership → Aim → Stop → Stage → Type 0
   IsStopped base aim (Ended answer) st = IsOver base aim answer st
   IsStopped base aim (Paused place state) st = Fits base place st

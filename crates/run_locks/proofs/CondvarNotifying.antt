@@ -60,7 +60,7 @@ shows_else m first seen shown other same =
     let back : (seen - 1 == m) ≡ true = eq-eqb (seen - 1) m (omega arith) in
     false≢true (sym other ∙ ap (λ (b : Bool). not b && (seen - 1 == m)) some ∙ back)
 
--- what its sections tell of a notification that goes on behind its first look
+-- tells what its sections tell of a notification that goes on behind its first look
 pub tells_moved : (n m : ℕ) (all : Bool) (first : ℕ) (answer : Answer) (old new : Token) → first ≡ m + 1 → (more : List WordStep) × (steps_of new ≡ steps_of old ++ more) → AnswersBy n m all answer (last_of new) (steps_of new) → TellsMoved n all first answer old new
 tells_moved n m all first answer old new shown more (inl none) = inl (none.0, (more, (none.2.0, none.2.1, none.2.3, shows_else m first none.2.1 shown none.2.2, none.1)))
 tells_moved n m all first answer old new shown more (inr moved) = inr (m, moved.0, moved.1, shown, moved.2, moved.3, more)

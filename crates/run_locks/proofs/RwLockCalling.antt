@@ -52,7 +52,7 @@ module _ (word : Word) (is : word.kind ≡ kinds.RwLock) where
   pub words_after : (a : Admission) (c : RwLockPurpose) (seen : ℕ) → word.number < 9223372036854775808 → AreWordsFor (next_place (rwlock_begin word.number a c) (Value seen)) (kind_in (alone word)) (at_in (alone word))
   words_after a c seen small = words_on (rwlock_begin word.number a c) (Value seen) (kind_in (alone word)) (at_in (alone word)) (small, rwlock_kinds, rwlock_alone)
 
-  -- who has the right that its call needs takes its first step
+  -- a thread that has the right that its call needs takes its first step
   pub may_start : (c : RwLockPurpose) (op : Op) (base owns : List Ownership) → op ≡ first_op c → BeginsWith word.number c base owns → MayStep word.kind (word_index word.number word.kind) op owns
   may_start c op base owns e b = subst (λ (k : WordKind). MayStep k (word_index word.number k) op owns) (sym is) (subst (λ (o : Op). MayStep kinds.RwLock (rwlock_at word.number) o owns) (sym e) (may_begin word.number c base owns b))
 
@@ -99,7 +99,7 @@ module _ (up : Type 0) (l : ℕ) (a : Admission) (base : List Ownership) (c : Rw
       by_next (At p) e k some = some_none (sym some ∙ (leading.goes_on l a p k.0.stands).0)
       by_next (End x) e k some = let same : x ≡ answer = cc in (subst (λ (y : Answer). AnswersCall up l base a c y new) same k.1, e ∙ ap (λ (y : Answer). End y) same)
 
--- what an answer says at the end of a call, it says of the rights
+-- an answer at the end of a call tells of the rights
 pub over_call : (up : Type 0) (l : ℕ) (base : List Ownership) (a : Admission) (q : RwLockPurpose) (answer : Answer) (st : Stage) → IsRwLockOver up l base a q answer st → AnswersCall up l base a q answer st
 over_call up l base a (purpose.Release x) answer st h = (h.1.0, h.1.1)
 over_call up l base a (purpose.Downgrade d) answer st h = (h.1.0, h.1.1)
@@ -143,7 +143,7 @@ path_ended l a c seen answer old new saw some = ends_at_once (at_rwlock l) (rwlo
 pub path_later : (l : ℕ) (a : Admission) (c : RwLockPurpose) (seen : ℕ) (answer : Answer) (old mid new : List WordStep) → mid ≡ old ++ step (rwlock_at l) (first_op c) seen → Walks (at_rwlock l) (next_place (rwlock_begin l a c) (Value seen)) mid new answer → Walks (at_rwlock l) (rwlock_begin l a c) old new answer
 path_later l a c seen answer old mid new saw rest = goes_on (at_rwlock l) (rwlock_begin l a c) l (first_op c) seen old mid new answer (begins_with l a c) saw rest
 
--- whoever enters begins with what it owns
+-- each thread that enters begins with what it owns
 pub begins_entering : (l : ℕ) (x : Access) (how : Patience) (owns : List Ownership) → BeginsWith l (purpose.Enter x how) owns owns
 begins_entering l access.Shared how owns = λ settled. refl
 begins_entering l access.Upgradable how owns = λ settled. refl

@@ -32,7 +32,7 @@ module _ (up : Type 0) (word : Word) (is : word.kind ≡ kinds.RwLock) (a : Admi
   abbrev came : Type 0
   came = (p : RwLockPlace) × (rwlock_next a (rwlock_first c) (Value seen) ≡ At p)
 
-  -- what the rest of a call does from where its first step has led it
+  -- tells what the rest of a call does from where its first step has led it
   module _ (old mid : Token) (stepped : HasStepped word (first_op c) seen old mid) (goes : came) where
     pub fits_behind : (base : List Ownership) → begins old base → Fits up base (next_place (rwlock_begin word.number a c) (Value seen)) (stage_of mid None)
     fits_behind base b = (rest_fits up word is a room c (first_op c) seen old mid refl stepped.1 stepped.2 stepped.3 goes base b).0

@@ -75,7 +75,7 @@ done_stays r case s t n e = elim (phase_by r case s t) [
   | inr once ↦ subst (λ x. Needs r x s t → (after_case r x s t).phase ≡ Done) (sym once.1) (λ m. once_stays once.0 s t m.1 e) n
 ]
 
--- of a `Once` nobody who tries again passes a turn on
+-- at a `Once` no thread that tries again passes a turn on
 debt_of : (sort : Sort) (d : Doing) → sort ≡ Once → IsDebtor sort d → (d.wakes ≡ Some Main) ⊎ (d.covers ≡ true)
 debt_of sort d e (inl wakes) = inl wakes
 debt_of sort d e (inr (inl covers)) = inr covers

@@ -61,7 +61,7 @@ module _ (r : Rules) (s : Site) (t : ℕ) (h : IsSite r s) where
   mark_keeps Main = changed_bits true s.aside_parked (grind (arith, h.emptied t, h.covered t, h.unwoken t, h.brought t, h.setting t))
   mark_keeps Second = mark_second
 
-  -- who has brought waiters sets the bit
+  -- a thread that has brought waiters sets the bit
   pub brought_keeps : IsSite r (after_deed r MarkBrought s t)
   brought_keeps = cleared true s.aside_parked _ (grind (arith, h.emptied t, h.covered t, h.unwoken t, h.brought t))
 

@@ -77,14 +77,14 @@ module _ (r : Rules) (s : Site) (t : ℕ) (h : IsSite r s) where
   shares_less_local n Condvar e = absurd (let none = h.state.unshared (λ k. let g : Knows Condvar Shared = rw e at k in g) in let some = fewer_share s.lock.shared t n.0 in omega arith)
   shares_less_local n Semaphore e = grind (arith, state r s t h (Leave Shared) n, h.emptied t, h.covered t, h.unwoken t, h.brought t, h.setting t, share_other, fewer_share s.lock.shared t, no_aside r s.lock h.state (h.state.unpending (λ k. let g : Knows Semaphore Upgradable = rw e at k in g)).0)
 
-  -- who is to set the bit, and has seen no waiters, has taken some
+  -- a thread that is to set the bit, and has seen no waiters, has taken some
   covers_still : (s.doing t).wakes ≢ Some Main → (s.doing t).sets ≡ true → (s.doing t).covers ≡ true
   covers_still none e = elim (h.setting t e) [
     | inl covers ↦ covers
     | inr wakes ↦ absurd (none wakes.1)
   ]
 
-  -- who gives way sees the bit, or has the next in hand
+  -- a thread that gives way sees the bit, or has the next in hand
   way_debt : (claims : Option Claim) → (s.doing t).wakes ≡ None → (s.lock.queue ≢ []) ⊎ ((s.doing t).brings ≡ true) → IsDebtor r.sort (gives_way s (s.doing t) claims) ⊎ ((s.lock.queue ≢ []) × (s.parked ≡ false) × ((s.doing t).sets ≡ false))
   way_debt claims none one = grind (arith, h.brought t, h.setting t)
 
@@ -148,7 +148,7 @@ module _ (r : Rules) (s : Site) (t : ℕ) (h : IsSite r s) where
     second = λ e none. absurd (e refl);
   }
 
-  -- who gives up leaves its line, from inside
+  -- a thread that gives up leaves its line, from inside
   abbrev late_lock : LockState
   late_lock = locks.after_case r Late s.lock t
 
@@ -199,7 +199,7 @@ module _ (r : Rules) (s : Site) (t : ℕ) (h : IsSite r s) where
       late_bit : s.lock.queue ≢ [] → (s.parked ≡ true) ⊎ (((s.doing t).sets ≡ true) ⊎ ((s.lock.queue ≢ []) × (s.parked ≡ false) × ((s.doing t).sets ≡ false)))
       late_bit left = grind arith
 
-  -- what is shown is no matter of owners, waiters or hands
+  -- the mutex that is shown is no matter of owners, waiters or hands
   still_holds : (m : Option ℕ) (u : ℕ) (c : Claim) → Holds s.lock u c → Holds (record s.lock { shown = m }) u c
   still_holds m u (Has Exclusive) e = e
   still_holds m u (Has Upgradable) e = e

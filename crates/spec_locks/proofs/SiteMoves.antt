@@ -41,7 +41,7 @@ module _ (r : Rules) (s : Site) (t : ℕ) (h : IsSite r s) where
       known_taken = λ u a e. rw n.0 (known_taking Mutex t gone s.lock.taken known.0 (λ x b f. rw n.0 at (h.state.known_taken x b f)) u a e);
     }
 
-    -- who was in a hand isn't among those who come
+    -- a thread that was in a hand isn't among those who come
     hands_kept : (x u : ℕ) → u ≢ t → counts_taken r.sort u (s.lock.taken x) ≡ true → counts_taken r.sort u (taking t gone s.lock.taken x) ≡ true
     hands_kept x u ne c = by_hand (s.lock.taken x) refl
       where

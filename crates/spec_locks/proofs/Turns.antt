@@ -17,7 +17,7 @@ pub record Local (r : Rules) (s v : Site) (t : ℕ) (d d2 : Doing) : Type 0 wher
   -- it goes into a free section, and a line fills up only by who is inside
   pub inside : (m : Line) → d2.inside ≡ Some m → (d.inside ≡ Some m) ⊎ ((u : ℕ) → (s.doing u).inside ≢ Some m)
   pub fills : (m : Line) → IsEmpty s.lock m → IsEmpty v.lock m ⊎ (d.inside ≡ Some m)
-  -- what it says of itself is so
+  -- its claims of itself are so
   pub emptied : (m : Line) → d2.empty ≡ Some m → (d2.inside ≡ Some m) × IsEmpty v.lock m
   pub covered : d2.covers ≡ true → (d2.inside ≡ Some Main) × (d2.carries ≡ true) × (v.lock.queue ≢ [] → (u : ℕ) × (counts_taken r.sort t (v.lock.taken u) ≡ true))
   pub brought : d2.brings ≡ true → (d2.inside ≡ Some Main) × (v.parked ≡ true) × (r.sort ≡ Mutex)
@@ -29,7 +29,7 @@ pub record Local (r : Rules) (s v : Site) (t : ℕ) (d d2 : Doing) : Type 0 wher
   pub others_hold : (u : ℕ) (c : Claim) → u ≢ t → Holds s.lock u c → Holds v.lock u c
   pub others_carry : (x u : ℕ) → u ≢ t → counts_taken r.sort u (s.lock.taken x) ≡ true → counts_taken r.sort u (v.lock.taken x) ≡ true
   pub taken_by : (x : ℕ) (h : Taken) → v.lock.taken x ≡ Some h → ((h.by ≡ t) × (d2.carries ≡ true)) ⊎ ((h.by ≢ t) × (s.lock.taken x ≡ Some h))
-  -- who is forgotten by it is another's
+  -- a thread that is forgotten by it is another's
   pub main : (v.lock.queue ≢ []) ⊎ (d2.brings ≡ true) → IsOpen r.sort v.lock → v.filled ≡ false
       → IsDebtor r.sort d2 ⊎ ((((s.lock.queue ≢ []) ⊎ (d.brings ≡ true)) × IsOpen r.sort s.lock × (IsDebtor r.sort d → IsDebtor r.sort d2)) ⊎ ((s.lock.queue ≢ []) × (s.parked ≡ false) × (d.sets ≡ false)))
   -- nor who is to be brought by another, inside the main section
@@ -160,7 +160,7 @@ module _ (r : Rules) (s v : Site) (t : ℕ) (d d2 : Doing) (h : IsSite r s) (is 
   awaited (inl k) = inl k
   awaited (inr k) = inr (t, rw is k)
 
-  -- who looks after the line is a debtor
+  -- a thread that looks after the line is a debtor
   in_debt : (e : Doing) → LooksAfter r.sort e → IsDebtor r.sort e
   in_debt e (inl covers) = inr (inl covers)
   in_debt e (inr wakes) = inl wakes.1

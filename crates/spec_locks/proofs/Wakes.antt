@@ -26,7 +26,7 @@ wakened_alike t (Some h) d = either (h.by == t)
     either true = record { inside = refl; wakes = refl; carries = refl; covers = refl; empty = refl; claims = refl; brings = refl; sets = refl }
     either false = record { inside = refl; wakes = refl; carries = refl; covers = refl; empty = refl; claims = refl; brings = refl; sets = refl }
 
--- whoever stays in hand, or was in none, doesn't try again by this
+-- each thread that stays in hand, or was in none, doesn't try again by this
 pub unwakened : (t : ℕ) (o : Option Taken) (d : Doing) → keep_from t o ≡ o → (wakened t o d).retries ≡ d.retries
 unwakened t None d e = refl
 unwakened t (Some h) d e = either (h.by == t) refl
@@ -56,7 +56,7 @@ module _ (r : Rules) (s : Site) (t : ℕ) (h : IsSite r s) (n : Needed r Out s t
     | inr ne ↦ grind (arith, nat_tests)
   ]
 
-  -- who is inside, has seen nobody or has taken others is another
+  -- a thread that is inside, has seen nobody or has taken others is another
   inside_other : (u : ℕ) (m : Line) → (v.doing u).inside ≡ Some m → (u ≢ t) × ((s.doing u).inside ≡ Some m)
   inside_other u m i = elim (cases_eq u t) [
     | inl e ↦ absurd (let k : (v.doing t).inside ≡ Some m = rw e at i in let g = own.inside in cc)
@@ -127,7 +127,7 @@ module _ (r : Rules) (s : Site) (t : ℕ) (h : IsSite r s) (n : Needed r Out s t
   still_carried : (u : ℕ) (a : Taken) → v.lock.taken u ≡ Some a → (v.doing a.by).carries ≡ true
   still_carried u a e = let k = kept_by t (s.lock.taken u) a e in (other a.by k.0).carries ∙ h.carried u a k.1
 
-  -- who still stands was not in t's hand
+  -- a thread that still stands was not in t's hand
   still_there : (u : ℕ) → 1 ≤ standing u v.lock → keep_from t (s.lock.taken u) ≡ s.lock.taken u
   still_there u e = by_hand (s.lock.taken u) refl
     where
@@ -156,7 +156,7 @@ module _ (r : Rules) (s : Site) (t : ℕ) (h : IsSite r s) (n : Needed r Out s t
   was_open Once e = e
   was_open Condvar e = e
 
-  -- who tries again is in nobody's hand
+  -- a thread that tries again is in nobody's hand
   in_no_hand : (u : ℕ) → counts_some r.sort (s.doing u).retries ≡ true → (o : Option Taken) → s.lock.taken u ≡ o → keep_from t o ≡ o
   in_no_hand u c None e = refl
   in_no_hand u c (Some a) e = absurd (

@@ -26,7 +26,7 @@ pub record HasPermits (r : Rules) (s : Site) : Type 0 where
   pub enough : s.lock.queue ≢ [] → r.limit ≤ readers s.lock + debts s
   -- nobody brings waiters from elsewhere
   pub unset : (t : ℕ) → (s.doing t).sets ≡ false
-  -- whoever stands is a thread of the lot
+  -- each waiter is a thread of the lot
   pub known : (u : ℕ) → 1 ≤ standing u s.lock → u < length s.lock.shared
 
 abbrev pub EachDeedKeepsPermits : Type 0

@@ -9,11 +9,11 @@ use Rattle.spec_locks.specs.Locks.{LockState, Taken, Queued, Pending, Sort, Mute
 use Rattle.spec_locks.specs.Onces.{InProgress, Done, IsRunning, OnceCase, Start, Finish, Fail, Rest, TakeAll}
 use Rattle.spec_locks.specs.Locks as locks
 
--- what a thread has by its place: a right, or a pending one with what it falls back to
+-- the right of a thread by its place, or a pending one with what it falls back to
 pub data Claim : Type 0 where
   Has : Want → Claim
   Pends : (falls_back : Bool) → Claim
-  -- of a `Once`: it runs the closure; its own run ended well
+  -- a `Once`: it runs the closure; its own run ended well
   Runs : Claim
   Ran : Claim
 
@@ -22,7 +22,7 @@ pub data Claim : Type 0 where
 pub record Doing : Type 0 where
   -- inside whose section it is
   pub inside : Option Line
-  -- whose waiters it has seen, since it gave way, and hasn't taken yet
+  -- the line whose waiters it has seen, since it gave way, and hasn't taken yet
   pub wakes : Option Line
   -- it has taken in this section whom it was to take
   pub carries : Bool
@@ -30,9 +30,9 @@ pub record Doing : Type 0 where
   pub covers : Bool
   -- where it has seen nobody, inside that section
   pub empty : Option Line
-  -- what it wants, and was woken for
+  -- its want, for which it was woken
   pub retries : Option Want
-  -- what it has by its place
+  -- its right by its place
   pub claims : Option Claim
   -- inside the main section: it has set the parked bit of a mutex that somebody owned, and is to
   -- bring waiters
@@ -139,8 +139,8 @@ StandsIn s t (Some Second) = s.aside ≡ Some t
 abbrev pub IsDebtor : Sort → Doing → Type 0
 IsDebtor sort d = (d.wakes ≡ Some Main) ⊎ ((d.covers ≡ true) ⊎ (counts_some sort d.retries ≡ true))
 
--- who is yet to set the bit has one of those whom it has brought in hand, or is to take those of
--- whom it has seen it
+-- a thread that is yet to set the bit has one of those that it has brought in hand, or is to take those of
+-- which it has seen the bit
 abbrev pub LooksAfter : Sort → Doing → Type 0
 LooksAfter sort d = (d.covers ≡ true) ⊎ ((sort ≡ Once) × (d.wakes ≡ Some Main))
 
@@ -154,21 +154,21 @@ pub record IsSite (r : Rules) (s : Site) : Type 0 where
   -- a waiter implies its bit, or somebody who is yet to set it, or to take the waiters
   pub parked : s.lock.queue ≢ [] → (s.parked ≡ true) ⊎ ((t : ℕ) × ((s.doing t).sets ≡ true))
   pub aside_parked : s.lock.aside ≢ None → s.aside_parked ≡ true
-  -- who has seen nobody is inside that section, and nobody has come
+  -- a thread that has seen nobody is inside that section, and nobody has come
   pub emptied : (t : ℕ) (m : Line) → (s.doing t).empty ≡ Some m
       → ((s.doing t).inside ≡ Some m) × IsEmpty s.lock m
-  -- who took waiters of the main line has one in hand who passes the turn on, unless none is left
+  -- a thread that took waiters of the main line has one in hand that passes the turn on, unless none is left
   pub covered : (t : ℕ) → (s.doing t).covers ≡ true
       → ((s.doing t).inside ≡ Some Main) × ((s.doing t).carries ≡ true)
       × ((s.lock.queue ≢ []) → (u : ℕ) × (counts_taken r.sort t (s.lock.taken u) ≡ true))
-  -- who holds others in hand has taken them in this section
+  -- a thread that holds others in hand has taken them in this section
   pub carried : (u : ℕ) (h : Taken) → s.lock.taken u ≡ Some h → (s.doing h.by).carries ≡ true
-  -- who is to bring waiters does so to a mutex, is inside, and the bit stays
+  -- a thread that is to bring waiters does so to a mutex, is inside, and the bit stays
   pub brought : (t : ℕ) → (s.doing t).brings ≡ true
       → ((s.doing t).inside ≡ Some Main) × (s.parked ≡ true) × (r.sort ≡ Mutex)
   pub setting : (t : ℕ) → (s.doing t).sets ≡ true → LooksAfter r.sort (s.doing t)
   pub held : (t : ℕ) (c : Claim) → (s.doing t).claims ≡ Some c → Holds s.lock t c
-  -- who stands in a line, or is in hand, doesn't try again
+  -- a thread that stands in a line, or is in hand, doesn't try again
   pub unwoken : (t : ℕ) → 1 ≤ standing t s.lock → (s.doing t).retries ≡ None
   -- once full, noted
   pub full : is_full r s.lock ≡ true → s.filled ≡ true
@@ -200,14 +200,14 @@ pub data Deed : Type 0 where
   Bring : (taken moved : List Queued) → Deed
   -- and sets the bit for those whom it has brought to one that nobody owned
   MarkBrought : Deed
-  -- of the condition variable, which the first of its waiters leaves for the mutex, or all do
+  -- the condition variable, which the first of its waiters leaves for the mutex, or all do
   Send : (all : Bool) → Deed
   -- its time is up, and it leaves the list of a condition variable, whose word has no bit for it
   LeaveLine : Deed
   -- a case of the lock
   Case : LockCase → Deed
 
--- who gives way sees the bit
+-- a thread that gives way sees the bit
 abbrev pub seen_main : Bool → Option Line
 seen_main parked = if parked then Some Main else None
 
@@ -238,7 +238,7 @@ abbrev pub fallen : Option Pending → Option Claim
 fallen None = None
 fallen (Some p) = if p.falls_back then Some (Has Upgradable) else None
 
--- what an upgrade has: it owns where nobody shares, and is pending where somebody does
+-- the right of an upgrade: it owns where nobody shares, and is pending where some thread does
 abbrev pub upgraded : LockState → Option Claim
 upgraded now = if readers now == 0 then None else Some (Pends true)
 
@@ -261,7 +261,7 @@ once_doing Fail s d = record d { wakes = seen_main s.parked; sets = s.parked; cl
 once_doing (Rest wanted forced) s d = record d { retries = None; empty = None }
 once_doing TakeAll s d = record d { wakes = None; sets = false; carries = true }
 
--- what the thread does after a case; now is the lock then
+-- the thread's doing after a case; now is the lock then
 abbrev pub case_doing : Sort → Site → LockState → LockCase → Doing → Doing
 case_doing sort s now (Enter x) d = record d { retries = None; claims = None }
 case_doing sort s now Pend d = record d { retries = None; claims = Some (Pends false) }
@@ -305,7 +305,7 @@ done r case s t now = record {
   doing = putting s.doing t (case_doing r.sort s now case (s.doing t));
 }
 
--- whoever is let go tries again for what it wanted
+-- each waiter that is let go tries again for what it wanted
 abbrev pub wakened : ℕ → Option Taken → Doing → Doing
 wakened t None d = d
 wakened t (Some h) d = if h.by == t then record d { retries = Some h.want } else d
@@ -324,7 +324,7 @@ leaves d = record d {
   sets = false;
 }
 
--- who takes one of those that it brings, and moves more, has the bit to set yet
+-- a thread that takes one of those that it brings, and moves more, has the bit to set yet
 abbrev pub bringing : List Queued → List Queued → Doing → Doing
 bringing taken moved d = record d {
   carries = true;
@@ -424,7 +424,7 @@ MayEnd r s d =
     (d.inside ≡ None) × (d.wakes ≡ None) × (d.carries ≡ false)
     × ((counts_some r.sort d.retries ≡ true) → is_full r s ≡ true)
 
--- whoever is brought is brought once, stood nowhere and didn't try again
+-- each waiter that is brought is brought once, stood nowhere and didn't try again
 abbrev pub Apart : Site → List Queued → Type 0
 Apart s xs = (u : ℕ) → (times u xs ≤ 1)
     × (1 ≤ times u xs → (standing u s.lock ≡ 0) × ((s.doing u).retries ≡ None))

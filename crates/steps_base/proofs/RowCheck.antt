@@ -23,7 +23,7 @@ use Rattle.spec_locks.specs.Sites.{Claim, Doing, Has, Pends, counts_some, has_re
 
 -- ---------------------------------------------------------------- the test of a row
 
--- what a thread does next, as far as its row must agree
+-- tells what a thread does next, as far as its row must agree
 pub data Going : Type 0 where
   Into : Line → Going
   HandsOver : Going
@@ -168,7 +168,7 @@ has_claimed sort c x = false
 abbrev pub was_handed : Sort → Profile → Purpose → Bool
 was_handed sort row q = is_handed row.hand && (may_wait q && has_claimed sort row.doing.claims (want_of (Some q)))
 
--- of one line
+-- for one line
 abbrev pub keeps_line : Sort → Profile → Purpose → Going → Line → Bool
 keeps_line sort row q g m =
     implies (is_line m row.owes) (is_line m row.doing.inside || (goes_into m g && lets_in_at sort row q m))
@@ -178,7 +178,7 @@ keeps_line sort row q g m =
     && (implies (is_line m row.late_line) (is_line m row.stands && (sleeps g && (has_deadline q && not (lets_in sort row q))))
     && implies (is_line m row.stands && (sleeps g && has_deadline q)) (is_line m row.late_line)))))
 
--- of one lock
+-- for one lock
 abbrev pub is_single : Purpose → Bool
 is_single (Waits l m timed) = false
 is_single (Notifies l all) = false
@@ -540,7 +540,7 @@ module _ (sort : Sort) (l : ℕ) (row : Profile) (a : Act) (g : Going) (own : lo
       let c : (x : Want) × (want_of (Some (row.purpose l)) ≡ Some x) × HasClaimed sort row.doing.claims x = claimed_so sort row.doing.claims (want_of (Some (row.purpose l))) r.1 in
       record { by = b.0; in_hand = b.1; waited = subst (λ k. MayWait (Some (row.purpose l)) k) own (may_wait_so (row.purpose l) r.0); want = c.0; wants = c.1; has = c.2 }
 
-  -- what the test says, part by part
+  -- tells what the test says, part by part
   record Tested : Type 0 where
     single : is_single (row.purpose l) ≡ true
     knows : knows sort (row.purpose l) ≡ true

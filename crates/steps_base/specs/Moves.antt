@@ -48,7 +48,7 @@ inside_of m = record nowhere { inside = Some m }
 
 -- ---------------------------------------------------------------- what a thread may be told
 
--- of a lock, and of whom it takes, if anybody
+-- the move of a lock's thread, and of the one that it takes, if any
 abbrev pub Hears : Type 1
 Hears = Rules → Site → ℕ → Option ℕ → Reply → Type 0
 
@@ -62,14 +62,14 @@ StandsAlone s t Main alone =
     (1 ≤ times t s.lock.queue) × (alone ≡ is_empty (without t s.lock.queue))
 StandsAlone s t Second alone = s.lock.aside ≡ Some t
 
--- who is taken of the second queue, and whether somebody is left in the main one
+-- the waiter taken of the second queue, and whether one is left in the main one
 abbrev pub MayTake : Rules → Site → Option Want → Line → Option ℕ → Bool → Type 0
 MayTake r s start Main whom none_left = none_left ≡ is_empty (unpicked r.sort start s.lock.queue)
 MayTake r s start Second whom none_left = whom ≡ s.lock.aside
 
 -- ---------------------------------------------------------------- deeds
 
--- of a step on the word: nobody is woken by it, or handed the lock
+-- a step on the word: nobody is woken by it, or handed the lock
 abbrev pub AreOfWord : List Deed → Type 0
 AreOfWord [] = Unit {0}
 AreOfWord (End ∷ []) = Unit {0}
@@ -171,13 +171,13 @@ pub record GoesOut (x : Move) (hears : Hears) (m : Line) (wakes : Wakes) : Type 
 
 -- ---------------------------------------------------------------- a right is handed over
 
--- what a thread claims that was handed what it wanted: a writer beside readers is pending, with
--- nothing to fall back to
+-- the claim of a thread that was handed what it wanted: a writer beside readers is pending, with nothing to
+-- fall back to
 abbrev pub claim_handed : Bool → Want → Claim
 claim_handed false Exclusive = Pends false
 claim_handed alone x = Has x
 
--- whom the right goes to that one alone can have, if to anybody, and what it wants
+-- the waiter that gets the right that one alone can have, if any, and its want
 abbrev pub heir_of : Option ℕ → Option Want → Option Queued
 heir_of (Some u) (Some x) = Some (record { thread = u; want = x })
 heir_of whom x = None
@@ -189,7 +189,7 @@ bit_left none_left = if none_left then Clear Main else Mark Main
 -- it hands a right of its own over to all whom it has in hand, where its operation takes effect
 pub record HandsOver (x : Move) (op : Op) : Type 0 where
   pub right : Want
-  -- what the one of them wants that wants more than to share
+  -- the want of the one among them that wants more than to share
   pub successor : Option Want
   pub any : Bool
   pub none_left : Bool
@@ -269,8 +269,8 @@ pub record IsHeld (x : Move) (u : ℕ) : Type 0 where
   pub woken : station_then x (Woken Normal) ≡ nowhere
   pub doing : (x.next (Woken Normal)).doing ≡ record x.row.doing { retries = Some want }
 
--- who stands in a line sleeps there or is inside its section, only a pending writer stands aside,
--- and who is in a hand is so to be woken
+-- a thread that stands in a line sleeps there or is inside its section, only a pending writer stands aside,
+-- and one in a hand is so to be woken
 pub record Waits (x : Move) : Type 0 where
   pub aside : x.row.stands ≡ Some Second
       → (x.row.wants ≡ Some Exclusive)

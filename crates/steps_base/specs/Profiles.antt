@@ -28,7 +28,7 @@ abbrev pub in_hand : Bool → Bool → Option Bool
 in_hand any handed = if any then Some handed else None
 
 pub record Profile : Type 0 where
-  -- what it does about the lock
+  -- its deeds at the lock
   pub doing : Doing
   -- in which line it stands
   pub stands : Option Line
@@ -36,7 +36,7 @@ pub record Profile : Type 0 where
   pub carries : Option Bool
   -- in whose hand it is
   pub hand : Option Hand
-  -- what it wants, where it waits
+  -- its want, where it waits
   pub wants : Option Want
   -- on which line it is shown to owe a wake, and whether to try again
   pub owes : Option Line
@@ -49,16 +49,15 @@ pub record Profile : Type 0 where
   pub gave_up : Bool
   -- its run of a `Once` failed
   pub failed : Bool
-  -- what a call of a condition variable has seen and moved, and what befell it
+  -- a call of a condition variable: what it has seen and moved, and what befell it
   pub recalls : Recall
-  -- what it is about to do inside the section of a condition variable, and the mutex that its wait
-  -- names
+  -- its next deed inside the section of a condition variable, and the mutex that its wait names
   pub stage : Option Stage
   pub names : Option ℕ
-  -- what its call is for, by the lock, and whether it has given its right up
+  -- the goal of its call, by the lock, and whether it has given its right up
   pub purpose : ℕ → Purpose
   pub released : Bool
-  -- what it owned of each lock as its call of this one began, by what it owns now
+  -- its ownership of each lock as its call of this one began, by what it owns now
   pub former : ℕ → (ℕ → Rights) → ℕ → Rights
 
 -- the row of a try: each other row is told by what is otherwise

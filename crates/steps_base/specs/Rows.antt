@@ -44,7 +44,7 @@ KnowsRights sort None = Unit {0}
 
 -- ---------------------------------------------------------------- rows
 
--- what a thread in a call does
+-- the doing of a thread in a call
 abbrev pub is_acting : Act → Bool
 is_acting Rest = false
 is_acting (End answer) = false
@@ -82,7 +82,7 @@ LetsIn sort l row =
 abbrev pub LetsInAt : Sort → ℕ → Profile → Line → Type 0
 LetsInAt sort l row m = LetsIn sort l row ⊎ WakesAside (Some (row.purpose l)) l m
 
--- who owes a wake on a line is inside its section, or lets others in and is on its way into it
+-- a thread that owes a wake on a line is inside its section, or lets others in and is on its way into it
 pub record RowOwes (sort : Sort) (l : ℕ) (row : Profile) (a : Act) : Type 0 where
   pub owes : (m : Line) → row.owes ≡ Some m
       → (row.doing.inside ≡ Some m) ⊎ ((a ≡ Enter (One (key_of l m))) × LetsInAt sort l row m)
@@ -108,7 +108,7 @@ pub record RowLooksAfter (sort : Sort) (l : ℕ) (row : Profile) (a : Act) (m : 
   pub stands : row.stands ≡ None
   pub taken : taken_of row ≡ None
 
--- who sleeps and may give up stands in the line, in a call that has a deadline and lets nobody in
+-- a sleeper that may give up stands in the line, in a call that has a deadline and lets nobody in
 pub record RowIsLate (sort : Sort) (l : ℕ) (row : Profile) (a : Act) (m : Line) : Type 0 where
   pub stands : row.stands ≡ Some m
   pub asleep : a ≡ Sleep
@@ -120,7 +120,7 @@ pub record RowPromises (sort : Sort) (l : ℕ) (row : Profile) (a : Act) : Type 
   pub own : lock_for (row.purpose l) ≡ l
   -- it has something to do
   pub acts : is_acting a ≡ true
-  -- who waits is in a call that may
+  -- a waiter is in a call that may wait
   pub waits : IsWaiting row → MayWait (Some (row.purpose l)) l
   -- and it is for rights that the lock knows
   pub known : (sorts : ℕ → Sort) → sorts l ≡ sort → KnowsRights sorts (Some (row.purpose l))
@@ -130,7 +130,7 @@ pub record RowPromises (sort : Sort) (l : ℕ) (row : Profile) (a : Act) : Type 
   pub debtor : (m : Line) → IsDebtorIn sort row.doing m → (row.doing.claims ≡ Some (Has Exclusive) → ⊥)
       → RowLooksAfter sort l row a m
   pub asleep : a ≡ Sleep → IsWaiting row ⊎ WasHanded sort l row
-  -- who has handed the lock over leaves its section next, and tells so
+  -- a thread that has handed the lock over leaves its section next, and tells so
   pub tells : row.carries ≡ Some true
       → (a ≡ Leave (One (2 * l)) (wakes.TheVariants.All note.HandOff)) × (row.doing.inside ≡ Some Main)
   pub late : (m : Line) → row.late_line ≡ Some m → RowIsLate sort l row a m

@@ -62,7 +62,7 @@ module _ (c m : ℕ) (timed : Bool) where
   abbrev releasing : Stands → UnlockAt → CondvarPlace
   releasing st at = place (wait.Release st (mutex.Unlock at))
 
-  -- behind it, it is where what befell it says
+  -- after it, it is where what befell it says
   behind_there : (st : Stands) → there (place (behind st)) ≡ there (releasing st unlock.Subtract)
   behind_there stands.Listed = refl
   behind_there stands.Moved = refl

@@ -93,7 +93,7 @@ record Does (c : CondvarSite) (t : ℕ) (ds : List CondvarDeed) (n : Next Condva
   pub next : IsAtNext (after_all ds c t) t n
 
 module _ (c : CondvarSite) (t : ℕ) (site : IsCondvar c) where
-  -- what t knows by its stage
+  -- tells what t knows by its stage
   known : (stage : Stage) → IsInsideAt c t stage → condvars.IsAt c t stage
   known stage e = subst (λ (i : Option Inside). IsAsInside c i) e site.inside
 

@@ -63,7 +63,7 @@ module _ (r : Rules) (s : Site) (c : CondvarSite) (t m : ℕ) (sort : r.sort ≡
   sets all expected v is true owned = (((ap (λ (d : Doing). d.inside) is, owned refl, sort), tt), put_same s.doing t _ ∙ ap (λ (d : Doing). record d { brings = true }) is)
   sets all expected v is false owned = (tt, marked all v is (is_locked v))
 
-  -- behind a move
+  -- after a move
   moved : (taken line : List Queued) (brings any more : Bool) → s.doing t ≡ record inside { brings = brings } → not (is_empty taken) ≡ any → not (is_empty line) ≡ more
       → putting s.doing t (bringing taken line (s.doing t)) t ≡ has_moved any (any && more)
   moved taken line brings any more is e f = put_same s.doing t _ ∙ (λ i. record (is i) { carries = true; covers = e i; empty = None; brings = false; sets = e i && f i })

@@ -343,7 +343,7 @@ module _ (limit : ℕ) (s : Site) (t k m : ℕ) (apart : k ≢ m) (h : IsSite (r
   abbrev Leaves : List Deed → ℕ → Option ℕ → Type 0
   Leaves ds w owner = (w ≡ code rules (after_all rules ds s t)) × (owner ≡ (after_all rules ds s t).lock.exclusive)
 
-  -- behind a release
+  -- after a release
   released_word : s.lock.exclusive ≡ Some t → (b : Bool) → Leaves (unended (Case (Leave Exclusive) ∷ (if b then [] else End ∷ []))) (apply (op.Sub 1) v) None
   released_word own true = (ap (λ e. apply (op.Sub 1) (word_of s.parked e)) own ∙ less_one s.parked t, refl)
   released_word own false = (ap (λ e. apply (op.Sub 1) (word_of s.parked e)) own ∙ less_one s.parked t, refl)
@@ -352,7 +352,7 @@ module _ (limit : ℕ) (s : Site) (t k m : ℕ) (apart : k ≢ m) (h : IsSite (r
   tried_word true e = (entered_zero s.parked s.lock.exclusive t e, refl)
   tried_word false e = (refl, owned)
 
-  -- behind an exchange that found what it expected, or did not
+  -- after an exchange that found what it expected, or did not
   abbrev Decides : ℕ → (same locked : Bool) → Op → Type 0
   Decides expected same locked f =
       Leaves (if not same then [] else if locked then Mark Main ∷ [] else enters) (apply f v) (if same && not locked then with_exclusive o (Some t) else o).exclusive

@@ -84,7 +84,7 @@ look_event c seen = if seen == 0 then Nothing
 
 -- ---------------------------------------------------------------- what it makes of the call
 
--- what a call has come to at a place, by what its thread owns
+-- the state of a call at a place, by what its thread owns
 abbrev pub call_at : ℕ → ℕ → CondvarPlace → (ℕ → Rights) → CallState
 call_at c m p rights = call_of_two c m (condvar_profile p) (mutex_side p) rights
 
@@ -135,7 +135,7 @@ abbrev pub IsRelock : MutexPlace → Type 0
 IsRelock (mutex.Lock entry.Lock retries at) = IsLockOf at
 IsRelock at = ⊥
 
--- who has its note is awake
+-- a thread that has its note is awake
 abbrev pub IsUnnoted : Stands → Type 0
 IsUnnoted (stands.Noted by) = ⊥
 IsUnnoted s = Unit {0}

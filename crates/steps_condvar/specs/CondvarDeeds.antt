@@ -137,7 +137,7 @@ MayHearNotifying c all (notify.MarkMoved number) (Value seen) = number ≢ 0
 MayHearNotifying c all (notify.Leave any number) Done = Unit {0}
 MayHearNotifying c all at told = ⊥
 
--- what a thread may be told of its own steps
+-- the outcomes that a thread may be told of its own steps
 abbrev pub MayHear : CondvarSite → ℕ → CondvarPlace → Reply → Type 0
 MayHear c t (Wait m timed at) told = MayHearWaiting c t at told
 MayHear c t (Look all) (Value seen) = Unit {0}

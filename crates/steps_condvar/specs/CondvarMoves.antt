@@ -69,7 +69,7 @@ beside q p = record {
   deeds = λ whom told. deeds_beside q p whom told;
 }
 
--- what it may be told there, whatever the condition variable is
+-- the news that it may be told there, however the condition variable stands
 abbrev pub hears_beside : CondvarPlace → Hears
 hears_beside (Wait m timed at) r s t whom told = MayHearWaiter r s t at whom told
 hears_beside (Look all) r s t whom told = Unit {0}
@@ -78,7 +78,7 @@ hears_beside (Notify all m at) r s t whom told = (v : CondvarSite)
 
 -- ---------------------------------------------------------------- at the condition variable
 
--- of a step on the word, or at the mutex: nobody goes in or out, and nobody stands or is moved
+-- a step on the word, or at the mutex: nobody goes in or out, and nobody stands or is moved
 abbrev pub StayThere : List CondvarDeed → Type 0
 StayThere [] = Unit {0}
 StayThere (GoesIn ∷ ds) = ⊥
@@ -177,7 +177,7 @@ pub record MovesWaiters (q : List Queued) (p : CondvarPlace) (all locked : Bool)
   pub carries : station_then (beside q p) told
       ≡ record (inside_of Main) { carries = in_hand (not locked) false }
 
--- what is moved, by how
+-- the waiters moved, by how
 abbrev pub MovesBy : List Queued → CondvarPlace → Requeue → Type 0
 MovesBy q p requeue.One = (number : ℕ) (none_left : Bool)
     → MovesWaiters q p false true (Requeued number none_left)
@@ -241,8 +241,8 @@ LooksMove = (c m : ℕ) (all : Bool) → CondvarMoves c m [] (Look all) (condvar
 
 -- ---------------------------------------------------------------- what befalls a waiter
 
--- who stands in the queue of the condition variable is taken or moved: it stands there no more, and
--- is in a hand at the mutex, or stands there
+-- a waiter in the queue of the condition variable is taken or moved: it stands there no more, and is in a
+-- hand at the mutex, or stands there
 pub record SleepsThere (p : CondvarPlace) : Type 0 where
   pub was : ((there p).stands ≡ Some Main) × ((station_of (beside [] p)).stands ≡ None)
       × ((station_of (beside [] p)).hand ≡ None)
@@ -255,14 +255,14 @@ pub record SleepsThere (p : CondvarPlace) : Type 0 where
       × (station_then (beside [] p) (MovedTo key)
       ≡ record (station_of (beside [] p)) { stands = Some Main; waits = Some Exclusive })
 
--- who stands in that of the mutex is taken
+-- a waiter in that of the mutex is taken
 pub record SleepsBeside (p : CondvarPlace) : Type 0 where
   pub was : ((station_of (beside [] p)).stands ≡ Some Main) × ((there p).stands ≡ None)
   pub taken : (u : ℕ) → (there_then p (TakenBy u) ≡ there p)
       × (station_then (beside [] p) (TakenBy u)
       ≡ record (station_of (beside [] p)) { stands = None; waits = None; hand = hand u false })
 
--- who is in a hand is handed the mutex, or woken, and then stands nowhere
+-- a thread in a hand is handed the mutex, or woken, and then stands nowhere
 pub record IsHeldBeside (p : CondvarPlace) (u : ℕ) : Type 0 where
   pub was : ((station_of (beside [] p)).hand ≡ hand u false)
       × ((station_of (beside [] p)).stands ≡ None) × ((there p).stands ≡ None)
@@ -273,7 +273,7 @@ pub record IsHeldBeside (p : CondvarPlace) (u : ℕ) : Type 0 where
       × (station_then (beside [] p) (Woken Normal)
       ≡ record (station_of (beside [] p)) { hand = None })
 
--- who was handed the mutex is told so
+-- a thread that was handed the mutex is told so
 pub record WasGivenBeside (p : CondvarPlace) (u : ℕ) : Type 0 where
   pub was : ((station_of (beside [] p)).hand ≡ hand u true)
       × ((station_of (beside [] p)).stands ≡ None) × ((there p).stands ≡ None)
@@ -285,8 +285,8 @@ abbrev pub IsInHand : CondvarPlace → ℕ → Bool → Type 0
 IsInHand p u false = IsHeldBeside p u
 IsInHand p u true = WasGivenBeside p u
 
--- who stands in one of the two queues is inside its section, or is so to be taken, and who is in a
--- hand is so to be told
+-- a thread in one of the two queues is inside its section, or is so to be taken, and one in a hand is so to
+-- be told
 pub record WaitsAtBoth (p : CondvarPlace) : Type 0 where
   pub listed : (there p).stands ≡ Some Main → ((there p).inside ≡ Some Main) ⊎ SleepsThere p
   pub moved : (station_of (beside [] p)).stands ≡ Some Main

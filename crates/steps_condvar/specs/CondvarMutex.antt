@@ -18,7 +18,7 @@ use Rattle.steps_condvar.specs.declared.notify.NotifyAt.TheVariants as notify
 use Rattle.steps_condvar.specs.CondvarSteps.{next_notify, notify_act}
 use Rattle.steps_condvar.specs.CondvarProfiles.{notify_row}
 
--- of these waiters, those whom it moves or takes
+-- those among the waiters that it moves or takes
 abbrev pub brings : Bool → Bool → List Queued → List Deed
 brings all locked q = Bring (taken_of locked (moved_of all q)) (line_of locked (moved_of all q))
     ∷ []
@@ -33,7 +33,7 @@ beside_deeds all q (notify.MarkMoved number) (Value seen) = MarkBrought ∷ []
 beside_deeds all q (notify.Leave any number) Done = Out ∷ End ∷ []
 beside_deeds all q at told = []
 
--- what it may be told, beside this mutex
+-- the news that it may be told, beside this mutex
 abbrev pub MayHearBeside : Rules → Site → CondvarSite → ℕ → ℕ → Bool → NotifyAt → Reply → Type 0
 MayHearBeside r s c t m all notify.Enter Done = (u : ℕ) → (s.doing u).inside ≢ Some Main
 MayHearBeside r s c t m all notify.Again (Value seen) = Unit {0}

@@ -26,7 +26,7 @@ pub record CondvarRow : Type 0 where
   pub stage : Option Stage
   pub waits_with : Option ℕ
   pub listed : Bool
-  -- what it does about the mutex, and whether it stands in that queue
+  -- its deeds at the mutex, and whether it stands in that queue
   pub doing : Doing
   pub moved : Bool
   -- in whose hand it is, and what it wants, where it waits
@@ -87,7 +87,7 @@ taker_of s = hand_owner (hand_of s)
 abbrev pub want_of : Stands → Want
 want_of s = if is_listed s then wants.Wait else wants.Exclusive
 
--- what befell it adds to what it does about the mutex
+-- the news that befell it adds to its deeds at the mutex
 abbrev pub befell : Stands → Doing → Doing
 befell s d = record d {
   retries = if is_woken s then Some wants.Exclusive else d.retries;
@@ -188,7 +188,7 @@ condvar_row (Notify all m at) = notify_row all m at
 abbrev pub condvar_taker : CondvarPlace → Option ℕ
 condvar_taker p = hand_owner (condvar_row p).hand
 
--- what it wants, where it waits
+-- its want, where it waits
 abbrev pub condvar_wants : CondvarPlace → Option Want
 condvar_wants p = (condvar_row p).wants
 
@@ -219,7 +219,7 @@ abbrev pub section_in : Option Stage → Option Line
 section_in None = None
 section_in (Some stage) = Some Main
 
--- who waits to be notified does so at the condition variable, and everybody else at the mutex
+-- a thread that waits to be notified does so at the condition variable, and all others at the mutex
 abbrev pub wants_there : Option Want → Option Want
 wants_there (Some wants.Wait) = Some wants.Wait
 wants_there x = None
@@ -256,7 +256,7 @@ abbrev pub is_late_beside : CondvarPlace → Bool
 is_late_beside (Wait m timed wait.RemoveMoved) = true
 is_late_beside p = false
 
--- what its call is for
+-- the goal of its call
 abbrev pub condvar_purpose : CondvarPlace → ℕ → Purpose
 condvar_purpose (Wait m timed at) c = Waits c m timed
 condvar_purpose (Look all) c = Notifies c all
@@ -276,7 +276,7 @@ abbrev pub condvar_released : CondvarPlace → Bool
 condvar_released (Wait m timed at) = has_released at
 condvar_released p = false
 
--- what its call recalls
+-- the memory of its call
 abbrev pub stands_recalls : Stands → Recall
 stands_recalls stands.Listed = Blank
 stands_recalls stands.Moved = WasMoved
@@ -326,7 +326,7 @@ carries_beside (Wait m timed at) = wait_carries at
 carries_beside (Look all) = None
 carries_beside (Notify all m at) = notify_carries at
 
--- what a place says of its thread at the condition variable: nobody is in a hand there
+-- the row of a place at the condition variable: nobody is in a hand there
 abbrev pub condvar_profile : CondvarPlace → Profile
 condvar_profile p = record profiles.blank {
   doing = record idle { inside = section_in (condvar_row p).stage };

@@ -56,7 +56,7 @@ pub record TakesFirst (s : Site) (whom : Option ℕ) (any none_left : Bool) : Ty
   pub some : any ≡ not (is_none whom)
   pub left : none_left ≡ is_empty (drop 1 s.lock.queue)
 
--- who releases it owns it, and nobody has handed it over meanwhile
+-- a thread that releases it owns it, and nobody has handed it over meanwhile
 abbrev pub MayHearReleasing : Rules → Site → ℕ → Stands → UnlockAt → Option ℕ → Reply → Type 0
 MayHearReleasing r s t st unlock.Subtract whom (Value seen) =
     (seen ≡ code r s) × (has_mutex st ≡ false)
@@ -105,7 +105,7 @@ abbrev pub waiter_next : ℕ → Next WaitAt → Doing
 waiter_next m (At at) = (wait_row m at).doing
 waiter_next m (Over answer) = idle
 
--- who leaves the section is woken where it was in its own hand: a release may take its own thread
+-- a thread that leaves the section is woken where it was in its own hand: a release may take its own thread
 abbrev pub itself_woken : ℕ → Site → List Deed → Doing → Doing
 itself_woken t s (Out ∷ ds) d = wakened t (s.lock.taken t) d
 itself_woken t s ds d = d
@@ -142,7 +142,7 @@ WaitersCode =
 
 -- ---------------------------------------------------------------- what befalls a waiter
 
--- who was taken and handed the mutex has it, and who was woken without it tries again
+-- a waiter that was taken and handed the mutex has it, and one that was woken without it tries again
 abbrev pub befalls_doing : Reply → Doing → Doing
 befalls_doing (HandedBy by alone) d = record d { claims = Some (Has Exclusive) }
 befalls_doing (Woken Normal) d = record d { retries = Some Exclusive }

@@ -200,7 +200,7 @@ module _ (limit : ℕ) (s : Site) (t : ℕ) (h : IsSite (record { sort = Mutex; 
 
   -- ---------------------------------------------------------------- hand-offs
 
-  -- what it sees leads it to hand the mutex over, or its call ends
+  -- the word that it sees leads it to hand the mutex over, or its call ends
   unlocks_fairly : s.doing t ≡ owner → (b : Bool) → (b ≡ true → s.parked ≡ false) → Does (if b then Case (Leave Exclusive) ∷ End ∷ [] else []) (looked false (not b))
   unlocks_fairly is true e = subtracts is false (e refl)
   unlocks_fairly is false e = (tt, is)

@@ -21,7 +21,7 @@ use Rattle.steps_mutex.proofs.MutexCalls.{Tells, first, loads, exchanges, checks
 use Rattle.steps_mutex.proofs.MutexFit.{mutex_steps_follow}
 use Rattle.steps_mutex.proofs.MutexWords.{locked_owned}
 
--- what a thread may be told of its own step, as far as its call goes
+-- tells what a thread may be told of its own step, as far as its call goes
 abbrev pub Hears : Site → ℕ → MutexPlace → Reply → Type 0
 Hears s t (Lock e again First) (Value v) = Unit {0}
 Hears s t (Lock e again Load) (Value v) = Unit {0}
@@ -55,7 +55,7 @@ module _ (limit : ℕ) (s : Site) (t l : ℕ) (site : IsSite (record { sort = Mu
   owns : (d : Doing) → s.doing t ≡ d → d.claims ≡ Some (Has Exclusive) → s.lock.exclusive ≡ Some t
   owns d doing claims = site.held t (Has Exclusive) (ap (λ (x : Doing). x.claims) doing ∙ claims)
 
-  -- who enters, finds nobody
+  -- a thread that enters, finds nobody
   nobody : AllNeeded mutex enters s t → s.lock.exclusive ≡ None
   nobody needed = needed.0.0.0.0.1
 

@@ -39,7 +39,7 @@ mutex_row p = bringing_nobody (mutex_profile p)
 abbrev pub mutex_doing : MutexPlace → Doing
 mutex_doing p = (mutex_row p).doing
 
--- behind a step, at its next place or in no call
+-- the state after a step, at its next place or in no call
 abbrev pub doing_next : Next MutexPlace → Doing
 doing_next (next.At p) = mutex_doing p
 doing_next (next.End answer) = idle

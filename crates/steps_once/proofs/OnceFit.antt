@@ -56,7 +56,7 @@ module _ (r : Rules) (s : Site) (t : ℕ) (sort : r.sort ≡ Once) (h : IsSite r
     looks Marks = record { needed = tt; doing = is }
     looks Parks = record { needed = tt; doing = is }
 
-    -- behind its exchange
+    -- after its exchange
     exchanges : (b : Bool) (k : Course) → (k ≡ Runs → MayStart s.lock.phase (is_forced c))
         → Does r s t (exchanged_deeds c b k) (if b && is_run k then At (Run (is_forced c) (found (Value v))) else in_look c retries (if b && is_mark k then At (look.Decide (marked v)) else looked_by v k))
     exchanges true Runs may = record { needed = (((sort, may refl), tt), tt); doing = put_same s.doing t _ ∙ ap (λ (d : Doing). record d { retries = None; claims = Some Running }) is }

@@ -83,7 +83,7 @@ module _ (r : Rules) (s : Site) (t l : ℕ) where
     looks v Marks may = looks_on v
     looks v Parks may = looks_on v
 
-  -- behind an exchange
+  -- after an exchange
   starts : (c : OnceCall) (retries poisoned : Bool) → runs c ≡ true → Tells (Look c retries look.Load) (exchanged_deeds c true Runs) (At (Run (is_forced c) (run.Closure poisoned)))
   starts (CallOnce forced) retries poisoned is_run = record { one = tt; may = ((refl, refl), tt); comes = λ rights is. recalls _ _ (same s.lock refl rights is) }
   starts (Wait forced) retries poisoned is_run = absurd cc

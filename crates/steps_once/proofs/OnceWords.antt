@@ -23,7 +23,7 @@ word_of s = word s.parked s.lock.phase
 pub coded : (r : Rules) (s : Site) → r.sort ≡ Once → code r s ≡ word_of s
 coded r s sort = ap (λ x. code_of x r.limit s) sort
 
--- what a call does by the word, it may do
+-- a call may do what it does by the word
 abbrev pub MayGo : OnceCall → Bool → Phase → Course → Type 0
 MayGo c parked phase (Ends answer.Ok) = (phase ≡ Done) × (is_timed c ≡ false)
 MayGo c parked phase (Ends answer.Yes) = (phase ≡ Done) × (is_timed c ≡ true)

@@ -37,7 +37,7 @@ abbrev pub looked_deeds : Course → List Deed
 looked_deeds (Ends answer) = End ∷ []
 looked_deeds course = []
 
--- behind an exchange, by whether it succeeded
+-- the state after an exchange, by whether it succeeded
 abbrev pub exchanged_deeds : OnceCall → Bool → Course → List Deed
 exchanged_deeds c true Runs = Case (OfOnce (Start (is_forced c))) ∷ []
 exchanged_deeds c true Marks = Mark Main ∷ []
@@ -84,7 +84,7 @@ once_deeds (GiveUp retries at) told = give_up_deeds at told
 abbrev pub once_doing : OncePlace → Doing
 once_doing p = (once_profile p).doing
 
--- behind a step, at its next place or in no call
+-- the state after a step, at its next place or in no call
 abbrev pub doing_next : Next OncePlace → Doing
 doing_next (next.At p) = once_doing p
 doing_next (next.End answer) = idle
@@ -127,7 +127,7 @@ OnceOwnersFollow =
 abbrev pub IsFree : Site → Type 0
 IsFree s = (u : ℕ) → (s.doing u).inside ≢ Some Main
 
--- what a thread may be told of its steps in and out of the section, and as its time is up
+-- the outcomes that a thread may be told of its steps in and out of the section, and as its time is up
 abbrev pub MayHear : Rules → Site → ℕ → OncePlace → Reply → Type 0
 MayHear r s t (Look c retries (look.Decide seen)) reply.Done = IsFree s
 MayHear r s t (Look c retries look.Check) (reply.Parked b) =

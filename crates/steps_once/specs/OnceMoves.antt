@@ -29,7 +29,7 @@ once_move p = record {
   deeds = λ whom told. once_deeds p told;
 }
 
--- what it may be told
+-- the news that it may be told
 abbrev pub once_hears : OncePlace → Hears
 once_hears p r s t whom told = MayHear r s t p told
 
@@ -75,8 +75,7 @@ OnceMoves l x hears act = Moves l false x hears act
 abbrev pub OnceActsMove : Type 0
 OnceActsMove = (l : ℕ) (p : OncePlace) → OnceMoves l (once_move p) (once_hears p) (once_act l p)
 
--- who stands in the queue sleeps there or is inside its section, and who is in a hand is so to be
--- woken
+-- a thread in the queue sleeps there or is inside its section, and one in a hand is so to be woken
 abbrev pub OnceSleepersMove : Type 0
 OnceSleepersMove = (p : OncePlace) → Waits (once_move p)
 

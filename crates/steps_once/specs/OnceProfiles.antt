@@ -21,7 +21,7 @@ use Rattle.steps_once.specs.OnceSteps.{is_timed, want_of}
 abbrev pub inside : Doing
 inside = record idle { inside = Some Main }
 
--- what it wants again since it was woken
+-- its want again since it was woken
 abbrev pub again : Option Want → Doing → Doing
 again wanted d = record d { retries = wanted }
 
@@ -106,7 +106,7 @@ once_profile (GiveUp retries at) =
 abbrev pub once_taker : OncePlace → Option ℕ
 once_taker at = hand_owner (once_profile at).hand
 
--- what it wants, where it waits
+-- its want, where it waits
 abbrev pub once_wants : OncePlace → Option Want
 once_wants at = (once_profile at).wants
 

@@ -34,7 +34,7 @@ use Rattle.spec_locks.specs.Runs.{CallState, AtLock, going_on, EntersAnswer, Con
 use Rattle.spec_locks.specs.Sites.{Doing, Has, Site, IsSite, Deed, Case}
 use Rattle.spec_locks.proofs.Rights.{regained}
 
--- who wakes others behind a downgrade owns what it got by it
+-- a thread that wakes others behind a downgrade owns what it got by it
 abbrev KeepsRight : LockState → ℕ → RwLockPurpose → RwLockAt → Type 0
 KeepsRight s t (purpose.Downgrade d) (at.Wake m to) = Owns s t (wanted (to_of d))
 KeepsRight s t q to = Unit {0}
@@ -174,7 +174,7 @@ module _ (r : Rules) (a : Admission) (s : Site) (t l : ℕ) (admits : Admits r a
     wakes_fallen (waking.Leave false) whom reply.Done ready hears = record { one = tt; may = tt; comes = λ w rights ruled now e has. subst (λ y. ConvertsAnswer w t (call_by l (rwlock_profile a (raiser how again (at.Wake Main (waking.Leave false)))) rights) l Upgradable Exclusive y No) (sym (is_timed how ready)) (refl, keeps l t s.lock s.lock (purpose.Upgrade how) (at.Wake Main (waking.Leave false)) r w rights ruled now e has refl) }
     wakes_fallen to whom told ready hears = absurd hears
 
-  -- who has released
+  -- a thread that has released
   module _ (x : Access) (again : Bool) where
     abbrev leaver : RwLockAt → RwLockPlace
     leaver to = of (purpose.Release x) again to

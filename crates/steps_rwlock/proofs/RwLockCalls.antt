@@ -57,7 +57,7 @@ module _ (r : Rules) (a : Admission) (s : Site) (t l : ℕ) (op : Op) (admits : 
   abbrev Tells : RwLockPlace → List Deed → Next RwLockPlace → Type 0
   Tells p ds n = CallFollows r s.lock t l (rwlock_profile a p) ds (next_row a n)
 
-  -- what the case of a step makes of the call there
+  -- tells what the case of a step makes of the call there
   abbrev by_case : LockCase → RwLockPlace → (ℕ → Rights) → CallState
   by_case case p rights = going_on (AtLock l case) (call_by l (rwlock_profile a p) rights)
 
@@ -252,7 +252,7 @@ module _ (r : Rules) (a : Admission) (s : Site) (t l : ℕ) (op : Op) (admits : 
     writes (at.Wake Second to) fits fresh doing e = absurd fits
     writes to fits fresh doing e = absurd cc
 
-  -- who wants to share, or may want to write later
+  -- a thread that wants to share, or may want to write later
   shares_tell : (x : Access) → wanted x ≢ Exclusive → (how : Patience) (again : Bool) (to : RwLockAt) → SharesAt how to → EntersAt x how at.Load → IsFreshTry how again → rwlock_act l a (of (purpose.Enter x how) again to) ≡ act.Word l op
       → Tells (of (purpose.Enter x how) again to) (rwlock_deeds a (of (purpose.Enter x how) again to) None (reply.Value v)) (rwlock_next a (of (purpose.Enter x how) again to) (reply.Value v))
   shares_tell x more how again at.Load fits looking fresh e = looks x how again fresh at.Load tt looking

@@ -164,7 +164,7 @@ blocked_unset Patient v e = marks_unset (has_parked v) e
 blocked_unset Timed v e = marks_unset (has_parked v) e
 
 module _ (a : Admission) (how : Patience) (v : ℕ) (small : v < 2 ^ 64) (few : a.limit < 2 ^ 60) where
-  -- what is taken fits into the word
+  -- the right that is taken fits into the word
   take_fits : (x : Access) → decision a (wanted x) how v ≡ decisions.Take → plus v (token (wanted x)) ≡ v + token (wanted x)
   take_fits x e = by_tests (is_blocked a.recursive (wanted x) v) refl (is_counted (wanted x) && nat_le a.limit (count_in v)) refl e
     where
@@ -178,7 +178,7 @@ module _ (a : Admission) (how : Patience) (v : ℕ) (small : v < 2 ^ 64) (few : 
       by_tests false eb true ec f = absurd cc
       by_tests true eb c ec f = absurd (blocked_takes_no how v f)
 
-  -- what is marked is clear
+  -- the bit that is marked was clear
   mark_fits : (x : Want) → decision a x how v ≡ decisions.Mark → has_parked v ≡ false
   mark_fits x e = by_tests (is_blocked a.recursive x v) (is_counted x && nat_le a.limit (count_in v)) e
     where

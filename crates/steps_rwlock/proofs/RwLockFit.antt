@@ -161,7 +161,7 @@ module _ (r : Rules) (a : Admission) (s : Site) (t l : ℕ) (op : Op) (admits : 
   abbrev v : ℕ
   v = code r s
 
-  -- what a call of this purpose does at a place
+  -- tells what a call of this purpose does at a place
   abbrev FollowsAt : RwLockPlace → Type 0
   FollowsAt p = Follows r s t (rwlock_deeds a p None (reply.Value v)) (doing_next (rwlock_next a p (reply.Value v)))
 
@@ -199,7 +199,7 @@ module _ (r : Rules) (a : Admission) (s : Site) (t l : ℕ) (op : Op) (admits : 
         by_tests false true ec f = inr (let m = admits.2 in grind (arith, nat_tests))
         by_tests false false ec f = absurd cc
 
-    -- who takes what it saw may
+    -- a thread that takes what it saw may
     pub may_enter : decision a (wanted x) how v ≡ decisions.Take → MayEnter r s.lock (wanted x)
     may_enter e = by_tests (is_blocked a.recursive (wanted x) v) refl (is_counted (wanted x) && nat_le a.limit (count_in v)) refl e
       where

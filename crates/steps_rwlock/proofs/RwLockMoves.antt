@@ -459,7 +459,7 @@ module _ (a : Admission) where
   abbrev move : RwLockPurpose → Bool → RwLockAt → Move
   move q again to = rwlock_move a (place q again to)
 
-  -- who stands in a line
+  -- a thread that stands in a line
   abbrev StandsWell : RwLockPurpose → Bool → RwLockAt → Type 0
   StandsWell q again to =
       (m : Line) → (rwlock_profile a (place q again to)).stands ≡ Some m → ((station_of (move q again to)).inside ≡ Some m) ⊎ Sleeps (move q again to) m
@@ -525,7 +525,7 @@ module _ (a : Admission) where
     )
     asides_held to u handed e = absurd cc
 
-    -- who waits in the main line has nothing yet
+    -- a thread that waits in the main line has nothing yet
     parks_held : claimed q ≡ None → (to : ParkAt) → HeldWell q again (at.Park to)
     parks_held none (parking.Taken by) u handed e = let same = held_by u by handed e in (
       same.0,
@@ -539,7 +539,7 @@ module _ (a : Admission) where
     )
     parks_held none to u handed e = absurd cc
 
-    -- who waits in the main line isn't aside
+    -- a thread that waits in the main line isn't aside
     parks_aside : (to : ParkAt) → AsideWell q again (at.Park to)
     parks_aside (parking.Leave true) e = absurd cc
     parks_aside (parking.Leave false) e = absurd cc
@@ -585,7 +585,7 @@ module _ (a : Admission) where
   waits_all (purpose.Downgrade d) again (at.Aside to) fits = absurd fits
   waits_all q again to fits = record { aside = λ e. absurd cc; stands = λ m e. absurd cc; held = λ u handed e. absurd cc }
 
-  -- whose time is up goes into the section of its line
+  -- a thread whose time is up goes into the section of its line
   parks_late : (q : RwLockPurpose) (again : Bool) (how : Patience) (to : ParkAt) (m : Line) → late_line_at how (at.Park to) ≡ Some m → GoesIn (move q again (at.Park to)) (rwlock_hears a (place q again (at.Park to))) m reply.Late
   parks_late q again Timed parking.Asleep Main e = record { out = refl; free = refl; deeds = refl; goes = refl; may = λ r s t free. free }
   parks_late q again Timed parking.Asleep Second e = absurd cc

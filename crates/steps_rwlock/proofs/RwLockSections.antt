@@ -66,7 +66,7 @@ module _ (r : Rules) (s : Site) (t : ℕ) (rw_sort : has_readers r.sort ≡ true
   nobody_taken : (s.doing t).carries ≡ false → HasTakenNobody s.lock t
   nobody_taken none u x e = let g = h.carried u _ e in cc
 
-  -- what it keeps it has
+  -- it has the right that it keeps
   keeps : (start : Option Want) → MayKeep start → (s.doing t).claims ≡ kept_claim start → KeepsOwned s.lock t start
   keeps None may e = tt
   keeps (Some Shared) may e = tt

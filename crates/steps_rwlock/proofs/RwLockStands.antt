@@ -112,7 +112,7 @@ aside_set word few unset = (grind (arith, nat_tests), let more : plus word 2 ≡
 
 -- ---------------------------------------------------------------- patience
 
--- whoever may wait may have been woken
+-- each thread that may wait may have been woken
 fresh_waits : (how : Patience) → MayWait how → (again : Bool) → IsFreshTry how again
 fresh_waits Patient w again = tt
 fresh_waits Timed w again = tt

@@ -60,7 +60,7 @@ parking_doing m again claims parking.Remove = within m None claims
 parking_doing m again claims parking.Clear = finding m claims
 parking_doing m again claims parking.GiveUp = within m None claims
 
--- what a thread keeps while it wakes others
+-- the right that a thread keeps while it wakes others
 abbrev pub kept_claim : Option Want → Option Claim
 kept_claim None = None
 kept_claim (Some x) = Some (Has x)
@@ -107,7 +107,7 @@ abbrev pub claimed : RwLockPurpose → Option Claim
 claimed (purpose.Upgrade how) = Some (Has Upgradable)
 claimed q = None
 
--- what a thread has that is about to give it up, or to turn it into another right
+-- the right of a thread that is about to give it up, or to turn it into another
 abbrev pub held_of : RwLockPurpose → Want
 held_of (purpose.Upgrade how) = Upgradable
 held_of q = wanted (access_of q)
@@ -125,14 +125,14 @@ doing_at again q at.RollBack = at_rest None (pends q)
 doing_at again q at.GiveWay = at_rest None (Some (Has (held_of q)))
 doing_at again q (at.Wake m to) = waking_doing (start_of q) m to
 
--- what it wants again since it was woken
+-- its want again since it was woken
 abbrev pub again_of : RwLockPlace → Option Want
 again_of p = if p.retries then Some (want_at p) else None
 
 abbrev pub rwlock_doing : RwLockPlace → Doing
 rwlock_doing p = doing_at (again_of p) p.purpose p.at
 
--- behind a step, at its next place or in no call
+-- the state after a step, at its next place or in no call
 abbrev pub doing_next : Next RwLockPlace → Doing
 doing_next (next.At p) = rwlock_doing p
 doing_next (next.End answer) = idle
@@ -156,7 +156,7 @@ abbrev pub came_in_deeds : RwLockPurpose → List Deed
 came_in_deeds (purpose.Upgrade how) = Case (Convert Upgradable Exclusive) ∷ End ∷ []
 came_in_deeds q = enters_deeds (wanted (access_of q))
 
--- behind its exchange, by whether it succeeded
+-- the state after its exchange, by whether it succeeded
 abbrev pub exchanged_deeds : RwLockPurpose → Decision → Bool → Decision → List Deed
 exchanged_deeds q decisions.Take true now = came_in_deeds q
 exchanged_deeds q decisions.Mark true now = Mark Main ∷ []
@@ -196,13 +196,13 @@ park_deeds parks m parking.Clear (reply.Value seen) = Clear m ∷ []
 park_deeds parks m parking.GiveUp reply.Done = Out ∷ []
 park_deeds parks m to told = []
 
--- who is taken of the second queue, if anybody, is no part of a place: `whom`
+-- the waiter taken of the second queue, if any, is no part of a place: `whom`
 abbrev pub takes : Option Want → Line → Option ℕ → Deed
 takes start Main whom = Case (TakePicked start)
 takes start Second None = FindNobody Second
 takes start Second (Some u) = Case (TakeAside u)
 
--- who keeps a right of its own ends that as its call ends
+-- a thread that keeps a right of its own ends that as its call ends
 abbrev pub leaves_with : Option Want → List Deed
 leaves_with None = Out ∷ []
 leaves_with (Some x) = Out ∷ End ∷ []
@@ -320,7 +320,7 @@ RwLockStepsCode =
 
 -- ---------------------------------------------------------------- steps in and out of sections
 
--- what a thread may be told on its way into a queue, and out of it
+-- the outcomes that a thread may be told on its way into a queue, and out of it
 abbrev pub MayHearParking : Rules → Site → ℕ → Line → Bool → ParkAt → Reply → Type 0
 MayHearParking r s t m finds parking.Check (reply.Parked b) = (b ≡ finds) × (standing t s.lock ≡ 0)
 MayHearParking r s t m finds (parking.Leave parked) reply.Done = s.lock.taken t ≡ None
@@ -339,7 +339,7 @@ MayHearWaking r s t start m waking.Take whom (reply.Picked n x none_left) =
 MayHearWaking r s t start m (waking.Leave any) whom reply.Done = s.lock.taken t ≡ None
 MayHearWaking r s t start m to whom told = ⊥
 
--- what a thread may be told of its steps in and out of sections, and as it is late
+-- the outcomes that a thread may be told of its steps in and out of sections, and as it is late
 abbrev pub MayHear : Rules → Admission → Site → ℕ → RwLockPlace → RwLockAt → Option ℕ → Reply
     → Type 0
 MayHear r a s t p (at.Decide seen) whom reply.Done =

@@ -55,7 +55,7 @@ use Rattle.steps_rwlock_fair.proofs.FairMoves.{hand_overs_move}
 
 -- ---------------------------------------------------------------- calls that move alike
 
--- what is told where nothing is handed over
+-- tells what is told where nothing is handed over
 abbrev IsPlain : Reply → Type 0
 IsPlain (HandedBy u alone) = ⊥
 IsPlain (Woken note.HandOff) = ⊥
@@ -377,7 +377,7 @@ module _ (a : Admission) where
         doing = ap (λ (y : Profile). y.doing) (plain_goes a p (Woken note.Normal) tt) ∙ k.doing;
       }
 
-  -- who enters again waits as in a plain call that enters
+  -- a thread that enters again waits as in a plain call that enters
   module _ (x : Access) (again : Bool) (to : RwLockAt) where
     abbrev p : RwLockPlace
     p = of a (purpose.Enter x Patient) again to

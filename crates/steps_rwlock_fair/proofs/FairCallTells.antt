@@ -158,7 +158,7 @@ module _ (r : Rules) (a : Admission) (s : Site) (t l : ℕ) where
 
   -- ---------------------------------------------------------------- who was handed the lock
 
-  -- what it has got in this call it had not before
+  -- it hadn't before what it has got in this call
   module _ (x : Want) (own : Owns s.lock t x) (v : LocksState) (rights : ℕ → Rights) (here : rights l ≡ rights_of s.lock t) (has : (k : ℕ) → rights_in v t k ≡ rights_where l s.lock t rights k) where
     had_before : (k : ℕ) → rights_in v t k ≡ one_more_at l x (one_less_at l x rights) k
     had_before = agree rights l _ _ _ _ has (changed rights l (with_right x) (one_less_at l x rights) _ (changed rights l (without_right x) rights _ (unchanged rights l (rights_of s.lock t) here))) (sym (regained s.lock t x own))

@@ -53,7 +53,7 @@ again_doing access.Shared = refl
 again_doing access.Upgradable = refl
 again_doing access.Exclusive = refl
 
--- who enters again has nothing yet
+-- a thread that enters again has nothing yet
 pub bump_doing : (q : RwLockPurpose) (n : Next RwLockPlace) → call_doing_next (bump_next q n) ≡ doing_next n
 bump_doing q (next.At p) = refl
 bump_doing (purpose.Release x) (next.End answer) = again_doing x

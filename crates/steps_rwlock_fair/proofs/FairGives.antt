@@ -84,11 +84,11 @@ got_by s s2 u x true e more h = absurd h
 got_by s s2 u x false e more h = absurd h
 
 module _ (r : Rules) (a : Admission) (s : Site) (t l : ℕ) (h : IsSite r s) where
-  -- who carries nobody has taken nobody
+  -- a thread that carries nobody has taken nobody
   takes_nobody : (s.doing t).carries ≡ false → HasTakenNobody s.lock t
   takes_nobody none u x taken = let e : true ≡ false = sym (h.carried u _ taken) ∙ none in cc
 
-  -- who covers the line has somebody in hand, or nobody is left
+  -- a thread that covers the line has somebody in hand, or nobody is left
   some_or_none : (s.doing t).covers ≡ true → ((u : ℕ) × ((x : Want) × IsTaken s.lock t u x)) ⊎ (s.lock.queue ≡ [])
   some_or_none covers = by_line s.lock.queue refl
     where

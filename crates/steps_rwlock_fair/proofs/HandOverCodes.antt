@@ -73,7 +73,7 @@ module _ (r : Rules) (s : Site) (t : ℕ) (whom : Option ℕ) (rw_sort : has_rea
   abbrev now : Want → LockState
   now x = handed t x (heir_of whom k.successor) s.lock
 
-  -- what an exclusive owner stores
+  -- tells what an exclusive owner stores
   pub stored : s.doing t ≡ holding Exclusive k → k.sharers < 2 ^ 60 - 1 → code r (after_deed r (bit_left k.none_left) (after_hand Exclusive) t) ≡ parked_as k.none_left (tokens k)
   stored is few =
       let gone = exclusive_gone r s t h (ap (λ (d : Doing). d.claims) is) in
@@ -94,7 +94,7 @@ module _ (r : Rules) (s : Site) (t : ℕ) (whom : Option ℕ) (rw_sort : has_rea
   now_code : rw_code (after_hand Upgradable) ≡ (16 * count (now Upgradable) + (8 * writers (now Upgradable) + 4 * one_if_some (now Upgradable).upgradable)) + (2 * bit s.aside_parked + bit (after_hand Upgradable).parked)
   now_code = omega arith
 
-  -- what an upgradable owner exchanges
+  -- tells what an upgradable owner exchanges
   pub exchanged_word : s.doing t ≡ holding Upgradable k → code r s < 2 ^ 64 → (count_in (code r s) - 1) + counted k ≤ r.limit → r.limit < 2 ^ 60 - 1
       → code r (after_deed r (bit_left k.none_left) (after_hand Upgradable) t) ≡ with_taken access.Upgradable k (code r s)
   exchanged_word is small room few =

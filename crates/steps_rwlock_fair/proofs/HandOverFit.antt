@@ -50,7 +50,7 @@ module _ (r : Rules) (a : Admission) (s : Site) (t l : ℕ) (op : Op) (whom : Op
     more : WantsMore k.successor
     more = wants_more r s t k whom admits.0 h hand
 
-    -- behind it as many count as there is room for
+    -- after it as many count as there is room for
     pub fits : s.doing t ≡ holding Upgradable k → has_room a.limit k v ≡ true → HandOffFits r Upgradable (handed t Upgradable (heir_of whom k.successor) s.lock)
     fits is room =
         let gone = upgradable_gone r s t h (ap (λ (d : Doing). d.claims) is) in

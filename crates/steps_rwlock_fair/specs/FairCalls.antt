@@ -87,7 +87,7 @@ IsNamed None None = Unit {0}
 IsNamed (Some x) (Some u) = Unit {0}
 IsNamed x whom = ⊥
 
--- what the place says of them is so: how many want to share, and who wants more
+-- the place tells the truth of them: how many want to share, and which one wants more
 pub record HasInHand (s : LockState) (t : ℕ) (k : Taken) (whom : Option ℕ) : Type 0 where
   pub named : IsNamed k.successor whom
   pub successor : IsSuccessor s t (heir_of whom k.successor)

@@ -44,7 +44,7 @@ hand_over_doing x (handing.Leave any handed) =
     record idle { inside = Some Main; carries = true; covers = not handed }
 hand_over_doing x to = at_rest None (Some (Has x))
 
--- what a thread has that was handed the lock
+-- the right of a thread that was handed the lock
 abbrev pub claim_at : Want → HandedAt → Claim
 claim_at x (handed.Asleep by alone) = claim_handed alone x
 claim_at x handed.Accept = Has x
@@ -56,7 +56,7 @@ call_doing (Glance x) = at_rest None (Some (Has (wanted x)))
 call_doing (HandOver x b to) = hand_over_doing (wanted x) to
 call_doing (Handed x how b to) = at_rest None (Some (claim_at (wanted x) to))
 
--- behind a step, at its next place or in no call
+-- the state after a step, at its next place or in no call
 abbrev pub call_doing_next : Next RwLockCallPlace → Doing
 call_doing_next (next.At c) = call_doing c
 call_doing_next (next.End answer) = idle

@@ -133,13 +133,12 @@ FairCallsStand =
     (a : Admission) (c : RwLockCallPlace) (told : Reply) → CallStands a c → CallMayBeTold a c told
     → CallStandsNext a (call_next a c told)
 
--- what a call begins with: where it may stand, nowhere in the machine, and with the right that it
--- needs
+-- the begin of a call: where it may stand, nowhere in the machine, and with the right that it needs
 pub record CallOpens (a : Admission) (c : RwLockCall) : Type 0 where
   pub stands : CallStands a (call_first c)
   pub purpose : (l : ℕ) → (call_profile a (call_first c)).purpose l ≡ rwlock_purpose l c
   pub opening : IsOpening (call_profile a (call_first c))
-  -- whoever has the right has what it claims
+  -- a thread with the right has what it claims
   pub has : (t : ℕ) (shared : List ℕ) (o : Owners) (main second : List Waiter)
       (taken : ℕ → Option TakenBy)
       → call_right c t o (slice_index shared t) ≡ true

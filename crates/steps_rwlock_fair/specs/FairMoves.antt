@@ -38,8 +38,8 @@ HandOversMove =
     → call_act l a c ≡ act.HandOver k op
     → (k ≡ l) × Hands (call_move a c) op
 
--- who is in a hand, and has nothing of the lock yet, may be handed it; and whoever was handed it
--- has it from its wake on
+-- a thread in a hand that has nothing of the lock yet may be handed it; and one that was handed it has it
+-- from its wake on
 pub record IsMoved (a : Admission) (c : RwLockCallPlace) : Type 0 where
   pub given : (u : ℕ) (alone : Bool) (x : Want) → (call_profile a c).hand ≡ hand u false
       → (call_profile a c).doing.claims ≡ None
@@ -51,7 +51,7 @@ HandedMove = (a : Admission) (c : RwLockCallPlace) → CallStands a c → IsMove
 
 -- ---------------------------------------------------------------- all acts
 
--- what it may hear of its lock
+-- the news that it may hear of its lock
 abbrev pub call_hears : Admission → RwLockCallPlace → Hears
 call_hears a c r s t whom told = CallMayHear r a s t c whom told
 
@@ -73,8 +73,8 @@ FairActsMove =
 
 -- ---------------------------------------------------------------- what befalls a thread asleep
 
--- who stands in a line sleeps there or is inside its section, only a pending writer stands aside,
--- and who is in a hand is so to be woken until it is handed the lock
+-- a thread in a line sleeps there or is inside its section, only a pending writer stands aside, and one in a
+-- hand is so to be woken until it is handed the lock
 pub record CallWaits (x : Move) : Type 0 where
   pub aside : x.row.stands ≡ Some Second
       → (x.row.wants ≡ Some Exclusive)

@@ -46,7 +46,7 @@ bumping q row = record row {
 
 -- ---------------------------------------------------------------- who hands over
 
--- whom it has in hand to hand them the lock
+-- the waiters in its hand, to which it hands the lock
 abbrev pub in_hand_at : HandOverAt → Option Taken
 in_hand_at (handing.Store k) = Some k
 in_hand_at (handing.Look k) = Some k

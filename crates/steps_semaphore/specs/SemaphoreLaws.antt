@@ -34,7 +34,7 @@ use Rattle.steps_semaphore.specs.SemaphoreSteps.{semaphore_act, semaphore_next, 
 abbrev pub semaphore_doing : SemaphorePlace → Doing
 semaphore_doing p = (semaphore_profile p).doing
 
--- behind a step, at its next place or in no call
+-- the state after a step, at its next place or in no call
 abbrev pub doing_next : Next SemaphorePlace → Doing
 doing_next (next.At p) = semaphore_doing p
 doing_next (next.End answer) = idle

@@ -69,7 +69,7 @@ acquiring timed retries row = record row {
 
 -- ---------------------------------------------------------------- who gives one back
 
--- what it held before, by what it holds now
+-- its permits before, by what it holds now
 abbrev pub before_release : ℕ → Bool → (ℕ → Rights) → ℕ → Rights
 before_release l released rights = if released then one_more_at l Shared rights else rights
 
@@ -112,7 +112,7 @@ semaphore_profile (Release at) = releasing (release_row at)
 abbrev pub semaphore_taker : SemaphorePlace → Option ℕ
 semaphore_taker at = hand_owner (semaphore_profile at).hand
 
--- what it wants, where it waits
+-- its want, where it waits
 abbrev pub semaphore_wants : SemaphorePlace → Option Want
 semaphore_wants at = (semaphore_profile at).wants
 

@@ -43,7 +43,7 @@ NobodyIsForgotten = (permits : ℕ) (s : Site) → IsTended permits s → s.lock
     → readers s.lock < permits
     → (t : ℕ) × IsDebtor Semaphore (s.doing t)
 
--- what a thread reads in the word
+-- the word as a thread reads it
 pub record TellsTrue (permits : ℕ) (s : Site) : Type 0 where
   -- the free permits with those held are all permits
   pub all : code (semaphore permits) s / 2 + readers s.lock ≡ permits

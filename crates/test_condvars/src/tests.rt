@@ -7,8 +7,7 @@ mod two;
 
 ghost use Rattle.std.specs.Prelude.{◌≡◌, ◌<◌, ◌≤◌, All, IfSome};
 ghost use Rattle.std.specs.Arc.{arc_value};
-ghost use Rattle.parking_lot.specs.CondvarUsers.{lot_of as condvar_lot};
-ghost use Rattle.parking_lot.specs.Users.{IsTicketOf, IsTokenOf, lock_of, lot_of};
+ghost use Rattle.parking_lot.specs.Names.{IsTicketOf, IsTokenOf, lock_of, lot_of, lot_of_condvar};
 
 use parking_lot::{Clock, Condvar, Fault, Mutex, MutexGuard, ParkingLot, TickClock, Ticket, Token};
 use std::alloc::Global;
@@ -82,7 +81,7 @@ fn mutex_of<T: Drop, A: Abort>(
 fn condvar_of<A: Abort>(rt: &A, lot: &Arc<ParkingLot>, token: &mut Token) -> Condvar
     requires { IsTokenOf (arc_value lot.now) token.old }
     ensures token { IsTokenOf (arc_value lot.now) token.new }
-    ensures condvar { condvar_lot result ≡ arc_value lot.now }
+    ensures condvar { lot_of_condvar result ≡ arc_value lot.now }
 {
     match Condvar::new(lot, token) {
         Ok(condvar) => condvar,
@@ -128,7 +127,7 @@ fn wait_long<'m, T, R: Wait>(
     guard: MutexGuard<'m, T>,
 ) -> (MutexGuard<'m, T>, Ended)
     requires token { IsTokenOf (lot_of (lock_of guard)) token.old }
-    requires condvar { condvar_lot condvar.now ≡ lot_of (lock_of guard) }
+    requires condvar { lot_of_condvar condvar.now ≡ lot_of (lock_of guard) }
     ensures token { IsTokenOf (lot_of (lock_of guard.entry)) token.new }
     ensures guard { lock_of result.0 ≡ lock_of guard.entry }
 {
@@ -148,7 +147,7 @@ fn wait<'m, T, R: Wait>(
     limit: Limit,
 ) -> (MutexGuard<'m, T>, Ended)
     requires token { IsTokenOf (lot_of (lock_of guard)) token.old }
-    requires condvar { condvar_lot condvar.now ≡ lot_of (lock_of guard) }
+    requires condvar { lot_of_condvar condvar.now ≡ lot_of (lock_of guard) }
     ensures token { IsTokenOf (lot_of (lock_of guard.entry)) token.new }
     ensures guard { lock_of result.0 ≡ lock_of guard.entry }
 {

@@ -6,8 +6,7 @@ mod texts;
 ghost use Rattle.std.specs.Prelude.{◌≡◌, ◌<◌, ◌≤◌};
 ghost use Rattle.std.specs.Arc.{arc_value};
 ghost use Rattle.parking_lot_core.specs.Tokens.{IsTokenOf};
-ghost use Rattle.parking_lot.specs.RwLockUsers.{lot_of as rwlot_of};
-ghost use Rattle.parking_lot.specs.Users.{lot_of};
+ghost use Rattle.parking_lot.specs.Names.{lot_of, lot_of_rwlock};
 
 use parking_lot::{Mutex, ParkingLot, RwLock, Token};
 use std::alloc::Global;
@@ -47,7 +46,7 @@ fn mutex_alone<T: Drop, A: Abort>(rt: &A, alloc: Global, value: T) -> (Mutex<T>,
 
 // A reader-writer lock that one thread has for itself.
 fn rwlock_alone<T: Drop, A: Abort>(rt: &A, alloc: Global, value: T) -> (RwLock<T>, Token)
-    ensures { IsTokenOf (rwlot_of result.0) result.1 }
+    ensures { IsTokenOf (lot_of_rwlock result.0) result.1 }
 {
     let (lot, mut token) = lone(rt, alloc);
     match RwLock::new(&lot, &mut token, value) {

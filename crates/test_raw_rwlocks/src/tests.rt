@@ -7,8 +7,7 @@ mod timed;
 
 ghost use Rattle.std.specs.Prelude.{IfOk, IfSome, MatchResult};
 ghost use Rattle.parking_lot_core.specs.Tokens.{IsTokenOf};
-ghost use Rattle.parking_lot.specs.RwLockGuards.{IsExclusiveOf, IsSharedOf, IsUpgradableOf};
-ghost use Rattle.parking_lot.specs.RwLockUsers.{lot_of, word_of};
+ghost use Rattle.parking_lot.specs.Names.{IsExclusiveOf, IsSharedOf, IsUpgradableOf, lot_of_rwlock, word_of_rwlock};
 
 use fixtures::lock_alone;
 use parking_lot::lock_api_rw::{
@@ -32,10 +31,10 @@ fn goes<const RECURSIVE: bool, R: Wait>(
     token: &mut Token,
     came: Result<Option<RawSharedGuard>, Fault>,
 ) -> Option<bool>
-    requires token { IsTokenOf (lot_of lock.now) token.old }
+    requires token { IsTokenOf (lot_of_rwlock lock.now) token.old }
     requires guard { IfOk came
-        (λ came. IfSome came (IsSharedOf (lot_of lock.now) (word_of lock.now))) }
-    ensures { IsTokenOf (lot_of lock.now) token.new }
+        (λ came. IfSome came (IsSharedOf (lot_of_rwlock lock.now) (word_of_rwlock lock.now))) }
+    ensures { IsTokenOf (lot_of_rwlock lock.now) token.new }
 {
     match came {
         Ok(Some(guard)) => {
@@ -54,10 +53,10 @@ fn goes_upgradable<const RECURSIVE: bool, R: Wait>(
     token: &mut Token,
     came: Result<Option<RawUpgradableGuard>, Fault>,
 ) -> Option<bool>
-    requires token { IsTokenOf (lot_of lock.now) token.old }
+    requires token { IsTokenOf (lot_of_rwlock lock.now) token.old }
     requires guard { IfOk came
-        (λ came. IfSome came (IsUpgradableOf (lot_of lock.now) (word_of lock.now))) }
-    ensures { IsTokenOf (lot_of lock.now) token.new }
+        (λ came. IfSome came (IsUpgradableOf (lot_of_rwlock lock.now) (word_of_rwlock lock.now))) }
+    ensures { IsTokenOf (lot_of_rwlock lock.now) token.new }
 {
     match came {
         Ok(Some(guard)) => {
@@ -76,9 +75,9 @@ fn goes_writing<const RECURSIVE: bool, R: Wait>(
     token: &mut Token,
     came: Option<RawExclusiveGuard>,
 ) -> bool
-    requires token { IsTokenOf (lot_of lock.now) token.old }
-    requires guard { IfSome came (IsExclusiveOf (lot_of lock.now) (word_of lock.now)) }
-    ensures { IsTokenOf (lot_of lock.now) token.new }
+    requires token { IsTokenOf (lot_of_rwlock lock.now) token.old }
+    requires guard { IfSome came (IsExclusiveOf (lot_of_rwlock lock.now) (word_of_rwlock lock.now)) }
+    ensures { IsTokenOf (lot_of_rwlock lock.now) token.new }
 {
     match came {
         Some(guard) => {
@@ -95,8 +94,8 @@ fn reads<const RECURSIVE: bool, R: Wait>(
     lock: &RawRwLock<RECURSIVE>,
     token: &mut Token,
 ) -> bool
-    requires { IsTokenOf (lot_of lock.now) token.old }
-    ensures { IsTokenOf (lot_of lock.now) token.new }
+    requires { IsTokenOf (lot_of_rwlock lock.now) token.old }
+    ensures { IsTokenOf (lot_of_rwlock lock.now) token.new }
 {
     let came = lock.try_lock_shared(rt, token);
     matches!(goes(rt, lock, token, came), Some(true))
@@ -108,8 +107,8 @@ fn comes_upgradable<const RECURSIVE: bool, R: Wait>(
     lock: &RawRwLock<RECURSIVE>,
     token: &mut Token,
 ) -> bool
-    requires { IsTokenOf (lot_of lock.now) token.old }
-    ensures { IsTokenOf (lot_of lock.now) token.new }
+    requires { IsTokenOf (lot_of_rwlock lock.now) token.old }
+    ensures { IsTokenOf (lot_of_rwlock lock.now) token.new }
 {
     let came = lock.try_lock_upgradable(rt, token);
     matches!(goes_upgradable(rt, lock, token, came), Some(true))
@@ -121,8 +120,8 @@ fn writes<const RECURSIVE: bool, R: Wait>(
     lock: &RawRwLock<RECURSIVE>,
     token: &mut Token,
 ) -> bool
-    requires { IsTokenOf (lot_of lock.now) token.old }
-    ensures { IsTokenOf (lot_of lock.now) token.new }
+    requires { IsTokenOf (lot_of_rwlock lock.now) token.old }
+    ensures { IsTokenOf (lot_of_rwlock lock.now) token.new }
 {
     let came = lock.try_lock_exclusive(token);
     goes_writing(rt, lock, token, came)
@@ -135,8 +134,8 @@ fn look<const RECURSIVE: bool, R: Wait>(
     lock: &RawRwLock<RECURSIVE>,
     token: &mut Token,
 ) -> [bool; 5]
-    requires { IsTokenOf (lot_of lock.now) token.old }
-    ensures { IsTokenOf (lot_of lock.now) token.new }
+    requires { IsTokenOf (lot_of_rwlock lock.now) token.old }
+    ensures { IsTokenOf (lot_of_rwlock lock.now) token.new }
 {
     [
         lock.is_locked(token),
@@ -161,8 +160,8 @@ fn sees_readers<const RECURSIVE: bool, R: Wait>(
     lock: &RawRwLock<RECURSIVE>,
     token: &mut Token,
 ) -> bool
-    requires { IsTokenOf (lot_of lock.now) token.old }
-    ensures { IsTokenOf (lot_of lock.now) token.new }
+    requires { IsTokenOf (lot_of_rwlock lock.now) token.old }
+    ensures { IsTokenOf (lot_of_rwlock lock.now) token.new }
 {
     let Ok(guard) = lock.lock_shared(rt, token) else {
         return false;
@@ -178,8 +177,8 @@ fn sees_upgradables<const RECURSIVE: bool, R: Wait>(
     lock: &RawRwLock<RECURSIVE>,
     token: &mut Token,
 ) -> bool
-    requires { IsTokenOf (lot_of lock.now) token.old }
-    ensures { IsTokenOf (lot_of lock.now) token.new }
+    requires { IsTokenOf (lot_of_rwlock lock.now) token.old }
+    ensures { IsTokenOf (lot_of_rwlock lock.now) token.new }
 {
     let Ok(guard) = lock.lock_upgradable(rt, token) else {
         return false;
@@ -197,8 +196,8 @@ fn sees_writers<const RECURSIVE: bool, R: Wait>(
     lock: &RawRwLock<RECURSIVE>,
     token: &mut Token,
 ) -> bool
-    requires { IsTokenOf (lot_of lock.now) token.old }
-    ensures { IsTokenOf (lot_of lock.now) token.new }
+    requires { IsTokenOf (lot_of_rwlock lock.now) token.old }
+    ensures { IsTokenOf (lot_of_rwlock lock.now) token.new }
 {
     let guard = lock.lock_exclusive(rt, token);
     let beside = look(rt, lock, token);
@@ -214,8 +213,8 @@ fn sees_turns<const RECURSIVE: bool, R: Wait>(
     lock: &RawRwLock<RECURSIVE>,
     token: &mut Token,
 ) -> bool
-    requires { IsTokenOf (lot_of lock.now) token.old }
-    ensures { IsTokenOf (lot_of lock.now) token.new }
+    requires { IsTokenOf (lot_of_rwlock lock.now) token.old }
+    ensures { IsTokenOf (lot_of_rwlock lock.now) token.new }
 {
     let guard = lock.lock_exclusive(rt, token);
     let guard = lock.downgrade_to_upgradable(rt, token, guard);
@@ -233,10 +232,10 @@ fn look_and_go<const RECURSIVE: bool, R: Wait>(
     token: &mut Token,
     turned: Result<RawExclusiveGuard, RawUpgradableGuard>,
 ) -> (bool, [bool; 5])
-    requires token { IsTokenOf (lot_of lock.now) token.old }
-    requires guard { MatchResult turned (IsExclusiveOf (lot_of lock.now) (word_of lock.now))
-        (IsUpgradableOf (lot_of lock.now) (word_of lock.now)) }
-    ensures { IsTokenOf (lot_of lock.now) token.new }
+    requires token { IsTokenOf (lot_of_rwlock lock.now) token.old }
+    requires guard { MatchResult turned (IsExclusiveOf (lot_of_rwlock lock.now) (word_of_rwlock lock.now))
+        (IsUpgradableOf (lot_of_rwlock lock.now) (word_of_rwlock lock.now)) }
+    ensures { IsTokenOf (lot_of_rwlock lock.now) token.new }
 {
     let seen = look(rt, lock, token);
     match turned {
@@ -257,8 +256,8 @@ fn try_to_upgrade<const RECURSIVE: bool, R: Wait>(
     lock: &RawRwLock<RECURSIVE>,
     token: &mut Token,
 ) -> (bool, [bool; 5])
-    requires { IsTokenOf (lot_of lock.now) token.old }
-    ensures { IsTokenOf (lot_of lock.now) token.new }
+    requires { IsTokenOf (lot_of_rwlock lock.now) token.old }
+    ensures { IsTokenOf (lot_of_rwlock lock.now) token.new }
 {
     let Ok(guard) = lock.lock_upgradable(rt, token) else {
         return (false, FREE);
@@ -273,8 +272,8 @@ fn tries_to_upgrade<const RECURSIVE: bool, R: Wait>(
     lock: &RawRwLock<RECURSIVE>,
     token: &mut Token,
 ) -> bool
-    requires { IsTokenOf (lot_of lock.now) token.old }
-    ensures { IsTokenOf (lot_of lock.now) token.new }
+    requires { IsTokenOf (lot_of_rwlock lock.now) token.old }
+    ensures { IsTokenOf (lot_of_rwlock lock.now) token.new }
 {
     let Ok(reader) = lock.lock_shared(rt, token) else {
         return false;
@@ -303,8 +302,8 @@ fn rights_keep_out_whom_they_are_to(rt: HostRuntime) -> Result<(), Fail> {
 
 // Whether the lock has as many readers as may share it.
 fn is_full<R: Wait>(rt: &R, lock: &RawRwLock<false>, token: &mut Token) -> bool
-    requires { IsTokenOf (lot_of lock.now) token.old }
-    ensures { IsTokenOf (lot_of lock.now) token.new }
+    requires { IsTokenOf (lot_of_rwlock lock.now) token.old }
+    ensures { IsTokenOf (lot_of_rwlock lock.now) token.new }
 {
     match lock.lock_shared(rt, token) {
         Ok(guard) => {
@@ -317,8 +316,8 @@ fn is_full<R: Wait>(rt: &R, lock: &RawRwLock<false>, token: &mut Token) -> bool
 
 // Whether two readers fill a lock, the second with the upgradable right, and one doesn't.
 fn fills<R: Wait>(rt: &R, lock: &RawRwLock<false>, token: &mut Token) -> bool
-    requires { IsTokenOf (lot_of lock.now) token.old }
-    ensures { IsTokenOf (lot_of lock.now) token.new }
+    requires { IsTokenOf (lot_of_rwlock lock.now) token.old }
+    ensures { IsTokenOf (lot_of_rwlock lock.now) token.new }
 {
     let Ok(first) = lock.lock_upgradable(rt, token) else {
         return false;

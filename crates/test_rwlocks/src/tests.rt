@@ -9,7 +9,7 @@ ghost use Rattle.std.specs.Prelude.{◌≡◌, ◌<◌, ◌≤◌, All, IfSome};
 ghost use Rattle.std.specs.Arc.{arc_value};
 ghost use Rattle.lock_api_rw.specs.Guards.{lock_of};
 ghost use Rattle.parking_lot_core.specs.Tokens.{IsTicketOf, IsTokenOf};
-ghost use Rattle.parking_lot.specs.RwLockUsers.{lot_of};
+ghost use Rattle.parking_lot.specs.Names.{lot_of_rwlock};
 
 use parking_lot::{ParkingLot, RawRwLock, TickClock, Ticket, Token, lock_api_rw};
 use std::alloc::Global;
@@ -71,7 +71,7 @@ fn lock_in<const RECURSIVE: bool, A: Abort>(
     requires { IsTokenOf (arc_value lot.now) token.old
         × ((arc_value lot.now).records.count ≤ 1024) }
     ensures token { IsTokenOf (arc_value lot.now) token.new }
-    ensures lock { lot_of result ≡ arc_value lot.now }
+    ensures lock { lot_of_rwlock result ≡ arc_value lot.now }
 {
     let made = if limited {
         lock_api_rw::RwLock::with_limit(lot, token, value, 1024)
@@ -104,7 +104,7 @@ fn seats<const RECURSIVE: bool, A: Abort>(
     limited: bool,
 ) -> (Arc<ParkingLot>, Lock<RECURSIVE>, Token, Vec<Ticket>)
     requires { others < 100 }
-    ensures { (lot_of result.1 ≡ arc_value result.0) × IsTokenOf (arc_value result.0) result.2
+    ensures { (lot_of_rwlock result.1 ≡ arc_value result.0) × IsTokenOf (arc_value result.0) result.2
         × All (IsTicketOf (arc_value result.0)) result.3.items }
 {
     let Ok((lot, mut tickets)) = ParkingLot::new(alloc, 1, others + 1) else {
@@ -125,7 +125,7 @@ fn lock_alone<const RECURSIVE: bool, A: Abort>(
     value: u64,
     limited: bool,
 ) -> (Lock<RECURSIVE>, Token)
-    ensures { IsTokenOf (lot_of result.0) result.1 }
+    ensures { IsTokenOf (lot_of_rwlock result.0) result.1 }
 {
     let (_lot, lock, token, _others) = seats(rt, alloc, 0, value, limited);
     (lock, token)
@@ -137,8 +137,8 @@ fn read<'l, const RECURSIVE: bool, R: Wait>(
     lock: &'l Lock<RECURSIVE>,
     token: &mut Token,
 ) -> Option<Reader<'l, RECURSIVE>>
-    requires { IsTokenOf (lot_of lock.now) token.old }
-    ensures token { IsTokenOf (lot_of lock.now) token.new }
+    requires { IsTokenOf (lot_of_rwlock lock.now) token.old }
+    ensures token { IsTokenOf (lot_of_rwlock lock.now) token.new }
     ensures guard { IfSome result (λ guard. lock_of guard ≡ lock.now) }
 {
     match lock.read(rt, token) {
@@ -153,8 +153,8 @@ fn read_upgradable<'l, const RECURSIVE: bool, R: Wait>(
     lock: &'l Lock<RECURSIVE>,
     token: &mut Token,
 ) -> Option<Upgradable<'l, RECURSIVE>>
-    requires { IsTokenOf (lot_of lock.now) token.old }
-    ensures token { IsTokenOf (lot_of lock.now) token.new }
+    requires { IsTokenOf (lot_of_rwlock lock.now) token.old }
+    ensures token { IsTokenOf (lot_of_rwlock lock.now) token.new }
     ensures guard { IfSome result (λ guard. lock_of guard ≡ lock.now) }
 {
     match lock.upgradable_read(rt, token) {
@@ -168,8 +168,8 @@ fn write<'l, const RECURSIVE: bool, R: Wait>(
     lock: &'l Lock<RECURSIVE>,
     token: &mut Token,
 ) -> Writer<'l, RECURSIVE>
-    requires { IsTokenOf (lot_of lock.now) token.old }
-    ensures token { IsTokenOf (lot_of lock.now) token.new }
+    requires { IsTokenOf (lot_of_rwlock lock.now) token.old }
+    ensures token { IsTokenOf (lot_of_rwlock lock.now) token.new }
     ensures guard { lock_of result ≡ lock.now }
 {
     lock.write(rt, token)
@@ -181,8 +181,8 @@ fn end_reader<const RECURSIVE: bool, R: Wait>(
     token: &mut Token,
     guard: Reader<'_, RECURSIVE>,
 ) -> u64
-    requires { IsTokenOf (lot_of (lock_of guard)) token.old }
-    ensures { IsTokenOf (lot_of (lock_of guard.entry)) token.new }
+    requires { IsTokenOf (lot_of_rwlock (lock_of guard)) token.old }
+    ensures { IsTokenOf (lot_of_rwlock (lock_of guard.entry)) token.new }
 {
     let found = *guard;
     guard.unlock(rt, token);
@@ -194,8 +194,8 @@ fn end_upgradable<const RECURSIVE: bool, R: Wait>(
     token: &mut Token,
     guard: Upgradable<'_, RECURSIVE>,
 ) -> u64
-    requires { IsTokenOf (lot_of (lock_of guard)) token.old }
-    ensures { IsTokenOf (lot_of (lock_of guard.entry)) token.new }
+    requires { IsTokenOf (lot_of_rwlock (lock_of guard)) token.old }
+    ensures { IsTokenOf (lot_of_rwlock (lock_of guard.entry)) token.new }
 {
     let found = *guard;
     guard.unlock(rt, token);
@@ -207,8 +207,8 @@ fn end_writer<const RECURSIVE: bool, R: Wait>(
     token: &mut Token,
     guard: Writer<'_, RECURSIVE>,
 ) -> u64
-    requires { IsTokenOf (lot_of (lock_of guard)) token.old }
-    ensures { IsTokenOf (lot_of (lock_of guard.entry)) token.new }
+    requires { IsTokenOf (lot_of_rwlock (lock_of guard)) token.old }
+    ensures { IsTokenOf (lot_of_rwlock (lock_of guard.entry)) token.new }
 {
     let found = *guard;
     guard.unlock(rt, token);
@@ -221,8 +221,8 @@ fn value_of<const RECURSIVE: bool, R: Wait>(
     lock: &Lock<RECURSIVE>,
     token: &mut Token,
 ) -> Option<u64>
-    requires { IsTokenOf (lot_of lock.now) token.old }
-    ensures { IsTokenOf (lot_of lock.now) token.new }
+    requires { IsTokenOf (lot_of_rwlock lock.now) token.old }
+    ensures { IsTokenOf (lot_of_rwlock lock.now) token.new }
 {
     match lock.with_read(rt, token, |value: &u64| *value) {
         Ok(value) => Some(value),
@@ -237,8 +237,8 @@ fn replace<const RECURSIVE: bool, R: Wait>(
     token: &mut Token,
     new: u64,
 ) -> u64
-    requires { IsTokenOf (lot_of lock.now) token.old }
-    ensures { IsTokenOf (lot_of lock.now) token.new }
+    requires { IsTokenOf (lot_of_rwlock lock.now) token.old }
+    ensures { IsTokenOf (lot_of_rwlock lock.now) token.new }
 {
     lock.with_write(rt, token, move |value: &mut u64| {
         let before = *value;
@@ -258,8 +258,8 @@ fn what_was_written_is_read(rt: HostRuntime) {
 
 // Whether a try to read comes in.
 fn reads<const RECURSIVE: bool, R: Wait>(rt: &R, lock: &Lock<RECURSIVE>, token: &mut Token) -> bool
-    requires { IsTokenOf (lot_of lock.now) token.old }
-    ensures { IsTokenOf (lot_of lock.now) token.new }
+    requires { IsTokenOf (lot_of_rwlock lock.now) token.old }
+    ensures { IsTokenOf (lot_of_rwlock lock.now) token.new }
 {
     match lock.try_read(rt, token) {
         Ok(Some(guard)) => {
@@ -276,8 +276,8 @@ fn comes_upgradable<const RECURSIVE: bool, R: Wait>(
     lock: &Lock<RECURSIVE>,
     token: &mut Token,
 ) -> bool
-    requires { IsTokenOf (lot_of lock.now) token.old }
-    ensures { IsTokenOf (lot_of lock.now) token.new }
+    requires { IsTokenOf (lot_of_rwlock lock.now) token.old }
+    ensures { IsTokenOf (lot_of_rwlock lock.now) token.new }
 {
     match lock.try_upgradable_read(rt, token) {
         Ok(Some(guard)) => {
@@ -290,8 +290,8 @@ fn comes_upgradable<const RECURSIVE: bool, R: Wait>(
 
 // Whether a try to write does.
 fn writes<const RECURSIVE: bool, R: Wait>(rt: &R, lock: &Lock<RECURSIVE>, token: &mut Token) -> bool
-    requires { IsTokenOf (lot_of lock.now) token.old }
-    ensures { IsTokenOf (lot_of lock.now) token.new }
+    requires { IsTokenOf (lot_of_rwlock lock.now) token.old }
+    ensures { IsTokenOf (lot_of_rwlock lock.now) token.new }
 {
     match lock.try_write(token) {
         Some(guard) => {
@@ -308,8 +308,8 @@ fn tries<const RECURSIVE: bool, R: Wait>(
     lock: &Lock<RECURSIVE>,
     token: &mut Token,
 ) -> [bool; 3]
-    requires { IsTokenOf (lot_of lock.now) token.old }
-    ensures { IsTokenOf (lot_of lock.now) token.new }
+    requires { IsTokenOf (lot_of_rwlock lock.now) token.old }
+    ensures { IsTokenOf (lot_of_rwlock lock.now) token.new }
 {
     [
         reads(rt, lock, token),
@@ -324,8 +324,8 @@ fn tries_beside<const RECURSIVE: bool, R: Wait>(
     lock: &Lock<RECURSIVE>,
     token: &mut Token,
 ) -> [[bool; 3]; 4]
-    requires { IsTokenOf (lot_of lock.now) token.old }
-    ensures { IsTokenOf (lot_of lock.now) token.new }
+    requires { IsTokenOf (lot_of_rwlock lock.now) token.old }
+    ensures { IsTokenOf (lot_of_rwlock lock.now) token.new }
 {
     let guard = write(rt, lock, token);
     let writer = tries(rt, lock, token);
@@ -359,9 +359,9 @@ fn give_up_beside<'l, R: Wait>(
     token: &mut Token,
     guard: Reader<'l, true>,
 ) -> Reader<'l, true>
-    requires token { IsTokenOf (lot_of lock.now) token.old }
+    requires token { IsTokenOf (lot_of_rwlock lock.now) token.old }
     requires guard { lock_of guard ≡ lock.now }
-    ensures token { IsTokenOf (lot_of lock.now) token.new }
+    ensures token { IsTokenOf (lot_of_rwlock lock.now) token.new }
     ensures guard { lock_of result ≡ lock.now }
 {
     match lock.try_write_until(rt, token, &TickClock::new(), 20) {
@@ -372,7 +372,7 @@ fn give_up_beside<'l, R: Wait>(
 
 // Whether a reader of a recursive lock reads again, behind a writer that gave up in time.
 fn reads_again<R: Wait>(rt: &R, lock: &Lock<true>, token: &mut Token) -> bool
-    requires { IsTokenOf (lot_of lock.now) token.old }
+    requires { IsTokenOf (lot_of_rwlock lock.now) token.old }
 {
     let Some(guard) = read(rt, lock, token) else {
         return false;

@@ -60,7 +60,7 @@ pub record Facing (w : State) (t l : ℕ) (p : Place) (v : ℕ) (o : Option ℕ)
   pub section : section_at w (2 * l) ≡ s
   pub queue : queue_at w (2 * l) ≡ q
 
--- what a step leads to, and what the thread is told
+-- tells what a step leads to, and what the thread is told
 abbrev pub Faces : State → ℕ → ℕ → Place → Outcome → ℕ → Option ℕ → Option ℕ → List Waiter → Type 0
 Faces w t l p told v o s q = (step_outcome w (go_of t) ≡ told) × Facing (after w (go_of t)) t l p v o s q
 
@@ -78,7 +78,7 @@ module _ (w : State) (t l : ℕ) (p : Place) (v : ℕ) (o s : Option ℕ) (q : L
       → after w (go_of t) ≡ put (state_after_act w t p (act_of p)) t (next_place p (reply_to w t (act_of p)))
   act_led can = goes can ∙ ap (state_after_going w t) f.place ∙ goes_from_there w t p f.place f.single
 
-  -- what it leads to, where the act leads to b
+  -- tells what it leads to, where the act leads to b
   faces : (b : State) (p2 : Place) (v2 : ℕ) (o2 s2 : Option ℕ) (q2 : List Waiter) → can_do w (act_of p) ≡ true
       → state_after_act w t p (act_of p) ≡ b → length b.places ≡ length w.places
       → next_place p (reply_to w t (act_of p)) ≡ p2 → word_at b l ≡ v2 → owner_at b l ≡ o2 → section_at b (2 * l) ≡ s2

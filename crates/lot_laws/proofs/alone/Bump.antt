@@ -301,7 +301,7 @@ module _ (t l : ℕ) (a : Admission) (x : Access) where
   abbrev pub SameEnd : Ran → Ran → Type 0
   SameEnd r r2 = (r.outcome ≡ r2.outcome) × ((k : ℕ) → lock_state r.state k ≡ lock_state r2.state k) × BarredAs r.state r2.state
 
-  -- what one more step comes to
+  -- tells what one more step comes to
   ends_same : (o : Outcome) (w v w2 v2 : State) (last : Outcome) (more more2 : Ran) → ((k : ℕ) → lock_state w k ≡ lock_state w2 k)
       → ((k : ℕ) → lock_state v k ≡ lock_state v2 k) → BarredAs w w2 → BarredAs v v2 → (o ≡ outcome.Step → SameEnd more more2)
       → SameEnd (alone_after o w v last more) (alone_after o w2 v2 last more2)
@@ -363,7 +363,7 @@ module _ (t l : ℕ) (a : Admission) (x : Access) where
     outs : step_outcome plain_w (go_of t) ≡ step_outcome w (go_of t)
     outs = λ i. if possible i then told_same i else outcome.NotNow
 
-    -- what its act makes of the world, but for its own place
+    -- tells what its act makes of the world, but for its own place
     abbrev acted : State
     acted = state_after_act w t (RwLock l a (Bump p)) y
 

@@ -84,7 +84,7 @@ solo_from (suc n) w t last last2 goes le = by_outcome (step_outcome w (go_of t))
 
 -- ---------------------------------------------------------------- what is said of the locks alone
 
--- what waits for a right comes to the same by the locks that it sees
+-- a call that waits for a right comes to the same by the locks that it sees
 module _ (before : Type 0) (w w2 v v2 : LocksState) (t l : ℕ) (o o2 : Outcome) (locks : w.locks l ≡ w2.locks l)
     (rules : rules_at w l ≡ rules_at w2 l) (locks2 : v.locks l ≡ v2.locks l) (told : o ≡ o2) where
   may_so : (x : Access) → MayEnterAtOnce ⊥ (rules_at w2 l) (w2.locks l) (wanted x) Patient
@@ -133,7 +133,7 @@ module _ (w : State) (t l : ℕ) (a : Admission) (x : Access) (holds : IsWorld w
   doing_now : doing_on (place_at w t) l ≡ call_doing (Glance x)
   doing_now = ap (λ p. doing_on p l) is ∙ doing_here l (RwLock l a (Glance x)) refl
 
-  -- what it owned as it began
+  -- tells what it owned as it began
   began : (call_at w t).former ≡ (λ k. rights_of (lock_state w k) t)
   began = ap (λ p. (call_state p (λ k. rights_of (lock_state w k) t)).former) is
 
@@ -149,7 +149,7 @@ module _ (w : State) (t l : ℕ) (a : Admission) (x : Access) (holds : IsWorld w
   site : IsSite (rules_in w l) (site_of w l)
   site = holds.steady.sites.site l
 
-  -- who is to set the bit of a lock that is shared has taken waiters
+  -- a thread that is to set the bit of a lock that is shared has taken waiters
   covers : (u : ℕ) → ((site_of w l).doing u).sets ≡ true → ((site_of w l).doing u).covers ≡ true
   covers u sets = elim (site.setting u sets) [
     | inl has ↦ has

@@ -41,7 +41,7 @@ pub record GoesAlone (w : State) (t l m : ℕ) (p : CondvarPlace) : Type 0 where
   pub thread : t < length w.places
   pub place : place_at w t ≡ Condvar l p
 
--- what holds of a world holds after each step of the thread
+-- a fact of a world holds after each step of the thread
 abbrev pub Keeps : ℕ → Type 0
 Keeps t = (v : State) → IsWorld v → IsWorld (after v (go_of t))
 
@@ -58,8 +58,8 @@ module _ (t l m : ℕ) (keeps : Keeps t) (w : State) (p : CondvarPlace) (g : Goe
   pub mutex_there : mutex_beside p ≡ Some m → m < length w.locks
   mutex_there beside = subst (IsThere (length w.locks)) beside fits.1
 
-  -- who is inside bars it, where it is outside and its act enters
-  barred_by : (k u : ℕ) → EntersSection (2 * k) (condvar_act l p) → (station_at (place_at w t) k).inside ≡ None
+  -- a thread that is inside bars it, where it is outside and its act enters
+  barred_by : (k u : ℕ) → EntersAt (2 * k) (condvar_act l p) → (station_at (place_at w t) k).inside ≡ None
       → section_at w (2 * k) ≡ Some u → IsBarred w t
   barred_by k u enters outside e = record {
     lock = k;
@@ -117,7 +117,7 @@ module _ (t l m : ℕ) (keeps : Keeps t) (w : State) (p : CondvarPlace) (g : Goe
     pub hears : MayHear (condvar_of w l) t p told
     hears = may_hear w t l p g.world.steady g.place can
 
-    -- behind the act it stands here
+    -- after the act it stands here
     module _ (q : CondvarPlace) (stays : place_at acted t ≡ Condvar l q) where
       led : after w (go_of t) ≡ put acted t (condvar_goes l (condvar_next q told))
       led = goes ∙ ap (λ x. put acted t (next_place x told)) stays
@@ -132,7 +132,7 @@ module _ (t l m : ℕ) (keeps : Keeps t) (w : State) (p : CondvarPlace) (g : Goe
         place = ap (λ (s : State). place_at s t) led ∙ get_or-set_same acted.places t _ Idle (rw ((performed_counts w t (Condvar l p) (condvar_act l p)).0) g.thread) ∙ ap (condvar_goes l) e;
       }
 
-  -- what is left to do behind a step: nothing where it rests, and else the rest
+  -- the steps left after a step: none where it rests, and else the rest
   abbrev pub Behind : (State → Outcome → Type 0) → ℕ → Next CondvarPlace → Type 0
   Behind P k (next.End answer) = P (after w (go_of t)) (outcome.End answer)
   Behind P k (next.At q) = GoesAlone (after w (go_of t)) t l m q

@@ -23,7 +23,7 @@ OrBarred t P v x = P v x ⊎ IsBarred v t
 abbrev pub Leads : ℕ → State → ℕ → (State → Outcome → Type 0) → Type 0
 Leads k w t P = LeadsSurely k w t (OrBarred t P)
 
--- what follows of this holds, or the thread is barred
+-- the consequence of this holds, or the thread is barred
 pub or_so : {A B C : Type 0} → (A → B) → A ⊎ C → B ⊎ C
 or_so so (inl a) = inl (so a)
 or_so so (inr c) = inr c

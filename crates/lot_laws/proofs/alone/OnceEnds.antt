@@ -41,7 +41,7 @@ use Rattle.lot_laws.proofs.alone.TwoLines.{Comes, StepsAlone, leads_into, leave_
 use Rattle.lot_laws.proofs.mutex.Words.{queued_behind}
 use Rattle.lot_laws.proofs.alone.Leads.{Leads, leads_more, leads_rest, leads_step, or_so}
 
--- who waits for a run still does so while none has ended
+-- a thread that waits for a run still does so while none has ended
 none_yet : (forced : Bool) → holds (check_of (Wait forced)) 8 ≡ true
 none_yet true = refl
 none_yet false = refl
@@ -102,7 +102,7 @@ module _ (t l : ℕ) where
         → Alone w (Look c again (look.Decide seen)) v q → Leads 3 w t (Sleeps c q)
     parks again seen v w q is h f = leads_into w t l _ v q f (Sleeps c q) 2 Main is refl refl (λ g. checks again v _ q h g)
 
-  -- what a call comes to, by how far its lock has come
+  -- tells what a call comes to, by how far its lock has come
   abbrev pub Ended : Queues → OnceCall → Phase → State → Outcome → Type 0
   Ended q (CallOnce forced) New = Starts false
   Ended q (CallOnce true) Poisoned = Starts true

@@ -44,7 +44,7 @@ module _ (t l m : ℕ) (keeps : Keeps t) (timed late : Bool) where
   Alone w again a = GoesAlone w t l m (relocks again a)
 
   module _ (w : State) (again : Bool) (a : LockAt) (g : Alone w again a) where
-    -- what is left to do behind this reply
+    -- tells what is left to do behind this reply
     abbrev Left : ℕ → Reply → Type 0
     Left k r = Behind t l m keeps w (relocks again a) g (λ v o. Rests o) k (condvar_next (relocks again a) r)
 

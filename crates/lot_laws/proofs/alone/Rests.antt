@@ -88,7 +88,7 @@ module _ (w : State) (t : ℕ) (shape : IsShaped w) (steady : IsSteady w) (count
   world : IsWorld w
   world = record { shaped = shape; steady = steady; counted = counted; condvars = condvars; running = running }
 
-  -- what holds of a world holds after each step of the thread
+  -- a fact of a world holds after each step of the thread
   stays_world : (v : State) → IsWorld v → IsWorld (after v (go_of t))
   stays_world v h = world_after v (go_of t) h
 
@@ -185,7 +185,7 @@ module _ (w : State) (t : ℕ) (shape : IsShaped w) (steady : IsSteady w) (count
     unfilled : {A : Type 0} → IsFull (locks_of w) l Exclusive → A
     unfilled h = absurd (h.0 refl)
 
-    -- what a call that waits has come to
+    -- tells what a call that waits has come to
     abbrev patience_of : Entry → Patience
     patience_of entries.LockTimed = Timed
     patience_of entry = Patient
@@ -233,7 +233,7 @@ module _ (w : State) (t : ℕ) (shape : IsShaped w) (steady : IsSteady w) (count
         by_queue [] g = g
         by_queue (y ∷ q) g = (g.0, g.1, ap (map queued_of) g.2 ∙ queued_behind (2 * l) t Exclusive q)
 
-  -- what its solo run comes to, or it is barred
+  -- tells what its solo run comes to, unless it is barred
   abbrev Comes : ℕ → Outcome → Option Purpose → Type 0
   Comes n last purpose = EndsAlone w t purpose (solo n w t last).outcome (solo n w t last).state ⊎ IsBarred (solo n w t last).state t
 
@@ -344,7 +344,7 @@ module _ (w : State) (t : ℕ) (shape : IsShaped w) (steady : IsSteady w) (count
       ⊎ IsBarred (solo 64 w t outcome.TheVariants.NotNow).state t
   ends_or_barred c is reads = solo_ends w t shape steady counted condvars running (stands_there w.places t (first_busy (kind_at w (lock_in c)) c (place_at w t) is)) c is reads
 
-  -- who has its way isn't barred
+  -- a thread that has its way isn't barred
   unless_barred : {A : Type 0} → HasItsWay w t → A ⊎ IsBarred (solo 64 w t outcome.TheVariants.NotNow).state t → A
   unless_barred way (inl a) = a
   unless_barred way (inr b) = absurd (unbarred 64 w t outcome.TheVariants.NotNow (record { shaped = shape; steady = steady; counted = counted; condvars = condvars; running = running }) way b)

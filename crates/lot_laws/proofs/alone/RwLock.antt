@@ -209,7 +209,7 @@ module _ (t l : ℕ) (a : Admission) where
 
   -- ---------------------------------------------------------------- from a look
 
-  -- who takes a right has it, and a writer looks for readers then
+  -- a thread that takes a right has it, and a writer looks for readers then
   abbrev pub Takes : RwLockPurpose → Bool → ℕ → (Line → List Waiter) → State → Outcome → Type 0
   Takes (purpose.Enter access.Exclusive how) retries v q s x = Settles (count_in (plus v 8) == 0) (record { purpose = purpose.Enter access.Exclusive how; retries = retries; at = at.Look }) q s x
   Takes r retries v q s x = x ≡ outcome.End (entered (patience_of r))

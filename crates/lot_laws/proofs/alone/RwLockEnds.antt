@@ -140,7 +140,7 @@ module _ (w : State) (t l : ℕ) (a : Admission) (steady : IsSteady w) (admits :
       called : (call_at w t).purpose ≡ Some (purpose_by q l)
       called = ap (λ p. (call_state p (λ k. rights_of (lock_state w k) t)).purpose) is
 
-  -- whoever has entered owns
+  -- each thread that has entered owns
   enters_owns : (y : Access) (how : Patience) (at : RwLockAt)
       → place_at w t ≡ RwLock l a (Plain (looking (purpose.Enter y how) at)) → x ≡ outcome.End (entered how)
       → (x ≡ outcome.End (entered_answer how)) × Owns (lock_state v2 l) t (wanted y)
@@ -180,7 +180,7 @@ module _ (w : State) (t l : ℕ) (a : Admission) (steady : IsSteady w) (admits :
       either true h = (h.0, queued (wanted y) h.1)
       either false h = (h.0, queued (wanted y) h.1)
 
-  -- who is to share looks at the word
+  -- a thread that is to share looks at the word
   pub shares_alone : (y : Access) (how : Patience) → wanted y ≢ Exclusive
       → place_at w t ≡ RwLock l a (Plain (looking (purpose.Enter y how) at.Load))
       → Decides t l a (decision a (wanted y) how (word_at w l)) (looking (purpose.Enter y how) at.Load) (word_at w l) queues v2 x
@@ -278,7 +278,7 @@ module _ (w : State) (t l : ℕ) (a : Admission) (steady : IsSteady w) (admits :
   clear_free : (word_at w l == 0) ≡ true → IsBlocked (rules_in w l) (lock_state w l) Exclusive → ⊥
   clear_free e b = let z : word_at w l ≡ 0 = eqb-true (word_at w l) 0 e in let f : false ≡ true = sym (ap (is_blocked a.recursive Exclusive) z) ∙ blocked_is w l a steady admits Exclusive b in cc
 
-  -- who is to own alone tries a clear word first
+  -- a thread that is to own alone tries a clear word first
   pub writes_alone : (how : Patience) → place_at w t ≡ RwLock l a (Plain (writer how))
       → Tries t l a (word_at w l == 0) how (writer how) (word_at w l) queues v2 x
       → EntersAlone (word_at w l ≡ 0) (locks_of w) t l Exclusive how x (locks_of v2)
@@ -326,7 +326,7 @@ module _ (w : State) (t l : ℕ) (a : Admission) (steady : IsSteady w) (admits :
 
   -- ---------------------------------------------------------------- a right given up, or turned into another
 
-  -- what the thread had of the lock as its call began
+  -- tells what the thread had of the lock as its call began
   began : (q : RwLockPurpose) (at : RwLockAt) → place_at w t ≡ RwLock l a (Plain (looking q at))
       → ((rights : ℕ → Rights) → before q at l rights ≡ rights) → (call_at w t).former ≡ (λ k. rights_of (lock_state w k) t)
   began q at is same_rights = ap (λ p. (call_state p (λ k. rights_of (lock_state w k) t)).former) is ∙ same_rights (λ k. rights_of (lock_state w k) t)
@@ -394,7 +394,7 @@ module _ (w : State) (t l : ℕ) (a : Admission) (steady : IsSteady w) (admits :
       gone own = let e : is_thread t (lock_state v2 l).exclusive + 1 ≡ is_thread t (lock_state w l).exclusive = ap (λ (z : Rights). z.exclusive) (lost_from (HandOver access.Exclusive false (handing.Free 8)) Exclusive true is refl (λ rights. refl) told) in
           let one = owner_is (lock_state v2 l).exclusive own in let most = at_most (lock_state w l).exclusive in omega arith
 
-  -- what a conversion has made of its thread's rights
+  -- tells what a conversion has made of its thread's rights
   replaced : (q : RwLockPurpose) (at : RwLockAt) (y z : Want) (how : Patience) (answer : Answer)
       → place_at w t ≡ RwLock l a (Plain (looking q at)) → purpose_by q l ≡ Converts l y z how
       → ((rights : ℕ → Rights) → before q at l rights ≡ rights)

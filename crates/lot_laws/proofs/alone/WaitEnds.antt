@@ -132,7 +132,7 @@ module _ (t l m : ℕ) (keeps : Keeps t) (timed : Bool) where
   may_show v = (v == 0) || is_shown v m
 
   module _ (w : State) (g : Alone w wait.Show) where
-    -- what it does behind its look
+    -- tells what it does behind its look
     abbrev Shown : (State → Outcome → Type 0) → Bool → Type 0
     Shown P b = Behind t l m keeps w (Wait m timed wait.Show) g P 15 (in_wait m timed (if b then next.At wait.Stand else next.At wait.Refuse))
 
@@ -176,8 +176,8 @@ module _ (t l m : ℕ) (keeps : Keeps t) (timed : Bool) where
         → Leads 17 w t P
     enters P on = into_section t l m keeps timed w g P (λ can. goes t l m keeps timed w wait.Enter g P 16 refl can (λ h. inr (refl, on can h)))
 
-    -- what it comes to
-    pub wait_alone : Leads 17 w t (λ v o. CondvarWaitsAlone (locks_of w) t l m o (locks_of v))
+    -- tells what it comes to
+    pub wait_alone : Leads 17 w t (λ v o. StandsAlone (locks_of w) t l m o (locks_of v))
     wait_alone = either (may_show (word_of shown)) refl
       where
         either : (b : Bool) → may_show (word_of shown) ≡ b → Leads 17 w t (λ v o. CondvarWaitsAlone (locks_of w) t l m o (locks_of v))

@@ -166,7 +166,7 @@ module _ (w : State) (t : ℕ) (world : IsWorld w) (way : HasItsWay w t) where
   abbrev told : Reply
   told = reply_to w t (act_of (place_at w t))
 
-  -- what it reads where it looks
+  -- tells what it reads where it looks
   look_names : (c : ℕ) (all : Bool) → place_at w t ≡ Condvar c (Look all)
       → NamesOnly Named (condvar_goes c (look_next all (word_at w c)))
   look_names c all is = by_shown (lock_state w c).shown refl

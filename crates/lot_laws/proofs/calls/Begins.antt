@@ -138,7 +138,7 @@ module _ (w : State) (t l : ℕ) where
   untaken_first fair mutex_call.TheVariants.UnlockFair k = refl
   untaken_first fair mutex_call.TheVariants.Bump k = refl
 
--- who gives a permit back has one
+-- a thread that gives a permit back has one
 some_held : (n : ℕ) → not (n == 0) ≡ true → 1 ≤ n
 some_held n h = grind (arith, nat_tests)
 

@@ -58,13 +58,13 @@ either_is : {A : Type 0} (b : Bool) (y x z : A) → (b ≡ true → y ≡ x) →
 either_is true y x z h k = h refl
 either_is false y x z h k = k refl
 
--- what a thread owns of each lock
+-- tells what a thread owns of each lock
 abbrev pub rights : State → ℕ → ℕ → Rights
 rights w t l = rights_of (lock_state w l) t
 
 -- ---------------------------------------------------------------- what happens to the locks
 
--- what an event needs of its lock; of a notification's move the call says it
+-- tells what an event needs of its lock; of a notification's move the call says it
 abbrev pub Allows : State → ℕ → Event → Type 0
 Allows w t Nothing = Unit {0}
 Allows w t (AtLock l case) = Needs (rules_in w l) case (lock_state w l) t
@@ -102,7 +102,7 @@ happens_moving w v t c m all owned number before after kinds apart left joined o
   after = after;
 }
 
--- whoever is handed the lock claims it
+-- each thread that is handed the lock claims it
 abbrev pub IsClaim : Deed → Type 0
 IsClaim (Begin claims) = Unit {0}
 IsClaim deed = ⊥
@@ -229,7 +229,7 @@ pub may_do : (w : LocksState) (t l : ℕ) (case : LockCase) (purpose : Purpose) 
     → Needs (locks_rules w l) case (w.locks l) t → IsTimely c.late case → MayHappen w t (AtLock l case)
 may_do w t l case purpose c is e made needs timely = rw (is, e) (rw is made, needs, rw is timely)
 
--- who calls no `Once` begins no run
+-- a thread that calls no `Once` begins no run
 abbrev pub RunsNothing : Purpose → Type 0
 RunsNothing (CallsOnce l forced) = ⊥
 RunsNothing (Awaits l forced timed) = ⊥
@@ -343,7 +343,7 @@ module _ (w v : State) (t l : ℕ) (c : Option LockCase) (h : Happens w v t (eve
       by_case None h = tt
       by_case (Some case) h = h.needs
 
-  -- what a thread owns then
+  -- tells what a thread owns then
   pub rights_led : (u k : ℕ)
       → rights v u k ≡ rights_where l (after_event (rules_in w l) (event_by l c) (lock_state w l) t) u (rights w u) k
   rights_led u k = put_is (rights w u) l _ k (rights v u k) (λ e. rw e (ap (λ s. rights_of s u) led_here)) (λ ne. ap (λ s. rights_of s u) (led_elsewhere k ne))

@@ -69,7 +69,7 @@ untaken_by s t u none = by_hand (s.taken u) none
         either false e = refl
         either true e = absurd (other h.want (let f : h.by ≡ t = eqb-true h.by t e in λ i. Some (record { by = f i; want = h.want })))
 
--- who is taken at a lock calls it, and is in the hand of t
+-- a thread that is taken at a lock calls it, and is in the hand of t
 taken_hand : (p : Place) (t l : ℕ) → IsSingle p → is_taken_by t (taken_at p l) ≡ true
     → ((profile p).hand ≡ hand t false) × (calls p l ≡ true)
 taken_hand p t l single h = by_row (profile p).hand (profile p).wants (calls p l) (sym (ap (is_taken_by t) (single_taken p l single)) ∙ h)

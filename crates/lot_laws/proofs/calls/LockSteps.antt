@@ -128,7 +128,7 @@ use Rattle.lot_laws.proofs.mutex.Events.{owned_word, claims_at, deeds_are, are_c
 
 module _ (w : State) (t : ℕ) (shape : IsShaped w) (steady : IsSteady w) (there : t < length w.places) where
   module _ (l : ℕ) (lt : l < length w.locks) (rules : rules_in w l ≡ mutex) where
-    -- what it is told of its step
+    -- tells what it is told of its step
     decided_hears : (e : Entry) (again : Bool) (x : ℕ) (a b : Bool)
         → Hears (site_of w l) t (Lock e again (Decide x))
         (reply_to w t (if not a then act.TheVariants.Word l (op.TheVariants.Exchange x (x + 1)) else if b then act.TheVariants.Word l (op.TheVariants.Exchange 1 3) else act.TheVariants.Enter (One (2 * l))))
@@ -175,7 +175,7 @@ module _ (w : State) (t : ℕ) (shape : IsShaped w) (steady : IsSteady w) (there
       abbrev told : Reply
       told = reply_to w t (mutex_act l at)
 
-      -- whom its act takes, or hands the lock
+      -- a thread that its act takes, or hands the lock
       abbrev whom : Option ℕ
       whom = (gone_goes w t steady shape there l at is lt can).0
 
@@ -189,7 +189,7 @@ module _ (w : State) (t : ℕ) (shape : IsShaped w) (steady : IsSteady w) (there
       tells = mutex_tells 0 (site_of w l) t l (subst (λ r. IsSite r (site_of w l)) rules (steady.sites.site l)) at whom told (own_doing w steady t l at is)
           (subst (λ r. AllNeeded r (mutex_deeds at whom told) (site_of w l) t) rules (needed_then (rules_in w l) t (mutex_deeds at whom told) (claims_at at whom told) (site_of w l) goes.follows.needed)) (hears at is can timed)
 
-      -- whom it has in hand, by its place
+      -- a thread that it has in hand, by its place
       carries : carried_at (place_at w t) l ≡ (mutex_row at).carries
       carries = ap (λ x. x.carries) (own_stance l (place_at w t) at is)
 
@@ -579,7 +579,7 @@ module _ (w : State) (t : ℕ) (shape : IsShaped w) (steady : IsSteady w) (there
 
 -- a turn that may be taken is possible
 module _ (w : State) (t : ℕ) (steady : IsSteady w) where
-  -- behind its closure it may swap the word
+  -- after its closure it may swap the word
   closes_possible : (succeeded : Bool) → runs_closure (act_of (place_at w t)) ≡ true → can_close w t succeeded ≡ true
   closes_possible succeeded may = let one = runs_one (place_at w t) may in rw one.is refl
 

@@ -54,7 +54,7 @@ use Rattle.lot_laws.proofs.sites.ActsAt.{place_goes}
 use Rattle.lot_laws.proofs.sites.Following.{goes_steady}
 use Rattle.lot_laws.proofs.sites.StandsKept.{Alike}
 
--- who is set as it was is seen as it was
+-- a thread that is set as it was is seen as it was
 pub set_keeps : {A B : Type 0} (f : A → B) (xs : List A) (i k : ℕ) (y d : A) → f y ≡ f (get_or xs i d)
     → f (get_or (set xs i y) k d) ≡ f (get_or xs k d)
 set_keeps f [] i k y d e = refl
@@ -187,7 +187,7 @@ module _ (w : State) (t : ℕ) (there : t < length w.places) (q : Place) (it : I
     stances = λ u. stance_of (place_at moved u);
   }
 
-  -- what may happen hangs on locks and calls alone
+  -- the possible turns hang on locks and calls alone
   may_alike : (s : ℕ → Stance) (e : Event) → MayHappen (record (locks_of w) { stances = s }) t e → MayHappen (locks_of w) t e
   may_alike s Nothing h = h
   may_alike s (AtLock l case) h = h
@@ -268,11 +268,11 @@ module _ (w : State) (t : ℕ) (there : t < length w.places) (q : Place) (is : l
 
 -- ---------------------------------------------------------------- a closure's end
 
--- behind its closure
+-- after its closure
 abbrev pub behind_closure : Bool → Place → Place
 behind_closure succeeded p = next_place p (Closed succeeded)
 
--- who runs a closure stands behind it in the same call
+-- a thread that runs a closure stands behind it in the same call
 pub closes_alike : (p : Place) (succeeded : Bool) → RunsOne p → IsAlike p (behind_closure succeeded p)
 closes_alike p succeeded one = rw one.is (record { lock = one.lock; before = refl; now = refl; row = refl; beside = refl; row_beside = refl })
 

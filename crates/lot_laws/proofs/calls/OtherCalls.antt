@@ -169,7 +169,7 @@ module _ (w : State) (t : ℕ) (p2 : Place) where
   pub lonely : (p : Place) (a : Act) → IsLonely a → Stay (put (state_after_act w t p a) t p2)
   lonely p a h u ne r = ap (λ q. call_state q r) (stay_in (state_after_act w t p a) (lonely_stay w t p a h) u ne)
 
-  -- whoever is taken goes on in its call
+  -- each thread that is taken goes on in its call
   pub takes : (steady : IsSteady w) (l : ℕ) (m : Line) (plain : (rules_in w l).sort ≢ locks.Condvar) (p : Place) (key : ℕ)
       → key ≡ key_of l m → (x : Whom) → Stay (put (state_after_act w t p (act.Take key x)) t p2)
   takes steady l m plain p key is x = subst (λ k. Stay (put (state_after_act w t p (act.Take k x)) t p2)) (sym is) (by_whom x)
@@ -231,7 +231,7 @@ taken_by_hand w (RwLock k a c) t l calls h = either (k == l) h
     either true g = let x = (fair_sleepers_move a c calls.1).held t g in ap (is_taken_by t) (λ i. taken_from (g i) (x.wants i) true) ∙ same t
     either false g = absurd cc
 
--- who was handed the lock goes on as it was
+-- a thread that was handed the lock goes on as it was
 handed_goes : (w : State) (p : Place) (t l : ℕ) → FitsItsLock w p → hand_at p l ≡ hand t true → (r : ℕ → Rights)
     → call_state (next_place p (Woken note.HandOff)) r ≡ call_state p r
 handed_goes w Idle t l fits h r = refl
@@ -269,7 +269,7 @@ handed_goes w (RwLock k a c) t l fits h r = either (k == l) h
     either false g = absurd cc
 
 module _ (w : State) (t l : ℕ) (steady : IsSteady w) (is_of : IsOf l (place_at w t)) (p2 : Place) where
-  -- who is in its hand is so at its lock, and was handed that or not as its place says
+  -- a thread that is in its hand is so at its lock, and was handed that or not as its place says
   in_hand_here : (h : Bool) → carried_at (place_at w t) l ≡ Some h → (u : ℕ) → is_thread t (taker (place_at w u)) ≡ true
       → hand_at (place_at w u) l ≡ hand t h
   in_hand_here h carries u e =

@@ -91,7 +91,7 @@ module _ (l m : ℕ) (apart_m : m ≢ l) (at_l at_m : List deeds.Act) where
 
 module _ (w : State) (t l : ℕ) (shape : IsShaped w) (steady : IsSteady w) (condvars : AreCondvars w)
     (there : t < length w.places) where
-  -- what a call of it says of its locks
+  -- tells what a call of it says of its locks
   module _ (at : CondvarPlace) (is : place_at w t ≡ Condvar l at) (m : ℕ) (of : mutex_beside at ≡ Some m) where
     fits : FitsCondvar w l at
     fits = fits_here w t l at steady is
@@ -406,7 +406,7 @@ module _ (w : State) (t l : ℕ) (shape : IsShaped w) (steady : IsSteady w) (con
         in_own_hand = ap (λ q. is_taken_by t (taken_at q m)) is
             ∙ ap (is_taken_by t) (taken_beside l m (apart w t l (Wait m timed (releasing (stands.InHand t) (unlock.Leave true))) steady is m refl) (At (Wait m timed (releasing (stands.InHand t) (unlock.Leave true)))) refl) ∙ same t
 
-  -- whatever its release does
+  -- for every act of its release
   module _ (m : ℕ) (timed : Bool) (s : Stands) (a : UnlockAt) (is : place_at w t ≡ Condvar l (Wait m timed (releasing s a)))
       (can : can_do w (unlock_act m a) ≡ true) where
     abbrev Released : Stands → UnlockAt → Type 0

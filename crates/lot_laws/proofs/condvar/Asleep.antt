@@ -67,7 +67,7 @@ module _ (k m : ℕ) (apart : k ≢ m) where
   wait_asleep timed (wait.Release s at) reached h = absurd reached.0
   wait_asleep timed at reached h = absurd cc
 
--- who notifies is awake
+-- a thread that notifies is awake
 moving_awake : (all locked : Bool) (k m : ℕ) → move_act all locked k m ≢ Sleep
 moving_awake true locked k m h = cc
 moving_awake false true k m h = cc

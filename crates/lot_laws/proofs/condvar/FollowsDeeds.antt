@@ -31,7 +31,7 @@ deeds_keep [] c t h needed = h
 deeds_keep (d ∷ ds) c t h needed = deeds_keep ds (condvar_leads d c t) t (condvar_deed_keeps d c t h needed.0) needed.1
 
 module _ (t : ℕ) where
-  -- whoever else is inside stays there
+  -- each other thread inside stays there
   abbrev SameOthers : Option Inside → Option Inside → Type 0
   SameOthers x y = (i : Inside) → i.thread ≢ t → (x ≡ Some i) ↔ (y ≡ Some i)
 
@@ -116,7 +116,7 @@ module _ (w v : State) (t l : ℕ) (at : CondvarPlace) (told : Reply) (stands : 
   names_then : (u : ℕ) → u ≢ t → (profile_at (place_at v u) l).names ≡ (profile_at (place_at w u) l).names
   names_then u ne = (row_says (place_at v u) l).1 ∙ (says u ne).1 ∙ sym (row_says (place_at w u) l).1
 
-  -- whoever else is inside stays so
+  -- each other thread inside stays so
   module _ (i : Inside) (ne : i.thread ≢ t) where
     abbrev Both : Option ℕ → Option ℕ → Type 0
     Both o p = (inside_as o (λ u. (profile_at (place_at w u) l).stage) ≡ Some i) ↔ (inside_as p (λ u. (profile_at (place_at v u) l).stage) ≡ Some i)

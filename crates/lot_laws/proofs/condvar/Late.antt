@@ -95,7 +95,7 @@ module _ (k : ℕ) where
   two_late (Notify all m at) apart key h = absurd cc
   two_late (Look all) apart key h = absurd cc
 
-  -- who sleeps in a queue, in a wait with a deadline, may be late there
+  -- a thread that sleeps in a queue, in a wait with a deadline, may be late there
   module _ (m : ℕ) (timed : Bool) (at : WaitAt) (l : ℕ) (n : Line)
       (stands : (station_at (Condvar k (Wait m timed at)) l).stands ≡ Some n) where
     main : n ≡ Main

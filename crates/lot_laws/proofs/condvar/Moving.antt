@@ -57,7 +57,7 @@ waiting_both : (at : ℕ → ℕ → Station) (l : ℕ) (n : Line) (xs ys : List
 waiting_both at l n [] ys h k = k
 waiting_both at l n (x ∷ xs) ys h k = (h.0, waiting_both at l n xs ys h.1 k)
 
--- whoever is moved waits under the key to own it
+-- each thread that is moved waits under the key to own it
 waiting_under : (at : ℕ → ℕ → Station) (l : ℕ) (q : List Waiter) → ((u : ℕ) → member u q ≡ true → (at u l).waits ≡ Some Exclusive)
     → AreWaiting at l Main (moved_under (key_of l Main) q)
 waiting_under at l [] each = tt
@@ -236,7 +236,7 @@ module _ (w : State) (t c m : ℕ) (apart : m ≢ c) (steady : IsSteady w) (p2 :
       either false true e f = inl (sym (ap (λ o. stood_in o Second) (waits_moved u f).stands))
       either false false e f = inr refl
 
-  -- who is moved stands there once
+  -- a thread that is moved stands there once
   moved_times : (u : ℕ)
       → times u (queue_at w (key_of m Main) ++ moved_under (key_of m Main) moved)
       ≡ stood_in (if member u moved then Some Main else (station_at (place_at w u) m).stands) Main
@@ -289,7 +289,7 @@ module _ (w : State) (t c m : ℕ) (apart : m ≢ c) (steady : IsSteady w) (p2 :
             second true e = ap (λ o. stood_in o Second) (waits_moved u e).out ∙ sym (ap (λ b. stood_in (if b then Some Main else (station_at (place_at w u) m).stands) Second) e)
             second false e = sym (ap (λ b. stood_in (if b then Some Main else (station_at (place_at w u) m).stands) Second) e)
 
-    -- who was neither waits as before
+    -- a thread that was neither waits as before
     waits_c : (u : ℕ) → (member u gone || member u moved) ≡ false
         → (station_at (places_across u) c).waits ≡ (station_at (place_at w u) c).waits
     waits_c = by_thread (λ u p. (member u gone || member u moved) ≡ false → (station_at p c).waits ≡ (station_at (place_at w u) c).waits)
@@ -312,7 +312,7 @@ module _ (w : State) (t c m : ℕ) (apart : m ≢ c) (steady : IsSteady w) (p2 :
         (λ u nu f g h. ap (λ (y : Station). y.waits) (waits_moved u g).moved.came)
         (λ u nu f g h. absurd (let a : true ≡ false = sym h ∙ g in cc))
 
-    -- who stands at m before isn't moved there
+    -- a thread that stands at m before isn't moved there
     not_moved : (u : ℕ) (n : Line) → 1 ≤ times u (queue_at w (key_of m n)) → member u moved ≡ false
     not_moved u n h = either (member u moved) refl
       where

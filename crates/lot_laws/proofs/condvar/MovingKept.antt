@@ -25,7 +25,7 @@ use Rattle.lot_laws.proofs.sites.TwoLocks.{BehindIt, follow_two, two_at}
 use Rattle.lot_laws.proofs.sites.TakesAt.{AllAre, member, taking_is}
 use Rattle.lot_laws.proofs.condvar.Moving.{WaitsAcross, alike_across, by_thread, in_line, fits_across, places_across, there_across}
 
--- whoever is among waiters is among them under another key
+-- each thread that is among waiters is among them under another key
 member_under : (u key : ℕ) (q : List Waiter) → member u (moved_under key q) ≡ member u q
 member_under u key [] = refl
 member_under u key (x ∷ q) = ap (λ b. (x.thread == u) || b) (member_under u key q)
@@ -94,7 +94,7 @@ module _ (w v : State) (t c m : ℕ) (apart : m ≢ c) (steady : IsSteady w) (p2
     sent : seen_in (rules_in w c) c (record (parts_at w c) { main = left }) behind ≡ after_acts (rules_in w c) (acts t sends) site_c
     sent = λ i. record site_c { lock = record site_c.lock { queue = left_is i; taken = λ u. taken_c u i }; doing = λ u. doing_c u i }
 
-    -- who is taken there, by the threads
+    -- the waiters taken there, by the threads
     taken_m : (u : ℕ)
         → taken_at (behind u) m
         ≡ locks.taking t (map queued_of (moved_under (key_of m Main) gone)) (λ u. taken_at (place_at w u) m) u

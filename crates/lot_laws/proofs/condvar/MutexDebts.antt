@@ -40,7 +40,7 @@ use Rattle.lot_laws.proofs.promises.RowPromises.{IsDebtorIn}
 
 -- ---------------------------------------------------------------- it is one at its mutex alone
 
--- who does none of this owes nothing
+-- a thread that does none of this owes nothing
 pub no_debt : (sort : Sort) (d : Doing) (m : Line) → d.wakes ≡ None → d.covers ≡ false → d.retries ≡ None → IsDebtorIn sort d m
     → ⊥
 no_debt sort d Main wakes covers retries (inl h) = let e : ◌≡◌ {A = Option Line} None (Some Main) = sym wakes ∙ h in cc
@@ -84,7 +84,7 @@ module _ (c m : ℕ) where
   abbrev IsDebtorHere : CondvarPlace → Type 0
   IsDebtorHere at = IsDebtorIn sorts.Mutex (condvar_row at).doing Main
 
-  -- who tries to lock its mutex again stands nowhere
+  -- a thread that tries to lock its mutex again stands nowhere
   tries_nowhere : (timed late : Bool) (a : LockAt) → (mutex_profile (mutex.Lock entry.Lock true a)).stands ≡ None
       → (mutex_profile (mutex.Lock entry.Lock true a)).hand ≡ None
       → (l : ℕ) → StandsAt (Condvar c (Wait m timed (wait.Lock late (mutex.Lock entry.Lock true a)))) l → ⊥
@@ -111,7 +111,7 @@ module _ (c m : ℕ) where
   relock_looks timed late r lock.Accept of d = absurd (idle_owes sorts.Mutex Main d)
   relock_looks timed late r a of d = absurd of
 
-  -- who still releases its mutex owns it, or has released it
+  -- a thread that still releases its mutex owns it, or has released it
   owns_it : (b : Bool) → (if b then Some (Has Exclusive) else Some (Has Exclusive)) ≡ Some (Has Exclusive)
   owns_it true = refl
   owns_it false = refl

@@ -61,7 +61,7 @@ there_deeds (condvars.MoveFirst ∷ ds) = Send false ∷ []
 there_deeds (condvars.MoveAll ∷ ds) = Send true ∷ []
 there_deeds ds = []
 
--- of a step on the word
+-- a step on the word
 abbrev pub IsOfWord : List CondvarDeed → Type 0
 IsOfWord [] = Unit {0}
 IsOfWord (condvars.Show m ∷ []) = Unit {0}
@@ -111,7 +111,7 @@ module _ (w : State) (t l m : ℕ) (at : CondvarPlace) (steady : IsSteady w) (is
   pub site : IsSite r here
   site = steady.sites.site l
 
-  -- what goes into a section that is free, or out of it, makes of the lock
+  -- the lock after a thread goes into a section that is free, or out of it
   pub in_steps : section_at w (key_of l Main) ≡ None → (there at).inside ≡ None → there_then at told ≡ record (there at) { inside = Some Main } → Steps r l (parts_at w l) (parts_at w l) (place_at w) t p2 (In Main ∷ [])
   in_steps free out goes = steps_by r l (parts_at w l) (parts_at w l) (place_at w) t p2 (In Main ∷ []) ((nobody_inside, ap (λ (d : Doing). d.inside) did ∙ out, ap (λ (d : Doing). d.empty) did), tt) (tt, tt) (untaken ∙ sym untaken_then) refl refl refl refl
       (does ∙ ap (λ (y : Station). record idle { inside = y.inside }) goes ∙ sym (put_here here.doing t (record (here.doing t) { inside = Some Main }) ∙ ap (λ (d : Doing). record d { inside = Some Main }) did))
@@ -211,7 +211,7 @@ module _ (w : State) (t l m : ℕ) (at : CondvarPlace) (steady : IsSteady w) (is
 
     -- ---------------------------------------------------------------- a step on the word
 
-    -- what is shown behind it
+    -- tells what is shown behind it
     module _ (shown : Option ℕ) (op : Op) (lt : l < length w.locks) (ds : List Deed)
         (owners : condvar_owners at t (word_at w l) (owners_at w l) ≡ record (owners_at w l) { shown = shown })
         (coded : apply op (word_at w l) ≡ word_of shown) (stays_in : there_then at told ≡ there at)

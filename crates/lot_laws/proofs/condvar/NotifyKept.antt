@@ -29,7 +29,7 @@ use Rattle.lot_laws.proofs.condvar.NotifyWakes.{goes_out_waking_both}
 use Rattle.lot_laws.proofs.condvar.NotifyWords.{clears, hides, looks_again, marks_it, marks_moved, sets_bit}
 use Rattle.lot_laws.proofs.condvar.WaitKept.{of_one, of_other}
 
--- what it does at its move, at both
+-- tells what it does at its move, at both
 moves_deeds : (w : State) (t l m : ℕ) (all locked : Bool) → ◌≡◌ {A = List Deed × List Deed} (there_deeds (notify_deeds all m (notify.Move locked) (reply_to w t (move_act all locked l m))), beside_deeds all (condvar_of w l).waiters (notify.Move locked) (reply_to w t (move_act all locked l m)))
     (Send all ∷ [], brings all locked (condvar_of w l).waiters)
 moves_deeds w t l m true true = refl

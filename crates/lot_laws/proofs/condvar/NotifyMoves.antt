@@ -56,7 +56,7 @@ use Rattle.lot_laws.proofs.sites.OneStep.{queued_times}
 
 -- ---------------------------------------------------------------- the lists
 
--- whom a requeue takes
+-- a thread that a requeue takes
 abbrev gone_by : Requeue → List Waiter → List Waiter
 gone_by requeue.TakeOneMoveRest q = take 1 q
 gone_by how q = []
@@ -189,7 +189,7 @@ module _ (w : State) (t l m : ℕ) (all locked : Bool) (steady : IsSteady w) (is
         (site_of w m)
     needed_m = subst (λ ds. ActsNeeded (rules_in w m) (acts t ds) (site_of w m)) x.deeds_beside (needed_same (rules_in w m) (beside_deeds all (map queued_of line) (notify.Move locked) told) (site_of w m) t follows.needed)
 
-    -- what it does about the mutex then
+    -- tells what it does about the mutex then
     does_m : doing_on p2 m
         ≡ bringing (taken_of locked (moved_of all (map queued_of line))) (line_of locked (moved_of all (map queued_of line)))
         (doing_on (place_at w t) m)
@@ -485,7 +485,7 @@ module _ (w : State) (t l m : ℕ) (steady : IsSteady w) (is_there : t < length 
   first_counted [] u = refl
   first_counted (x ∷ q) u = refl
 
-  -- whoever is moved or taken knows it
+  -- each thread that is moved or taken knows it
   pub moves_calls : (all locked : Bool) → place_at w t ≡ Condvar l (moves_at all locked) → FitsItsLock w (next_of all locked)
       → (u : ℕ) → u ≢ t → (r : ℕ → Rights)
       → call_state

@@ -89,7 +89,7 @@ module _ (w v : State) (t l m : ℕ) (all owned : Bool) (number : ℕ) (h : Happ
 
 -- ---------------------------------------------------------------- whichever it is
 
--- what its move is to the abstract locks
+-- tells what its move is to the abstract locks
 moves_event : (w : State) (t l m : ℕ) (all locked : Bool)
     → (number : ℕ)
     × (notify_event l all m (notify.Move locked) (reply_to w t (move_act all locked l m)) ≡ Moves l m all locked number)

@@ -58,7 +58,7 @@ IsCalmEvent Nothing = Unit {0}
 IsCalmEvent (AtLock l case) = IsCalm (Some case)
 IsCalmEvent (Moves c m all owned number) = ⊥
 
--- behind it they follow, where they are as they were
+-- after it they follow, where they are as they were
 pub calm_follow : (w v : State) (t : ℕ) (e : Event) → Happens w v t e → IsCalmEvent e
     → ((u : ℕ) → u ≢ t → (r : ℕ → Rights) → call_state (place_at v u) r ≡ call_state (place_at w u) r) → OthersFollow w v t e
 calm_follow w v t Nothing h calm stay = others_follow w v t 0 None h tt stay
@@ -81,20 +81,20 @@ calm_unwoken w t (AtLock l case) u c calm = by_case case calm
     by_case (locks.HandOff x y) calm = absurd calm
     by_case case calm = refl
 
--- of two cases of which each is calm
+-- for two cases of which each is calm
 two_calm : (m l : ℕ) (x y : Option LockCase) → IsCalm x → IsCalm y → IsCalmEvent (or_else (event_by m x) (event_by l y))
 two_calm m l None None h g = tt
 two_calm m l None (Some b) h g = g
 two_calm m l (Some a) y h g = h
 
--- whoever calls a condition variable has somebody in hand at its mutex alone
+-- each thread that calls a condition variable has somebody in hand at its mutex alone
 pub condvar_carries : (l m : ℕ) → m ≢ l → (at : CondvarPlace) → mutex_beside at ≡ Some m → CarriesAt m (Condvar l at)
 condvar_carries l m apart at of k ne = elim (cases_eq k l) [
   | inl e ↦ subst (λ j. carried_at (Condvar l at) j ≡ None) (sym e) (ap (λ (y : Station). y.carries) (station_there l m apart (At at) of))
   | inr nl ↦ ap (λ (y : Station). y.carries) (nothing_there l m apart (At at) of k nl ne)
 ]
 
--- whom it took there is woken
+-- a thread that it took there is woken
 module _ (w : State) (t m : ℕ) (steady : IsSteady w) (carries : CarriesAt m (place_at w t))
     (took : carried_at (place_at w t) m ≡ Some false) (p2 : Place) where
   in_hand : (u : ℕ) → is_thread t (taker (place_at w u)) ≡ true → hand_at (place_at w u) m ≡ hand t false
@@ -167,7 +167,7 @@ module _ (w : State) (t l m : ℕ) (timed : Bool) (steady : IsSteady w) (plain :
   abbrev relocks : Bool → Bool → LockAt → WaitAt
   relocks late again at = wait.Lock late (mutex.Lock entry.Lock again at)
 
-  -- of a place where it locks its mutex again, by what it does there
+  -- for a place where it locks its mutex again, by what it does there
   locks_quiet : (late again : Bool) (at : LockAt) → IsLonely (lock_act m at)
       → IsCalm (case_of None (lock_deeds at (reply_to w t (lock_act m at)))) → IsQuiet (relocks late again at)
   locks_quiet late again at h calm = alone (relocks late again at) h (two_calm m l _ _ calm (relocked (mutex_next (mutex.Lock entry.Lock again at) (reply_to w t (lock_act m at)))))

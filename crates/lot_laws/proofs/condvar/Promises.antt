@@ -36,7 +36,7 @@ pub record IsAside (m : ℕ) (at : WaitAt) : Type 0 where
   pub hand : (wait_row m at).hand ≡ None
   pub retries : (wait_row m at).doing.retries ≡ None
 
--- who stands in the queue of the condition variable has nothing at the mutex yet
+-- a thread that stands in the queue of the condition variable has nothing at the mutex yet
 pub aside : (m : ℕ) (timed : Bool) (at : WaitAt) → IsReached (Wait m timed at) → (wait_row m at).listed ≡ true → IsAside m at
 aside m timed wait.Leave reached listed = record { moved = refl; hand = refl; retries = refl }
 aside m timed wait.Remove reached listed = record { moved = refl; hand = refl; retries = refl }
@@ -51,7 +51,7 @@ aside m timed (wait.Release stands.Listed at) reached listed = absurd reached.0
 aside m timed (wait.Release s at) reached listed = absurd cc
 aside m timed at reached listed = absurd cc
 
--- who notifies stands nowhere
+-- a thread that notifies stands nowhere
 pub unlisted : (all : Bool) (m : ℕ) (at : NotifyAt) → (notify_row all m at).listed ≡ false
 unlisted all m notify.Enter = refl
 unlisted all m notify.Again = refl
@@ -136,7 +136,7 @@ module _ (k : ℕ) where
       either false true e f = inr (eqb-true m l f)
       either false false e f = absurd (out_of_both (Wait m timed at) l e f s)
 
-  -- who is in neither line, and in no hand, stands nowhere
+  -- a thread that is in neither line, and in no hand, stands nowhere
   pub neither_nowhere : (at : CondvarPlace) (l : ℕ) → (condvar_row at).listed ≡ false → (condvar_row at).moved ≡ false
       → (condvar_row at).hand ≡ None → StandsAt (Condvar k at) l → ⊥
   neither_nowhere at l listed moved hand (inl stands) = stands (stands_at at l ∙ by_lock (k == l) (is_lock l (mutex_beside at)))
@@ -170,7 +170,7 @@ module _ (k : ℕ) where
       by_lock false = refl
   two_wait (Look all) l (inr taken) = absurd (taken refl)
 
--- what its call is for
+-- tells what its call is for
 pub two_purpose : (k : ℕ) (at : CondvarPlace) (r : ℕ → Rights)
     → (call_state (Condvar k at) r).purpose ≡ Some (condvar_purpose at k)
 two_purpose k (Wait m timed at) r = refl

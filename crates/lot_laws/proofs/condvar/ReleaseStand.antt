@@ -116,7 +116,7 @@ module _ (w : State) (t l m : ℕ) (timed : Bool) (steady : IsSteady w) (here : 
         | inr ne ↦ record { now = stands.InHand u; place = told ∙ ap (λ (b : Bool). if b then place_of (stands.Noted note.Normal) (unlock.Leave true) else place_of (stands.InHand u) (unlock.Leave true)) (differ u t ne); how = inl (refl, λ e. differ u t ne) }
       ]
 
-  -- whatever its act is
+  -- for every act
   pub left_at : (s : Stands) (at : UnlockAt) → place_at w t ≡ place_of s at → LeftAt s at
   left_at s unlock.Subtract is = record { now = s; place = is; how = inl (refl, λ e. absurd cc) }
   left_at s unlock.Enter is = record { now = s; place = is; how = inl (refl, λ e. absurd cc) }

@@ -70,7 +70,7 @@ length_queued : (q : List Waiter) → length q ≡ length (map queued_of q)
 length_queued [] = refl
 length_queued (x ∷ q) = ap suc (length_queued q)
 
--- whom a requeue takes and moves are all that stood there
+-- a thread that a requeue takes and moves are all that stood there
 pub number_of : (locked : Bool) (q : List Waiter)
     → length (listed (taken_by (if locked then requeue.All else requeue.TakeOneMoveRest) q)) + length
     (moved_by (if locked then requeue.All else requeue.TakeOneMoveRest) q)
@@ -81,12 +81,12 @@ number_of false (x ∷ q) = let e : length q ≡ length (map queued_of q) = leng
 
 -- ---------------------------------------------------------------- a thread at a place of a condition variable
 
--- whom a release of the mutex takes
+-- a thread that a release of the mutex takes
 abbrev pub taken_first : State → ℕ → UnlockAt → Option ℕ
 taken_first w m unlock.Take = first_thread (lock_state w m).queue
 taken_first w m p = None
 
--- what a thread does about the word that it saw, by its two tests
+-- tells what a thread does about the word that it saw, by its two tests
 abbrev pub decided_by : ℕ → ℕ → Bool → Bool → Act
 decided_by m x a b =
     if not a then act.Word m (op.Exchange x (x + 1))
@@ -207,7 +207,7 @@ module _ (w : State) (t l : ℕ) (at : CondvarPlace) (steady : IsSteady w) (is :
     free_beside free u h = let a : section_at w (2 * m) ≡ Some u = (steady.stands.sections u m Main).0 (sym (inside_is (place_at w u) m) ∙ h) in
         let none : section_at w (2 * m) ≡ None = none_so (section_at w (2 * m)) free in let b : ◌≡◌ {A = Option ℕ} None (Some u) = sym none ∙ a in cc
 
-    -- who has nobody in hand has taken nobody
+    -- a thread that has nobody in hand has taken nobody
     taken_nobody : carried_at (place_at w t) m ≡ None → HasTakenNobody there.lock t
     taken_nobody none u x h = let kept : keep_from t (taken_at (place_at w u) m) ≡ taken_at (place_at w u) m = untaken (place_at w u) t m (λ e. let a : carried_at (place_at w t) m ≡ Some false = steady.stands.hands.taken t u m false e in let b : ◌≡◌ {A = Option Bool} None (Some false) = sym none ∙ a in cc) in
         let gone : keep_from t (Some (record { by = t; want = x })) ≡ Some (record { by = t; want = x }) = subst (λ o. keep_from t o ≡ o) h kept in
@@ -274,7 +274,7 @@ module _ (w : State) (t l : ℕ) (at : CondvarPlace) (steady : IsSteady w) (is :
 
 -- ---------------------------------------------------------------- a wait, at its mutex
 
--- whom its step takes, if it is a release
+-- a thread that its step takes, if it is a release
 abbrev pub taken_by_wait : State → ℕ → WaitAt → Option ℕ
 taken_by_wait w m (wait.Release s (mutex.Unlock p)) = taken_first w m p
 taken_by_wait w m p = None

@@ -86,7 +86,7 @@ module _ (w v : State) (t c m : ℕ) (apart : m ≢ c) (before : IsSteady w) (af
     deeds_need (rules_in w l) t l hand ds (site_of w l) (needed_then (rules_in w l) t ds [] (site_of w l) (subst (λ done. ActsNeeded (rules_in w l) done (site_of w l)) (is ∙ sym (append-nil (acts t ds))) (f.needed l))) one,
   )
 
-  -- what happens in a step of a wait
+  -- tells what happens in a step of a wait
   pub wait_happens : (p : WaitAt) (whom : Option ℕ) (told : Reply) → all c ≡ acts t (there_deeds (wait_deeds m p told))
       → all m ≡ acts t (waiter_deeds p whom told)
       → AreOneCase (there_deeds (wait_deeds m p told)) → AreOneCase (waiter_deeds p whom told) → HasTakenNobody (lock_state w c) t
@@ -124,7 +124,7 @@ module _ (w v : State) (t l m : ℕ) (p : CondvarPlace) (call_is : call_at w t �
       → call_state (place_at v t) (rights v t) ≡ calls.call_at l m q (rights v t)
   call_then q there named = ap (λ x. call_state x (rights v t)) there ∙ ap (λ o. call_on_both o (Some l) (condvar_profile q) (mutex_side q) (rights v t)) named
 
-  -- what it is made of
+  -- tells what it is made of
   pub may_go : MayComeOfTwo l (condvar_profile p) e
       → ((c k : ℕ) (all owned : Bool) (n : ℕ) → e ≡ Moves c k all owned n → MayMove (locks_of w) t c k all owned n)
       → MayHappen (locks_of w) t e

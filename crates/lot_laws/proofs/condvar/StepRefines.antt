@@ -39,7 +39,7 @@ use Rattle.lot_laws.proofs.condvar.WaitSleeps.{IsSettled, wait_rests}
 use Rattle.lot_laws.proofs.condvar.WaitSettles.{wait_settles}
 use Rattle.lot_laws.proofs.condvar.WaitersAside.{waits_aside}
 
--- who notifies is in nobody's hand
+-- a thread that notifies is in nobody's hand
 no_hand : (all : Bool) (m : ℕ) (p : NotifyAt) → (notify_row all m p).hand ≡ None
 no_hand all m notify.Enter = refl
 no_hand all m notify.Again = refl

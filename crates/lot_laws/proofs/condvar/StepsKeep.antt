@@ -247,7 +247,7 @@ is_or_not : (o : Option ℕ) (k : ℕ) → (o ≡ Some k) ⊎ (o ≢ Some k)
 is_or_not None k = inr (λ e. cc)
 is_or_not (Some j) k = elim (cases_eq j k) [ inl e ↦ inl (ap Some e) | inr ne ↦ inr (λ e. ne cc) ]
 
--- who calls a condition variable is at a place of its calls
+-- a thread that calls a condition variable is at a place of its calls
 condvar_place : (w : State) → IsSteady w → (t l : ℕ) → (rules_in w l).sort ≡ locks.Condvar → lock_of (place_at w t) ≡ Some l
     → (at : CondvarPlace) × (place_at w t ≡ Condvar l at)
 condvar_place w steady t l sort own = by_place (place_at w t) refl (steady.stands.calls t) own

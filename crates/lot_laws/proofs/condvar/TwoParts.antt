@@ -88,7 +88,7 @@ module _ (l m : ℕ) (apart : m ≢ l) where
       nothing (At p) e = (rw (differ l k (λ f. nl (sym f)), e, differ m k (λ f. nm (sym f))) refl, rw (differ l k (λ f. nl (sym f)), e, differ m k (λ f. nm (sym f))) refl, rw (differ l k (λ f. nl (sym f)), e, differ m k (λ f. nm (sym f))) refl)
       nothing (Over answer) e = (refl, refl, refl)
 
--- what a row there says of the thread's doing is where it is inside
+-- the row there says of the thread's doing where it is inside
 pub doing_of_row : (n : Next CondvarPlace) → (row_there n).doing ≡ record idle { inside = (station_by (row_there n)).inside }
 doing_of_row (At p) = refl
 doing_of_row (Over answer) = refl

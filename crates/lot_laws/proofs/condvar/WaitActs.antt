@@ -54,7 +54,7 @@ module _ (w : State) (t l m : ℕ) (timed : Bool) (steady : IsSteady w) (is_ther
   abbrev FitsNext : WaitAt → Type 0
   FitsNext at = FitsItsLock w (condvar_goes l (condvar_next (waits at) (reply_to w t (wait_act l m at))))
 
-  -- what a step leaves as it was at the mutex
+  -- tells what a step leaves as it was at the mutex
   same_beside : (at : WaitAt) → place_at w t ≡ Condvar l (waits at) → (n : Next CondvarPlace) → Beside m n
       → SameBeside (At (waits at)) n → Alike m (place_at w t) (condvar_goes l n)
   same_beside at is n beside e = subst (λ q. Alike m q (condvar_goes l n)) (sym is) (alike_beside l m apart (At (waits at)) n refl beside e)

@@ -150,7 +150,7 @@ module _ (w : State) (t l m : ℕ) where
 
 -- ---------------------------------------------------------------- the step
 
--- what it does at the condition variable changes nobody's rights
+-- its deed at the condition variable changes nobody's rights
 pub there_rights : (ds : List CondvarDeed) (r : Rules) (s : Site) (t : ℕ)
     → rights_of (after_all r (there_deeds ds) s t).lock t ≡ rights_of s.lock t
 there_rights [] r s t = refl

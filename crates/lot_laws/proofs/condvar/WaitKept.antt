@@ -93,7 +93,7 @@ module _ (w : State) (t l m : ℕ) (timed : Bool) (steady : IsSteady w) (is_ther
       → GoesAll w (put (after at a) t (next_place (place_at (after at a) t) (told a)))
       (two_at l m (acts t (there_deeds (wait_deeds m at (told a)))) (acts t (waiter_deeds at (taken_by_wait w m at) (told a))))
 
-  -- of an act that befalls nobody, it goes on from where it stands
+  -- after an act that befalls nobody, it goes on from where it stands
   module _ (at : WaitAt) (a : Act) (is : place_at w t ≡ Condvar l (waits at))
       (still : place_at (after at a) t ≡ place_at w t) where
     abbrev next : Place

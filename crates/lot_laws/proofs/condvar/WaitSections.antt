@@ -70,7 +70,7 @@ module _ (w : State) (t l m : ℕ) (timed : Bool) (steady : IsSteady w) (is_ther
   abbrev FitsNext : WaitAt → Act → Type 0
   FitsNext at a = FitsItsLock w (condvar_goes l (condvar_next (waits at) (reply_to w t a)))
 
-  -- what it does, by the laws of its place, where it takes nobody
+  -- tells what it does, by the laws of its place, where it takes nobody
   module _ (at : WaitAt) (is : place_at w t ≡ Condvar l (waits at)) (a : Act) (acts_so : wait_act l m at ≡ a)
       (can : can_do w a ≡ true) (nobody : taken_by_wait w m at ≡ None) (ds : List Deed)
       (does : waiter_deeds at None (reply_to w t a) ≡ ds) where
@@ -251,7 +251,7 @@ module _ (w : State) (t l m : ℕ) (timed : Bool) (steady : IsSteady w) (is_ther
       told_it : Reply
       told_it = reply_to w t remove
 
-  -- behind the last of its line, where the bit still stands
+  -- after the last of its line, where the bit still stands
   module _ (late retries : Bool) (is : place_at w t ≡ Condvar l (waits (relocks late retries lock.Check))) where
     abbrev check : WaitAt
     check = relocks late retries lock.Check

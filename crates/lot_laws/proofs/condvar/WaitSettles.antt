@@ -121,7 +121,7 @@ module _ (w : State) (steady : IsSteady w) (u m : ℕ) (sort : (rules_in w m).so
           either false true e g = absurd (hands_none at fits.reached g)
           either false false e g = absurd cc
 
--- who is inside the section of its mutex, and releases it, was not handed it meanwhile
+-- a thread that is inside the section of its mutex, and releases it, was not handed it meanwhile
 module _ (w : State) (t l m : ℕ) (timed : Bool) (steady : IsSteady w) where
   never_handed : (u : ℕ) (any : Bool)
       → place_at w t ≡ Condvar l (Wait m timed (wait.Release (stands.Handed u) (mutex.Unlock (unlock.Leave any)))) → ⊥

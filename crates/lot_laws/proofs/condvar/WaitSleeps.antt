@@ -102,7 +102,7 @@ module _ (v : State) (t l m : ℕ) (timed : Bool) (steady : IsSteady v) where
   rests_at (wait.Lock late (mutex.Lock entry.Lock again a)) there reached settled = absurd reached.1
   rests_at (wait.Lock late a) there reached settled = absurd reached.1
 
-  -- what it is told of its step
+  -- tells what it is told of its step
   pub wait_rests : (n : Next WaitAt) → place_at v t ≡ condvar_goes l (in_wait m timed n) → IsSettledNext n
       → ToldSo v t (in_wait m timed n) (outcome_of (condvar_does l (in_wait m timed n)))
   wait_rests (next.At q) there settled = rests_at q there (fits_here v t l (Wait m timed q) steady there).reached settled

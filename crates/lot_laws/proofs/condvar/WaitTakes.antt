@@ -69,7 +69,7 @@ module _ (w : State) (t l m : ℕ) (timed : Bool) (steady : IsSteady w) (here : 
   abbrev taken_of : WaitAt → Option Taken
   taken_of at = taken_from (row_beside (At (waits at))).hand (row_beside (At (waits at))).wants true
 
-  -- behind it the bit goes, where nobody is left
+  -- after it the bit goes, where nobody is left
   abbrev goes_to : Stands → Bool → Bool → WaitAt
   goes_to s any none_left = released s (in_unlock (if none_left then At (unlock.Clear any) else At (unlock.Leave any)))
 
@@ -195,7 +195,7 @@ module _ (w : State) (t l m : ℕ) (timed : Bool) (steady : IsSteady w) (here : 
 
   -- ---------------------------------------------------------------- it takes itself
 
-  -- who stands in the line of the mutex was moved there
+  -- a thread that stands in the line of the mutex was moved there
   moved_so : (s : Stands) → (beside_of (taking s)).stands ≡ Some Main → s ≡ stands.Moved
   moved_so stands.Moved h = refl
   moved_so stands.Listed h = absurd cc

@@ -50,7 +50,7 @@ use Rattle.lot_laws.proofs.condvar.WaitWords.{StaysThere}
 use Rattle.lot_laws.proofs.sites.WakesAt.{IsWokenAt}
 use Rattle.lot_laws.proofs.sites.StandsKept.{AlikeBeside}
 
--- who is in nobody's hand, or in another's, isn't woken
+-- a thread that is in nobody's hand, or in another's, isn't woken
 unwoken : (t : ℕ) (o : Option Taken) (d : Doing) → keep_from t o ≡ o → wakened t o d ≡ d
 unwoken t None d h = refl
 unwoken t (Some x) d h = either (x.by == t) h
@@ -87,7 +87,7 @@ module _ (w : State) (t l m : ℕ) (timed : Bool) (steady : IsSteady w) (is_ther
   abbrev beside_of : WaitAt → Station
   beside_of at = station_by (row_beside (At (waits at)))
 
-  -- what leaving makes of how it stands
+  -- tells what leaving makes of how it stands
   record GoesOn (any : Bool) (s s2 : Stands) : Type 0 where
     stays : station_by (row_there (At (waits (behind s2)))) ≡ there (waits (leaving any s))
     side : beside_of (behind s2) ≡ record (beside_of (leaving any s)) { inside = None; carries = None; hand = (if is_thread t (taker_of s) then None else hand_of s) }
@@ -158,14 +158,14 @@ module _ (w : State) (t l m : ℕ) (timed : Bool) (steady : IsSteady w) (is_ther
     side : station_at p2 m ≡ record (station_at (place_at w t) m) { inside = None; carries = None; hand = (if is_thread t (taker_of s) then None else hand_of s) }
     side = station_then ∙ goes.1.side ∙ sym (ap (λ (y : Station). record y { inside = None; carries = None; hand = (if is_thread t (taker_of s) then None else hand_of s) }) station_was)
 
-    -- what it does then
+    -- tells what it does then
     doing : (laws.after_all (rules_in w m) (Out ∷ []) here t).doing t ≡ doing_on p2 m
     doing = follows.doing ∙ ap (λ o. wakened t o (wait_row m (behind s)).doing) taken_was ∙ sym goes.1.doing ∙ sym (beside.does_next w t l m timed steady is_there apart sort (At (behind goes.0)) refl)
 
     taken_then : taken_at p2 m ≡ keep_from t (taken_at (place_at w t) m)
     taken_then = taken_beside l m apart (At (waits (behind goes.0))) refl ∙ goes.1.taken ∙ sym (ap (keep_from t) taken_was)
 
-  -- whom it has in hand tries again
+  -- a thread that it has in hand tries again
   module _ (s : Stands) (is : place_at w t ≡ Condvar l (waits (leaving true s))) where
     abbrev then_at : Place
     then_at = Condvar l (waits (behind (goes true s is).0))

@@ -90,7 +90,7 @@ module _ (w : State) (t l m : ℕ) (timed : Bool) (steady : IsSteady w) (is_ther
     pub taken_then : taken_at (condvar_goes l n) m ≡ taken_from (row_beside n).hand (row_beside n).wants true
     taken_then = taken_beside l m apart n stays.0
 
-  -- what it does about the mutex at the next place
+  -- tells what it does about the mutex at the next place
   pub does_next : (n : Next WaitAt) → (beside : Beside m (in_wait m timed n))
       → doing_on (condvar_goes l (in_wait m timed n)) m ≡ waiter_next m n
   does_next n beside = doing_beside l m apart (in_wait m timed n) beside ∙ by_next n

@@ -54,7 +54,7 @@ module _ (w : State) (t l : ℕ) (steady : IsSteady w) (own : IsOf l (place_at w
   by_any true g e = let f : false ≡ g = cc in sym f
   by_any false g e = absurd cc
 
-  -- who is in its hand is so at its lock, and was handed nothing
+  -- a thread that is in its hand is so at its lock, and was handed nothing
   pub hand_there : (u : ℕ) → is_thread t (taker (place_at w u)) ≡ true → hand_at (place_at w u) l ≡ hand t false
   hand_there u h =
       let k : IsInHandOf (place_at w u) t = in_hand_where (place_at w u) t (aparts w steady u) h in
@@ -139,7 +139,7 @@ shares_of t o p e = by_wanted o ∙ ap share e ∙ sym (by_wanted p)
         either true = refl
         either false = refl
 
--- who wants more, and is in the hand
+-- a thread that wants more, and is in the hand
 more_is : (t : ℕ) (o : Option Taken) (x : Want) → wanted_of t o ≡ Some x → x ≢ Shared → wants_more_in_hand t o ≡ Some x
 more_is t None x e ne = absurd cc
 more_is t (Some h) x e ne = either (h.by == t) e
@@ -247,7 +247,7 @@ filter_less f (p ∷ ps) (suc i) lt e = let h : length (filter f ps) < length ps
     one true h = omega arith
     one false h = omega arith
 
--- who is in nobody's hand isn't in its own
+-- a thread that is in nobody's hand isn't in its own
 pub few_sharers : (w : State) (t : ℕ) → t < length w.places → IsSingle (place_at w t) → (profile (place_at w t)).hand ≡ None
     → sharers t w.places < length w.places
 few_sharers w t lt single free = filter_less (λ (p : Place). shares_in_hand t (held p)) w.places t lt (ap (shares_in_hand t) (single_held (place_at w t) single) ∙ ap (λ h. shares_in_hand t (held_by (hand_owner h) (profile (place_at w t)).wants)) free)

@@ -78,7 +78,7 @@ module _ (w v : State) (a : ℕ) (steady : IsSteady w) (behind : IsSteady v) (co
     readers : has_readers (rules_in w l).sort ≡ true
     readers = let h = counting l k (place_at w t) was in let fits : FitsItsLock w (RwLock l h.admission h.call) = subst (FitsItsLock w) h.is (steady.stands.calls t) in fits.0.0
 
-    -- whom it has in hand, the abstract lock says, and no case of another changes that
+    -- a thread that it has in hand, the abstract lock says, and no case of another changes that
     same_wanted : t ≢ a → (x : Turn) (o : Outcome) → Turned (locks_of w) a x o (locks_of v) → (u : ℕ)
         → wanted_of t (held (place_at v u)) ≡ wanted_of t (held (place_at w u))
     same_wanted ne x o turned u = same_hand v t l behind then_so.of then_so.any then_so.carries u

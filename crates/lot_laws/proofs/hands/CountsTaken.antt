@@ -58,7 +58,7 @@ module _ (w : State) (t l : ℕ) (steady : IsSteady w) where
       let tied : wanting_more (map queued_of (lock_picked start (is_recursive (rules_in w l).sort) (queue_at w (2 * l)))) ≡ hands.wanting_more (lock_picked start (is_recursive (rules_in w l).sort) (queue_at w (2 * l))) = queued_more (lock_picked start (is_recursive (rules_in w l).sort) (queue_at w (2 * l))) in
       omega arith)
 
-  -- behind a step of a thread that had nobody in hand
+  -- after a step of a thread that had nobody in hand
   one_more_then : IsSingle (place_at w t) → (v : State) (x : Turn) (o : Outcome) → (rules_in w l).sort ≢ Once
       → Turned (locks_of w) t x o (locks_of v) → HasTakenNobody (lock_state w l) t → OneMore (lock_state v l).taken t
   one_more_then single v x o lock turned none = turned_so (λ (s z : LockState). OneMore z.taken t) (locks_of w) (locks_of v) t l (λ c m every owned number may. absurd (moves_nobody (locks_of w) t (calls_one_lock w t steady single) c m every owned number may)) (nobody_more t (lock_state w l).taken none)
@@ -76,7 +76,7 @@ one_in_hand v t l steady has one u i x y e f = let a = is_more t (held (place_at
 
 -- ---------------------------------------------------------------- the take
 
--- who isn't moved by what is told stays where it is
+-- a thread that isn't moved by what is told stays where it is
 told_stays : (u : ℕ) (r : Reply) (p : Place) → next_place p r ≡ p → (us : List ℕ) (ps : List Place) → get_or ps u Idle ≡ p
     → get_or (places_told r us ps) u Idle ≡ p
 told_stays u r p stays [] ps is = is
@@ -98,7 +98,7 @@ module _ (w : State) (t l : ℕ) (a : Admission) (x : Access) (b : Bool) (steady
   abbrev taken_all : State
   taken_all = state_after_take w t (2 * l) (whom.Picked None a.recursive)
 
-  -- what it is told
+  -- tells what it is told
   abbrev pub picked_now : Counted
   picked_now = record {
     sharers = sharers t taken_all.places;

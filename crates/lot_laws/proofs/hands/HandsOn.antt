@@ -66,7 +66,7 @@ use Rattle.lot_laws.proofs.rwlock.Kept.{beside_no_call, admits, at_now, call_tol
 
 -- ---------------------------------------------------------------- the place
 
--- what a hand-over that has these in hand, and saw this word, does to the lock
+-- tells what a hand-over that has these in hand, and saw this word, does to the lock
 pub record HandsFacts (a : Admission) (c : RwLockCallPlace) (k : Counted) (op : Op) (seen : ℕ) : Type 0 where
   pub right : Want
   pub deeds : (whom : Option ℕ) → takes_effect op seen ≡ true → call_deeds a c whom (Value seen) ≡ hands_over right k whom
@@ -127,7 +127,7 @@ hands_facts l a (HandOver access.Shared b to) k op seen stands is e = absurd sta
 hands_facts l a (HandOver x b (handing.Look j)) k op seen stands is e = absurd cc
 hands_facts l a c k op seen stands is e = absurd cc
 
--- who is in a hand claims nothing, or is pending
+-- a thread that is in a hand claims nothing, or is pending
 hand_claims : (a : Admission) (c : RwLockCallPlace) (t : ℕ) → (call_profile a c).hand ≡ hand t false
     → ((call_profile a c).doing.claims ≡ None) ⊎ ((b : Bool) × ((call_profile a c).doing.claims ≡ Some (Pends b)))
 hand_claims a c t h = by_call c h
@@ -222,7 +222,7 @@ module _ (w : State) (t l : ℕ) (a : Admission) (c : RwLockCallPlace) (steady :
   now : word_at w l ≡ code (rules_in w l) here
   now = steady.sites.word l
 
-  -- what it makes of its call
+  -- tells what it makes of its call
   pub hands_tell : CallTells (rules_in w l) a here t l c whom (Value (word_at w l))
   hands_tell = subst (λ v. CallTells (rules_in w l) a here t l c whom (Value v)) (sym now) (hand_overs_tell (rules_in w l) a here t l c op whom hands e)
 
@@ -273,7 +273,7 @@ module _ (w : State) (t l : ℕ) (a : Admission) (c : RwLockCallPlace) (steady :
           let none = unpending in cc)
     ]
 
-    -- whom it has in hand
+    -- a thread that it has in hand
     pub given : (u : ℕ) (b : Bool) → hand_at (place_at w u) l ≡ hand t b → IsGiven w t l b (unshared_then w t l) (place_at w u)
     given u b held = by_place (place_at w u) refl held
       where

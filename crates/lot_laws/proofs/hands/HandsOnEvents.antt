@@ -51,7 +51,7 @@ use Rattle.lot_laws.proofs.calls.LockEvents.{Befalls}
 use Rattle.lot_laws.proofs.calls.OtherCalls.{taken_by_hand}
 use Rattle.lot_laws.proofs.rwlock.Kept.{beside_no_call, admits, of_no_mutex, of_no_semaphore}
 
--- what a thread has once it was handed what it wanted
+-- tells what a thread has once it was handed what it wanted
 gains : (alone : Bool) (x : Want) (l : ℕ) (r : ℕ → Rights)
     → putting r l (given_right alone x (r l)) ≡ with_claim (claim_handed alone x) l r
 gains true Exclusive l r = refl
@@ -118,7 +118,7 @@ module _ (w : State) (t l : ℕ) (a : Admission) (c : RwLockCallPlace) (steady :
           (hand_there w t l steady (of w t l a c steady shape there lt is k is_k count op e) (g w t l a c steady shape there lt is k is_k count op e).any (carries w t l a c steady shape there lt is k is_k count op e) u f))
       same_test false f = f ∙ sym (unless_held w steady t l u (λ h. let z : is_thread t (taker (place_at w u)) ≡ true = held_tells (place_at w u) t l false h in cc))
 
-  -- who waits for a lock that is no mutex is in a call of it alone
+  -- a thread that waits for a lock that is no mutex is in a call of it alone
   handed_single : (u : ℕ) (x : Want) → IsTaken (lock_state w l) t u x → IsSingle (place_at w u)
   handed_single u x taken = by_place (place_at w u) refl taken
     where

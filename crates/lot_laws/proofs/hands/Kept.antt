@@ -60,12 +60,12 @@ needed_both r [] ys s h k = k
 needed_both r (a ∷ xs) ys s h k = (h.0, needed_both r xs ys (after_deed r a.deed s a.by) h.1 k)
 
 module _ (t : ℕ) (alone : Bool) where
-  -- whoever was taken by t claims what it wanted, from the hand-over on
+  -- each thread that was taken by t claims what it wanted, from the hand-over on
   abbrev pub claim_of : ℕ → Option Taken → List deeds.Act
   claim_of u None = []
   claim_of u (Some h) = if h.by == t then record { by = u; deed = Begin (Some (claim_handed alone h.want)) } ∷ [] else []
 
-  -- of so many threads
+  -- among so many threads
   abbrev pub claims_given : (ℕ → Option Taken) → ℕ → List deeds.Act
   claims_given taken zero = []
   claims_given taken (suc n) = claim_of n (taken n) ++ claims_given taken n
@@ -147,7 +147,7 @@ unknown sort Shared r e u s k = s refl
 unknown Normal x r e u s k = k
 unknown Recursive x r e u s k = k
 
--- who was not taken by t claims nothing anew
+-- a thread that was not taken by t claims nothing anew
 unclaimed : (t : ℕ) (alone : Bool) (o : Option Taken) (d : Doing) → keep_from t o ≡ o → with_claim t alone o d ≡ d
 unclaimed t alone None d e = refl
 unclaimed t alone (Some h) d e = either (h.by == t) e
@@ -230,11 +230,11 @@ given_is t i taken (p ∷ ps) (n ∷ ns) each e few =
 
 -- ---------------------------------------------------------------- those in hand
 
--- who is in the hand of t, by its place, is taken by it
+-- a thread that is in the hand of t, by its place, is taken by it
 taken_by : (q : Place) (l : ℕ) {t : ℕ} (x : Want) → IsOf l q → (station q).hand ≡ hand t false → wants q ≡ Some x → taken_at q l ≡ Some (record { by = t; want = x })
 taken_by q l {t = t} x of h e = single_taken q l (of_single l q of) ∙ (λ i. taken_from (h i) ((sym (single_wants q (of_single l q of)) ∙ e) i) (calls q l)) ∙ ap (taken_from (hand t false) (Some x)) (held_calls q l of (Of t false) h)
 
--- who was handed what it wanted isn't taken any more
+-- a thread that was handed what it wanted isn't taken any more
 given_free : (q : Place) (l t : ℕ) → IsSingle q → (station q).hand ≡ hand t true → taken_at q l ≡ None
 given_free q l t single h = single_taken q l single ∙ ap (λ o. taken_from o (profile q).wants (calls q l)) h
 
@@ -250,7 +250,7 @@ pub record IsGiven (w : State) (t l : ℕ) (handed alone : Bool) (p : Place) : T
   pub doing : doing_on (next_place p (HandedBy t alone)) l ≡ record (doing_on p l) { claims = Some (claim_handed alone want) }
   pub fits : FitsItsLock w (next_place p (HandedBy t alone))
 
--- who calls the lock
+-- a thread that calls the lock
 pub given_of : (w : State) (t l : ℕ) (handed alone : Bool) (p : Place) (want : Want) → IsOf l p → handed ≡ false → wants p ≡ Some want → station p ≡ record nowhere { hand = hand t handed } → station (next_place p (HandedBy t alone)) ≡ record nowhere { hand = hand t true }
     → doing_on (next_place p (HandedBy t alone)) l ≡ record (doing_on p l) { claims = Some (claim_handed alone want) }
     → FitsItsLock w (next_place p (HandedBy t alone)) → IsGiven w t l handed alone p
@@ -317,7 +317,7 @@ module _ (w : State) (t l : ℕ) (steady : IsSteady w) (own : IsOf l (place_at w
   abbrev told_now : ℕ → Place
   told_now = told w t l steady p2 same_there fits in_hands (hand_over_told w t l) (hand t true) all_told
 
-  -- whom t has in hand
+  -- a thread that t has in hand
   module _ (u : ℕ) (h : is_told u ≡ true) where
     at_hand : HeldHere w t l steady p2 same_there fits in_hands (hand_over_told w t l) (hand t true) all_told u
     at_hand = held_here w t l steady p2 same_there fits in_hands (hand_over_told w t l) (hand t true) all_told u h
@@ -342,7 +342,7 @@ module _ (w : State) (t l : ℕ) (steady : IsSteady w) (own : IsOf l (place_at w
   not_taken : (u : ℕ) → is_told u ≡ false → keep_from t (taken u) ≡ taken u
   not_taken u h = untaken (place_at w u) t l (not_held w t l steady p2 same_there fits in_hands (hand_over_told w t l) (hand t true) all_told u h false)
 
-  -- who gets a share
+  -- a thread that gets a share
   share_is : (u : ℕ) → shares_handed t (taken u) ≡ (if shares_in_hand t (held (place_at w u)) then 1 else 0)
   share_is u = either (is_told u) refl
     where
@@ -393,7 +393,7 @@ module _ (w : State) (t l : ℕ) (steady : IsSteady w) (own : IsOf l (place_at w
     abbrev between : Site
     between = laws.after_all r own_deeds here t
 
-    -- what the laws of its sort conclude
+    -- tells what the laws of its sort conclude
     pub record HandsLawful : Type 0 where
       pub needed : laws.AllNeeded r own_deeds here t
       pub doing : between.doing t ≡ doing_on p2 l
@@ -431,7 +431,7 @@ module _ (w : State) (t l : ℕ) (steady : IsSteady w) (own : IsOf l (place_at w
       site_between : IsSite r between
       site_between = subst (λ s. IsSite r s) (after_same r own_deeds here t) (acts_keep r (acts t own_deeds) here site needed)
 
-      -- who is in hand still
+      -- a thread that is in hand still
       taken_then : (u : ℕ) → taken_at (places_behind u) l ≡ let_go t taken u
       taken_then u = elim (cases_eq u t) [
         | inl e ↦ rw e (ap (λ q. taken_at q l) (put_here told_now t p2) ∙ free_of p2 l (of_single l p2 of) unheld ∙ sym (ap (keep_from t) (free_of (place_at w t) l (of_single l (place_at w t) own) free)))

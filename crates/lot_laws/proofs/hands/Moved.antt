@@ -35,7 +35,7 @@ use Rattle.lot_laws.proofs.sites.OneStep.{steps_by}
 use Rattle.lot_laws.proofs.sites.WakesAt.{IsWokenAt}
 use Rattle.lot_laws.proofs.sites.WakesKept.{wake_goes}
 
--- who succeeds, and what it wants, are the heir
+-- the heir: the successor, and its want
 abbrev pub thread_of : Option Successor → Option ℕ
 thread_of None = None
 thread_of (Some x) = Some x.thread
@@ -53,7 +53,7 @@ module _ (w : State) (t l : ℕ) (steady : IsSteady w) (there : t < length w.pla
   abbrev pub seen : ℕ
   seen = word_at w l
 
-  -- who succeeds is no part of the place
+  -- a thread that succeeds is no part of the place
   abbrev pub whom : Option ℕ
   whom = thread_of (successor_from t 0 w.places)
 
@@ -155,7 +155,7 @@ module _ (w : State) (t l : ℕ) (steady : IsSteady w) (there : t < length w.pla
             Main line (ap (λ (y : Station). y.inside) stands_so) (ap (λ (y : Station). y.stands) goes_nowhere ∙ sym (ap (λ (y : Station). y.stands) stands_so)) (ap (λ (y : Station). y.waits) goes_nowhere ∙ sym (ap (λ (y : Station). y.waits) stands_so)) (ap (λ (y : Station). y.inside) goes_nowhere)
             r rules (free_of (place_at w t) l (of_single l (place_at w t) own) bare) (free_of p2 l (of_single l p2 f.of) (ap (λ (y : Station). y.hand) goes_nowhere)) (x.deeds None Done) g.deeds (needed_same r (x.deeds None Done) now t f.needed) own_then
 
-  -- who was told so ends its call
+  -- a thread that was told so ends its call
   pub accepts : (g : Accepts x hears) (p2 : Place)
       → (hears r now t None Done → IsFollowed w t l steady there own r rules x same_row None Done p2)
       → Goes w (put w t p2) l (acts t (x.deeds None Done))

@@ -34,12 +34,12 @@ module _ (w : State) (steady : IsSteady w) where
   pub coded_for : (t l : ℕ) (at : MutexPlace) → place_at w t ≡ Mutex l at → IsMutexWord (word_at w l) (owners_at w l).exclusive
   coded_for t l at is = coded l (rules_for t l at is)
 
-  -- who has nobody in hand by its place
+  -- a thread that has nobody in hand by its place
   pub taken_nobody : (t l : ℕ) → (doing_on (place_at w t) l).carries ≡ false → HasTakenNobody (lock_state w l) t
   taken_nobody t l none u x h = let some : (doing_on (place_at w t) l).carries ≡ true = (steady.sites.site l).carried u (record { by = t; want = x }) h in cc
 
   module _ (t l : ℕ) where
-    -- who is not in its hand, to be woken or to be handed the lock, it hasn't taken
+    -- a thread that is not in its hand, to be woken or to be handed the lock, it hasn't taken
     pub unless_held : (u : ℕ) → (hand_at (place_at w u) l ≡ hand t false → ⊥) → is_taken_by t (taken_at (place_at w u) l) ≡ false
     unless_held u none = freed (taken_at (place_at w u) l) (untaken (place_at w u) t l none)
       where
@@ -60,7 +60,7 @@ module _ (w : State) (steady : IsSteady w) where
     pub queued_by : locks.times t (lock_state w l).queue ≡ stood_in (station_at (place_at w t) l).stands Main
     queued_by = queued_times t (queue_at w (2 * l)) ∙ steady.stands.lines t l Main
 
-  -- who stands in no line leaves none, in a call of one lock
+  -- a thread that stands in no line leaves none, in a call of one lock
   module _ (t : ℕ) (single : IsSingle (place_at w t)) (nowhere_now : (station (place_at w t)).stands ≡ None) where
     pub absent : (l : ℕ) → times t (queue_at w (2 * l)) ≡ 0
     absent l = steady.stands.lines t l Main ∙ ap (λ x. stood_in x Main) (nothing_at (place_at w t) l single (λ x. x.stands) refl nowhere_now)

@@ -43,7 +43,7 @@ module _ {A : Type 0} (g : Place → A) (kept : (p : Place) (r : Reply) → Befa
   turned_keeps w t u turn.TheVariants.Ok ne = put_went_keeps w t u (closed_place w t true) ne
   turned_keeps w t u turn.TheVariants.Err ne = put_went_keeps w t u (closed_place w t false) ne
 
-  -- whatever another thread does
+  -- for every act of another thread
   pub others_keep_it : (w : State) (s : Step) (u : ℕ) → u ≢ s.thread → g (place_at (after w s) u) ≡ g (place_at w u)
   others_keep_it w s u ne = either (is_possible w s)
     where

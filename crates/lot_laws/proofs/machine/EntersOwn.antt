@@ -27,7 +27,7 @@ moves_never key l m true locked h = h
 moves_never key l m false true h = h
 moves_never key l m false false h = h
 
--- of a condition variable, or of its mutex
+-- for a condition variable, or for its mutex
 abbrev MainOf : CondvarPlace → ℕ → ℕ → Type 0
 MainOf p l key = (2 * l ≡ key) ⊎ ((m : ℕ) × (mutex_beside p ≡ Some m) × (2 * m ≡ key))
 
@@ -59,7 +59,7 @@ module _ (w : State) (t : ℕ) (world : IsWorld w) (b : IsBarred w t) where
   abbrev Own : Type 0
   Own = ((lock_of (place_at w t) ≡ Some b.lock) ⊎ (beside_of (place_at w t) ≡ Some b.lock)) × HasLine (rules_of (kind_at w b.lock)).sort b.line
 
-  -- of this lock it is the main line
+  -- for this lock it is the main line
   main_line : (l : ℕ) → 2 * l ≡ key_of b.lock b.line → (l ≡ b.lock) × HasLine (rules_of (kind_at w b.lock)).sort b.line
   main_line l e = by_line b.lock b.line e
     where
@@ -79,7 +79,7 @@ module _ (w : State) (t : ℕ) (world : IsWorld w) (b : IsBarred w t) where
       by_line Main shared = tt
       by_line Second shared = shared
 
-  -- what bars it is a section that its call may enter
+  -- the section that bars it is one that its call may enter
   pub enters_own : Own
   enters_own = by_place (place_at w t) refl (subst (FitsItsLock w) refl (world.steady.stands.calls t)) b.enters
     where

@@ -73,7 +73,7 @@ set_puts xs i x d past j = put_is (λ k. get_or xs k d) (λ k. get_or (set xs i 
 pub put_places : (w : State) (t : ℕ) (p : Place) → (length w.places ≤ t → p ≡ Idle) → place_at (put w t p) ≡ putting (place_at w) t p
 put_places w t p past = λ i u. set_puts w.places t p Idle past u i
 
--- whatever befalls a thread, with no bound: past the last all are idle
+-- for all that befalls a thread, with no bound: past the last all are idle
 pub goes_from : (w : State) (t : ℕ) (reply : Reply) → place_at (put w t (next_place (place_at w t) reply)) ≡ putting (place_at w) t (next_place (place_at w t) reply)
 goes_from w t reply = put_places w t (next_place (place_at w t) reply) (λ h. ap (λ p. next_place p reply) (past_all w.places t Idle h))
 
@@ -82,7 +82,7 @@ goes_from w t reply = put_places w t (next_place (place_at w t) reply) (λ h. ap
 abbrev pub mutex : Rules
 mutex = record { sort = locks.Mutex; limit = 0 }
 
--- what no step of a mutex changes
+-- tells what no step of a mutex changes
 pub record Base : Type 0 where
   pub shared : List ℕ
   pub filled : Bool
@@ -118,7 +118,7 @@ seen_in r l a places = record {
 abbrev pub seen_by : Rules → (l : ℕ) → Base → (word : ℕ) → Owners → (main second : List Waiter) → (ℕ → Place) → Site
 seen_by r l n word o main second places = seen_in r l (record { base = n; word = word; owners = o; main = main; second = second }) places
 
--- of a mutex
+-- for a mutex
 abbrev pub seen : (l : ℕ) → Base → (word : ℕ) → Owners → (main second : List Waiter) → (ℕ → Place) → Site
 seen l n word o main second places = seen_by mutex l n word o main second places
 
@@ -143,7 +143,7 @@ put_other f t x u ne = ap (λ b. if b then x else f u) (differ u t ne)
 
 -- ---------------------------------------------------------------- leaving a section
 
--- whom t hasn't taken
+-- a thread that t hasn't taken
 abbrev pub Untaken : ℕ → Option Taken → Type 0
 Untaken t o = keep_from t o ≡ o
 
@@ -155,12 +155,12 @@ not_wakened t (Some h) d e = either (h.by == t) refl
     either false f = refl
     either true f = absurd (let g : keep_from t (Some h) ≡ None = ap (λ b. if b then None else Some h) f in cc)
 
--- what leaving does to each other thread
+-- tells what leaving does to each other thread
 pub record LetGo (t l : ℕ) (p p2 : Place) : Type 0 where
   pub taken : taken_at p2 l ≡ keep_from t (taken_at p l)
   pub doing : doing_on p2 l ≡ wakened t (taken_at p l) (doing_on p l)
 
--- who wasn't taken stays
+-- a thread that wasn't taken stays
 pub stays : (t l : ℕ) (p : Place) → Untaken t (taken_at p l) → LetGo t l p p
 stays t l p e = record { taken = sym e; doing = sym (not_wakened t (taken_at p l) (doing_on p l) e) }
 
@@ -259,7 +259,7 @@ single_held p single = ap (λ (row : Profile). held_by (hand_owner (or_else row.
 pub single_wants : (p : Place) → IsSingle p → wants p ≡ (profile p).wants
 single_wants p single = ap (λ (row : Profile). or_else row.wants (profile p).wants) (blank_beside p single)
 
--- what a place says nothing of at its own lock, it says nothing of at any
+-- a place says nothing at any lock of what it says nothing of at its own
 pub nothing_at : {A : Type 0} (p : Place) (l : ℕ) → IsSingle p → (g : Station → Option A) → g nowhere ≡ None → g (station p) ≡ None → g (station_at p l) ≡ None
 nothing_at p l single g n e = ap g (single_station p l single) ∙ either (calls p l)
   where
@@ -271,7 +271,7 @@ abbrev pub IsInHand : Place → ℕ → Bool → ℕ → Type 0
 IsInHand p t false l = IsTakenAt p t l
 IsInHand p t true l = IsHandedAt p t l
 
--- who calls the lock l calls a mutex
+-- a thread that calls the lock l calls a mutex
 abbrev pub IsMutexCall : ℕ → Place → Type 0
 IsMutexCall l (RwLock k a at) = k ≢ l
 IsMutexCall l (Once k at) = k ≢ l
@@ -304,7 +304,7 @@ is_taken p t l of h = in_hand p t l false of h
 pub is_handed : (p : Place) (t l : ℕ) → IsMutexCall l p → hand_at p l ≡ hand t true → IsHandedAt p t l
 is_handed p t l of h = in_hand p t l true of h
 
--- who calls another lock is in nobody's hand here
+-- a thread that calls another lock is in nobody's hand here
 pub taken_out : (h : Option Hand) (x : Option Want) → taken_from h x false ≡ None
 taken_out None x = refl
 taken_out (Some (Of u true)) x = refl
@@ -334,7 +334,7 @@ held_from t (Some (Of u true)) x want e = absurd cc
 held_from t (Some (Of u false)) None want e = absurd cc
 held_from t (Some (Of u false)) (Some x) want e = ap (λ o. hand (taken_by o) false) e
 
--- who is taken there is in that hand
+-- a thread that is taken there is in that hand
 pub taken_held : (p : Place) (t l : ℕ) (want : Want) → taken_at p l ≡ Some (record { by = t; want = want }) → hand_at p l ≡ hand t false
 taken_held p t l want = which (calls p l) (is_lock l (beside_of p))
   where
@@ -345,7 +345,7 @@ taken_held p t l want = which (calls p l) (is_lock l (beside_of p))
     which false true e = held_from t (profile_beside p).hand (profile_beside p).wants want e
     which false false e = absurd (let none : ◌≡◌ {A = Option Taken} None (Some (record { by = t; want = want })) = sym (taken_out (profile p).hand (profile p).wants) ∙ e in cc)
 
--- who isn't in the hand of t
+-- a thread that isn't in the hand of t
 pub untaken : (p : Place) (t l : ℕ) → (hand_at p l ≡ hand t false → ⊥) → Untaken t (taken_at p l)
 untaken p t l none = which (calls p l) (is_lock l (beside_of p)) none
   where
@@ -471,7 +471,7 @@ pub next_mutex : (l k : ℕ) (n : Next MutexPlace) → k ≡ l → IsMutexOf l (
 next_mutex l k (next.TheVariants.At at) e = e
 next_mutex l k (next.TheVariants.End answer) e = tt
 
--- who calls no lock is idle
+-- a thread that calls no lock is idle
 pub calls_none : (p : Place) → lock_of p ≡ None → p ≡ Idle
 calls_none Idle e = refl
 calls_none (Mutex k at) e = absurd cc
@@ -480,11 +480,11 @@ calls_none (Once k at) e = absurd cc
 calls_none (Semaphore k at) e = absurd cc
 calls_none (Condvar k at) e = absurd cc
 
--- who is in nobody's hand isn't taken
+-- a thread that is in nobody's hand isn't taken
 pub free_of : (q : Place) (l : ℕ) → IsSingle q → (station q).hand ≡ None → taken_at q l ≡ None
 free_of q l single none = single_taken q l single ∙ ap (λ (h : Option Hand). taken_from h (profile q).wants (calls q l)) none
 
--- who is in a hand calls the lock
+-- a thread that is in a hand calls the lock
 pub held_calls : (p : Place) (l : ℕ) → IsOf l p → (h : Hand) → (station p).hand ≡ Some h → calls p l ≡ true
 held_calls p l of h e = by_lock (lock_of p) refl (of_lock_of l p of)
   where
@@ -556,7 +556,7 @@ told_in t reply [] u held only = absurd cc
 told_in t reply (p ∷ ps) zero held only = λ i. ap (λ b. if b then next_place p reply else p) held i ∷ told_out t reply ps (λ x. only (suc x) (λ e. omega arith)) i
 told_in t reply (p ∷ ps) (suc u) held only = λ i. ap (λ b. if b then next_place p reply else p) (only 0 (λ e. omega arith)) i ∷ told_in t reply ps u held (λ x ne. only (suc x) (λ e. ne (omega arith))) i
 
--- whom t has in hand wants to own alone
+-- a thread that t has in hand wants to own alone
 abbrev pub WantsAlone : ℕ → Place → Type 0
 WantsAlone t p = is_thread t (taker p) ≡ true → wants p ≡ Some Exclusive
 
@@ -603,11 +603,11 @@ successor_in t k (p ∷ ps) zero alone held_by only = ap (λ o. successor_or k o
 successor_in t k (p ∷ ps) (suc u) alone held_by only = ap (λ o. successor_or k o (successor_from t (suc k) ps)) (wants_none t p (only 0 (λ e. omega arith)))
     ∙ successor_in t (suc k) ps u alone held_by (λ x ne. only (suc x) (λ e. ne (omega arith))) ∙ ap (λ n. Some (successor_is n)) (let e : suc k + u ≡ k + suc u = omega arith in e)
 
--- who took it, by its row
+-- the thread that took it, by its row
 pub single_taker : (p : Place) → IsSingle p → taker p ≡ hand_owner (profile p).hand
 single_taker p single = ap (λ (row : Profile). hand_owner (or_else row.hand (profile p).hand)) (blank_beside p single)
 
--- who is in a hand by the place is so by the taker
+-- a thread that is in a hand by the place is so by the taker
 pub held_taker : (p : Place) (t l : ℕ) (b : Bool) → IsSingle p → hand_at p l ≡ hand t b → is_thread t (taker p) ≡ true
 held_taker p t l b single h = ap (is_thread t) (single_taker p single) ∙ either (calls p l) (sym (ap (λ (x : Station). x.hand) (single_station p l single)) ∙ h)
   where

@@ -111,7 +111,7 @@ IsLineAct l s a = Unit {0}
 
 -- ---------------------------------------------------------------- what a place says
 
--- of its row alone, whatever the lock
+-- for its row alone, at every lock
 pub record RowFacts (row : Profile) (a : Act) : Type 0 where
   -- inside a section its thread goes freely
   pub goes : (m : Line) → row.doing.inside ≡ Some m → IsFree a
@@ -354,7 +354,7 @@ facts shared l row a m tried e q h =
       ];
     }
 
--- of a place, by the line that its act is on
+-- for a place, by the line that its act is on
 pub shows : {shared : Bool} {l : ℕ} {row : Profile} {a : Act} (m : Line) → key_or (key_of l m) a ≡ key_of l m
     → place_test shared m row a (tries (row.purpose l)) ≡ true → PlaceFacts shared l row a
 shows m e h = facts _ _ _ _ m _ e refl h

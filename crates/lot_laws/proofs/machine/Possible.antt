@@ -87,7 +87,7 @@ awake_is Sleep h = absurd (h refl)
 awake_is a h = refl
 
 module _ (w : State) where
-  -- what can be done is done by a thread that is awake, outside its closure, and before sections that are free
+  -- a possible act is done by a thread that is awake, outside its closure, and before sections that are free
   can_is : (a : Act) → can_do w a ≡ true → (sleeps a ≡ false) × (runs_closure a ≡ false) × AreFree (locks_of w) (keys_entered a)
   can_is Rest can = absurd cc
   can_is Sleep can = absurd cc
@@ -113,7 +113,7 @@ module _ (w : State) where
   can_if (Enter (Two first second)) acting awake outside free = rw (free.0, free.1) refl
   can_if a acting awake outside free = refl
 
--- who can do something is in a call, and whoever is in a call has something to do
+-- a thread that can do something is in a call, and one in a call has something to do
 called_of : (w : State) (p : Place) (r : ℕ → Rights) → can_do w (act_of p) ≡ true → (call_state p r).purpose ≢ None
 called_of w p r can = by_lock (beside_of p) (lock_of p) refl
   where
@@ -383,7 +383,7 @@ nobody_turns w t turn.TheVariants.Late idle = inr (λ may. let e : false ≡ tru
 nobody_turns w t turn.TheVariants.Ok idle = inr (λ may. let e : false ≡ true = sym (ap (λ p. runs_closure (act_of p)) idle) ∙ may in cc)
 nobody_turns w t turn.TheVariants.Err idle = inr (λ may. let e : false ≡ true = sym (ap (λ p. runs_closure (act_of p)) idle) ∙ may in cc)
 
--- whoever takes a turn is there
+-- each thread that takes a turn is there
 pub turner_there : (w : State) (t : ℕ) (x : Turn) → MayTurn (locks_of w) t x → t < length w.places
 turner_there w t x may = elim (cases_lt t (length w.places)) [
   | inl lt ↦ lt
@@ -503,7 +503,7 @@ module _ (w : State) (t : ℕ) (there : t < length w.places) where
       ])
 
 module _ (w : State) (t : ℕ) (shape : IsShaped w) where
-  -- who is late enters the section of the line in which it sleeps
+  -- a thread that is late enters the section of the line in which it sleeps
   pub late_sections : IsSteady w → (p : Place) → place_at w t ≡ p → PlaceFits (length w.locks) p
       → is_free_under w (late_key p) ≡ true → (key : ℕ)
       → SectionChanges (section_at w key) t (section_at (state_after_late_on w t (late_key p)) key)

@@ -38,14 +38,14 @@ use Rattle.lot_laws.proofs.sites.TakesAt.{IsTakenAt, SplitsAt, behind_take, memb
 use Rattle.lot_laws.specs.SitesOf.{stations_of, ActsNeeded, AreWaiting, FitsItsLock, Goes, IsSteady, rules_in}
 use Rattle.lot_laws.proofs.mutex.Waiters.{CallsMutex, IsHeldThere, SleepsAt, WasGivenThere, held_there}
 
--- who was taken is woken and tries again
+-- a thread that was taken is woken and tries again
 pub tries : (l t : ℕ) (p : Place) → IsHeldThere l t p → LetGo t l p (next_place p (Woken note.Normal))
 tries l t p held = record {
   taken = held.woken.taken ∙ sym (ap (keep_from t) held.was ∙ ap (λ b. if b then None else Some (record { by = t; want = Exclusive })) (same t));
   doing = held.woken.doing ∙ sym (ap (λ o. wakened t o (doing_on p l)) held.was ∙ ap (λ b. if b then record (doing_on p l) { retries = Some Exclusive } else doing_on p l) (same t));
 }
 
--- who was handed the lock has it
+-- a thread that was handed the lock has it
 pub accepts : (l t by : ℕ) (p : Place) → WasGivenThere l by p → LetGo t l p (next_place p (Woken note.HandOff))
 accepts l t by p given = record {
   taken = given.told.taken ∙ sym (ap (keep_from t) given.was);
@@ -54,7 +54,7 @@ accepts l t by p given = record {
 
 -- ---------------------------------------------------------------- the first of the line is taken
 
--- whoever takes it, in whatever call, and whoever it is: itself too
+-- for each taker, in any call, and each thread taken: itself too
 module _ (w : State) (t l : ℕ) (steady : IsSteady w) (there : t < length w.places) (p2 : Place)
     (beside : AlikeBeside l (place_at w t) p2) (fits : FitsItsLock w p2) (rules : rules_in w l ≡ mutex)
     (line : 2 * l < length w.queues)

@@ -63,7 +63,7 @@ module _ (w : State) (t : ℕ) (steady : IsSteady w) (shape : IsShaped w) (there
   abbrev GoesWith : ℕ → MutexPlace → Option ℕ → Act → Type 0
   GoesWith l at whom a = Goes w (go_by w t (Mutex l at) a) l (deeds t at whom (reply_to w t a))
 
-  -- whomever it takes, or hands the lock
+  -- for each thread that it takes, or hands the lock
   abbrev GoesBy : ℕ → MutexPlace → Act → Type 0
   GoesBy l at a = (whom : Option ℕ) × GoesWith l at whom a
 
@@ -92,7 +92,7 @@ module _ (w : State) (t : ℕ) (steady : IsSteady w) (shape : IsShaped w) (there
       (looks l (base_at w l) (word_at w l) (word_at w l) (owners_at w l) (queue_at w (2 * l)) (queue_at w (2 * l + 1)) (place_at w) t (Mutex l at2) (site_l w t l at steady is there) (mutex_doing at) (own_doing l (place_at w t) at is) (ap (λ y. taken_at y l) is ∙ none) none2 refl
       (own_doing l (Mutex l at2) at2 refl ∙ d)) s
 
-  -- what a thread does about the word that it saw, by its two tests
+  -- tells what a thread does about the word that it saw, by its two tests
   decided_by : ℕ → ℕ → Bool → Bool → Act
   decided_by l x a b =
       if not a then act.TheVariants.Word l (op.TheVariants.Exchange x (x + 1))

@@ -24,12 +24,12 @@ use Rattle.lot_laws.proofs.mutex.Hands.{hands_acts, taken_there}
 use Rattle.lot_laws.specs.SitesOf.{hand_at, Hands}
 use Rattle.lot_laws.proofs.mutex.Words.{mutex, own_doing}
 
--- who waits for a mutex waits for all of it
+-- a thread that waits for a mutex waits for all of it
 pub exclusive_wanted : (x : Want) → Knows locks.Mutex x → x ≡ Exclusive
 exclusive_wanted Exclusive k = refl
 exclusive_wanted x k = absurd k
 
--- whom t has in hand
+-- a thread that t has in hand
 pub taken_nobody : (l : ℕ) (p : ℕ → Place) (t : ℕ) (n : Base) (o : Owners) (m s : List Waiter)
     → ((u : ℕ) → Untaken t (taken_at (p u) l)) → HasTakenNobody (lock_seen n.shared o m s (λ u. taken_at (p u) l)) t
 taken_nobody l p t n o m s none u x h = let g : keep_from t (Some (record { by = t; want = x })) ≡ Some (record { by = t; want = x }) = rw h at (none u) in let f : ◌≡◌ {A = Option Taken} None (Some (record { by = t; want = x })) = rw (same t) at g in cc

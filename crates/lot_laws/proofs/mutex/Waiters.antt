@@ -67,7 +67,7 @@ pub record WasGivenThere (l t : ℕ) (p : Place) : Type 0 where
   pub was : taken_at p l ≡ None
   pub told : IsTold l p (next_place p (Woken note.HandOff)) (Unit {0}) (λ s. record s { hand = None }) (λ d. d) None
 
--- who stands at the mutex l calls it, or waits with it
+-- a thread that stands at the mutex l calls it, or waits with it
 abbrev pub CallsMutex : ℕ → Place → Type 0
 CallsMutex l (RwLock k a at) = k ≢ l
 CallsMutex l (Once k at) = k ≢ l
@@ -195,7 +195,7 @@ module _ (k l : ℕ) (apart : k ≢ l) (m : ℕ) (timed : Bool) (of : mutex_besi
     told = condvar_told k l apart (Wait m timed (wait.Release (stands.Handed t) at)) (Wait m timed (wait.Release (stands.Noted note.HandOff) at)) of of refl refl _ _ _ _ refl refl refl (λ y h. h);
   }
 
-  -- behind it
+  -- after it
   asleep_sleeps : SleepsAt l (wait_at (wait.Asleep stands.Moved))
   asleep_sleeps = record {
     free = ap (λ (s : Station). s.hand) (station_beside k l apart (Wait m timed (wait.Asleep stands.Moved)) of);
@@ -273,7 +273,7 @@ module _ (k l : ℕ) (apart : k ≢ l) (m : ℕ) (timed : Bool) (of : mutex_besi
   abbrev side : WaitAt → Station
   side at = station_by (mutex_side (Wait m timed at))
 
-  -- who stands in the line of the mutex is inside its section, or asleep there
+  -- a thread that stands in the line of the mutex is inside its section, or asleep there
   abbrev StandsOrSleeps : WaitAt → Type 0
   StandsOrSleeps at = ((side at).inside ≡ Some Main) ⊎ SleepsAt l (Condvar k (Wait m timed at))
 
@@ -334,7 +334,7 @@ module _ (l : ℕ) where
   })
   mutex_given t at h = absurd cc
 
--- what a place has at the mutex it has by its row there
+-- a place has at the mutex what its row there says
 module _ (l : ℕ) (T : Place → Type 0) {A : Type 0} (g : Station → A) (x : A) (none : g nowhere ≡ x → ⊥)
     (mutexes : (at : MutexPlace) → g (mutex_station at) ≡ x → T (Mutex l at))
     (waits : (k : ℕ) → k ≢ l → (m : ℕ) (timed : Bool) (at : WaitAt) → IsReached (Wait m timed at) → mutex_beside (Wait m timed wait.Enter) ≡ Some l → g (station_by (mutex_side (Wait m timed at))) ≡ x → T (Condvar k (Wait m timed at)))
@@ -359,7 +359,7 @@ module _ (l : ℕ) (T : Place → Type 0) {A : Type 0} (g : Station → A) (x : 
       by_call (Look all) reached named f = absurd cc
       by_call (Notify all m at) reached named f = notifies k of.0 all m at named f
 
--- who stands in the line of the mutex is inside its section, or sleeps there
+-- a thread that stands in the line of the mutex is inside its section, or sleeps there
 pub stands_or_sleeps : (p : Place) (l : ℕ) → CallsMutex l p → (station_at p l).stands ≡ Some Main
     → ((station_at p l).inside ≡ Some Main) ⊎ SleepsAt l p
 stands_or_sleeps p l = by_row l (λ q. ((station_at q l).inside ≡ Some Main) ⊎ SleepsAt l q) (λ (s : Station). s.stands) (Some Main) (λ h. cc)
@@ -373,7 +373,7 @@ stands_or_sleeps p l = by_row l (λ q. ((station_at q l).inside ≡ Some Main) �
     ])
     (λ k apart all m at of h. absurd (let f : ◌≡◌ {A = Option Line} None (Some Main) = sym (ap (λ b. in_line b Main) (notifier_stands all m at).0) ∙ h in cc)) p
 
--- who is in a hand there was taken or handed the mutex
+-- a thread that is in a hand there was taken or handed the mutex
 pub held_there : (p : Place) (t l : ℕ) → CallsMutex l p → hand_at p l ≡ hand t false → IsHeldThere l t p
 held_there p t l = by_row l (IsHeldThere l t) (λ (s : Station). s.hand) (hand t false) (λ h. cc) (mutex_held l t) (λ k apart m timed at reached of h. wait_held k l apart m timed of t at reached h)
     (λ k apart all m at of h. absurd (let f : ◌≡◌ {A = Option Hand} None (hand t false) = sym (notifier_stands all m at).1 ∙ h in cc)) p
@@ -382,7 +382,7 @@ pub given_there : (p : Place) (t l : ℕ) → CallsMutex l p → hand_at p l ≡
 given_there p t l = by_row l (WasGivenThere l t) (λ (s : Station). s.hand) (hand t true) (λ h. cc) (mutex_given l t) (λ k apart m timed at reached of h. wait_given k l apart m timed of t at h)
     (λ k apart all m at of h. absurd (let f : ◌≡◌ {A = Option Hand} None (hand t true) = sym (notifier_stands all m at).1 ∙ h in cc)) p
 
--- whoever is in a hand there wants to own alone
+-- each thread that is in a hand there wants to own alone
 mutex_wanted : (at : MutexPlace) (t : ℕ) (b : Bool) → (mutex_station at).hand ≡ hand t b → (mutex_row at).wants ≡ Some Exclusive
 mutex_wanted (Lock e r at) t b h = refl
 mutex_wanted at t b h = absurd cc
@@ -412,7 +412,7 @@ pub held_alone : {one : ℕ → Type 0} (p : ℕ → Place) → ((u : ℕ) → I
 held_alone p apart hands t l here mutexes u h = let x = in_hand_where (p u) t (apart u) h in
     held_wants (p u) t l x.handed (mutexes u) (subst (λ k. hand_at (p u) k ≡ hand t x.handed) (in_hand_here p hands t l u here x) x.hand)
 
--- whoever is in the hand of t is so by the taker, at the lock where it has somebody in hand
+-- each thread that is in the hand of t is so by the taker, at the lock where it has somebody in hand
 pub holds_here : (w : State) (t l : ℕ) → IsSteady w → CarriesAt l (place_at w t) → HoldsHere w t l
 holds_here w t l steady here = record {
   held = λ u h. let k = in_hand_where (place_at w u) t (aparts w steady u) h in record { lock = k.lock; handed = k.handed; hand = k.hand };

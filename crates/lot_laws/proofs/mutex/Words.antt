@@ -144,7 +144,7 @@ IsCode w o = w ≡ one_if_some o + 2 * codes.bit (is_parked w)
 pub own_doing : (l : ℕ) (q : Place) (at : MutexPlace) → q ≡ Mutex l at → doing_on q l ≡ mutex_doing at
 own_doing l q at is = ap (λ x. doing_on x l) is ∙ ap (λ b. if b then mutex_doing at else idle) (same l)
 
--- what a step on the word does to the lock, and that the word is the lock's
+-- tells what a step on the word does to the lock, and that the word is the lock's
 pub record OnWord (l : ℕ) (n : Base) (w : ℕ) (o : Owners) (m s : List Waiter) (p : ℕ → Place) (t : ℕ) (at : MutexPlace)
     (f : Op) : Type 0 where
   pub steps : MutexSteps l n w (apply f w) o (mutex_owners at t w o) m m s p t (next_place (Mutex l at) (Value w))
@@ -157,7 +157,7 @@ module _ (l : ℕ) (n : Base) (o : Owners) (m s : List Waiter) (p : ℕ → Plac
   abbrev pub Fits : ℕ → MutexPlace → Op → Type 0
   Fits w at f = p t ≡ Mutex l at → IsSite mutex (seen l n w o m s p) → IsCode w o.exclusive → OnWord l n w o m s p t at f
 
-  -- of the four codes
+  -- each of the four codes
   by_code : (P : ℕ → Type 0) → P 0 → P 1 → P 2 → P 3 → (w : ℕ) → IsCode w o.exclusive → P w
   by_code P a b c d w code = either o.exclusive (is_parked w) code
     where

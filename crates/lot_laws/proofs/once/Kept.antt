@@ -208,7 +208,7 @@ module _ (w : State) (t l : ℕ) (at : OncePlace) (steady : IsSteady w) (shape :
   fits_next k (next.At p) h = h
   fits_next k (next.End answer) h = tt
 
-  -- what its laws conclude
+  -- tells what its laws conclude
   abbrev Followed : Reply → Type 0
   Followed told = IsFollowed w t l steady there own (rules_in w l) refl (once_move at) same_row None told (next_place (place_at w t) told)
 

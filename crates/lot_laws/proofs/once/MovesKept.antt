@@ -65,7 +65,7 @@ module _ (w : State) (t l : ℕ) (steady : IsSteady w) (there : t < length w.pla
 
   -- ---------------------------------------------------------------- the word
 
-  -- of a lock that nobody shares
+  -- for a lock that nobody shares
   module _ (unshared : has_readers r.sort ≡ false) (p p2 : Place) (op : Op) (g : StaysPut x)
       (f : Followed (Value (word_at w l)) p2) where
     abbrev does : List Deed
@@ -112,7 +112,7 @@ module _ (w : State) (t l : ℕ) (steady : IsSteady w) (there : t < length w.pla
       refl refl refl refl (own_by w t l steady there own r rules x same_row None told p2 f [] does))
       (is_then ∙ sym was))
 
-  -- behind the last, where it still has to wait
+  -- after the last, where it still has to wait
   module _ (hears : Hears) (check : Check) (want : Want) (line : 2 * l < length w.queues) (g : RestsBehind x hears check want)
       (followed : (b : Bool) → hears r now t None (Parked b) → Followed (Parked b) (next_place (place_at w t) (Parked b))) where
     pub told_so : (b : Bool) → holds check (word_at w l) ≡ b → hears r now t None (Parked b)

@@ -40,7 +40,7 @@ found_owes : (r : Reply) → (run_row (found r)).owes ≡ None
 found_owes (reply.Value seen) = refl
 found_owes r = refl
 
--- behind its look: a run has begun, it gives up, or it looks on
+-- after its look: a run has begun, it gives up, or it looks on
 abbrev LooksOn : OnceCall → Bool → Bool → Reply → (b late : Bool) → Next LookAt → Next OncePlace
 LooksOn c again still r b late n =
     if b then next.At (Run (is_forced c) (found r)) else if late then next.At (GiveUp again give_up.Remove) else in_look c still n

@@ -67,7 +67,7 @@ course_steps l v Runs = refl
 course_steps l v Marks = refl
 course_steps l v Parks = refl
 
--- what its closure is told is how far the `Once` has come
+-- its closure is told how far the `Once` has come
 told_so : (r : Rules) (s : Site) (c : OnceCall) → r.sort ≡ locks.Once → course_of c (code r s) ≡ Runs
     → state_before (is_poisoned (code r s)) ≡ state_told s.lock.phase
 told_so r s c sort runs = ap (λ v. state_before (is_poisoned v)) (words.coded r s sort)

@@ -99,7 +99,7 @@ owes_beside (Wait m timed at) reached = inl refl
 abbrev pub EntersAt : CondvarPlace → ℕ → Line → Type 0
 EntersAt at l m = (mutex_beside at ≡ Some l) × (m ≡ Main) × IsEntering at
 
--- whoever does owes there, and is outside
+-- each thread that does owes there, and is outside
 record OwesOutside (at : CondvarPlace) : Type 0 where
   pub owes : (condvar_row at).owes_mutex ≡ true
   pub inside : (condvar_row at).doing.inside ≡ None
@@ -160,7 +160,7 @@ entering_released : (k : ℕ) (at : CondvarPlace) (l : ℕ) (m : Line) → Enter
 entering_released k (Wait n timed (wait.Release s (mutex.Unlock unlock.Enter))) l m e r = let here : n ≡ l = cc in subst (HasReleased (Some (Waits k n timed)) true l) (sym e.1) (here, refl)
 entering_released k at l m e r = absurd e.2
 
--- who enters the section of one lock alone does so in a wait
+-- a thread that enters the section of one lock alone does so in a wait
 enters_waiting : (k : ℕ) (at : CondvarPlace) (key : ℕ) → act_of (Condvar k at) ≡ Enter (One key) → (r : ℕ → Rights)
     → IsWait (call_state (Condvar k at) r).purpose
 enters_waiting k (Wait n timed at) key e r = tt
@@ -212,7 +212,7 @@ module _ (w : State) (t : ℕ) (steady : IsSteady w) where
           | inr enters ↦ absurd (let out : ◌≡◌ {A = Option Line} None (Some m) = sym (entering_outside k at (condvar_apart w k at fits) fits.reached l Main enters) ∙ i in cc)
         ]
 
-  -- who owes is inside, or on its way
+  -- a thread that owes is inside, or on its way
   pub owing_so : (l : ℕ) (m : Line) → Owes w t l m → IsInside w t l m ⊎ GoesToWake w t l m
   owing_so l m h = elim (single_or_two (place_at w t)) [
     | inl single ↦ (owing_is w t steady single l m).0 h
@@ -225,7 +225,7 @@ module _ (w : State) (t : ℕ) (steady : IsSteady w) where
     ]
   ]
 
-  -- whoever is inside owes
+  -- each thread that is inside owes
   pub inside_owes_so : (l : ℕ) (m : Line) → IsInside w t l m → Owes w t l m
   inside_owes_so l m i = elim (single_or_two (place_at w t)) [
     | inl single ↦ (owing_is w t steady single l m).1 (inl i)

@@ -91,7 +91,7 @@ released_lock (Notifies k all) l h = absurd h
 
 -- ---------------------------------------------------------------- what others do to an owner
 
--- what is done to a `Once` changes no owner
+-- a deed at a `Once` changes no owner
 once_keeps : (case : OnceCase) (s : LockState) (u : ℕ)
     → ((locks.once_after case s u).exclusive ≡ s.exclusive) × ((locks.once_after case s u).upgradable ≡ s.upgradable)
 once_keeps (Start forced) s u = (refl, refl)
@@ -154,7 +154,7 @@ upgradable_keep r s t u is own ne (locks.OfCondvar case) n = (condvar_keeps case
 upgradable_keep r s t u is own ne (locks.SeeOwner owned) n = own
 upgradable_keep r s t u is own ne Rollback n = grind (arith, is.pending_alone)
 
--- whoever is taken from a mutex stood first
+-- each thread that is taken from a mutex stood first
 let_go_was : (t : ℕ) (o : Option Taken) (h : Taken) → keep_from t o ≡ Some h → o ≡ Some h
 let_go_was t o h e = grind arith
 
@@ -184,7 +184,7 @@ taken_was s t u a x is Rollback n h = inl (grind arith)
 
 -- ---------------------------------------------------------------- what a fair release does by its own step
 
--- what the mutex has come to
+-- tells what the mutex has come to
 abbrev ComesFrom : LockState → (word : ℕ) → ℕ → ℕ → State → Type 0
 ComesFrom s word t l v = (owner_at v l ≡ Some t) ⊎ (((u : ℕ) × IsTaken s t u Exclusive × (owner_at v l ≡ Some u))
     ⊎ ((owner_at v l ≡ None) × HasTakenNobody s t × ((is_parked word ≡ false) ⊎ (s.queue ≡ []))))
@@ -269,7 +269,7 @@ module _ (w : State) (t l : ℕ) (shape : IsShaped w) (steady : IsSteady w) (own
   here : (k : ℕ) → k ≡ l → k < length w.locks → l < length w.locks
   here k e lt = rw (← e) lt
 
-  -- whatever the act, and wherever the thread goes then
+  -- for every act, and every place where the thread goes then
   go_gives : (p : Place) → place_at w t ≡ p → PlaceFits (length w.locks) p → IsFairRelease (call_state p (rights w t)).purpose l
       → ComesTo w t l (state_after_act w t p (act_of p))
   go_gives Idle is fits h = absurd h
@@ -400,7 +400,7 @@ module _ (w : State) (t l : ℕ) (shape : IsShaped w) (steady : IsSteady w) (cou
 locked_by : (v : ℕ) (o : Option ℕ) (u : ℕ) → IsMutexWord v o → o ≡ Some u → is_locked v ≡ true
 locked_by v o u c e = by_code (λ v o. o ≡ Some u → is_locked v ≡ true) (λ g. absurd cc) (λ g. absurd cc) (λ x g. refl) (λ x g. refl) v o c e
 
--- whatever turn it takes
+-- for every turn that it takes
 module _ (w : State) (t l : ℕ) (shape : IsShaped w) (steady : IsSteady w) (counted : AreCounted w) (x : Want)
     (h : GivesUpFairly w t l x) where
   abbrev Comes : State → Type 0
@@ -457,7 +457,7 @@ is_fair w s shape steady counted condvars = record {
     step : IsStep (locks_of w) s (step_outcome w s) (locks_of (after w s))
     step = after_step w s shape steady counted condvars
 
-    -- whom a notification takes is in its own hand
+    -- a thread that a notification takes is in its own hand
     takes_no_other : (t l u : ℕ) → IsFairRelease (call_at w t).purpose l → (c m : ℕ) (every owned : Bool) (number : ℕ)
         → MayMove (locks_of w) s.thread c m every owned number
         → IsTaken (locks_after (locks_of w) s.thread (Moves c m every owned number) l) t u Exclusive

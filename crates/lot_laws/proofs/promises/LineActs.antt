@@ -18,7 +18,7 @@ use Rattle.lot_laws.proofs.hands.Counts.{without_absent}
 use Rattle.lot_laws.proofs.machine.PlaceTest.{IsLineAct, IsOfLine, IsWithinLine, StandsThere, call_facts, mutex_row_facts, once_facts, semaphore_facts}
 use Rattle.lot_laws.proofs.machine.Parts.{IsOf, station_here, station_elsewhere, IsSingle, single_late}
 
--- whom it takes it takes of a line of the lock
+-- it takes each thread of a line of the lock
 abbrev pub TakesHere : ℕ → Act → Type 0
 TakesHere l (act.Take key x) = IsOfLine l key
 TakesHere l a = Unit {0}

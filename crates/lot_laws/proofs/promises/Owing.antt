@@ -62,7 +62,7 @@ idle_shut w t l none h = by_call (subst (LetsBy w t l) (call_none (place_at w t)
     by_call (inl releases) = releases
     by_call (inr shared) = elim shared.1 [ inl less ↦ less | inr left ↦ let e : ◌≡◌ {A = Option ℕ} None (Some l) = left.0 in cc ]
 
--- who lets others in calls that lock
+-- a thread that lets others in calls that lock
 lets_own : (w : State) (t l : ℕ) → IsSteady w → IsSingle (place_at w t) → LetsOthersIn w t l → lock_of (place_at w t) ≡ Some l
 lets_own w t l steady single lets = by_lock (lock_of (place_at w t)) refl
   where
@@ -87,7 +87,7 @@ waits_not (Some q) one waits = waits
 
 module _ (w v : State) (t : ℕ) (steady : IsSteady w) (behind : IsSteady v) (single : IsSingle (place_at w t))
     (single_then : IsSingle (place_at v t)) where
-  -- what it sees, by its row
+  -- tells what it sees, by its row
   sees_row : (l : ℕ) (m : Line) (o : Outcome) (own : lock_of (place_at w t) ≡ Some l) → SeesWaiters w t l m o v
       → RowFinds (sort_at w l) l (word_at w l) (profile (place_at w t)) m
   sees_row l m o own s = (
@@ -134,7 +134,7 @@ module _ (w v : State) (t : ℕ) (steady : IsSteady w) (behind : IsSteady v) (si
       own_before own None e = absurd (let f : lock_of q ≡ None = ap (λ p. lock_of (next_place p (go_reply w t))) (calls_none (place_at w t) e) in let g : ◌≡◌ {A = Option ℕ} None (Some l) = sym f ∙ own in cc)
       own_before own (Some k) e = ap Some (sym (subst (IsLock k) own (of_lock_of k q (next_of k (place_at w t) (go_reply w t) (of_own k (place_at w t) single e)))))
 
-      -- who owes a wake that is outside goes in
+      -- a thread that owes a wake that is outside goes in
       since : Owes v t l m → IsInside v t l m ⊎ SeesWaiters w t l m o v
       since h =
           let own = own_before (ap lock_of (sym at_q) ∙ owes_own (place_at v t) l m single_then h) (lock_of (place_at w t)) refl in
@@ -214,7 +214,7 @@ module _ (w : State) (t : ℕ) (shape : IsShaped w) (steady : IsSteady w) (there
       by_call d is after = quiet_owes w (state_after_begin w t d) t steady after (subst IsSingle (sym at_rest) tt) (subst IsSingle (sym is) tt) (first_place (kind_at w (lock_in d)) d) is
           (λ m h. absurd (let e : ◌≡◌ {A = Option Line} None (Some m) = sym (first_owes (kind_at w (lock_in d)) d) ∙ h in cc)) shut
 
-  -- who enters the section of the line where it slept
+  -- a thread that enters the section of the line where it slept
   late_owing : (o : Option ℕ) → late_key (place_at w t) ≡ o → is_free_under w o ≡ true → IsSteady (state_after_late_on w t o)
       → (l : ℕ) (m : Line) (told : Outcome)
       → Owes (state_after_late_on w t o) t l m

@@ -72,7 +72,7 @@ module _ (p : Place) (l : ℕ) (own : lock_of p ≡ Some l) where
   pub owed_own : IsSingle p → line_owed p l ≡ (profile p).owes
   owed_own single = single_owes p l single ∙ ap (λ b. if b then (profile p).owes else None) (called p l own)
 
--- of a lock that it doesn't call nothing is said
+-- nothing is said of a lock that it doesn't call
 module _ (p : Place) (l : ℕ) (single : IsSingle p) (other : calls p l ≡ false) where
   station_other : station_at p l ≡ nowhere
   station_other = single_station p l single ∙ ap (λ b. if b then station p else nowhere) other
@@ -80,7 +80,7 @@ module _ (p : Place) (l : ℕ) (single : IsSingle p) (other : calls p l ≡ fals
   taken_other : taken_at p l ≡ None
   taken_other = single_taken p l single ∙ ap (taken_from (profile p).hand (profile p).wants) other ∙ taken_out (profile p).hand (profile p).wants
 
--- who does something about a lock, stands at it or owes on it, calls it
+-- a thread that does something about a lock, stands at it or owes on it, calls it
 pub owes_own : (p : Place) (l : ℕ) (m : Line) → IsSingle p → line_owed p l ≡ Some m → lock_of p ≡ Some l
 owes_own p l m single h = elim (calls_one p l) [
   | inl own ↦ own
@@ -189,7 +189,7 @@ module _ (w : State) (t : ℕ) (steady : IsSteady w) where
     pub in_second : (station_at (place_at w t) l).stands ≡ Some Second → (lock_state w l).aside ≡ Some t
     in_second stands = by_first (first_of (queue_at w (2 * l + 1))) refl
       where
-        -- who waits for a mutex, or with one, stands in no second line
+        -- a thread that waits for a mutex, or with one, stands in no second line
         single : IsSingle (place_at w t)
         single = elim (single_or_two (place_at w t)) [
           | inl one ↦ one
@@ -235,7 +235,7 @@ module _ (w : State) (t : ℕ) (steady : IsSteady w) where
         let b = aside_by in
         omega arith
 
-    -- whoever stands about a lock stands in a line of it, or is taken there
+    -- each thread that stands about a lock stands in a line of it, or is taken there
     pub stands_there : 1 ≤ standing t (lock_state w l) → StandsAt (place_at w t) l
     stands_there some = by_row (station_at (place_at w t) l).stands refl (taken_at (place_at w t) l) refl
       where
@@ -361,7 +361,7 @@ module _ (w : State) (t : ℕ) (steady : IsSteady w) where
         ⊎ (WakesAside (call_at w t).purpose l m ⊎ HasReleased (call_at w t).purpose (call_at w t).released l m)
     lets_out_at m h = elim h [ inl lets ↦ inl (lets_out lets) | inr wakes ↦ inr (inl (subst (λ (c : CallState). WakesAside c.purpose l m) (sym call_own) wakes)) ]
 
-  -- who owes a wake on a line is inside its section, or lets others in and is on its way into it
+  -- a thread that owes a wake on a line is inside its section, or lets others in and is on its way into it
   pub owing_is : IsSingle (place_at w t) → (l : ℕ) (m : Line) → Owes w t l m ↔ (IsInside w t l m ⊎ GoesToWake w t l m)
   owing_is single l m = (
     (λ h. let own = owes_own (place_at w t) l m single h in

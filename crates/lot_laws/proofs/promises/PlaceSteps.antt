@@ -50,7 +50,7 @@ use Rattle.lot_laws.proofs.calls.PlainCalls.{never_given, plain_acts, plain_lead
 
 -- ---------------------------------------------------------------- each place
 
--- whatever befalls a thread, it owes what it owed
+-- a thread owes what it owed, with all that befalls it
 pub owes_befallen : (p : Place) (r : Reply) → Befalls r → (k : ℕ) → line_owed (next_place p r) k ≡ line_owed p k
 owes_befallen Idle r b k = refl
 owes_befallen (Mutex l at) r b k = mutex_befallen l at r b k

@@ -66,7 +66,7 @@ one_purpose (Some (Awaits j forced timed)) l k one h g = sym h ∙ g
 one_purpose (Some (Waits j m timed)) l k one h g = absurd one
 one_purpose o l k one h g = absurd h
 
--- who is shown to try again does
+-- a thread that is shown to try again does
 retry_shown : (o : Option ℕ) (row : Profile) (r : ℕ → Rights) (l : ℕ)
     → ((row.retries && is_lock l o) ≡ true) ↔ ((call_on o row r).retries ≡ Some l)
 retry_shown None row r l = ((λ h. absurd (none row.retries h)), λ h. absurd cc)
@@ -90,7 +90,7 @@ open_unowned sorts.Semaphore s none h = absurd h
 open_unowned sorts.Condvar s none h = absurd h
 open_unowned sorts.Once s none h = none (λ k. k)
 
--- whoever has released a mutex is in a wait with it
+-- each thread that has released a mutex is in a wait with it
 released_mutex : (sort : ℕ → Sort) (q : Option Purpose) (released : Bool) (l : ℕ) → KnowsRights sort q
     → HasReleased q released l Main → sort l ≡ sorts.Mutex
 released_mutex sort (Some (Waits k n timed)) released l knows h = ap sort (sym h.0) ∙ knows.1
@@ -160,7 +160,7 @@ module _ (w : State) (steady : IsSteady w) where
 
   -- ---------------------------------------------------------------- nobody is forgotten
 
-  -- who is to look after the waiters of a line does so
+  -- a thread that is to look after the waiters of a line does so
   module _ (t l : ℕ) (m : Line) (single : IsSingle (place_at w t))
       (debtor : IsDebtorIn (sort_at w l) (doing_on (place_at w t) l) m) (unowned : (lock_state w l).exclusive ≢ Some t) where
     own : lock_of (place_at w t) ≡ Some l
@@ -259,7 +259,7 @@ module _ (w : State) (steady : IsSteady w) where
       by_sort true e = full e
       by_sort false e = steady.sites.unfilled l e
 
-  -- whoever waits in a line whose way is open
+  -- each thread that waits in a line whose way is open
   in_line : (l : ℕ) → (lock_state w l).queue ≢ [] → IsOpen (sort_at w l) (lock_state w l) → filled_at w l ≡ false
       → IsLookedAfter w l Main
   in_line l some now empty =
@@ -338,7 +338,7 @@ module _ (w : State) (steady : IsSteady w) where
   -- ---------------------------------------------------------------- who was handed a lock
 
   module _ (t : ℕ) (asleep : act_of (place_at w t) ≡ Sleep) (nowhere : (l : ℕ) → standing t (lock_state w l) ≡ 0) where
-    -- what it has, by what it claims
+    -- tells what it has, by what it claims
     claimed_at : (l : ℕ) → lock_of (place_at w t) ≡ Some l → (x : Want)
         → HasClaimed (sort_at w l) (profile (place_at w t)).doing.claims x → HasOrPends (sort_at w l) (lock_state w l) t x
     claimed_at l own x h = elim h [
@@ -349,7 +349,7 @@ module _ (w : State) (steady : IsSteady w) where
         claims : (doing_on (place_at w t) l).claims ≡ (profile (place_at w t)).doing.claims
         claims = ap (λ (d : Doing). d.claims) (doing_own (place_at w t) l own)
 
-    -- whoever hands over is inside, and wakes all whom it has in hand as it leaves
+    -- each thread that hands over is inside, and wakes all whom it has in hand as it leaves
     tells_inside : (by l : ℕ) → (station_at (place_at w by) l).carries ≡ Some true
         → (section_at w (2 * l) ≡ Some by)
         × (act_of (place_at w by) ≡ Leave (One (2 * l)) (wakes.TheVariants.All note.TheVariants.HandOff))

@@ -115,7 +115,7 @@ mutex_tells (Some (Bumps l x)) m v = by_right x m
     by_right Exclusive Second = refl
     by_right x m = refl
 
--- who looks nowhere first owes since it saw waiters
+-- a thread that looks nowhere first owes since it saw waiters
 pub owes_then : {sort : Sort} {l word : ℕ} {row : Profile} {o : Outcome} {next : Profile} {a : Act}
     → ((m : Line) → tells_by sort (Some (row.purpose l)) m word ≡ tells_of sort m word) → RowOwesNext sort l word row o next
     → RowOwesThen sort l word row o next a
@@ -124,7 +124,7 @@ owes_then same k = record {
   sees = λ m s step looks. k.sees m (s.0, s.1, sym (same m) ∙ s.2) step;
 }
 
--- whose time is up is then awake, inside the section of the line where it slept
+-- a thread whose time is up is then awake, inside the section of the line where it slept
 pub record IsLateNext (q : Place) (m : Line) : Type 0 where
   pub inside : (profile q).doing.inside ≡ Some m
   pub owes : (profile q).owes ≡ Some m

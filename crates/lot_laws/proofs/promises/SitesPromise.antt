@@ -28,7 +28,7 @@ not_empty t [] h e = omega arith
 not_empty t (x ∷ q) h e = cc
 
 module _ (w : State) (s : IsSteady w) (l : ℕ) (rules : rules_in w l ≡ mutex) where
-  -- who is about to set the parked bit of a mutex is inside its section
+  -- a thread that is about to set the parked bit of a mutex is inside its section
   pub marks_inside : (u : ℕ) → IsAboutToMark w u l → section_at w (2 * l) ≡ Some u
   marks_inside u sets = elim ((s.sites.site l).setting u sets) [
     | inl covers ↦ (s.stands.sections u l Main).0 (sym (inside_is (place_at w u) l) ∙ ((s.sites.site l).covered u covers).0)

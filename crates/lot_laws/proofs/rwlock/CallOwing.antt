@@ -60,7 +60,7 @@ use Rattle.lot_laws.proofs.promises.RowPromises.{LetsIn, RowFinds, RowLooks, Row
 use Rattle.lot_laws.proofs.rwlock.Rows.{of, some_line, IsBefore, shut_before}
 use Rattle.lot_laws.proofs.rwlock.Owing.{parked_is, aside_is, IsWithin, quiet_next, before_quiet}
 
--- what the thread does next
+-- tells what the thread does next
 abbrev pub call_does : ℕ → Admission → Next RwLockCallPlace → Act
 call_does l a (next.At c) = call_act l a c
 call_does l a (next.End answer) = act.End answer
@@ -223,7 +223,7 @@ module _ (r : Rules) (shared : has_readers r.sort ≡ true) (a : Admission) (l w
     within access.Upgradable to to2 fits owes inside = owes_on (up to) (next.At (up to2)) Main owes (line_up to) (inl inside)
     within access.Exclusive to to2 fits owes inside = owes_on (ex to) (next.At (ex to2)) Main owes (line_ex to) (inl inside)
 
-  -- who has left the section lets nobody in
+  -- a thread that has left the section lets nobody in
   left_owes : (x : Access) (b any told : Bool) → Owing (HandOver x b (handing.Leave any told)) (released x b)
   left_owes x true any told = rests (HandOver x true (handing.Leave any told)) (released x true) (released_owes true x) (λ m s looks. shut s.0)
     where
@@ -344,7 +344,7 @@ module _ (r : Rules) (shared : has_readers r.sort ≡ true) (a : Admission) (l w
 
 -- ---------------------------------------------------------------- each place
 
--- of a call that may hand the lock over, or was handed it
+-- for a call that may hand the lock over, or was handed it
 abbrev pub IsNoPlain : RwLockCallPlace → Type 0
 IsNoPlain (Plain p) = ⊥
 IsNoPlain c = Unit {0}
@@ -421,7 +421,8 @@ module _ (w : State) (t l : ℕ) (a : Admission) (admits : Admits (rules_in w l)
   handed_goes access.Shared how b handed.Accept = handed_owes (rules_in w l) admits.0 a l (word_at w l) access.Shared how b handed.Accept (next_of (Handed access.Shared how b handed.Accept)) refl
   handed_goes access.Upgradable how b handed.Accept = handed_owes (rules_in w l) admits.0 a l (word_at w l) access.Upgradable how b handed.Accept (next_of (Handed access.Upgradable how b handed.Accept)) refl
 
-  -- what the reply to its act makes of what a thread owes, where an owner that tries its word has the lock alone
+  -- tells what the reply to its act makes of what a thread owes, where an owner that tries its word has the
+  -- lock alone
   pub call_owes_next : (c : RwLockCallPlace) → CallStands a c → IsNoPlain c
       → ((b : Bool) (seen : ℕ) → c ≡ HandOver access.Exclusive b (handing.Free seen) → IsOwners (word_at w l)) → Goes c
   call_owes_next (Plain p) stands other alone = absurd other

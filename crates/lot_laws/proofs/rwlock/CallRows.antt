@@ -94,7 +94,7 @@ never_gives_up x again to stands = by_place to (parks x to stands)
     by_place (at.Wake m to) h = absurd h
     by_place to h = refl
 
--- who shares again never goes aside
+-- a thread that shares again never goes aside
 enters_main : (l : ℕ) (a : Admission) (again : Bool) (to : RwLockAt) → StandsAt (purpose.Enter access.Shared Patient) again to
     → rwlock_act l a (of (purpose.Enter access.Shared Patient) again to) ≡ act.Enter (One (2 * l + 1)) → ⊥
 enters_main l a again at.Load stands e = cc
@@ -372,7 +372,7 @@ module _ (r : Rules) (a : Admission) (l : ℕ) (admits : Admits r a) where
   hands_debtor x b to fits Main d free = absurd (elim d [ inl h ↦ cc | inr h ↦ elim h [ inl k ↦ cc | inr k ↦ cc ] ])
   hands_debtor x b to fits Second d free = absurd cc
 
-  -- who has handed the lock over leaves its section next, and tells so
+  -- a thread that has handed the lock over leaves its section next, and tells so
   none_handed : (k : Taken) → carries_taken (Some k) ≢ Some true
   none_handed k h = either (any_taken k) h
     where

@@ -65,7 +65,7 @@ use Rattle.lot_laws.proofs.sites.SitesKept.{go_by}
 
 -- ---------------------------------------------------------------- a thread goes on
 
--- who goes on by an act of its own, and sleeps, was not handed the lock
+-- a thread that goes on by an act of its own, and sleeps, was not handed the lock
 abbrev CallAwake : Profile → Act → Type 0
 CallAwake row y = (u : ℕ) → row.hand ≡ hand u true → ⊥
 
@@ -94,7 +94,7 @@ gives_up_awake l a access.Exclusive true = in_no_hand_now a (gives_up_at access.
 gives_up_awake l a x false = tt
 
 module _ (l : ℕ) (a : Admission) (x : Access) (b : Bool) where
-  -- who hands over is in nobody's hand
+  -- a thread that hands over is in nobody's hand
   goes_bare : (to : HandOverAt) → NextAwake a l (next.At (HandOver x b to))
   goes_bare to = in_no_hand_now a (HandOver x b to) refl
 
@@ -184,7 +184,7 @@ module _ (w : State) (t l : ℕ) (a : Admission) (c : RwLockCallPlace) (steady :
   abbrev happened : Option LockCase
   happened = case_by w t l a c kept.whom (call_act l a c)
 
-  -- who sleeps in a call stands about its lock
+  -- a thread that sleeps in a call stands about its lock
   rests : (q : RwLockCallPlace) → place_at behind t ≡ RwLock l a q → CallAwake (call_profile a q) (call_act l a q)
       → (outcome_of (call_act l a q) ≡ outcome.Step)
       ⊎ ((outcome_of (call_act l a q) ≡ outcome.Sleep) × (1 ≤ standing t (lock_state behind l)))

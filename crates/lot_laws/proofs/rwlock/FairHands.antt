@@ -88,7 +88,7 @@ owner_stays w v l t CallOnce e more own = own
 
 -- ---------------------------------------------------------------- deeds of an operation on the word
 
--- who is handed the lock is in no deed of a step that hands nothing over
+-- a thread that is handed the lock is in no deed of a step that hands nothing over
 module _ (l : ℕ) (a : Admission) (whom : Option ℕ) (v : ℕ) where
   exchange_same : (b : Bool) (k : Counted) (expected : ℕ) (op : Op) (x : Access) (room won : Bool)
       → has_room a.limit k expected ≡ room
@@ -133,7 +133,7 @@ module _ (w : State) (t l : ℕ) (a : Admission) (c : RwLockCallPlace) (shape : 
   may : CallStands a c
   may = stands w t l a c steady shape there lt is
 
-  -- who gives a right up is in nobody's hand, and says whom it has in its own
+  -- a thread that gives a right up is in nobody's hand, and says whom it has in its own
   bare : (c : RwLockCallPlace) → CallStands a c → IsToGive ((call_profile a c).purpose l) (call_profile a c).released x
       → (call_profile a c).hand ≡ None
   bare (Plain p) may gives = absurd (plain_keeps l p.purpose (call_profile a (Plain p)).released x gives)

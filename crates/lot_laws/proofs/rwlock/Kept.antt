@@ -255,7 +255,7 @@ aside_calm : (o : Option ℕ) → AreCalm (takes_aside o ∷ [])
 aside_calm None = tt
 aside_calm (Some u) = tt
 
--- who leaves a section wakes those in its hand, if anybody
+-- a thread that leaves a section wakes those in its hand, if anybody
 pub left_calm : (ds : List Deed) → AreLeaving ds → IsCalm (case_of None ds)
 left_calm (Out ∷ []) h = tt
 left_calm (Out ∷ End ∷ []) h = tt
@@ -308,7 +308,7 @@ module _ (w : State) (t l : ℕ) (a : Admission) (c : RwLockCallPlace) (steady :
   fits_next k b (next.At q) admitted may = (admitted, may)
   fits_next k b (next.End answer) admitted may = tt
 
-  -- what its laws conclude
+  -- tells what its laws conclude
   abbrev Followed : Option ℕ → Reply → Type 0
   Followed whom told = IsFollowed w t l steady there own (rules_in w l) refl (call_move a c) same_row whom told (next_place (place_at w t) told)
 
@@ -489,7 +489,7 @@ module _ (w : State) (t l : ℕ) (a : Admission) (c : RwLockCallPlace) (steady :
       parks_calm true = calm_by (parks_in m x ∷ []) g.parks (in_line_calm m x)
       parks_calm false = calm_by [] g.turns tt
 
-  -- whom it has handed the lock goes on where its wake leads it
+  -- a thread that it has handed the lock goes on where its wake leads it
   hears_so : (u : ℕ) → hand_at (place_at w u) l ≡ hand t true → IsWokenAt w t l HandOff (place_at w u)
   hears_so u held = by_place (place_at w u) refl held
     where

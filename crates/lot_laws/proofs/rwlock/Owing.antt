@@ -196,7 +196,7 @@ nothing : (b : Bool) → ◌≡◌ {A = Option Line} (if b then None else None) 
 nothing true = refl
 nothing false = refl
 
--- who is handed the lock owes nothing, and owed nothing
+-- a thread that is handed the lock owes nothing, and owed nothing
 woken_owes : (a : Admission) (x : Access) (how : Patience) (b alone : Bool)
     → (call_profile a (handed_woken x how b alone)).owes ≡ None
 woken_owes a access.Exclusive how b true = refl
@@ -236,7 +236,7 @@ bump_owed l a q (next.End answer) k = by_purpose q
     by_purpose (purpose.Release access.Exclusive) = nothing (l == k)
     by_purpose q = refl
 
--- whatever befalls a thread, it owes what it owed
+-- a thread owes what it owed, with all that befalls it
 module _ (l : ℕ) (a : Admission) (r : Reply) (k : ℕ) where
   if_given : (p : RwLockPlace) (o : Option RwLockCallPlace) (n : Next RwLockCallPlace)
       → ((c : RwLockCallPlace) → o ≡ Some c → ((call_profile a c).owes ≡ None) × (owes_at p.at ≡ None))
@@ -532,7 +532,7 @@ rwlock_first_owes a (rwlock_call.ReleaseFair access.Upgradable) = refl
 rwlock_first_owes a (rwlock_call.ReleaseFair access.Exclusive) = refl
 rwlock_first_owes a (rwlock_call.Bump x) = refl
 
--- whose time is up is then awake, inside the section of the line where it slept
+-- a thread whose time is up is then awake, inside the section of the line where it slept
 asleep_in : (b : Bool) (n m : Line) → in_line b n ≡ Some m → n ≡ m
 asleep_in true n m h = some_line n m h
 asleep_in false n m h = absurd cc

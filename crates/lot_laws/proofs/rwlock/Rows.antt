@@ -224,7 +224,7 @@ waits_at l (purpose.Downgrade d) again (at.Park to) stands h = absurd stands
 waits_at l (purpose.Downgrade d) again (at.Aside to) stands h = absurd stands
 waits_at l q again to stands h = absurd h
 
--- who waits is in a line, or on its way out of it
+-- a thread that waits is in a line, or on its way out of it
 waiting_parks : (a : Admission) (p : RwLockPlace) (to : RwLockAt)
     → (stands_at to ≢ None) ⊎ (taken_from (hand_at to) (wants_for p.purpose) true ≢ None) → IsParking to
 waiting_parks a p (at.Park to) h = tt
@@ -269,7 +269,7 @@ hands_nothing (at.Wake m (waking.Leave false)) h = cc
 hands_nothing (at.Wake m to) h = cc
 hands_nothing to h = cc
 
--- whose call has a deadline
+-- a thread whose call has a deadline
 timed_is : (q : RwLockPurpose) (l : ℕ) → IsTimed (Some (purpose_by q l)) Blank l → is_timed (patience_of q) ≡ true
 timed_is (purpose.Enter x how) l h = ap is_timed h.1
 timed_is (purpose.Upgrade how) l h = ap is_timed h.1
@@ -294,7 +294,7 @@ of q again to = record { purpose = q; retries = again; at = to }
 abbrev pub row_of : Admission → RwLockPurpose → Bool → RwLockAt → Profile
 row_of a q again to = rwlock_profile a (of q again to)
 
--- who waits for a right, and has not given up, or is still inside
+-- a thread that waits for a right, and has not given up, or is still inside
 abbrev pub IsShut : RwLockPurpose → Bool → RwLockAt → Type 0
 IsShut q again to = late_at has_given_up q to ≡ true → (rwlock_doing (of q again to)).inside ≡ None → ⊥
 

@@ -56,7 +56,7 @@ use Rattle.lot_laws.proofs.sites.SitesKept.{go_by}
 plain_gives : (l k : ℕ) (a : Admission) (p : RwLockPlace) (op : Op) → MayStand a p → rwlock_act l a p ≡ act.HandOver k op → ⊥
 plain_gives l k a p op may e = subst (λ x. Moves l a.recursive (rwlock_move a p) (rwlock_hears a p) x) e (rwlock_acts_move l a p may)
 
--- who hands over says whom it has in hand
+-- a thread that hands over says whom it has in hand
 pub gives_counted : (l k : ℕ) (a : Admission) (c : RwLockCallPlace) (op : Op) → CallStands a c
     → call_act l a c ≡ act.HandOver k op → (n : Counted) × (in_hand_of c ≡ Some n)
 gives_counted l k a (HandOver x b (handing.Store n)) op may e = (n, refl)
@@ -97,7 +97,7 @@ module _ (w : State) (t l : ℕ) (a : Admission) (c : RwLockCallPlace) (steady :
   of : lock_of (place_at w t) ≡ Some l
   of = ap lock_of is
 
-  -- whom it has in hand, by its place
+  -- a thread that it has in hand, by its place
   pub carries : carried_at (place_at w t) l ≡ (call_profile a c).carries
   carries = ap (λ (y : Station). y.carries) (station_own (place_at w t) l of) ∙ ap (λ q. (station q).carries) is
 

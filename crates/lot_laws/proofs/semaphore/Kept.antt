@@ -141,7 +141,7 @@ takes_calm : (who : Option ℕ) → AreCalm (takes who)
 takes_calm None = tt
 takes_calm (Some u) = tt
 
--- whom an act takes, if anybody
+-- a thread that an act takes, if anybody
 abbrev pub whom_by : State → Act → Option ℕ
 whom_by w (act.Take key whom.First) = first_of (queue_at w key)
 whom_by w y = None
@@ -189,7 +189,7 @@ module _ (w : State) (t l : ℕ) (at : SemaphorePlace) (steady : IsSteady w) (sh
   fits_next k (next.At p) h timed = (h, timed)
   fits_next k (next.End answer) h timed = tt
 
-  -- what its laws conclude
+  -- tells what its laws conclude
   abbrev Followed : Option ℕ → Reply → Type 0
   Followed who told = IsFollowed w t l steady there own (rules_in w l) refl (semaphore_move at) same_row who told (next_place (place_at w t) told)
 
@@ -436,7 +436,7 @@ module _ (w : State) (t l : ℕ) (at : SemaphorePlace) (steady : IsSteady w) (sh
 
 -- ---------------------------------------------------------------- a call begins
 
--- what it claims: who is to give a permit back holds one
+-- tells what it claims: who is to give a permit back holds one
 abbrev pub claims_first : SemaphoreCall → Option Claim
 claims_first (semaphore_call.Acquire patience) = None
 claims_first semaphore_call.Release = Some (Has Shared)

@@ -41,7 +41,7 @@ semaphore_move p = record {
   deeds = λ whom told. semaphore_deeds p whom told;
 }
 
--- what it may be told
+-- tells what it may be told
 abbrev pub semaphore_hears : SemaphorePlace → Hears
 semaphore_hears p r s t whom told = MayHear r s t p whom told
 

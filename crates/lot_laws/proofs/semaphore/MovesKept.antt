@@ -33,7 +33,7 @@ use Rattle.lot_laws.proofs.sites.StandsKept.{in_main}
 use Rattle.lot_laws.proofs.sites.TakesAt.{only_member}
 use Rattle.lot_laws.proofs.sites.TakesKept.{IsTakenFrom, member, take_goes, told_by, told_places}
 
--- who waits for a semaphore waits for a permit
+-- a thread that waits for a semaphore waits for a permit
 pub shared_wanted : (x : Want) → Knows Semaphore x → x ≡ Shared
 shared_wanted Shared k = refl
 shared_wanted x k = absurd k
@@ -164,7 +164,7 @@ module _ (w : State) (t l : ℕ) (steady : IsSteady w) (there : t < length w.pla
             let b : times y.thread (queue_at w (2 * l)) ≡ times y.thread (y ∷ rest) = ap (times y.thread) first in
             let c : ◌≡◌ {A = ℕ} (if y.thread == y.thread then 1 else 0) 1 = ap (λ (b : Bool). if b then 1 else 0) (same y.thread) in omega arith)
 
-    -- what it is told, and where it goes on
+    -- tells what it is told, and where it goes on
     abbrev pub told_first : Reply
     told_first = reply_to_take w t (2 * l) whom.First
 

@@ -30,7 +30,7 @@ tells_so l (Acquire timed retries at) m v = refl
 tells_so l (Try at) m v = refl
 tells_so l (Release at) m v = refl
 
--- who waits for a permit, or tries to take one, lets nobody in
+-- a thread that waits for a permit, or tries to take one, lets nobody in
 acquires_quietly : (l : ℕ) (timed retries : Bool) (at : AcquireAt) → LetsIn locks.Semaphore l (semaphore_profile (Acquire timed retries at)) → ⊥
 acquires_quietly l timed retries at (inr h) = let f : false ≡ true = h.0 in cc
 acquires_quietly l timed retries at (inl h) = h

@@ -65,7 +65,7 @@ module _ (w : State) (t l : ℕ) (at : SemaphorePlace) (steady : IsSteady w) (sh
   abbrev told : Reply
   told = reply_to w t (semaphore_act l at)
 
-  -- whom its act takes, if anybody
+  -- a thread that its act takes, if anybody
   abbrev whom : Option ℕ
   whom = whom_by w (semaphore_act l at)
 

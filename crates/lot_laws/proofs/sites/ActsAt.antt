@@ -247,7 +247,7 @@ module _ (w : State) (t l : ℕ) (steady : IsSteady w) (there : t < length w.pla
   abbrev pub IsOut : Type 0
   IsOut = (k : ℕ) → k ≢ l → (station_at (place_at w t) k).stands ≡ None
 
-  -- who stands nowhere leaves no line
+  -- a thread that stands nowhere leaves no line
   absent : IsOut → was.stands ≡ None → (k : ℕ) (n : Line) → times t (queue_at w (key_of k n)) ≡ 0
   absent out none k n = elim (cases_eq k l) [
     | inl e ↦ rw e (stood_here n ∙ ap (λ x. stood_in x n) none)

@@ -27,7 +27,7 @@ use Rattle.lot_laws.proofs.semaphore.Permits.{permits_by}
 use Rattle.lot_laws.proofs.sites.OneStep.{AreOrdinary, Steps, steps_by, noted, acts_keep, acts_limited, same_filled, queued_behind}
 use Rattle.lot_laws.proofs.sites.StandsKept.{AlikeBeside}
 
--- what another lock sees of each place
+-- tells what another lock sees of each place
 abbrev pub AlikeAt : ℕ → Place → Place → Type 0
 AlikeAt k p q = (taken_at q k ≡ taken_at p k) × (doing_on q k ≡ doing_on p k)
 
@@ -42,7 +42,7 @@ alike_put l k p t p2 alike ne u = elim (cases_eq u t) [
 abbrev pub lock_by : State → ℕ → Rules → Site
 lock_by w l r = seen_in r l (parts_at w l) (place_at w)
 
--- behind a step one lock has these parts, threads stand there, and all else is as it was
+-- after a step one lock has these parts, threads stand there, and all else is as it was
 pub record Moves (w v : State) (l : ℕ) (b : Parts) (q : ℕ → Place) : Type 0 where
   pub here : parts_at v l ≡ b
   pub others : (k : ℕ) → k ≢ l → parts_at v k ≡ parts_at w k
@@ -71,7 +71,7 @@ module _ (w v : State) (l : ℕ) (b : Parts) (q : ℕ → Place) (moves : Moves 
   site_there k ne = (λ i. seen_in (rules_of (moves.kinds k i)) k (moves.others k ne i) (moves.places i))
       ∙ (λ i. record (site_of w k) { lock = record (site_of w k).lock { taken = λ u. (moves.alike k ne u).0 i }; doing = λ u. (moves.alike k ne u).1 i })
 
-  -- what one lock has been through
+  -- tells what one lock has been through
   pub follows_by : (ds : List deeds.Act) → (r.sort ≡ locks.Semaphore → AllBy (length w.places) ds) → (has_readers r.sort ≡ true → HasLimit r (after_acts r ds (lock_by w l r)).lock)
       → seen_in r l b q ≡ after_acts r ds (lock_by w l r) → ActsNeeded r ds (lock_by w l r) → b.word ≡ code r (seen_in r l b q)
       → SiteFollows w v l ds

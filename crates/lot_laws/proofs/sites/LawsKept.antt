@@ -50,7 +50,7 @@ module _ (w : State) (t l : ℕ) (steady : IsSteady w) (own : IsOf l (place_at w
   abbrev behind : Site
   behind = after_acts r (acts t ds) (lock_by w l r)
 
-  -- what the laws conclude
+  -- tells what the laws conclude
   pub record IsLawful : Type 0 where
     pub needed : laws.AllNeeded r ds (lock_by w l r) t
     pub doing : (laws.after_all r ds (lock_by w l r) t).doing t ≡ doing_on p2 l

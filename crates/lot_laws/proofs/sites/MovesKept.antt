@@ -105,7 +105,7 @@ module _ (w : State) (t l : ℕ) (steady : IsSteady w) (there : t < length w.pla
   abbrev pub here : Site
   here = lock_by w l r
 
-  -- what the laws conclude of what it is told
+  -- tells what the laws conclude of what it is told
   pub record IsFollowed (whom : Option ℕ) (told : Reply) (p2 : Place) : Type 0 where
     pub of : IsOf l p2
     pub fits : FitsItsLock w p2
@@ -166,7 +166,7 @@ module _ (w : State) (t l : ℕ) (steady : IsSteady w) (there : t < length w.pla
         refl refl refl refl (own_by None told p2 f (In m ∷ []) g.deeds))
         (there_is None told p2 f ∙ g.goes ∙ sym (ap (λ (y : Station). record y { inside = Some m }) station_is)))
 
-    -- what it is told there
+    -- tells what it is told there
     pub entered_hears : (told : Reply) → section_at w (key_of l m) ≡ None → GoesIn x hears m told → hears r here t None told
     entered_hears told free g = g.may r here t (free_line free)
 
@@ -221,7 +221,7 @@ module _ (w : State) (t l : ℕ) (steady : IsSteady w) (there : t < length w.pla
 
   -- ---------------------------------------------------------------- lines
 
-  -- who stands in no line and no hand stands nowhere
+  -- a thread that stands in no line and no hand stands nowhere
   pub nowhere_here : (station_of x).stands ≡ None → (station_of x).hand ≡ None → standing t here.lock ≡ 0
   nowhere_here out free =
       let main : locks.times t (map queued_of (queue_at w (2 * l))) ≡ 0 = queued_times t (queue_at w (2 * l)) ∙ none Main in
@@ -317,7 +317,7 @@ module _ (w : State) (t l : ℕ) (steady : IsSteady w) (there : t < length w.pla
       by_lock (Some k) e = eqb-true k l e
 
   module _ (asleep : (u : ℕ) → SleepsIfCalls u) where
-    -- whom t has in hand is woken, and tries again, where t has handed nothing over
+    -- a thread that t has in hand is woken, and tries again, where t has handed nothing over
     pub wakes_one : (any : Bool) → (station_of x).carries ≡ in_hand any false → (u : ℕ) (b : Bool)
         → hand_at (place_at w u) l ≡ hand t b → IsWokenAt w t l Normal (place_at w u)
     wakes_one any carries u b held = let k = by_calls (place_at w u) (asleep u).apart (λ (y : Station). y.hand) (Of t b) refl held in by_sleeper (called (place_at w u) ((asleep u).sleeper k.0).single k.0) k.0 k.1 ((asleep u).sleeper k.0)
@@ -355,7 +355,7 @@ module _ (w : State) (t l : ℕ) (steady : IsSteady w) (there : t < length w.pla
                 taken_now : taken_at (place_at w u) l ≡ Some (record { by = t; want = k.1.want })
                 taken_now = single_taken (place_at w u) l z.single ∙ (λ i. taken_from ((h ∙ ap (hand t) k.0) i) ((ap (λ (y : Profile). y.wants) z.row ∙ k.1.wants) i) (calls_l i))
 
-    -- who sleeps in a line is taken from there
+    -- a thread that sleeps in a line is taken from there
     taken_from_line : (m : Line) (u : ℕ) → calls (place_at w u) l ≡ true → (z : IsSleeper u) → Sleeps z.move m
         → IsTakenFrom w t l m (place_at w u)
     taken_from_line m u calls_l z k = record {
@@ -413,7 +413,7 @@ module _ (w : State) (t l : ℕ) (steady : IsSteady w) (there : t < length w.pla
         in_second (Some Main) h = absurd (omega arith)
         in_second None h = absurd (omega arith)
 
-    -- who stands there is the pending owner, and wants to write
+    -- a thread that stands there is the pending owner, and wants to write
     pending_aside : (u : ℕ) → 1 ≤ times u (queue_at w (2 * l + 1)) → IsSomePending here.lock.pending u
     pending_aside u h = let k = by_calls (place_at w u) (asleep u).apart (λ (y : Station). y.stands) Second refl (stands_aside u h) in by_sleeper k.0 k.1 ((asleep u).sleeper k.0)
       where

@@ -204,7 +204,7 @@ module _ (t : ℕ) where
   case_count r (locks.OfCondvar case) s other = condvar_count case s
   case_count r case s other = refl
 
--- what a deed that hands nothing over keeps
+-- tells what a deed that hands nothing over keeps
 record KeepsLimit (r : Rules) (s v : LockState) : Type 0 where
   pub count : length v.shared ≡ length s.shared
   pub limit : HasLimit r v

@@ -52,7 +52,7 @@ pub picked_counts : (u key : ℕ) (picker : LockPicker) (xs : List Waiter) → A
 picked_counts u key picker [] h = refl
 picked_counts u key picker (x ∷ xs) h = grind (arith, nat_tests, picked_counts u key (next_picker picker x.want) xs h.1)
 
--- who stands in a line does so under its key
+-- a thread that stands in a line does so under its key
 pub under_of : (p : ℕ → ℕ → Station) (l : ℕ) (m : Line) (xs : List Waiter) → AreWaiting p l m xs → AllUnder (key_of l m) xs
 under_of p l m [] h = tt
 under_of p l m (x ∷ xs) h = (h.0.0, under_of p l m xs h.1)
@@ -88,7 +88,7 @@ waiting_picked p l m picker (x ∷ xs) h = either (lock_answer picker x.want) (w
     either Skip more = more
     either Stop more = tt
 
--- whoever is taken is so for what it waits for
+-- each thread that is taken is so for what it waits for
 wants_held : (w : State) (t l : ℕ) (m : Line) (xs : List Waiter) → AreWaiting (stations_of (place_at w)) l m xs
     → ((u : ℕ) → member u xs ≡ true → IsTakenFrom w t l m (place_at w u))
     → AllAre t (λ u. taken_at (next_place (place_at w u) (TakenBy t)) l) xs

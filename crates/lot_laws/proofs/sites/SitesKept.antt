@@ -87,7 +87,7 @@ module _ (w v : State) (l : ℕ) (rules : rules_in w l ≡ mutex) (q : ℕ → P
     (places : place_at v ≡ q) (numbers : SameNumbers w v) (bases : (k : ℕ) → base_at v k ≡ base_at w k) (words : Changed (word_at w) (word_at v) l word) (owners : Changed (owners_at w) (owners_at v) l o)
     (mains : Changed (λ k. queue_at w (2 * k)) (λ k. queue_at v (2 * k)) l m) (seconds : (k : ℕ) → queue_at v (2 * k + 1) ≡ queue_at w (2 * k + 1)) (kinds : (k : ℕ) → kind_at v k ≡ kind_at w k)
     (elsewhere : (k : ℕ) → k ≢ l → (u : ℕ) → AlikeAt k (place_at w u) (q u)) where
-  -- what one mutex has been through
+  -- tells what one mutex has been through
   pub follow : (ds : List deeds.Act)
       → seen l (base_at w l) word o m (queue_at w (2 * l + 1)) q ≡ after_acts mutex ds (mutex_at w l)
       → ActsNeeded mutex ds (mutex_at w l) → IsCode word o.exclusive → SiteFollows w v l ds
@@ -113,7 +113,7 @@ unshared_at w t l at steady is = mutex_unshared w l steady (mutex_rules (kind_at
 pub single_at : (w : State) (t l : ℕ) (at : MutexPlace) → IsSteady w → place_at w t ≡ Mutex l at → TakesOne w l
 single_at w t l at steady is = takes_one w l (mutex_rules (kind_at w l) (let c : FitsItsLock w (Mutex l at) = rw is at (steady.stands.calls t) in c))
 
--- who calls it calls a mutex
+-- a thread that calls it calls a mutex
 pub mutexes_at : (w : State) (t l : ℕ) (at : MutexPlace) → IsSteady w → place_at w t ≡ Mutex l at → (u : ℕ)
     → CallsMutex l (place_at w u)
 mutexes_at w t l at steady is u = calls_mutex_at w l (place_at w u) (steady.stands.calls u) (mutex_rules (kind_at w l) (let c : FitsItsLock w (Mutex l at) = rw is at (steady.stands.calls t) in c))
@@ -125,7 +125,7 @@ alone_at w t l at steady is = held_alone (place_at w) (aparts w steady) steady.s
 
 -- ---------------------------------------------------------------- what the acts change
 
--- what the act of a thread leads to
+-- tells what the act of a thread leads to
 abbrev pub go_by : State → ℕ → Place → Act → State
 go_by w t p a = put (state_after_act w t p a) t (next_place p (reply_to w t a))
 
@@ -218,7 +218,7 @@ module _ (w : State) (t l : ℕ) (at : MutexPlace) (steady : IsSteady w) (is : p
       })
       (s ∙ sym (ap (λ (x : Station). record x { inside = None }) station_is_at))
 
-  -- what it does then
+  -- tells what it does then
   out_doing : (p2 : Place) → taken_at (Mutex l at) l ≡ None → doing_on p2 l ≡ leaves (mutex_doing at)
       → doing_on p2 l ≡ (after_acts mutex (acts t (Out ∷ [])) (mutex_at w l)).doing t
   out_doing p2 none e = e ∙ sym (ap leaves (own_doing l (place_at w t) at is)) ∙ sym (ap (λ x. wakened t x (putting (λ y. doing_on (place_at w y) l) t (leaves (doing_on (place_at w t) l)) t)) (hand_none none) ∙ put_here (λ y. doing_on (place_at w y) l) t (leaves (doing_on (place_at w t) l)))
@@ -227,7 +227,7 @@ module _ (w : State) (t l : ℕ) (at : MutexPlace) (steady : IsSteady w) (is : p
   pub not_own : (mutex_station at).hand ≡ None → (u : ℕ) (b : Bool) → hand_at (place_at w u) l ≡ hand t b → u ≢ t
   not_own free u b held e = let a : hand_at (place_at w t) l ≡ hand t b = subst (λ j. hand_at (place_at w j) l ≡ hand t b) e held in let none : hand_at (place_at w t) l ≡ None = ap (λ (y : Station). y.hand) (own_stance l (place_at w t) at is) ∙ free in cc
 
-  -- whom it had taken tries again, and whom it handed the lock has it
+  -- a thread that it had taken tries again, and whom it handed the lock has it
   pub woken_taken : (u : ℕ) → hand_at (place_at w u) l ≡ hand t false → IsWokenAt w t l note.Normal (place_at w u)
   woken_taken u held = let k : IsHeldThere l t (place_at w u) = held_there (place_at w u) t l (mutexes_at w t l at steady is u) held in
       record { lets = tries l t (place_at w u) k; goes = k.woken.station; alike = k.woken.others; fits = k.woken.fits tt w (steady.stands.calls u) }
@@ -236,7 +236,7 @@ module _ (w : State) (t l : ℕ) (at : MutexPlace) (steady : IsSteady w) (is : p
   woken_handed u held = let k : WasGivenThere l t (place_at w u) = given_there (place_at w u) t l (mutexes_at w t l at steady is u) held in
       record { lets = accepts l t t (place_at w u) k; goes = k.told.station; alike = k.told.others; fits = k.told.fits tt w (steady.stands.calls u) }
 
-  -- who has taken somebody has handed nobody the lock, and the other way round
+  -- a thread that has taken somebody has handed nobody the lock, and the other way round
   not_both : (b c : Bool) → (mutex_station at).carries ≡ Some b → (u : ℕ) → hand_at (place_at w u) l ≡ hand t c → b ≡ c
   not_both b c carries u held = let a : carried_at (place_at w t) l ≡ Some c = steady.stands.hands.taken t u l c held in let d : carried_at (place_at w t) l ≡ Some b = ap (λ (y : Station). y.carries) (own_stance l (place_at w t) at is) ∙ carries in let e : Some b ≡ Some c = sym d ∙ a in cc
 
@@ -269,7 +269,7 @@ module _ (w : State) (t l : ℕ) (at : MutexPlace) (steady : IsSteady w) (is : p
       all_woken u c held = let same_one : b ≡ c = not_both b c (ap (λ (y : Station). y.carries) was) u held in woken u (subst (λ y. hand_at (place_at w u) l ≡ hand t y) (sym same_one) held)
 
 module _ (w : State) (t l : ℕ) (steady : IsSteady w) (there : t < length w.places) where
-  -- whom it has in hand
+  -- a thread that it has in hand
   module _ (at : MutexPlace) (is : place_at w t ≡ Mutex l at) (b : Bool) (carries : (mutex_station at).carries ≡ Some b) where
     pub one_held : (u : ℕ) × (hand_at (place_at w u) l ≡ hand t b)
     one_held = steady.stands.hands.carried t l b (ap (λ (x : Station). x.carries) (own_stance l (place_at w t) at is) ∙ carries)

@@ -26,7 +26,7 @@ both_true e f = λ i. e i && f i
 
 -- ---------------------------------------------------------------- places, at each lock
 
--- what one lock sees of a place, it sees of another
+-- one lock sees of a place what it sees of another
 pub record Alike (k : ℕ) (p p2 : Place) : Type 0 where
   pub station : station_at p2 k ≡ station_at p k
   pub doing : doing_on p2 k ≡ doing_on p k
@@ -46,7 +46,7 @@ own_alike l p p2 h h2 k ne = record {
 
 -- a part of a station, where one thread goes elsewhere
 module _ {A : Type 0} (g : Station → A) (l : ℕ) where
-  -- whoever else is looked at
+  -- for each other thread that is looked at
   pub part_else : (p : ℕ → Place) (t : ℕ) (p2 : Place) → AlikeBeside l (p t) p2 → (u k : ℕ) → (u ≡ t → k ≡ l → ⊥)
       → g (station_at (putting p t p2 u) k) ≡ g (station_at (p u) k)
   part_else p t p2 alike u k ne = elim (cases_eq u t) [
@@ -85,7 +85,7 @@ module _ (p q : ℕ → ℕ → Station) (section after : ℕ → Option ℕ) (s
       → (q u k).inside ≡ Some n ↔ after (key_of k n) ≡ Some u
   stays u k n ne nk = (λ h. elsewhere (key_of k n) nk ∙ (s u k n).0 (sym (others u k ne) ∙ h), λ h. others u k ne ∙ (s u k n).1 (sym (elsewhere (key_of k n) nk) ∙ h))
 
-  -- whoever is inside the section of the line behind it
+  -- each thread that is inside the section of the line behind it
   by_line : ((n : Line) → (q t l).inside ≡ Some n ↔ after (key_of l n) ≡ Some t) → ((u : ℕ) → u ≢ t → (p u l).inside ≢ Some m)
       → ((u : ℕ) → after (key_of l m) ≡ Some u → u ≡ t) → Sections q after
   by_line own alone only u k n = elim (cases_eq k l) [
@@ -162,7 +162,7 @@ line_moved p q queue after s t l m others elsewhere counts own u k n = elim (cas
     at_line ne (inl e) = ap (λ x. times u (after (key_of l x))) e ∙ counts u ne ∙ ap (λ x. times u (queue (key_of l x))) (sym e) ∙ s u l n ∙ ap (λ x. stood_in x n) (sym (others u l (λ f g. ne f)))
     at_line ne (inr nn) = ap (times u) (elsewhere (key_of l n) (other_line l m n nn)) ∙ s u l n ∙ ap (λ x. stood_in x n) (sym (others u l (λ f g. ne f)))
 
--- who stands there waits for the same
+-- a thread that stands there waits for the same
 pub waiting_same : (p q : ℕ → ℕ → Station) (l : ℕ) (m : Line) (xs : List Waiter) → AreWaiting p l m xs
     → ((u : ℕ) → 1 ≤ times u xs → (q u l).waits ≡ (p u l).waits) → AreWaiting q l m xs
 waiting_same p q l m [] h e = tt
@@ -259,7 +259,7 @@ module _ (one : ℕ → Type 0) (p q : ℕ → ℕ → Station) (hands : HandsBy
                 either false f = refl
                 either true f = absurd (let at_l = meant_is u k f in let none : (p u k).hand ≡ None = rw at_l.1 (free u at_l.0) in let g : ◌≡◌ {A = Option Hand} None (hand i b) = sym none ∙ held in cc)
 
-    -- who was in no hand of t at the lock isn't in one now but by this
+    -- a thread that was in no hand of t at the lock isn't in one now but by this
     not_before : (k : ℕ) (d : Bool) (v : ℕ) → k ≡ l → (p v k).hand ≡ hand t d → ⊥
     not_before k d v e held = let was : (p t k).carries ≡ Some d = hands.taken t v k d held in let none : (p t k).carries ≡ None = rw e bare in let f : ◌≡◌ {A = Option Bool} None (Some d) = sym none ∙ was in cc
 
@@ -280,7 +280,7 @@ module _ (one : ℕ → Type 0) (p q : ℕ → ℕ → Station) (hands : HandsBy
   module _ (in_hand : (u k : ℕ) → (q u k).hand ≡ (if meant u k then None else (p u k).hand))
       (carries : (i k : ℕ) → (q i k).carries ≡ (if taking i k then None else (p i k).carries))
       (mine : (u : ℕ) → has u ≡ true → (b : Bool) × ((p u l).hand ≡ hand t b)) (all : (u : ℕ) (b : Bool) → (p u l).hand ≡ hand t b → has u ≡ true) where
-    -- who is in a hand behind it was so before
+    -- a thread that is in a hand behind it was so before
     was_held : (i u k : ℕ) (b : Bool) → (q u k).hand ≡ hand i b → (p u k).hand ≡ hand i b
     was_held i u k b h = either (meant u k) (sym (in_hand u k) ∙ h)
       where
@@ -327,7 +327,7 @@ module _ (one : ℕ → Type 0) (p q : ℕ → ℕ → Station) (hands : HandsBy
   module _ (c : Option Bool) (in_hand : (u k : ℕ) → (q u k).hand ≡ (if meant u k then hand t true else (p u k).hand))
       (carries : (i k : ℕ) → (q i k).carries ≡ (if taking i k then c else (p i k).carries))
       (mine : (u : ℕ) → has u ≡ true → (b : Bool) × ((p u l).hand ≡ hand t b)) (all : (u : ℕ) (b : Bool) → (p u l).hand ≡ hand t b → has u ≡ true) (some : (b : Bool) → c ≡ Some b → (b ≡ true) × ((u : ℕ) × (has u ≡ true))) (full : (u : ℕ) → has u ≡ true → c ≡ Some true) where
-    -- who is in a hand behind it was so before
+    -- a thread that is in a hand behind it was so before
     held_before : (i u k : ℕ) (b : Bool) → (q u k).hand ≡ hand i b → (d : Bool) × ((p u k).hand ≡ hand i d)
     held_before i u k b h = by_meant (meant u k) refl (sym (in_hand u k) ∙ h)
       where

@@ -51,7 +51,7 @@ no_member u (x ∷ xs) h = grind (arith, nat_tests, no_member u xs)
 pub only_member : (x : Waiter) (u : ℕ) → member u (x ∷ []) ≡ true → x.thread ≡ u
 only_member x u h = grind (arith, nat_tests)
 
--- what threads are told, one after another
+-- tells what threads are told, one after another
 abbrev pub told_by : Reply → List Waiter → (ℕ → Place) → ℕ → Place
 told_by reply [] p = p
 told_by reply (x ∷ xs) p = told_by reply xs (putting p x.thread (next_place (p x.thread) reply))
@@ -99,7 +99,7 @@ taking_is t (x ∷ xs) was v u h = taking_is t xs now v u h.1 ∙ either (member
 
 -- ---------------------------------------------------------------- some are taken
 
--- who is taken of its line is in the hand of t, and stands there no more
+-- a thread that is taken of its line is in the hand of t, and stands there no more
 abbrev pub behind_take : ℕ → Bool → Station → Station
 behind_take t true x = record x { stands = None; waits = None; hand = hand t false }
 behind_take t false x = x
@@ -113,7 +113,7 @@ pub record IsTakenAt (w : State) (t l : ℕ) (m : Line) (p : Place) : Type 0 whe
   pub doing : doing_on (next_place p (TakenBy t)) l ≡ doing_on p l
   pub fits : FitsItsLock w (next_place p (TakenBy t))
 
--- who is taken of the line, and who is left
+-- the waiters taken of the line, and those left
 pub record SplitsAt (w : State) (t l : ℕ) (m : Line) (taken left : List Waiter) : Type 0 where
   pub counts : (u : ℕ) → times u taken + times u left ≡ times u (queue_at w (key_of l m))
   pub sleeps : (u : ℕ) → member u taken ≡ true → IsTakenAt w t l m (place_at w u)
@@ -235,7 +235,7 @@ module _ (w : State) (t l : ℕ) (steady : IsSteady w) (there : t < length w.pla
   none_left : (u : ℕ) → has u ≡ true → times u left ≡ 0
   none_left u h = let a : times u taken + times u left ≡ stood_in (was u).stands m = stood u in let b : 1 ≤ times u taken = member_times u taken h in let d : stood_in (was u).stands m ≤ 1 = at_most_one (was u).stands m in omega arith
 
-  -- who is taken stood in no other line of the lock
+  -- a thread that is taken stood in no other line of the lock
   stood_there : (u : ℕ) (n : Line) → has u ≡ true → n ≢ m → times u (queue_at w (key_of l n)) ≡ 0
   stood_there u n h ng = steady.stands.lines u l n ∙ ap (λ o. stood_in o n) (splits.sleeps u h).stands ∙ stood_other m n ng
 

@@ -36,7 +36,7 @@ pub record IsTakenFrom (w : State) (t l : ℕ) (m : Line) (p : Place) : Type 0 w
   pub held : (x : Want) → wanted ≡ Some x → taken_at (next_place p (TakenBy t)) l ≡ Some (record { by = t; want = x })
   pub fits : FitsItsLock w (next_place p (TakenBy t))
 
--- who is taken of the line, and who is left
+-- the waiters taken of the line, and those left
 pub record Splits (w : State) (t l : ℕ) (m : Line) (taken left : List Waiter) : Type 0 where
   pub counts : (u : ℕ) → times u taken + times u left ≡ times u (queue_at w (key_of l m))
   pub sleeps : (u : ℕ) → member u taken ≡ true → IsTakenFrom w t l m (place_at w u)

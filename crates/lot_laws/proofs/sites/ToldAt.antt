@@ -37,7 +37,7 @@ SameHands l p p2 = (k : ℕ) → k ≢ l → (hand_at p2 k ≡ hand_at p k) × (
 pub same_hands : (l : ℕ) (p p2 : Place) → AlikeBeside l p p2 → SameHands l p p2
 same_hands l p p2 beside k ne = let e = (beside k ne).station in (ap (λ (y : Station). y.hand) e, ap (λ (y : Station). y.carries) e)
 
--- whoever is in a hand is so at some lock, and t has nobody in hand at another lock than this one
+-- each thread that is in a hand is so at some lock, and t has nobody in hand at another lock than this one
 pub record HoldsHere (w : State) (t l : ℕ) : Type 0 where
   pub held : (u : ℕ) → is_thread t (taker (place_at w u)) ≡ true → IsHeldAt (place_at w u) t
   pub taker : (u : ℕ) (b : Bool) → hand_at (place_at w u) l ≡ hand t b → is_thread t (taker (place_at w u)) ≡ true
@@ -46,7 +46,7 @@ pub record HoldsHere (w : State) (t l : ℕ) : Type 0 where
 module _ (w : State) (t l : ℕ) (steady : IsSteady w) (p2 : Place) (beside : SameHands l (place_at w t) p2)
     (fits : FitsItsLock w p2) (holds : HoldsHere w t l) (reply : Reply) (after : Option Hand)
     (all : (u : ℕ) (b : Bool) → hand_at (place_at w u) l ≡ hand t b → IsToldAt w t l b after reply (place_at w u)) where
-  -- who is told
+  -- a thread that is told
   abbrev pub has : ℕ → Bool
   has u = is_thread t (taker (place_at w u))
 
@@ -78,11 +78,11 @@ module _ (w : State) (t l : ℕ) (steady : IsSteady w) (p2 : Place) (beside : Sa
   pub told_off : (u : ℕ) → has u ≡ false → told u ≡ place_at w u
   told_off u h = ap (λ b. if b then next_place (place_at w u) reply else place_at w u) h
 
-  -- who is not told is not in its hand
+  -- a thread that is not told is not in its hand
   pub not_held : (u : ℕ) → has u ≡ false → (b : Bool) → hand_at (place_at w u) l ≡ hand t b → ⊥
   not_held u h b g = let c : true ≡ false = sym (holds.taker u b g) ∙ h in cc
 
-  -- what is told of a thread: what holds of each that is in its hand, and of each other
+  -- the news of a thread: what holds of each that is in its hand, and of each other
   pub by_told : (P : Place → Type 0) (u : ℕ) → (HeldHere u → P (next_place (place_at w u) reply))
       → ((has u ≡ false) → P (place_at w u)) → P (told u)
   by_told P u told_so other = either (has u) refl
@@ -118,7 +118,7 @@ module _ (w : State) (t l : ℕ) (steady : IsSteady w) (p2 : Place) (beside : Sa
     | inr nu ↦ subst (λ (y : Place). FitsItsLock w y) (sym (put_other told t p2 u nu)) (by_told (FitsItsLock w) u (λ held. (all u held.handed held.hand).fits) (λ h. steady.stands.calls u))
   ]
 
-  -- whoever is told is in this hand then; t itself is so where it was in its own
+  -- each thread that is told is in this hand then; t itself is so where it was in its own
   module _ (own : (station_at p2 l).hand ≡ (if has t then after else (station_at (place_at w t) l).hand)) where
     pub in_hand : (u k : ℕ) → hand_at (places_then u) k ≡ (if has u && (k == l) then after else hand_at (place_at w u) k)
     in_hand u k = elim (cases_eq u t) [

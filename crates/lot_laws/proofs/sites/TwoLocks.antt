@@ -23,11 +23,11 @@ use Rattle.lot_laws.proofs.sites.StandsKept.{Alike, other_key}
 use Rattle.lot_laws.proofs.sites.StandsMoved.{AreThere, goes_in, goes_out}
 use Rattle.lot_laws.proofs.sites.Following.{AlikeAt, lock_by}
 
--- what each of the two locks has been through
+-- tells what each of the two locks has been through
 abbrev pub two_at : ℕ → ℕ → List deeds.Act → List deeds.Act → ℕ → List deeds.Act
 two_at c m at_c at_m k = if k == c then at_c else if k == m then at_m else []
 
--- behind it the lock has these parts, and its word says so
+-- after it the lock has these parts, and its word says so
 pub record BehindIt (w v : State) (q : ℕ → Place) (l : ℕ) (ds : List deeds.Act) : Type 0 where
   pub parts : Parts
   pub here : parts_at v l ≡ parts

@@ -29,7 +29,7 @@ module _ (r : Rules) (l : ℕ) (a : Parts) (p q : ℕ → Place) (t : ℕ) (none
       → seen_in r l a q ≡ after_acts r (acts t ds) (seen_in r l a p)
   leaving_by = at.leaving_by r l a p q t (none2 ∙ sym (ap (keep_from t) none)) others
 
--- who calls the lock, and was in a hand, is in nobody's
+-- a thread that calls the lock, and was in a hand, is in nobody's
 pub woken_of : (w : State) (t l : ℕ) (x : Note) (p : Place) (handed : Bool) → IsOf l p → LetGo t l p (next_place p (Woken x)) → station p ≡ record nowhere { hand = hand t handed } → station (next_place p (Woken x)) ≡ nowhere → FitsItsLock w (next_place p (Woken x)) → IsWokenAt w t l x p
 woken_of w t l x p handed of lets was free fits = record {
   lets = lets;

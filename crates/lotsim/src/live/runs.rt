@@ -1,8 +1,7 @@
 //! The threads, and what comes of them.
 ghost use Rattle.std.specs.Prelude.{◌≡◌, All, IfOk, IfSome};
 ghost use Rattle.std.specs.Arc.{arc_value};
-ghost use Rattle.parking_lot.specs.RwLockUsers.{lot_of as rwlot_of};
-ghost use Rattle.parking_lot.specs.Users.{lot_of};
+ghost use Rattle.parking_lot.specs.Names.{lot_of, lot_of_rwlock};
 ghost use Rattle.parking_lot_core.specs.Tokens.{IsTicketOf, IsTokenOf};
 
 use super::lines::Told;
@@ -32,7 +31,7 @@ const WRITTEN: u64 = 7;
 struct Locks {
     value: RwLock<u64>,
     total: Mutex<u64>,
-    ghost together: { rwlot_of value ≡ lot_of total },
+    ghost together: { lot_of_rwlock value ≡ lot_of total },
 }
 
 fn one_of(lot: &ParkingLot, tickets: &mut Vec<Ticket>) -> Option<Ticket>
@@ -87,7 +86,7 @@ fn locks_by(lot: &Arc<ParkingLot>, ticket: Ticket) -> Result<(Locks, Token), Fau
 
 // Whether a reader sees another that reads at the same time.
 fn meets<R: Wait>(rt: &R, lock: &RwLock<u64>, ticket: Ticket, arrived: &AtomicUsize) -> bool
-    requires { IsTicketOf (rwlot_of lock.now) ticket }
+    requires { IsTicketOf (lot_of_rwlock lock.now) ticket }
 {
     let mut token = ticket.enter();
     let Ok(guard) = lock.read(rt, &mut token) else {
@@ -112,8 +111,8 @@ fn sees_all(arrived: &AtomicUsize) -> bool {
 
 // The value that is read of what was written before.
 fn write_and_read<R: Wait>(rt: &R, lock: &RwLock<u64>, token: &mut Token) -> Result<u64, Fault>
-    requires { IsTokenOf (rwlot_of lock.now) token.old }
-    ensures { IsTokenOf (rwlot_of lock.now) token.new }
+    requires { IsTokenOf (lot_of_rwlock lock.now) token.old }
+    ensures { IsTokenOf (lot_of_rwlock lock.now) token.new }
 {
     lock.with_write(rt, token, |value: &mut u64| {
         *value = WRITTEN;
@@ -140,7 +139,7 @@ fn met<R: Threads + Wait + Sync>(
     lock: &RwLock<u64>,
     tickets: Vec<Ticket>,
 ) -> Result<bool, Fault>
-    requires { All (IsTicketOf (rwlot_of lock.now)) tickets.items }
+    requires { All (IsTicketOf (lot_of_rwlock lock.now)) tickets.items }
 {
     let (arrivals, meetings) = (AtomicUsize::new(0), AtomicUsize::new(0));
     let (arrived, seen) = (&arrivals, &meetings);
@@ -148,11 +147,11 @@ fn met<R: Threads + Wait + Sync>(
         scope_env(),
         rt,
         |scope|
-            requires { All (IsTicketOf (rwlot_of lock.now)) tickets.items }
+            requires { All (IsTicketOf (lot_of_rwlock lock.now)) tickets.items }
         {
             for ticket in tickets {
                 let reader = move ||
-                    requires { IsTicketOf (rwlot_of lock.now) ticket }
+                    requires { IsTicketOf (lot_of_rwlock lock.now) ticket }
                 {
                     if meets(rt, lock, ticket, arrived) {
                         seen.fetch_add(1, SeqCst);

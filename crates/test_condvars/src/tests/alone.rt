@@ -1,6 +1,6 @@
 //! One thread, which nobody notifies.
 ghost use Rattle.std.specs.Prelude.{◌<◌, ◌≤◌};
-ghost use Rattle.parking_lot.specs.Users.{IsTokenOf, lot_of};
+ghost use Rattle.parking_lot.specs.Names.{IsTokenOf, lot_of};
 
 use super::rooms::{Room, look, room_for};
 use super::{Limit, TURNS, holds, is_just_past, same, wait};

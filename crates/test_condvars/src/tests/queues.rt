@@ -1,7 +1,6 @@
 //! Threads that send numbers to one another through a queue that is bounded.
 ghost use Rattle.std.specs.Prelude.{◌≡◌, ◌≤◌, All};
-ghost use Rattle.parking_lot.specs.CondvarUsers.{lot_of as condvar_lot};
-ghost use Rattle.parking_lot.specs.Users.{IsTicketOf, IsTokenOf, lock_of, lot_of};
+ghost use Rattle.parking_lot.specs.Names.{IsTicketOf, IsTokenOf, lock_of, lot_of, lot_of_condvar};
 
 use super::{Limit, condvar_of, holds, mutex_of, seats, wait};
 use parking_lot::{Condvar, Mutex, MutexGuard, TickClock, Ticket, Token};
@@ -59,7 +58,7 @@ struct Pipe {
     line: Mutex<Line>,
     filled: Condvar,
     emptied: Condvar,
-    ghost together: { (condvar_lot filled ≡ lot_of line) × (condvar_lot emptied ≡ lot_of line) },
+    ghost together: { (lot_of_condvar filled ≡ lot_of line) × (lot_of_condvar emptied ≡ lot_of line) },
 }
 
 // How threads wait and notify.
@@ -81,8 +80,8 @@ impl Style {
 }
 
 fn notify<R: Wait>(rt: &R, condvar: &Condvar, token: &mut Token, style: Style)
-    requires { IsTokenOf (condvar_lot condvar.now) token.old }
-    ensures { IsTokenOf (condvar_lot condvar.now) token.new }
+    requires { IsTokenOf (lot_of_condvar condvar.now) token.old }
+    ensures { IsTokenOf (lot_of_condvar condvar.now) token.new }
 {
     if matches!(style, Style::One) {
         condvar.notify_one(rt, token);
@@ -101,7 +100,7 @@ fn guard_past<'p, R: Wait, F: Fn(&Line) -> bool + Drop>(
     blocks: F,
 ) -> MutexGuard<'p, Line>
     requires token { IsTokenOf (lot_of pipe.now.line) token.old }
-    requires condvar { condvar_lot condvar.now ≡ lot_of pipe.now.line }
+    requires condvar { lot_of_condvar condvar.now ≡ lot_of pipe.now.line }
     requires blocks { F.IsAlwaysCallable blocks }
     ensures token { IsTokenOf (lot_of pipe.now.line) token.new }
     ensures guard { lock_of result ≡ pipe.now.line }

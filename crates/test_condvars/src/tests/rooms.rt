@@ -1,8 +1,7 @@
 //! Rooms in which the threads of a lot wait and notify.
 ghost use Rattle.std.specs.Prelude.{◌≡◌, ◌<◌, ◌≤◌, All};
 ghost use Rattle.std.specs.Arc.{arc_value};
-ghost use Rattle.parking_lot.specs.CondvarUsers.{lot_of as condvar_lot};
-ghost use Rattle.parking_lot.specs.Users.{IsTicketOf, IsTokenOf, lot_of};
+ghost use Rattle.parking_lot.specs.Names.{IsTicketOf, IsTokenOf, lot_of, lot_of_condvar};
 
 use super::alone::wait_turns;
 use super::many::{Whom, add_and_wait, notify_behind, notify_in_turn};
@@ -22,7 +21,7 @@ pub(super) struct Room {
     pub(super) mutex: Mutex<usize>,
     pub(super) other: Mutex<usize>,
     pub(super) condvar: Condvar,
-    ghost together: { (condvar_lot condvar ≡ lot_of mutex) × (lot_of other ≡ lot_of mutex) },
+    ghost together: { (lot_of_condvar condvar ≡ lot_of mutex) × (lot_of other ≡ lot_of mutex) },
 }
 
 // A room for so many threads, its lot, the token of the first and the tickets of the others.

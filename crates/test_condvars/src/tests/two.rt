@@ -1,6 +1,6 @@
 //! One thread that waits, and one that notifies it.
 ghost use Rattle.std.specs.Prelude.{◌≡◌};
-ghost use Rattle.parking_lot.specs.Users.{IsTokenOf, lot_of};
+ghost use Rattle.parking_lot.specs.Names.{IsTokenOf, lot_of};
 
 use super::rooms::{Part, Room, look, play};
 use super::{Ended, Limit, TURNS, is_just_past, same, wait, wait_long};

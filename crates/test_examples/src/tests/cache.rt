@@ -1,14 +1,12 @@
 //! Prices with their tax, which many threads look up. The first who misses one works it out, and
 //! the others find it.
-ghost use Rattle.std.specs.Prelude.{◌≡◌, ◌+◌, ◌*◌, ◌/◌, All, IfOk, IfSome};
-ghost use Rattle.parking_lot.specs.RwLockUsers.{lot_of};
-ghost use Rattle.parking_lot.specs.Users.{IsTicketOf, IsTokenOf};
+ghost use Rattle.std.specs.Prelude.{◌≡◌, ◌+◌, ◌*◌, ◌/◌, IfSome};
+ghost use Rattle.parking_lot.specs.Names.{IsTokenOf, lot_of_rwlock};
 
-use super::{all_are, lot_for_three, same};
-use parking_lot::{Fault, RwLock, Ticket, Token};
+use super::{all_are, holds, same};
+use parking_lot::{Fault, RwLock, Team, Token};
 use std::sync::Wait;
 use std::test::Fail;
-use std::thread::{Threads, map_vec};
 
 const PRICES: [u32; 4] = [100, 250, 999, 1000];
 
@@ -42,91 +40,54 @@ fn find(known: &[Priced], net: u32) -> Option<u64>
     None
 }
 
-// Reads beside others that read, and waits for nobody but a writer.
+// Reads beside others that read. Where the price is missing, one thread at a time looks with the
+// right to write later, so none works out what another has written meanwhile.
 fn look_up<R: Wait>(
     rt: &R,
     cache: &RwLock<Vec<Priced>>,
     token: &mut Token,
     net: u32,
 ) -> Result<u64, Fault>
-    requires { IsTokenOf (lot_of cache.now) token.old }
-    ensures token { IsTokenOf (lot_of cache.now) token.new }
-    ensures right { IfOk result (λ gross. gross ≡ net + net * 19 / 100) }
+    requires { IsTokenOf (lot_of_rwlock cache.now) token.old }
+    ensures { IsTokenOf (lot_of_rwlock cache.now) token.new }
 {
-    let guard = cache.read(rt, token)?;
-    let found = find(guard.as_slice(), net);
-    guard.unlock(rt, token);
-    match found {
-        Some(gross) => Ok(gross),
-        None => fill_in(rt, cache, token, net),
-    }
-}
-
-// One thread at a time looks with the right to write later, so none works out what another has
-// written meanwhile. Readers are kept out only from the upgrade on.
-fn fill_in<R: Wait>(
-    rt: &R,
-    cache: &RwLock<Vec<Priced>>,
-    token: &mut Token,
-    net: u32,
-) -> Result<u64, Fault>
-    requires { IsTokenOf (lot_of cache.now) token.old }
-    ensures token { IsTokenOf (lot_of cache.now) token.new }
-    ensures right { IfOk result (λ gross. gross ≡ net + net * 19 / 100) }
-{
-    let guard = cache.upgradable_read(rt, token)?;
-    if let Some(gross) = find(guard.as_slice(), net) {
-        guard.unlock(rt, token);
+    let found = cache.with_read(rt, token, |known: &Vec<Priced>| find(known.as_slice(), net))?;
+    if let Some(gross) = found {
         return Ok(gross);
     }
-    let priced = work_out(net);
-    let mut guard = guard.upgrade(rt, token);
-    let pushed = guard.push(priced);
-    guard.unlock(rt, token);
-    match pushed {
-        Ok(()) => Ok(priced.gross),
-        Err(_) => Err(Fault::NoMemory),
-    }
+    cache.with_upgradable(
+        rt,
+        token,
+        |known: &Vec<Priced>| find(known.as_slice(), net).map(Ok),
+        |known: &mut Vec<Priced>| {
+            let priced = work_out(net);
+            known.push(priced)?;
+            Ok(priced.gross)
+        },
+    )?
 }
 
 // Returns the sum of all prices.
-fn look_up_all<R: Wait>(rt: &R, cache: &RwLock<Vec<Priced>>, ticket: Ticket) -> Result<u64, Fault>
-    requires { IsTicketOf (lot_of cache.now) ticket }
+fn look_up_all<R: Wait>(
+    rt: &R,
+    cache: &RwLock<Vec<Priced>>,
+    token: &mut Token,
+) -> Result<u64, Fault>
+    requires { IsTokenOf (lot_of_rwlock cache.now) token.old }
 {
-    let mut token = ticket.enter();
     let mut total = 0u64;
     for net in PRICES {
-        total = total.wrapping_add(look_up(rt, cache, &mut token, net)?);
+        total = total.wrapping_add(look_up(rt, cache, token, net)?);
     }
-    drop(token.leave());
     Ok(total)
-}
-
-// Whether all threads of these tickets found the same, and how many prices were worked out.
-fn all_look_up<R: Threads + Wait + Sync>(
-    rt: &R,
-    cache: RwLock<Vec<Priced>>,
-    tickets: Vec<Ticket>,
-) -> Result<(bool, usize), Fault>
-    requires { All (IsTicketOf (lot_of cache)) tickets.items }
-{
-    let shared = &cache;
-    let found = map_vec(
-        rt,
-        tickets,
-        &|ticket: Ticket|
-            requires { IsTicketOf (lot_of shared.now) ticket }
-        { look_up_all(rt, shared, ticket) },
-    );
-    Ok((all_are(found, Ok(2794)), cache.into_inner().len()))
 }
 
 #[test]
 fn a_cache(rt: HostRuntime) -> Result<(), Fail> {
-    let (lot, mut token, tickets) = lot_for_three(rt.alloc(), 1)?;
-    let Ok(cache) = RwLock::new(&lot, &mut token, Vec::new(rt.alloc())) else {
-        return Err(Fail::from(Fault::NoMemory));
-    };
-    same(&rt, all_look_up(&rt, cache, tickets)?, (true, 4));
+    let (team, mut token) = Team::new(rt.alloc(), 2)?;
+    let cache = RwLock::new(team.lot(), &mut token, Vec::new(rt.alloc())).map_err(Fault::from)?;
+    let found = team.run(&rt, &|token: &mut Token| look_up_all(&rt, &cache, token))?;
+    holds(&rt, all_are(&found, &Ok(2794)));
+    same(&rt, cache.into_inner().len(), 4);
     Ok(())
 }

@@ -1,8 +1,8 @@
 //! A function that locks, and calls another that locks.
-ghost use Rattle.parking_lot.specs.Users.{IsTokenOf, lot_of};
+ghost use Rattle.parking_lot.specs.Names.{IsTokenOf, lot_of};
 
-use super::{lot_for_three, same};
-use parking_lot::{Fault, ReentrantMutex, Token};
+use super::same;
+use parking_lot::{Fault, ReentrantMutex, Team, Token};
 use std::sync::Wait;
 use std::test::Fail;
 
@@ -31,8 +31,8 @@ fn mean<R: Wait>(rt: &R, prices: &Prices, token: &mut Token) -> Result<u64, Faul
 
 #[test]
 fn a_function_that_locks_again(rt: HostRuntime) -> Result<(), Fail> {
-    let (lot, mut token, _tickets) = lot_for_three(rt.alloc(), 2)?;
-    let prices = Prices::new(&lot, &mut token, [3, 4, 5])?;
+    let (team, mut token) = Team::new(rt.alloc(), 0)?;
+    let prices = Prices::new(team.lot(), &mut token, [3, 4, 5])?;
     same(&rt, mean(&rt, &prices, &mut token)?, 4);
     Ok(())
 }

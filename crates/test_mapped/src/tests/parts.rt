@@ -1,8 +1,7 @@
 //! Guards of a part of a value.
 ghost use Rattle.std.specs.Prelude.{◌≡◌, Ok, refl};
 ghost use Rattle.parking_lot_core.specs.Tokens.{IsTokenOf};
-ghost use Rattle.parking_lot.specs.RwLockUsers.{lot_of as rwlot_of};
-ghost use Rattle.parking_lot.specs.Users.{lot_of};
+ghost use Rattle.parking_lot.specs.Names.{lot_of, lot_of_rwlock};
 
 use super::{mutex_alone, rwlock_alone, same};
 use crate::{Entry, Slot};
@@ -219,7 +218,7 @@ fn a_refused_look_further_gives_the_mapped_guard_back(rt: HostRuntime) -> Result
 
 // Two readers see the part that a writer has written.
 fn read_twice<R: Wait>(rt: &R, lock: &RwLock<Point>, token: &mut Token) -> Option<(u32, u32)>
-    requires { IsTokenOf (rwlot_of lock.now) token.old }
+    requires { IsTokenOf (lot_of_rwlock lock.now) token.old }
 {
     let mut part = lock.write(rt, token).map(TheX);
     *part = 9;

@@ -1,8 +1,7 @@
 //! The texts of locks that are shown.
 ghost use Rattle.std.specs.Prelude.{◌≡◌};
 ghost use Rattle.parking_lot_core.specs.Tokens.{IsTokenOf};
-ghost use Rattle.parking_lot.specs.RwLockUsers.{lot_of as rwlot_of};
-ghost use Rattle.parking_lot.specs.Users.{lot_of};
+ghost use Rattle.parking_lot.specs.Names.{lot_of, lot_of_rwlock};
 
 use super::{lone, mutex_alone, rwlock_alone, same};
 use parking_lot::{Condvar, Fault, Mutex, Once, RwLock, Token};
@@ -78,7 +77,7 @@ fn rwlock_texts<R: Wait + Abort>(
     lock: &RwLock<[u8; 2]>,
     token: &mut Token,
 ) -> (String, String)
-    requires { IsTokenOf (rwlot_of lock.now) token.old }
+    requires { IsTokenOf (lot_of_rwlock lock.now) token.old }
 {
     let shown = lock.show(rt, token);
     let free = text_of(rt, alloc, &shown);

@@ -5,7 +5,7 @@ mod timed;
 ghost use Rattle.std.specs.Prelude.{◌≡◌, ◌≤◌, All};
 ghost use Rattle.std.specs.Arc.{arc_value};
 ghost use Rattle.parking_lot_core.specs.Tokens.{IsTicketOf, IsTokenOf};
-ghost use Rattle.parking_lot.specs.Users.{lot_of};
+ghost use Rattle.parking_lot.specs.Names.{lot_of};
 
 use super::{holds, next_of, same};
 use moved::{hold_and_move, wait_moved};

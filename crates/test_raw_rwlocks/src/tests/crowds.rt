@@ -1,7 +1,7 @@
 //! Threads that meet at one reader-writer lock.
 ghost use Rattle.std.specs.Prelude.{◌≡◌, ◌<◌};
 ghost use Rattle.parking_lot_core.specs.Tokens.{IsTicketOf, IsTokenOf};
-ghost use Rattle.parking_lot.specs.RwLockUsers.{lot_of};
+ghost use Rattle.parking_lot.specs.Names.{lot_of_rwlock};
 
 use super::fixtures::{Inside, seats};
 use super::mixes::mix;
@@ -42,7 +42,7 @@ fn take_part<const RECURSIVE: bool, R: Wait>(
     inside: &Inside,
     part: Part,
 ) -> bool
-    requires { IsTokenOf lot.now token.old × (lot_of lock.now ≡ lot.now) }
+    requires { IsTokenOf lot.now token.old × (lot_of_rwlock lock.now ≡ lot.now) }
     ensures { IsTokenOf lot.now token.new }
 {
     let place = told.parts.fetch_add(1, SeqCst);
@@ -77,7 +77,7 @@ pub(super) fn play<const RECURSIVE: bool, R: Threads + Wait + Sync>(
         rt,
         tickets,
         &|ticket: Ticket|
-            requires { IsTicketOf (lot_of lock.now) ticket × (lot_of lock.now ≡ lot.now) }
+            requires { IsTicketOf (lot_of_rwlock lock.now) ticket × (lot_of_rwlock lock.now ≡ lot.now) }
         {
             let mut token = ticket.enter();
             let content = take_part(rt, lot, lock, &mut token, told, inside, part);

@@ -4,7 +4,7 @@ mod inside;
 ghost use Rattle.std.specs.Prelude.{◌≡◌, ◌≤◌, ◌<◌, ◌↔◌, All, IfOk, IfSome, IsSome, length};
 ghost use Rattle.std.specs.Arc.{arc_value};
 ghost use Rattle.parking_lot_core.specs.Tokens.{IsTicketOf, IsTokenOf};
-ghost use Rattle.parking_lot.specs.RwLockUsers.{admission_of, lot_of};
+ghost use Rattle.parking_lot.specs.Names.{admission_of, lot_of_rwlock};
 
 pub(super) use inside::Inside;
 use parking_lot::lock_api_rw::RawRwLock as RawLock;
@@ -25,7 +25,7 @@ fn lock_by<const RECURSIVE: bool>(
 ) -> Result<RawRwLock<RECURSIVE>, Fault>
     requires { IsTicketOf (arc_value lot.now) ticket
         × ((arc_value lot.now).records.count ≤ limit) × (limit ≤ 1024) }
-    ensures lot { IfOk result (λ lock. lot_of lock ≡ arc_value lot.now) }
+    ensures lot { IfOk result (λ lock. lot_of_rwlock lock ≡ arc_value lot.now) }
     ensures limit { IfOk result (λ lock. (admission_of lock).limit ≡ limit) }
 {
     let mut token = ticket.enter();
@@ -45,7 +45,7 @@ pub(super) fn seats<const RECURSIVE: bool>(
     limit: u64,
 ) -> Result<(Arc<ParkingLot>, RawRwLock<RECURSIVE>, Vec<Ticket>), Fault>
     requires { (threads < limit) × (limit ≤ 1024) }
-    ensures lot { IfOk result (λ made. lot_of made.1 ≡ arc_value made.0) }
+    ensures lot { IfOk result (λ made. lot_of_rwlock made.1 ≡ arc_value made.0) }
     ensures limit { IfOk result (λ made. (admission_of made.1).limit ≡ limit) }
     ensures tickets { IfOk result (λ made. All (IsTicketOf (arc_value made.0)) made.2.items) }
 {
@@ -78,7 +78,7 @@ pub(super) fn lock_alone<const RECURSIVE: bool>(
 ) -> Result<(RawRwLock<RECURSIVE>, Token), Fault>
     requires { (2 ≤ limit) × (limit ≤ 1024) }
     ensures limit { IfOk result (λ made. (admission_of made.0).limit ≡ limit) }
-    ensures token { IfOk result (λ made. IsTokenOf (lot_of made.0) made.1) }
+    ensures token { IfOk result (λ made. IsTokenOf (lot_of_rwlock made.0) made.1) }
 {
     let (lot, lock, mut tickets) = seats(alloc, 1, limit)?;
     let Some(ticket) = next_of(&lot, &mut tickets) else {

@@ -1,8 +1,7 @@
 //! Threads that do all that a reader-writer lock has, each in an order of its own.
 ghost use Rattle.std.specs.Prelude.{IfOk, IfSome};
 ghost use Rattle.parking_lot_core.specs.Tokens.{IsTokenOf};
-ghost use Rattle.parking_lot.specs.RwLockGuards.{IsExclusiveOf, IsSharedOf, IsUpgradableOf};
-ghost use Rattle.parking_lot.specs.RwLockUsers.{lot_of, word_of};
+ghost use Rattle.parking_lot.specs.Names.{IsExclusiveOf, IsSharedOf, IsUpgradableOf, lot_of_rwlock, word_of_rwlock};
 
 use super::crowds::{Part, play};
 use super::fixtures::Inside;
@@ -27,10 +26,10 @@ fn read_by<const RECURSIVE: bool, R: Wait>(
     inside: &Inside,
     came: Result<Option<RawSharedGuard>, Fault>,
 )
-    requires token { IsTokenOf (lot_of lock.now) token.old }
+    requires token { IsTokenOf (lot_of_rwlock lock.now) token.old }
     requires guard { IfOk came
-        (λ came. IfSome came (IsSharedOf (lot_of lock.now) (word_of lock.now))) }
-    ensures { IsTokenOf (lot_of lock.now) token.new }
+        (λ came. IfSome came (IsSharedOf (lot_of_rwlock lock.now) (word_of_rwlock lock.now))) }
+    ensures { IsTokenOf (lot_of_rwlock lock.now) token.new }
 {
     match came {
         Ok(Some(guard)) => {
@@ -49,10 +48,10 @@ fn read_upgradable_by<const RECURSIVE: bool, R: Wait>(
     inside: &Inside,
     came: Result<Option<RawUpgradableGuard>, Fault>,
 )
-    requires token { IsTokenOf (lot_of lock.now) token.old }
+    requires token { IsTokenOf (lot_of_rwlock lock.now) token.old }
     requires guard { IfOk came
-        (λ came. IfSome came (IsUpgradableOf (lot_of lock.now) (word_of lock.now))) }
-    ensures { IsTokenOf (lot_of lock.now) token.new }
+        (λ came. IfSome came (IsUpgradableOf (lot_of_rwlock lock.now) (word_of_rwlock lock.now))) }
+    ensures { IsTokenOf (lot_of_rwlock lock.now) token.new }
 {
     match came {
         Ok(Some(guard)) => {
@@ -71,9 +70,9 @@ fn write_by<const RECURSIVE: bool, R: Wait>(
     inside: &Inside,
     came: Option<RawExclusiveGuard>,
 )
-    requires token { IsTokenOf (lot_of lock.now) token.old }
-    requires guard { IfSome came (IsExclusiveOf (lot_of lock.now) (word_of lock.now)) }
-    ensures { IsTokenOf (lot_of lock.now) token.new }
+    requires token { IsTokenOf (lot_of_rwlock lock.now) token.old }
+    requires guard { IfSome came (IsExclusiveOf (lot_of_rwlock lock.now) (word_of_rwlock lock.now)) }
+    ensures { IsTokenOf (lot_of_rwlock lock.now) token.new }
 {
     match came {
         Some(guard) => {
@@ -90,8 +89,8 @@ fn read<const RECURSIVE: bool, R: Wait>(
     token: &mut Token,
     inside: &Inside,
 )
-    requires { IsTokenOf (lot_of lock.now) token.old }
-    ensures { IsTokenOf (lot_of lock.now) token.new }
+    requires { IsTokenOf (lot_of_rwlock lock.now) token.old }
+    ensures { IsTokenOf (lot_of_rwlock lock.now) token.new }
 {
     match lock.lock_shared(rt, token) {
         Ok(guard) => read_by(rt, lock, token, inside, Ok(Some(guard))),
@@ -105,8 +104,8 @@ fn write<const RECURSIVE: bool, R: Wait>(
     token: &mut Token,
     inside: &Inside,
 )
-    requires { IsTokenOf (lot_of lock.now) token.old }
-    ensures { IsTokenOf (lot_of lock.now) token.new }
+    requires { IsTokenOf (lot_of_rwlock lock.now) token.old }
+    ensures { IsTokenOf (lot_of_rwlock lock.now) token.new }
 {
     let guard = lock.lock_exclusive(rt, token);
     write_by(rt, lock, token, inside, Some(guard));
@@ -119,8 +118,8 @@ fn go_up_and_down<const RECURSIVE: bool, R: Wait>(
     token: &mut Token,
     inside: &Inside,
 )
-    requires { IsTokenOf (lot_of lock.now) token.old }
-    ensures { IsTokenOf (lot_of lock.now) token.new }
+    requires { IsTokenOf (lot_of_rwlock lock.now) token.old }
+    ensures { IsTokenOf (lot_of_rwlock lock.now) token.new }
 {
     let Ok(guard) = lock.lock_upgradable(rt, token) else {
         return;
@@ -141,8 +140,8 @@ fn go_down<const RECURSIVE: bool, R: Wait>(
     token: &mut Token,
     inside: &Inside,
 )
-    requires { IsTokenOf (lot_of lock.now) token.old }
-    ensures { IsTokenOf (lot_of lock.now) token.new }
+    requires { IsTokenOf (lot_of_rwlock lock.now) token.old }
+    ensures { IsTokenOf (lot_of_rwlock lock.now) token.new }
 {
     let guard = lock.lock_exclusive(rt, token);
     inside.write();
@@ -158,8 +157,8 @@ fn upgrade_soon<const RECURSIVE: bool, R: Wait>(
     inside: &Inside,
     deadline: Option<u64>,
 )
-    requires { IsTokenOf (lot_of lock.now) token.old }
-    ensures { IsTokenOf (lot_of lock.now) token.new }
+    requires { IsTokenOf (lot_of_rwlock lock.now) token.old }
+    ensures { IsTokenOf (lot_of_rwlock lock.now) token.new }
 {
     let clock = TickClock::new();
     let Ok(guard) = lock.lock_upgradable(rt, token) else {
@@ -184,8 +183,8 @@ fn try_all<const RECURSIVE: bool, R: Wait>(
     inside: &Inside,
     deadline: u64,
 )
-    requires { IsTokenOf (lot_of lock.now) token.old }
-    ensures { IsTokenOf (lot_of lock.now) token.new }
+    requires { IsTokenOf (lot_of_rwlock lock.now) token.old }
+    ensures { IsTokenOf (lot_of_rwlock lock.now) token.new }
 {
     let clock = TickClock::new();
     let came = lock.try_lock_exclusive_until(rt, token, &clock, deadline);
@@ -212,8 +211,8 @@ fn read_fairly<const RECURSIVE: bool, R: Wait>(
     token: &mut Token,
     inside: &Inside,
 )
-    requires { IsTokenOf (lot_of lock.now) token.old }
-    ensures { IsTokenOf (lot_of lock.now) token.new }
+    requires { IsTokenOf (lot_of_rwlock lock.now) token.old }
+    ensures { IsTokenOf (lot_of_rwlock lock.now) token.new }
 {
     let Ok(guard) = lock.lock_shared(rt, token) else {
         return;
@@ -231,8 +230,8 @@ fn read_upgradable_fairly<const RECURSIVE: bool, R: Wait>(
     token: &mut Token,
     inside: &Inside,
 )
-    requires { IsTokenOf (lot_of lock.now) token.old }
-    ensures { IsTokenOf (lot_of lock.now) token.new }
+    requires { IsTokenOf (lot_of_rwlock lock.now) token.old }
+    ensures { IsTokenOf (lot_of_rwlock lock.now) token.new }
 {
     let Ok(guard) = lock.lock_upgradable(rt, token) else {
         return;
@@ -250,8 +249,8 @@ fn write_fairly<const RECURSIVE: bool, R: Wait>(
     token: &mut Token,
     inside: &Inside,
 )
-    requires { IsTokenOf (lot_of lock.now) token.old }
-    ensures { IsTokenOf (lot_of lock.now) token.new }
+    requires { IsTokenOf (lot_of_rwlock lock.now) token.old }
+    ensures { IsTokenOf (lot_of_rwlock lock.now) token.new }
 {
     let guard = lock.lock_exclusive(rt, token);
     inside.write();
@@ -268,8 +267,8 @@ fn turn<const RECURSIVE: bool, R: Wait>(
     inside: &Inside,
     number: usize,
 )
-    requires { IsTokenOf (lot_of lock.now) token.old }
-    ensures { IsTokenOf (lot_of lock.now) token.new }
+    requires { IsTokenOf (lot_of_rwlock lock.now) token.old }
+    ensures { IsTokenOf (lot_of_rwlock lock.now) token.new }
 {
     match number % 10 {
         0 => write(rt, lock, token, inside),
@@ -293,8 +292,8 @@ pub(super) fn mix<const RECURSIVE: bool, R: Wait>(
     inside: &Inside,
     start: usize,
 ) -> bool
-    requires { IsTokenOf (lot_of lock.now) token.old }
-    ensures { IsTokenOf (lot_of lock.now) token.new }
+    requires { IsTokenOf (lot_of_rwlock lock.now) token.old }
+    ensures { IsTokenOf (lot_of_rwlock lock.now) token.new }
 {
     for round in 0..ROUNDS {
         let number = start.wrapping_mul(round).wrapping_add(round / 5);

@@ -7,7 +7,7 @@ mod waits;
 
 ghost use Rattle.std.specs.Prelude.{◌≡◌, ◌≤◌};
 ghost use Rattle.parking_lot_core.specs.Tokens.{IsTicketOf, IsTokenOf};
-ghost use Rattle.parking_lot.specs.RwLockUsers.{lot_of};
+ghost use Rattle.parking_lot.specs.Names.{lot_of_rwlock};
 
 use super::fixtures::seats;
 use super::holds;
@@ -38,7 +38,7 @@ fn take_part<const RECURSIVE: bool, R: Wait>(
     scene: &Scene,
     told: &Told,
 ) -> bool
-    requires { IsTokenOf lot.now token.old × (lot_of lock.now ≡ lot.now) }
+    requires { IsTokenOf lot.now token.old × (lot_of_rwlock lock.now ≡ lot.now) }
 {
     if told.comes_first() {
         hold(rt, lot, lock, token, scene, told)
@@ -74,7 +74,7 @@ fn play_within<const RECURSIVE: bool, R: Threads + Wait + Sync + Abort>(
         rt,
         tickets,
         &|ticket: Ticket|
-            requires { IsTicketOf (lot_of lock.now) ticket × (lot_of lock.now ≡ lot.now) }
+            requires { IsTicketOf (lot_of_rwlock lock.now) ticket × (lot_of_rwlock lock.now ≡ lot.now) }
         {
             let mut token = ticket.enter();
             take_part(rt, lot, lock, &mut token, scene, told)

@@ -1,8 +1,7 @@
 //! Waits for a reader-writer lock that end in time.
 ghost use Rattle.std.specs.Prelude.{◌≡◌};
 ghost use Rattle.parking_lot_core.specs.Tokens.{IsTokenOf};
-ghost use Rattle.parking_lot.specs.RwLockGuards.{IsSharedOf};
-ghost use Rattle.parking_lot.specs.RwLockUsers.{lot_of, word_of};
+ghost use Rattle.parking_lot.specs.Names.{IsSharedOf, lot_of_rwlock, word_of_rwlock};
 
 use super::crowds::{Part, Told, play};
 use super::fixtures::{await_flag, comes_to, lock_alone, queue_up};
@@ -15,8 +14,8 @@ use parking_lot::lock_api_rw::{
 use parking_lot::{Clock, Fault, ParkingLot, RawRwLock, RawSharedGuard, TickClock, Token};
 use std::alloc::Global;
 use std::sync::Wait;
-use std::sync::atomic::AtomicBool;
 use std::sync::atomic::Ordering::SeqCst;
+use std::sync::atomic::{AtomicBool, AtomicUsize};
 use std::test::Fail;
 use std::thread::yield_now;
 use std::time::Duration;
@@ -41,8 +40,8 @@ fn reads_in_vain<const RECURSIVE: bool, R: Wait>(
     token: &mut Token,
     until: bool,
 ) -> bool
-    requires { IsTokenOf (lot_of lock.now) token.old }
-    ensures { IsTokenOf (lot_of lock.now) token.new }
+    requires { IsTokenOf (lot_of_rwlock lock.now) token.old }
+    ensures { IsTokenOf (lot_of_rwlock lock.now) token.new }
 {
     let clock = TickClock::new();
     let taken = if until {
@@ -60,8 +59,8 @@ fn comes_upgradable_in_vain<const RECURSIVE: bool, R: Wait>(
     token: &mut Token,
     until: bool,
 ) -> bool
-    requires { IsTokenOf (lot_of lock.now) token.old }
-    ensures { IsTokenOf (lot_of lock.now) token.new }
+    requires { IsTokenOf (lot_of_rwlock lock.now) token.old }
+    ensures { IsTokenOf (lot_of_rwlock lock.now) token.new }
 {
     let clock = TickClock::new();
     let taken = if until {
@@ -79,8 +78,8 @@ fn writes_in_vain<const RECURSIVE: bool, R: Wait>(
     token: &mut Token,
     until: bool,
 ) -> bool
-    requires { IsTokenOf (lot_of lock.now) token.old }
-    ensures { IsTokenOf (lot_of lock.now) token.new }
+    requires { IsTokenOf (lot_of_rwlock lock.now) token.old }
+    ensures { IsTokenOf (lot_of_rwlock lock.now) token.new }
 {
     let clock = TickClock::new();
     let taken = if until {
@@ -98,8 +97,8 @@ fn waits_in_vain<const RECURSIVE: bool, R: Wait>(
     token: &mut Token,
     until: bool,
 ) -> bool
-    requires { IsTokenOf (lot_of lock.now) token.old }
-    ensures { IsTokenOf (lot_of lock.now) token.new }
+    requires { IsTokenOf (lot_of_rwlock lock.now) token.old }
+    ensures { IsTokenOf (lot_of_rwlock lock.now) token.new }
 {
     let read = reads_in_vain(rt, lock, token, until);
     let read_upgradable = comes_upgradable_in_vain(rt, lock, token, until);
@@ -113,8 +112,8 @@ fn gives_up_beside_a_writer<const RECURSIVE: bool, R: Wait>(
     lock: &RawRwLock<RECURSIVE>,
     token: &mut Token,
 ) -> bool
-    requires { IsTokenOf (lot_of lock.now) token.old }
-    ensures { IsTokenOf (lot_of lock.now) token.new }
+    requires { IsTokenOf (lot_of_rwlock lock.now) token.old }
+    ensures { IsTokenOf (lot_of_rwlock lock.now) token.new }
 {
     let guard = lock.lock_exclusive(rt, token);
     let in_vain = waits_in_vain(rt, lock, token, false);
@@ -132,10 +131,10 @@ fn give_up_beside<const RECURSIVE: bool, R: Wait>(
     token: &mut Token,
     guard: RawSharedGuard,
 ) -> RawSharedGuard
-    requires token { IsTokenOf (lot_of lock.now) token.old }
-    requires guard { IsSharedOf (lot_of lock.now) (word_of lock.now) guard }
-    ensures token { IsTokenOf (lot_of lock.now) token.new }
-    ensures guard { IsSharedOf (lot_of lock.now) (word_of lock.now) result }
+    requires token { IsTokenOf (lot_of_rwlock lock.now) token.old }
+    requires guard { IsSharedOf (lot_of_rwlock lock.now) (word_of_rwlock lock.now) guard }
+    ensures token { IsTokenOf (lot_of_rwlock lock.now) token.new }
+    ensures guard { IsSharedOf (lot_of_rwlock lock.now) (word_of_rwlock lock.now) result }
 {
     match lock.try_lock_exclusive_until(rt, token, &TickClock::new(), EARLY) {
         Some(writer) => lock.has_writer_and_reader(token, writer, guard),
@@ -149,8 +148,8 @@ fn gives_up_beside_a_reader<const RECURSIVE: bool, R: Wait>(
     lock: &RawRwLock<RECURSIVE>,
     token: &mut Token,
 ) -> bool
-    requires { IsTokenOf (lot_of lock.now) token.old }
-    ensures { IsTokenOf (lot_of lock.now) token.new }
+    requires { IsTokenOf (lot_of_rwlock lock.now) token.old }
+    ensures { IsTokenOf (lot_of_rwlock lock.now) token.new }
 {
     let Ok(guard) = lock.lock_shared(rt, token) else {
         return false;
@@ -167,8 +166,8 @@ fn upgrades_in_time<const RECURSIVE: bool, R: Wait>(
     lock: &RawRwLock<RECURSIVE>,
     token: &mut Token,
 ) -> Option<[bool; 5]>
-    requires { IsTokenOf (lot_of lock.now) token.old }
-    ensures { IsTokenOf (lot_of lock.now) token.new }
+    requires { IsTokenOf (lot_of_rwlock lock.now) token.old }
+    ensures { IsTokenOf (lot_of_rwlock lock.now) token.new }
 {
     let clock = TickClock::new();
     let Ok(guard) = lock.lock_upgradable(rt, token) else {
@@ -188,8 +187,8 @@ fn upgrades_beside_a_reader<const RECURSIVE: bool, R: Wait>(
     lock: &RawRwLock<RECURSIVE>,
     token: &mut Token,
 ) -> bool
-    requires { IsTokenOf (lot_of lock.now) token.old }
-    ensures { IsTokenOf (lot_of lock.now) token.new }
+    requires { IsTokenOf (lot_of_rwlock lock.now) token.old }
+    ensures { IsTokenOf (lot_of_rwlock lock.now) token.new }
 {
     let Ok(guard) = lock.lock_shared(rt, token) else {
         return false;
@@ -236,22 +235,24 @@ fn write_in_vain<const RECURSIVE: bool, R: Wait>(
     token: &mut Token,
     clock: &FlagClock<'_>,
 ) -> bool
-    requires { IsTokenOf (lot_of lock.now) token.old }
-    ensures { IsTokenOf (lot_of lock.now) token.new }
+    requires { IsTokenOf (lot_of_rwlock lock.now) token.old }
+    ensures { IsTokenOf (lot_of_rwlock lock.now) token.new }
 {
     let came = lock.try_lock_exclusive_until(rt, token, clock, 1);
     !goes_writing(rt, lock, token, came)
 }
 
-// The same of an upgrade.
+// Waits beside a reader to upgrade, until the time is up. Returns whether it gave up, and a reader came
+// in beside the upgradable right that it has still.
 fn upgrade_in_vain<const RECURSIVE: bool, R: Wait>(
     rt: &R,
     lock: &RawRwLock<RECURSIVE>,
     token: &mut Token,
     clock: &FlagClock<'_>,
+    came: &AtomicUsize,
 ) -> bool
-    requires { IsTokenOf (lot_of lock.now) token.old }
-    ensures { IsTokenOf (lot_of lock.now) token.new }
+    requires { IsTokenOf (lot_of_rwlock lock.now) token.old }
+    ensures { IsTokenOf (lot_of_rwlock lock.now) token.new }
 {
     let Ok(guard) = lock.lock_upgradable(rt, token) else {
         return false;
@@ -259,8 +260,9 @@ fn upgrade_in_vain<const RECURSIVE: bool, R: Wait>(
     match lock.try_upgrade_until(rt, token, guard, clock, 1) {
         Ok(guard) => !goes_writing(rt, lock, token, Some(guard)),
         Err(guard) => {
+            let let_in = comes_to(came, 1);
             lock.unlock_upgradable(rt, token, guard);
-            true
+            let_in
         }
     }
 }
@@ -273,13 +275,13 @@ pub(super) fn give_up<const RECURSIVE: bool, R: Wait>(
     upgrades: bool,
     told: &Told,
 ) -> bool
-    requires { IsTokenOf (lot_of lock.now) token.old }
-    ensures { IsTokenOf (lot_of lock.now) token.new }
+    requires { IsTokenOf (lot_of_rwlock lock.now) token.old }
+    ensures { IsTokenOf (lot_of_rwlock lock.now) token.new }
 {
     await_flag(rt, &told.held);
     let clock = FlagClock(&told.up);
     if upgrades {
-        upgrade_in_vain(rt, lock, token, &clock)
+        upgrade_in_vain(rt, lock, token, &clock, &told.came)
     } else {
         write_in_vain(rt, lock, token, &clock)
     }
@@ -293,7 +295,7 @@ pub(super) fn come_behind<const RECURSIVE: bool, R: Wait>(
     token: &mut Token,
     told: &Told,
 ) -> bool
-    requires { IsTokenOf lot.now token.old × (lot_of lock.now ≡ lot.now) }
+    requires { IsTokenOf lot.now token.old × (lot_of_rwlock lock.now ≡ lot.now) }
     ensures { IsTokenOf lot.now token.new }
 {
     let aside = queue_up(rt, lot, lock, token, 0, 1);
@@ -315,7 +317,7 @@ pub(super) fn read_on<const RECURSIVE: bool, R: Wait>(
     token: &mut Token,
     told: &Told,
 ) -> bool
-    requires { IsTokenOf lot.now token.old × (lot_of lock.now ≡ lot.now) }
+    requires { IsTokenOf lot.now token.old × (lot_of_rwlock lock.now ≡ lot.now) }
     ensures { IsTokenOf lot.now token.new }
 {
     let Ok(guard) = lock.lock_shared(rt, token) else {

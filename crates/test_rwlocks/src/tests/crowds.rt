@@ -1,7 +1,7 @@
 //! Crowds at reader-writer locks with a value, as the Rust crate's own tests have them.
 ghost use Rattle.std.specs.Prelude.{◌≡◌, ◌<◌};
 ghost use Rattle.parking_lot_core.specs.Tokens.{IsTicketOf, IsTokenOf};
-ghost use Rattle.parking_lot.specs.RwLockUsers.{lot_of};
+ghost use Rattle.parking_lot.specs.Names.{lot_of_rwlock};
 
 use super::fair::{Giver, give};
 use super::guards::read_twice;
@@ -52,8 +52,8 @@ fn add_at_once<const RECURSIVE: bool, R: Wait>(
     token: &mut Token,
     times: usize,
 ) -> bool
-    requires { IsTokenOf (lot_of lock.now) token.old }
-    ensures { IsTokenOf (lot_of lock.now) token.new }
+    requires { IsTokenOf (lot_of_rwlock lock.now) token.old }
+    ensures { IsTokenOf (lot_of_rwlock lock.now) token.new }
 {
     lock.with_write(rt, token, move |value: &mut u64| {
         add_torn_often(value, times)
@@ -66,8 +66,8 @@ fn add_and_read<const RECURSIVE: bool, R: Wait>(
     lock: &Lock<RECURSIVE>,
     token: &mut Token,
 ) -> bool
-    requires { IsTokenOf (lot_of lock.now) token.old }
-    ensures { IsTokenOf (lot_of lock.now) token.new }
+    requires { IsTokenOf (lot_of_rwlock lock.now) token.old }
+    ensures { IsTokenOf (lot_of_rwlock lock.now) token.new }
 {
     let mut guard = write(rt, lock, token);
     let before = add_torn(&mut *guard);
@@ -84,8 +84,8 @@ fn add_by_upgrade<const RECURSIVE: bool, R: Wait>(
     lock: &Lock<RECURSIVE>,
     token: &mut Token,
 ) -> bool
-    requires { IsTokenOf (lot_of lock.now) token.old }
-    ensures { IsTokenOf (lot_of lock.now) token.new }
+    requires { IsTokenOf (lot_of_rwlock lock.now) token.old }
+    ensures { IsTokenOf (lot_of_rwlock lock.now) token.new }
 {
     let Some(guard) = read_upgradable(rt, lock, token) else {
         return false;
@@ -114,8 +114,8 @@ fn add_often<const RECURSIVE: bool, R: Wait>(
     way: Way,
     times: usize,
 ) -> bool
-    requires { IsTokenOf (lot_of lock.now) token.old }
-    ensures { IsTokenOf (lot_of lock.now) token.new }
+    requires { IsTokenOf (lot_of_rwlock lock.now) token.old }
+    ensures { IsTokenOf (lot_of_rwlock lock.now) token.new }
 {
     let mut well = true;
     for _ in 0..times {
@@ -144,8 +144,8 @@ fn come_often<const RECURSIVE: bool, R: Wait>(
     token: &mut Token,
     written: &AtomicU64,
 ) -> bool
-    requires { IsTokenOf (lot_of lock.now) token.old }
-    ensures { IsTokenOf (lot_of lock.now) token.new }
+    requires { IsTokenOf (lot_of_rwlock lock.now) token.old }
+    ensures { IsTokenOf (lot_of_rwlock lock.now) token.new }
 {
     let mut number = token.number() as u64;
     let mut whole = true;
@@ -166,8 +166,8 @@ fn is_whole<const RECURSIVE: bool, R: Wait>(
     lock: &Lock<RECURSIVE>,
     token: &mut Token,
 ) -> bool
-    requires { IsTokenOf (lot_of lock.now) token.old }
-    ensures { IsTokenOf (lot_of lock.now) token.new }
+    requires { IsTokenOf (lot_of_rwlock lock.now) token.old }
+    ensures { IsTokenOf (lot_of_rwlock lock.now) token.new }
 {
     value_of(rt, lock, token).unwrap_or(TORN) != TORN
 }
@@ -181,8 +181,8 @@ fn tear_or_look<const RECURSIVE: bool, R: Wait>(
     place: usize,
     upgraders: usize,
 ) -> bool
-    requires { IsTokenOf (lot_of lock.now) token.old }
-    ensures { IsTokenOf (lot_of lock.now) token.new }
+    requires { IsTokenOf (lot_of_rwlock lock.now) token.old }
+    ensures { IsTokenOf (lot_of_rwlock lock.now) token.new }
 {
     if place == 0 && upgraders == 0 {
         add_at_once(rt, lock, token, 10)
@@ -202,8 +202,8 @@ fn write_later<const RECURSIVE: bool, R: Wait>(
     token: &mut Token,
     held: &AtomicBool,
 ) -> bool
-    requires { IsTokenOf (lot_of lock.now) token.old }
-    ensures { IsTokenOf (lot_of lock.now) token.new }
+    requires { IsTokenOf (lot_of_rwlock lock.now) token.old }
+    ensures { IsTokenOf (lot_of_rwlock lock.now) token.new }
 {
     for _ in rt.forever() {
         if held.load(SeqCst) {
@@ -248,7 +248,7 @@ fn take_part<const RECURSIVE: bool, R: Wait>(
     told: &Told,
     part: Part<'_>,
 ) -> bool
-    requires { IsTokenOf lot.now token.old × (lot_of lock.now ≡ lot.now) }
+    requires { IsTokenOf lot.now token.old × (lot_of_rwlock lock.now ≡ lot.now) }
     ensures { IsTokenOf lot.now token.new }
 {
     let place = told.came.fetch_add(1, SeqCst);
@@ -297,7 +297,7 @@ fn play_in<const RECURSIVE: bool, R: Threads + Wait + Abort + Sync>(
         rt,
         tickets,
         &|ticket: Ticket|
-            requires { IsTicketOf (lot_of shared.now) ticket × (lot_of shared.now ≡ lot.now) }
+            requires { IsTicketOf (lot_of_rwlock shared.now) ticket × (lot_of_rwlock shared.now ≡ lot.now) }
         {
             let mut token = ticket.enter();
             let content = take_part(rt, lot, shared, &mut token, told, part);

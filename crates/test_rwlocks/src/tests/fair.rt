@@ -1,7 +1,7 @@
 //! Guards of reader-writer locks that are given up fairly, or bumped.
 ghost use Rattle.std.specs.Prelude.{◌≡◌};
 ghost use Rattle.parking_lot_core.specs.Tokens.{IsTokenOf};
-ghost use Rattle.parking_lot.specs.RwLockUsers.{lot_of};
+ghost use Rattle.parking_lot.specs.Names.{lot_of_rwlock};
 
 use super::crowds::{Part, play};
 use super::guards::is_waited_for;
@@ -24,7 +24,7 @@ fn give_as_reader<const RECURSIVE: bool, R: Wait>(
     held: &AtomicBool,
     bumps: bool,
 ) -> bool
-    requires { IsTokenOf lot.now token.old × (lot_of lock.now ≡ lot.now) }
+    requires { IsTokenOf lot.now token.old × (lot_of_rwlock lock.now ≡ lot.now) }
     ensures { IsTokenOf lot.now token.new }
 {
     let Some(guard) = read(rt, lock, token) else {
@@ -50,7 +50,7 @@ fn give_as_upgradable<const RECURSIVE: bool, R: Wait>(
     held: &AtomicBool,
     bumps: bool,
 ) -> bool
-    requires { IsTokenOf lot.now token.old × (lot_of lock.now ≡ lot.now) }
+    requires { IsTokenOf lot.now token.old × (lot_of_rwlock lock.now ≡ lot.now) }
     ensures { IsTokenOf lot.now token.new }
 {
     let Some(guard) = read_upgradable(rt, lock, token) else {
@@ -76,7 +76,7 @@ fn give_as_writer<const RECURSIVE: bool, R: Wait>(
     held: &AtomicBool,
     bumps: bool,
 ) -> bool
-    requires { IsTokenOf lot.now token.old × (lot_of lock.now ≡ lot.now) }
+    requires { IsTokenOf lot.now token.old × (lot_of_rwlock lock.now ≡ lot.now) }
     ensures { IsTokenOf lot.now token.new }
 {
     let guard = write(rt, lock, token);
@@ -106,7 +106,7 @@ pub(super) fn give<const RECURSIVE: bool, R: Wait>(
     giver: Giver,
     bumps: bool,
 ) -> bool
-    requires { IsTokenOf lot.now token.old × (lot_of lock.now ≡ lot.now) }
+    requires { IsTokenOf lot.now token.old × (lot_of_rwlock lock.now ≡ lot.now) }
     ensures { IsTokenOf lot.now token.new }
 {
     let came = match giver {

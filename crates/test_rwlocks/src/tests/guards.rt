@@ -2,7 +2,7 @@
 //! share.
 ghost use Rattle.std.specs.Prelude.{◌≡◌};
 ghost use Rattle.parking_lot_core.specs.Tokens.{IsTokenOf};
-ghost use Rattle.parking_lot.specs.RwLockUsers.{lot_of};
+ghost use Rattle.parking_lot.specs.Names.{lot_of_rwlock};
 
 use super::crowds::{Part, play};
 use super::{
@@ -21,8 +21,8 @@ const TURNS: usize = 1_000_000;
 // Which tries get the lock: to read, to read and upgrade, to write; and whether it is locked then,
 // and is locked exclusively.
 fn look<R: Wait>(rt: &R, lock: &Lock<false>, token: &mut Token) -> [bool; 5]
-    requires { IsTokenOf (lot_of lock.now) token.old }
-    ensures { IsTokenOf (lot_of lock.now) token.new }
+    requires { IsTokenOf (lot_of_rwlock lock.now) token.old }
+    ensures { IsTokenOf (lot_of_rwlock lock.now) token.new }
 {
     [
         reads(rt, lock, token),
@@ -35,8 +35,8 @@ fn look<R: Wait>(rt: &R, lock: &Lock<false>, token: &mut Token) -> [bool; 5]
 
 // Checks all that is seen beside a reader.
 fn beside_reader<R: Wait>(rt: &R, lock: &Lock<false>, token: &mut Token) -> Option<[bool; 5]>
-    requires { IsTokenOf (lot_of lock.now) token.old }
-    ensures { IsTokenOf (lot_of lock.now) token.new }
+    requires { IsTokenOf (lot_of_rwlock lock.now) token.old }
+    ensures { IsTokenOf (lot_of_rwlock lock.now) token.new }
 {
     let guard = read(rt, lock, token)?;
     let seen = look(rt, lock, token);
@@ -46,8 +46,8 @@ fn beside_reader<R: Wait>(rt: &R, lock: &Lock<false>, token: &mut Token) -> Opti
 
 // Beside one that may write later.
 fn beside_upgradable<R: Wait>(rt: &R, lock: &Lock<false>, token: &mut Token) -> Option<[bool; 5]>
-    requires { IsTokenOf (lot_of lock.now) token.old }
-    ensures { IsTokenOf (lot_of lock.now) token.new }
+    requires { IsTokenOf (lot_of_rwlock lock.now) token.old }
+    ensures { IsTokenOf (lot_of_rwlock lock.now) token.new }
 {
     let guard = read_upgradable(rt, lock, token)?;
     let seen = look(rt, lock, token);
@@ -57,8 +57,8 @@ fn beside_upgradable<R: Wait>(rt: &R, lock: &Lock<false>, token: &mut Token) -> 
 
 // And beside a writer.
 fn beside_writer<R: Wait>(rt: &R, lock: &Lock<false>, token: &mut Token) -> [bool; 5]
-    requires { IsTokenOf (lot_of lock.now) token.old }
-    ensures { IsTokenOf (lot_of lock.now) token.new }
+    requires { IsTokenOf (lot_of_rwlock lock.now) token.old }
+    ensures { IsTokenOf (lot_of_rwlock lock.now) token.new }
 {
     let guard = write(rt, lock, token);
     let seen = look(rt, lock, token);
@@ -67,7 +67,7 @@ fn beside_writer<R: Wait>(rt: &R, lock: &Lock<false>, token: &mut Token) -> [boo
 }
 
 fn all_keep_out<R: Wait + Abort>(rt: &R, lock: &Lock<false>, token: &mut Token)
-    requires { IsTokenOf (lot_of lock.now) token.old }
+    requires { IsTokenOf (lot_of_rwlock lock.now) token.old }
 {
     let reader = beside_reader(rt, lock, token);
     same(rt, reader, Some([true, true, false, true, false]));
@@ -130,7 +130,7 @@ pub(super) fn read_twice<const RECURSIVE: bool, R: Wait>(
     token: &mut Token,
     held: &AtomicBool,
 ) -> bool
-    requires { IsTokenOf lot.now token.old × (lot_of lock.now ≡ lot.now) }
+    requires { IsTokenOf lot.now token.old × (lot_of_rwlock lock.now ≡ lot.now) }
     ensures { IsTokenOf lot.now token.new }
 {
     let Some(guard) = read(rt, lock, token) else {

@@ -2,7 +2,7 @@
 ghost use Rattle.std.specs.Prelude.{◌≡◌, MatchResult};
 ghost use Rattle.lock_api_rw.specs.Guards.{lock_of};
 ghost use Rattle.parking_lot_core.specs.Tokens.{IsTokenOf};
-ghost use Rattle.parking_lot.specs.RwLockUsers.{lot_of};
+ghost use Rattle.parking_lot.specs.Names.{lot_of_rwlock};
 
 use super::{
     Lock, Upgradable, Writer, end_reader, end_upgradable, end_writer, lock_alone, read,
@@ -27,8 +27,8 @@ fn waited_long(clock: &TickClock) -> bool {
 
 // Whether a reader that waits comes in, or gives up late.
 fn reads_in_time<R: Wait>(rt: &R, lock: &Lock<false>, token: &mut Token, until: bool) -> bool
-    requires { IsTokenOf (lot_of lock.now) token.old }
-    ensures { IsTokenOf (lot_of lock.now) token.new }
+    requires { IsTokenOf (lot_of_rwlock lock.now) token.old }
+    ensures { IsTokenOf (lot_of_rwlock lock.now) token.new }
 {
     let clock = TickClock::new();
     let taken = if until {
@@ -52,8 +52,8 @@ fn comes_upgradable_in_time<R: Wait>(
     token: &mut Token,
     until: bool,
 ) -> bool
-    requires { IsTokenOf (lot_of lock.now) token.old }
-    ensures { IsTokenOf (lot_of lock.now) token.new }
+    requires { IsTokenOf (lot_of_rwlock lock.now) token.old }
+    ensures { IsTokenOf (lot_of_rwlock lock.now) token.new }
 {
     let clock = TickClock::new();
     let taken = if until {
@@ -72,8 +72,8 @@ fn comes_upgradable_in_time<R: Wait>(
 
 // The same of a writer.
 fn writes_in_time<R: Wait>(rt: &R, lock: &Lock<false>, token: &mut Token, until: bool) -> bool
-    requires { IsTokenOf (lot_of lock.now) token.old }
-    ensures { IsTokenOf (lot_of lock.now) token.new }
+    requires { IsTokenOf (lot_of_rwlock lock.now) token.old }
+    ensures { IsTokenOf (lot_of_rwlock lock.now) token.new }
 {
     let clock = TickClock::new();
     let taken = if until {
@@ -97,8 +97,8 @@ fn come_beside_a_writer<R: Wait>(
     token: &mut Token,
     until: bool,
 ) -> [bool; 3]
-    requires { IsTokenOf (lot_of lock.now) token.old }
-    ensures { IsTokenOf (lot_of lock.now) token.new }
+    requires { IsTokenOf (lot_of_rwlock lock.now) token.old }
+    ensures { IsTokenOf (lot_of_rwlock lock.now) token.new }
 {
     let guard = write(rt, lock, token);
     let came = [
@@ -117,10 +117,10 @@ fn goes_upgraded<'l, R: Wait>(
     token: &mut Token,
     upgraded: Result<Writer<'l, false>, Upgradable<'l, false>>,
 ) -> bool
-    requires token { IsTokenOf (lot_of lock.now) token.old }
+    requires token { IsTokenOf (lot_of_rwlock lock.now) token.old }
     requires guard { MatchResult upgraded (λ guard. lock_of guard ≡ lock.now)
         (λ guard. lock_of guard ≡ lock.now) }
-    ensures { IsTokenOf (lot_of lock.now) token.new }
+    ensures { IsTokenOf (lot_of_rwlock lock.now) token.new }
 {
     match upgraded {
         Ok(guard) => {
@@ -141,8 +141,8 @@ fn upgrades_in_time<R: Wait>(
     token: &mut Token,
     until: bool,
 ) -> Option<bool>
-    requires { IsTokenOf (lot_of lock.now) token.old }
-    ensures { IsTokenOf (lot_of lock.now) token.new }
+    requires { IsTokenOf (lot_of_rwlock lock.now) token.old }
+    ensures { IsTokenOf (lot_of_rwlock lock.now) token.new }
 {
     let clock = TickClock::new();
     let guard = read_upgradable(rt, lock, token)?;
@@ -160,8 +160,8 @@ fn upgrades_in_time<R: Wait>(
 
 // The ends of upgrades, of both forms.
 fn upgrades<R: Wait>(rt: &R, lock: &Lock<false>, token: &mut Token) -> [Option<bool>; 2]
-    requires { IsTokenOf (lot_of lock.now) token.old }
-    ensures { IsTokenOf (lot_of lock.now) token.new }
+    requires { IsTokenOf (lot_of_rwlock lock.now) token.old }
+    ensures { IsTokenOf (lot_of_rwlock lock.now) token.new }
 {
     [
         upgrades_in_time(rt, lock, token, false),
@@ -175,7 +175,7 @@ fn upgrades_beside_a_reader<R: Wait>(
     lock: &Lock<false>,
     token: &mut Token,
 ) -> Option<[[Option<bool>; 2]; 2]>
-    requires { IsTokenOf (lot_of lock.now) token.old }
+    requires { IsTokenOf (lot_of_rwlock lock.now) token.old }
 {
     let guard = read(rt, lock, token)?;
     let beside = upgrades(rt, lock, token);

@@ -3,7 +3,7 @@
 ghost use Rattle.std.specs.Prelude.{◌≡◌};
 ghost use Rattle.lock_api_rw.specs.Guards.{lock_of};
 ghost use Rattle.parking_lot_core.specs.Tokens.{IsTokenOf};
-ghost use Rattle.parking_lot.specs.RwLockUsers.{lot_of};
+ghost use Rattle.parking_lot.specs.Names.{lot_of_rwlock};
 
 use super::crowds::{Part, play};
 use super::{Lock, Upgradable, end_reader, lock_alone, next_of, read, read_upgradable, same};
@@ -33,8 +33,8 @@ pub(super) fn read_together<const RECURSIVE: bool, R: Wait>(
     inside: &AtomicUsize,
     wanted: usize,
 ) -> bool
-    requires { IsTokenOf (lot_of lock.now) token.old }
-    ensures { IsTokenOf (lot_of lock.now) token.new }
+    requires { IsTokenOf (lot_of_rwlock lock.now) token.old }
+    ensures { IsTokenOf (lot_of_rwlock lock.now) token.new }
 {
     let Some(guard) = read(rt, lock, token) else {
         return false;
@@ -54,8 +54,8 @@ fn four_threads_read_a_value_at_once(rt: HostRuntime) {
 
 // Two guards of one thread show the value at once: what they show.
 fn shown_twice<R: Wait>(rt: &R, lock: &Lock<false>, token: &mut Token) -> Option<(u64, u64)>
-    requires { IsTokenOf (lot_of lock.now) token.old }
-    ensures { IsTokenOf (lot_of lock.now) token.new }
+    requires { IsTokenOf (lot_of_rwlock lock.now) token.old }
+    ensures { IsTokenOf (lot_of_rwlock lock.now) token.new }
 {
     let later = read_upgradable(rt, lock, token)?;
     let Some(guard) = read(rt, lock, token) else {
@@ -72,8 +72,8 @@ fn shown_twice<R: Wait>(rt: &R, lock: &Lock<false>, token: &mut Token) -> Option
 // Upgrades where nobody else reads, adds 1, and goes on as a reader by way of the upgradable right:
 // what each right showed.
 fn convert<R: Wait>(rt: &R, token: &mut Token, guard: Upgradable<'_, false>) -> Option<[u64; 4]>
-    requires { IsTokenOf (lot_of (lock_of guard)) token.old }
-    ensures { IsTokenOf (lot_of (lock_of guard.entry)) token.new }
+    requires { IsTokenOf (lot_of_rwlock (lock_of guard)) token.old }
+    ensures { IsTokenOf (lot_of_rwlock (lock_of guard.entry)) token.new }
 {
     let first = *guard;
     match guard.try_upgrade(rt, token) {
@@ -94,8 +94,8 @@ fn convert<R: Wait>(rt: &R, token: &mut Token, guard: Upgradable<'_, false>) -> 
 
 // A conversion beside another reader, and one behind it.
 fn convert_twice<R: Wait>(rt: &R, lock: &Lock<false>, token: &mut Token) -> [Option<[u64; 4]>; 2]
-    requires { IsTokenOf (lot_of lock.now) token.old }
-    ensures { IsTokenOf (lot_of lock.now) token.new }
+    requires { IsTokenOf (lot_of_rwlock lock.now) token.old }
+    ensures { IsTokenOf (lot_of_rwlock lock.now) token.new }
 {
     let Some(guard) = read(rt, lock, token) else {
         return [None, None];
@@ -107,8 +107,8 @@ fn convert_twice<R: Wait>(rt: &R, lock: &Lock<false>, token: &mut Token) -> [Opt
 
 // Comes in with the upgradable right, and converts it.
 fn convert_in<R: Wait>(rt: &R, lock: &Lock<false>, token: &mut Token) -> Option<[u64; 4]>
-    requires { IsTokenOf (lot_of lock.now) token.old }
-    ensures { IsTokenOf (lot_of lock.now) token.new }
+    requires { IsTokenOf (lot_of_rwlock lock.now) token.old }
+    ensures { IsTokenOf (lot_of_rwlock lock.now) token.new }
 {
     let guard = read_upgradable(rt, lock, token)?;
     convert(rt, token, guard)

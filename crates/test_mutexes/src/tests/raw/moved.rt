@@ -1,7 +1,7 @@
 //! A waiter that another thread moves to a queue in which it doesn't wait.
 ghost use Rattle.std.specs.Prelude.{◌≡◌};
 ghost use Rattle.parking_lot_core.specs.Tokens.{IsTokenOf};
-ghost use Rattle.parking_lot.specs.Users.{lot_of};
+ghost use Rattle.parking_lot.specs.Names.{lot_of};
 
 use super::super::same;
 use super::timed::give_back;

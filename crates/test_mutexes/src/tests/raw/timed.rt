@@ -1,7 +1,7 @@
 //! Raw mutexes whose waiters may give up.
 ghost use Rattle.std.specs.Prelude.{IfSome};
 ghost use Rattle.parking_lot_core.specs.Tokens.{IsTokenOf};
-ghost use Rattle.parking_lot.specs.Users.{lot_of};
+ghost use Rattle.parking_lot.specs.Names.{lot_of};
 
 use super::super::{holds, same};
 use super::{Part, await_flag, play, seats, stands};

@@ -1,6 +1,6 @@
 //! Threads that come to a lock that is held.
 ghost use Rattle.parking_lot_core.specs.Tokens.{IsTokenOf};
-ghost use Rattle.parking_lot.specs.RwLockUsers.{lot_of};
+ghost use Rattle.parking_lot.specs.Names.{lot_of_rwlock};
 
 use super::super::fixtures::await_flag;
 use super::scene::{Coming, Scene, Told};
@@ -22,7 +22,7 @@ fn come<const RECURSIVE: bool, R: Wait>(
     coming: Coming,
     told: &Told,
 )
-    requires { IsTokenOf (lot_of lock.now) token.old }
+    requires { IsTokenOf (lot_of_rwlock lock.now) token.old }
 {
     match coming {
         Coming::Reader => match lock.lock_shared(rt, token) {
@@ -59,7 +59,7 @@ fn come_in_time<const RECURSIVE: bool, R: Wait>(
     coming: Coming,
     told: &Told,
 )
-    requires { IsTokenOf (lot_of lock.now) token.old }
+    requires { IsTokenOf (lot_of_rwlock lock.now) token.old }
 {
     let clock = TickClock::new();
     match coming {
@@ -98,7 +98,7 @@ pub(super) fn come_later<const RECURSIVE: bool, R: Wait>(
     scene: &Scene,
     told: &Told,
 )
-    requires { IsTokenOf (lot_of lock.now) token.old }
+    requires { IsTokenOf (lot_of_rwlock lock.now) token.old }
 {
     await_flag(rt, &told.held);
     let role = told.roles.fetch_add(1, SeqCst);

@@ -1,6 +1,6 @@
 //! Threads to whom a reader-writer lock is handed over.
 ghost use Rattle.parking_lot_core.specs.Tokens.{IsTokenOf};
-ghost use Rattle.parking_lot.specs.RwLockUsers.{lot_of};
+ghost use Rattle.parking_lot.specs.Names.{lot_of_rwlock};
 
 use super::super::fixtures::lock_alone;
 use super::scene::{ALL, Coming, Manner, READERS, Scene, WRITERS};
@@ -86,8 +86,8 @@ fn goes_alone<const RECURSIVE: bool, R: Wait>(
     lock: &RawRwLock<RECURSIVE>,
     token: &mut Token,
 ) -> [bool; 3]
-    requires { IsTokenOf (lot_of lock.now) token.old }
-    ensures { IsTokenOf (lot_of lock.now) token.new }
+    requires { IsTokenOf (lot_of_rwlock lock.now) token.old }
+    ensures { IsTokenOf (lot_of_rwlock lock.now) token.new }
 {
     let mut free = [false; 3];
     if let Ok(guard) = lock.lock_shared(rt, token)

@@ -1,8 +1,7 @@
 //! Threads that hold a lock until others wait for it, and let them in.
 ghost use Rattle.std.specs.Prelude.{◌≡◌};
 ghost use Rattle.parking_lot_core.specs.Tokens.{IsTokenOf};
-ghost use Rattle.parking_lot.specs.RwLockGuards.{IsExclusiveOf, IsSharedOf, IsUpgradableOf};
-ghost use Rattle.parking_lot.specs.RwLockUsers.{lot_of, word_of};
+ghost use Rattle.parking_lot.specs.Names.{IsExclusiveOf, IsSharedOf, IsUpgradableOf, lot_of_rwlock, word_of_rwlock};
 
 use super::super::fixtures::{comes_to, queue_up};
 use super::scene::{Manner, Scene, Told};
@@ -26,8 +25,8 @@ fn go_alone<const RECURSIVE: bool, R: Wait>(
     told: &Told,
     guard: RawExclusiveGuard,
 ) -> bool
-    requires token { IsTokenOf (lot_of lock.now) token.old }
-    requires guard { IsExclusiveOf (lot_of lock.now) (word_of lock.now) guard }
+    requires token { IsTokenOf (lot_of_rwlock lock.now) token.old }
+    requires guard { IsExclusiveOf (lot_of_rwlock lock.now) (word_of_rwlock lock.now) guard }
 {
     match manner {
         Manner::Handed => {
@@ -59,8 +58,8 @@ fn go_upgradable<const RECURSIVE: bool, R: Wait>(
     told: &Told,
     guard: RawUpgradableGuard,
 ) -> bool
-    requires token { IsTokenOf (lot_of lock.now) token.old }
-    requires guard { IsUpgradableOf (lot_of lock.now) (word_of lock.now) guard }
+    requires token { IsTokenOf (lot_of_rwlock lock.now) token.old }
+    requires guard { IsUpgradableOf (lot_of_rwlock lock.now) (word_of_rwlock lock.now) guard }
 {
     match manner {
         Manner::UpgradableHanded => {
@@ -93,8 +92,8 @@ fn go_shared<const RECURSIVE: bool, R: Wait>(
     told: &Told,
     guard: RawSharedGuard,
 ) -> bool
-    requires token { IsTokenOf (lot_of lock.now) token.old }
-    requires guard { IsSharedOf (lot_of lock.now) (word_of lock.now) guard }
+    requires token { IsTokenOf (lot_of_rwlock lock.now) token.old }
+    requires guard { IsSharedOf (lot_of_rwlock lock.now) (word_of_rwlock lock.now) guard }
 {
     match lock.bump_shared(rt, token, guard) {
         Ok(guard) => {
@@ -116,7 +115,7 @@ fn hold_alone<const RECURSIVE: bool, R: Wait>(
     scene: &Scene,
     told: &Told,
 ) -> bool
-    requires { IsTokenOf lot.now token.old × (lot_of lock.now ≡ lot.now) }
+    requires { IsTokenOf lot.now token.old × (lot_of_rwlock lock.now ≡ lot.now) }
 {
     let guard = lock.lock_exclusive(rt, token);
     told.held.store(true, SeqCst);
@@ -148,7 +147,7 @@ fn hold_upgradable<const RECURSIVE: bool, R: Wait>(
     scene: &Scene,
     told: &Told,
 ) -> bool
-    requires { IsTokenOf lot.now token.old × (lot_of lock.now ≡ lot.now) }
+    requires { IsTokenOf lot.now token.old × (lot_of_rwlock lock.now ≡ lot.now) }
 {
     let Ok(guard) = lock.lock_upgradable(rt, token) else {
         return false;
@@ -175,8 +174,8 @@ fn read<const RECURSIVE: bool, R: Wait>(
     lock: &RawRwLock<RECURSIVE>,
     token: &mut Token,
 ) -> bool
-    requires { IsTokenOf (lot_of lock.now) token.old }
-    ensures { IsTokenOf (lot_of lock.now) token.new }
+    requires { IsTokenOf (lot_of_rwlock lock.now) token.old }
+    ensures { IsTokenOf (lot_of_rwlock lock.now) token.new }
 {
     match lock.lock_shared(rt, token) {
         Ok(guard) => {
@@ -197,7 +196,7 @@ fn hold_shared<const RECURSIVE: bool, R: Wait>(
     scene: &Scene,
     told: &Told,
 ) -> bool
-    requires { IsTokenOf lot.now token.old × (lot_of lock.now ≡ lot.now) }
+    requires { IsTokenOf lot.now token.old × (lot_of_rwlock lock.now ≡ lot.now) }
 {
     let Ok(guard) = lock.lock_shared(rt, token) else {
         return false;
@@ -227,7 +226,7 @@ pub(super) fn hold<const RECURSIVE: bool, R: Wait>(
     scene: &Scene,
     told: &Told,
 ) -> bool
-    requires { IsTokenOf lot.now token.old × (lot_of lock.now ≡ lot.now) }
+    requires { IsTokenOf lot.now token.old × (lot_of_rwlock lock.now ≡ lot.now) }
 {
     match scene.manner {
         Manner::Unlocked

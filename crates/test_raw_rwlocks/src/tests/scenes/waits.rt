@@ -1,6 +1,6 @@
 //! Threads that wait for a reader-writer lock until another lets them in.
 ghost use Rattle.parking_lot_core.specs.Tokens.{IsTicketOf};
-ghost use Rattle.parking_lot.specs.RwLockUsers.{lot_of};
+ghost use Rattle.parking_lot.specs.Names.{lot_of_rwlock};
 
 use super::super::fixtures::{comes_to, seats};
 use super::scene::{ALL, Coming, Manner, READERS, Scene, WRITERS};
@@ -21,7 +21,7 @@ fn meet<const RECURSIVE: bool, R: Wait>(
     ticket: Ticket,
     met: &AtomicUsize,
 ) -> bool
-    requires { IsTicketOf (lot_of lock.now) ticket }
+    requires { IsTicketOf (lot_of_rwlock lock.now) ticket }
 {
     let mut token = ticket.enter();
     let Ok(guard) = lock.lock_shared(rt, &mut token) else {
@@ -44,7 +44,7 @@ fn all_meet<const RECURSIVE: bool, R: Threads + Wait + Sync>(
         rt,
         tickets,
         &|ticket: Ticket|
-            requires { IsTicketOf (lot_of shared.now) ticket }
+            requires { IsTicketOf (lot_of_rwlock shared.now) ticket }
         { meet(rt, shared, ticket, met) },
     );
     Ok(seen.is_ok_and(|seen| seen.iter().all(|seen| *seen)))

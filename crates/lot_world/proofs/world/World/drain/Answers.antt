@@ -3,10 +3,10 @@ use Rattle.std.proofs.lemmas.Result.{IfOk-weaker}
 use Rattle.lot_laws.specs.SitesOf.{IsWorld}
 use Rattle.lot_machine.specs.Fits.{IsShaped}
 use Rattle.lot_machine.specs.Machine.{State}
-use Rattle.lot_drain.specs.Drains.{HasOneLock, IsDrain}
-use Rattle.lot_drain.specs.Schedules.{schedule_of}
-use Rattle.lot_drain.proofs.ScheduleEnds.{schedules_drain}
-use Rattle.lot_drain.proofs.StandsOnce.{stand_once}
+use Rattle.lot_world.specs.Drains.{HasOneLock, IsDrain}
+use Rattle.lot_world.specs.Schedules.{schedule_of}
+use Rattle.lot_world.proofs.ScheduleEnds.{schedules_drain}
+use Rattle.lot_world.proofs.StandsOnce.{stand_once}
 use Rattle.lot_world.proofs.world.World.drain.Goals as goal
 
 pub copy-requires-clause-once : goal.copy-requires-clause-once

@@ -1,6 +1,5 @@
-use Rattle.parking_lot.specs.RwLockUsers.{lot_of}
-use Rattle.parking_lot.specs.Users.{IsTokenOf}
+use Rattle.parking_lot.specs.Names.{IsTokenOf, lot_of_rwlock}
 use Rattle.test_examples.proofs.tests.cache.look_up_all.Given as goal
 
 abbrev pub invariant-loop-net : goal.invariant-loop-net
-invariant-loop-net g l = IsTokenOf (lot_of l.cache) l.token
+invariant-loop-net g l = IsTokenOf (lot_of_rwlock l.cache) l.token

@@ -1,5 +1,5 @@
-use Rattle.parking_lot.specs.Users.{IsTokenOf, lot_of}
+use Rattle.parking_lot.specs.Names.{IsTokenOf, lot_of}
 use Rattle.test_examples.proofs.tests.workers.bring_all.Given as goal
 
 abbrev pub invariant-loop-job : goal.invariant-loop-job
-invariant-loop-job g l = IsTokenOf (lot_of l.desk.jobs) l.token
+invariant-loop-job g l = IsTokenOf (lot_of l.desk.0) l.token

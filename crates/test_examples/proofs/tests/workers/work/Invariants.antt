@@ -1,5 +1,5 @@
-use Rattle.parking_lot.specs.Users.{IsTokenOf, lot_of}
+use Rattle.parking_lot.specs.Names.{IsTokenOf, lot_of}
 use Rattle.test_examples.proofs.tests.workers.work.Given as goal
 
 abbrev pub invariant-loop : goal.invariant-loop
-invariant-loop g l = IsTokenOf (lot_of l.desk.jobs) l.token
+invariant-loop g l = IsTokenOf (lot_of l.desk.0) l.token

@@ -1,6 +1,6 @@
 use Rattle.std.specs.Prelude.{◌≡◌, All}
 use Rattle.std.specs.Arc.{arc_value}
-use Rattle.parking_lot.specs.Users.{lot_of}
+use Rattle.parking_lot.specs.Names.{lot_of}
 use Rattle.parking_lot_core.specs.Tokens.{IsTokenOf}
 use Rattle.test_mutexes.proofs.tests.street.mutexes_of.Given as goal
 

@@ -1,0 +1,21 @@
+-- One of several condition variables, and the steps of waits on it.
+use Rattle.std.specs.Prelude.{◌≡◌, ℕ, List, slice_index_or}
+use Rattle.lock_api.specs.Waits.{Waits}
+use Rattle.spec_locks.specs.declared.outcomes.Answer.{Answer}
+use Rattle.spec_locks.specs.declared.outcomes.Answer.TheVariants.{TwoMutexes}
+
+-- the one at a place is like this
+abbrev pub At : {X : Type 0} → List X → ℕ → (X → Type 0) → Type 0
+At {X = X} conditions at holds = (condition : X)
+    × (condition ≡ slice_index_or conditions at condition) × holds condition
+
+-- a wait ends with this answer. Each one before it was refused because of another mutex
+abbrev pub WaitsAtLast : {Token : Type 0} → (Answer → Token → Token → Type 0) → Answer
+    → Token → Token → Type 0
+WaitsAtLast {Token = Token} waited answer old new = (last : Token)
+    × Waits (waited TwoMutexes) old last × waited answer last new
+
+-- any number of such waits, also none
+abbrev pub WaitsOften : {Token : Type 0} → (Answer → Token → Token → Type 0) → Answer
+    → Token → Token → Type 0
+WaitsOften waited answer old new = Waits (WaitsAtLast waited answer) old new

@@ -1,5 +1,0 @@
-use Rattle.parking_lot.specs.Users.{IsTokenOf, lot_of}
-use Rattle.test_examples.proofs.tests.count.Given as goal
-
-abbrev pub invariant-loop : goal.invariant-loop
-invariant-loop g l = IsTokenOf (lot_of l.total) l.token
