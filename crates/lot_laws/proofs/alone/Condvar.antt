@@ -59,7 +59,7 @@ module _ (t l m : ℕ) (keeps : Keeps t) (w : State) (p : CondvarPlace) (g : Goe
   mutex_there beside = subst (IsThere (length w.locks)) beside fits.1
 
   -- a thread that is inside bars it, where it is outside and its act enters
-  barred_by : (k u : ℕ) → EntersAt (2 * k) (condvar_act l p) → (station_at (place_at w t) k).inside ≡ None
+  barred_by : (k u : ℕ) → EntersSection (2 * k) (condvar_act l p) → (station_at (place_at w t) k).inside ≡ None
       → section_at w (2 * k) ≡ Some u → IsBarred w t
   barred_by k u enters outside e = record {
     lock = k;

@@ -177,7 +177,7 @@ module _ (t l m : ℕ) (keeps : Keeps t) (timed : Bool) where
     enters P on = into_section t l m keeps timed w g P (λ can. goes t l m keeps timed w wait.Enter g P 16 refl can (λ h. inr (refl, on can h)))
 
     -- tells what it comes to
-    pub wait_alone : Leads 17 w t (λ v o. StandsAlone (locks_of w) t l m o (locks_of v))
+    pub wait_alone : Leads 17 w t (λ v o. CondvarWaitsAlone (locks_of w) t l m o (locks_of v))
     wait_alone = either (may_show (word_of shown)) refl
       where
         either : (b : Bool) → may_show (word_of shown) ≡ b → Leads 17 w t (λ v o. CondvarWaitsAlone (locks_of w) t l m o (locks_of v))
