@@ -53,8 +53,8 @@ abbrev pub IsOnly : ℕ → Option ℕ → Type 0
 IsOnly t who = (u : ℕ) → who ≡ Some u → u ≡ t
 
 -- nobody else is inside a section that its call may enter
-abbrev pub HasItsWay : State → ℕ → Type 0
-HasItsWay w t =
+abbrev pub IsUnobstructed : State → ℕ → Type 0
+IsUnobstructed w t =
     (l u : ℕ) (m : Line) → MayEnterOf w (place_at w t) l → HasLine (rules_of (kind_at w l)).sort m
     → section_at w (key_of l m) ≡ Some u → u ≡ t
 

@@ -8,9 +8,9 @@ use Rattle.lot_steps.specs.declared.places.Place.{Place}
 use Rattle.lot_steps.specs.declared.places.Place.TheVariants.{Idle}
 use Rattle.lot_steps.specs.Steps.{act_of, is_lock, next_place, profile}
 use Rattle.lot_machine.specs.Machine.{State, after, can_do, go_of, reply_to, is_possible, place_at, section_at, state_after_go}
-use Rattle.lot_laws.specs.Solo.{HasItsWay, IsUnderWay}
+use Rattle.lot_laws.specs.Solo.{IsUnobstructed, IsUnderWay}
 use Rattle.lot_laws.specs.SitesOf.{key_of}
-use Rattle.lot_laws.specs.Stations.{station, station_at}
+use Rattle.lot_laws.specs.Locations.{location, location_at}
 use Rattle.lot_laws.proofs.calls.OwnPlace.{gone_place}
 use Rattle.lot_laws.proofs.alone.Rests.{rests_alone}
 use Rattle.lot_world.specs.Second.{left_inside}
@@ -32,14 +32,14 @@ Outside w = IsDraining w × IsStrict w × (section_at w 1 ≡ None)
 same_thread : (a b : ℕ) → ◌≡◌ {A = Option ℕ} (Some a) (Some b) → a ≡ b
 same_thread a b e = cc
 
-inside_there : (p : Place) → OnlyHere p → (m : Line) → (station_at p 0).inside ≡ Some m → (profile p).doing.inside ≡ Some m
+inside_there : (p : Place) → OnlyHere p → (m : Line) → (location_at p 0).inside ≡ Some m → (profile p).role.inside ≡ Some m
 inside_there p (inl idle) m e = absurd (outside_at p (inl idle) (inl idle) m e)
 inside_there p (inr only) m e =
-    let own : station_at p 0 ≡ station p = rw (ap (is_lock 0) only.0) refl in
+    let own : location_at p 0 ≡ location p = rw (ap (is_lock 0) only.0) refl in
     sym (ap (λ x. x.inside) own) ∙ e
 
 module _ (w : State) (t : ℕ) (h : IsStrict w) (inside : section_at w 1 ≡ Some t) where
-  at_second : (profile (place_at w t)).doing.inside ≡ Some Second
+  at_second : (profile (place_at w t)).role.inside ≡ Some Second
   at_second = inside_there (place_at w t) (here w h.ordered t) Second ((h.ordered.world.steady.stands.sections t 0 Second).1 inside)
 
   busy : place_at w t ≢ Idle
@@ -99,7 +99,7 @@ module _ (w : State) (t : ℕ) (h : IsOrdered w) (second : section_at w 1 ≡ No
   only (suc zero) = inl second
   only (suc (suc key)) = inl (past w h key)
 
-  standing : (station_at (place_at w t) 0).inside ≡ Some Main
+  standing : (location_at (place_at w t) 0).inside ≡ Some Main
   standing = (h.world.steady.stands.sections t 0 Main).1 inside
 
   under_way : IsUnderWay w t
@@ -109,7 +109,7 @@ module _ (w : State) (t : ℕ) (h : IsOrdered w) (second : section_at w 1 ≡ No
     never_closes (place_at w t) (here w h t),
   )
 
-  way : HasItsWay w t
+  way : IsUnobstructed w t
   way l u m may has within = elim (only (key_of l m)) [
     | inl none ↦ absurd (let g : ◌≡◌ {A = Option ℕ} None (Some u) = sym none ∙ within in cc)
     | inr mine ↦ same_thread u t (sym within ∙ mine)

@@ -34,11 +34,11 @@ use Rattle.spec_locks.proofs.Deeds.{deeds_lead}
 use Rattle.lot_steps.specs.declared.places.Place.{Place}
 use Rattle.lot_steps.specs.declared.places.Place.TheVariants.{RwLock}
 use Rattle.lot_steps.specs.Steps.{profile}
-use Rattle.lot_machine.specs.Fits.{IsShaped}
+use Rattle.lot_machine.specs.Fits.{IsWellFormed}
 use Rattle.lot_machine.specs.Machine.{State, can_do, owners_at, place_at, queue_at, queues_without_first, reply_to, state_after_act, state_after_taking, successor_from, word_at}
 use Rattle.lot_laws.specs.Fair.{FairReleaseComesTo}
 use Rattle.lot_laws.specs.Refinement.{lock_state}
-use Rattle.lot_laws.specs.SitesOf.{AreCounted, IsSteady, rules_in}
+use Rattle.lot_laws.specs.SitesOf.{AreCounted, IsInductive, rules_in}
 use Rattle.lot_laws.proofs.sites.ActsKept.{lock_by}
 use Rattle.lot_laws.proofs.machine.AtPlaces.{in_no_hand}
 use Rattle.lot_laws.proofs.machine.Parts.{IsSingle, free_of}
@@ -118,7 +118,7 @@ module _ (l : ℕ) (a : Admission) (whom : Option ℕ) (v : ℕ) where
 
 -- ---------------------------------------------------------------- a thread goes on
 
-module _ (w : State) (t l : ℕ) (a : Admission) (c : RwLockCallPlace) (shape : IsShaped w) (steady : IsSteady w)
+module _ (w : State) (t l : ℕ) (a : Admission) (c : RwLockCallPlace) (shape : IsWellFormed w) (steady : IsInductive w)
     (counted : AreCounted w) (there : t < length w.places) (lt : l < length w.locks) (is : place_at w t ≡ RwLock l a c)
     (x : Want) (more : x ≢ Shared) (gives : IsToGive ((call_profile a c).purpose l) (call_profile a c).released x) (owns : Owns (lock_state w l) t x) where
   abbrev r : Rules
