@@ -60,8 +60,8 @@ AllBy threads [] = Unit {0}
 AllBy threads (a ∷ more) = (a.by < threads) × AllBy threads more
 
 -- a number of readers that a word can count, and that all threads may be
-abbrev pub HasRoom : ℕ → Rules → Type 0
-HasRoom threads r = (1 ≤ r.limit) × (r.limit < 2 ^ 60 - 1) × (threads ≤ r.limit)
+abbrev pub LimitHasRoom : ℕ → Rules → Type 0
+LimitHasRoom threads r = (1 ≤ r.limit) × (r.limit < 2 ^ 60 - 1) × (threads ≤ r.limit)
 
 -- each lock is a site, and its word says so
 pub record AreSites (w : State) : Type 0 where
@@ -71,7 +71,7 @@ pub record AreSites (w : State) : Type 0 where
   pub unfilled : (l : ℕ) → has_readers (rules_in w l).sort ≡ false → filled_at w l ≡ false
   -- as many readers as the limit lets in, or one more
   pub limits : (l : ℕ) → has_readers (rules_in w l).sort ≡ true
-      → HasRoom (length w.places) (rules_in w l) × HasLimit (rules_in w l) (lock_state w l)
+      → LimitHasRoom (length w.places) (rules_in w l) × HasLimit (rules_in w l) (lock_state w l)
   -- while somebody waits for a permit, those who hold one and those who look after the line are no
   -- fewer than the permits, which a word can count
   pub permits : (l : ℕ) → (rules_in w l).sort ≡ SemaphoreSort
@@ -147,8 +147,8 @@ pub record FitsCondvar (w : State) (l : ℕ) (at : CondvarPlace) : Type 0 where
   pub mutex : (m : ℕ) → mutex_beside at ≡ Some m → is_plain_mutex (kind_at w m) ≡ true
 
 -- only a timed call for a permit gives up
-abbrev pub GivesUpTimed : SemaphorePlace → Type 0
-GivesUpTimed at = (semaphore_profile at).late ≡ true → (semaphore_profile at).timed ≡ true
+abbrev pub LateIsTimed : SemaphorePlace → Type 0
+LateIsTimed at = (semaphore_profile at).late ≡ true → (semaphore_profile at).timed ≡ true
 
 -- a call is of a lock of its sort, and stands where it may
 abbrev pub FitsItsLock : State → Place → Type 0
@@ -157,7 +157,7 @@ FitsItsLock w (OfMutex l at) = is_mutex (kind_at w l) ≡ true
 FitsItsLock w (OfRwLock l a c) = Admits (rules_in w l) a × CallStands a c
 FitsItsLock w (OfOnce l at) = (rules_in w l).sort ≡ OnceSort
 FitsItsLock w (OfCondvar l at) = FitsCondvar w l at
-FitsItsLock w (OfSemaphore l at) = ((rules_in w l).sort ≡ SemaphoreSort) × GivesUpTimed at
+FitsItsLock w (OfSemaphore l at) = ((rules_in w l).sort ≡ SemaphoreSort) × LateIsTimed at
 
 pub record Stands (w : State) : Type 0 where
   pub sections : Sections (locations_of (place_at w)) (section_at w)
@@ -252,7 +252,7 @@ pub record FollowAll (w v : State) (ds : ℕ → List Act) : Type 0 where
 
 -- one lock has been through deeds that are allowed, its word says so, and the others are as they
 -- were
-pub record Follows (w v : State) (l : ℕ) (ds : List Act) : Type 0 where
+pub record SiteFollows (w v : State) (l : ℕ) (ds : List Act) : Type 0 where
   pub site : site_of v l ≡ after_acts (rules_in w l) ds (site_of w l)
   pub needed : ActsNeeded (rules_in w l) ds (site_of w l)
   pub word : word_at v l ≡ code (rules_in w l) (site_of v l)
@@ -265,7 +265,7 @@ pub record Follows (w v : State) (l : ℕ) (ds : List Act) : Type 0 where
 
 -- and each thread stands where its place says
 pub record Goes (w v : State) (l : ℕ) (ds : List Act) : Type 0 where
-  pub follows : Follows w v l ds
+  pub follows : SiteFollows w v l ds
   pub stands : Stands v
 
 -- for any number of locks

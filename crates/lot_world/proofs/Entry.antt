@@ -17,7 +17,7 @@ use Rattle.lot_world.specs.Second.{left_inside}
 use Rattle.lot_world.specs.Quiet.{IsDraining}
 use Rattle.lot_world.specs.Full.{IsStrict}
 use Rattle.lot_world.specs.Turns.{IsOrdered, NobodyInside, after_alone}
-use Rattle.lot_world.specs.Entry.{EntryLeaves, out_of_main, out_of_second, where_inside}
+use Rattle.lot_world.specs.Entry.{EntryLeaves, state_out_of_main, out_of_second, state_where_inside}
 use Rattle.lot_world.proofs.Quiet.{OnlyHere}
 use Rattle.lot_world.proofs.Turns.{here, never_closes, single_of, solo_keeps, solo_rests_there, stands_of, stands_there, stepped}
 use Rattle.lot_world.proofs.Outside.{OnlyInside, all_free, only_step, outside_at}
@@ -84,7 +84,7 @@ second_left (suc n) w h strict few = by_inside (section_at w 1) refl (λ t. seco
   where
     by_inside : (o : Option ℕ) → section_at w 1 ≡ o
         → ((t : ℕ) → ((u : ℕ) → section_at (after w (go_of t)) 1 ≡ Some u → left_inside (place_at (after w (go_of t)) u) ≤ n) → Outside (out_of_second n (after w (go_of t))))
-        → Outside (where_inside o w (λ t. out_of_second n (after w (go_of t))))
+        → Outside (state_where_inside o w (λ t. out_of_second n (after w (go_of t))))
     by_inside None e more = (h, strict, e)
     by_inside (Some t) e more = more t
         (λ u now. subst (λ x. left_inside (place_at (after w (go_of t)) x) ≤ n) (sym (only_it w t strict e u now))
@@ -122,7 +122,7 @@ module _ (w : State) (t : ℕ) (h : IsOrdered w) (second : section_at w 1 ≡ No
       (solo_rests_there t 64 w outcome.NotNow h (λ r. r) (rests_alone w t h.world.shaped h.world.steady h.world.counted h.world.condvars h.world.running under_way way))
       kept.only
 
-then_main : (w : State) → Outside w → IsDraining (out_of_main w) × IsStrict (out_of_main w) × NobodyInside (out_of_main w)
+then_main : (w : State) → Outside w → IsDraining (state_out_of_main w) × IsStrict (state_out_of_main w) × NobodyInside (state_out_of_main w)
 then_main w o = by_inside (section_at w 0) refl
   where
     free : section_at w 0 ≡ None → NobodyInside w
@@ -131,7 +131,7 @@ then_main w o = by_inside (section_at w 0) refl
     free e (suc (suc key)) = past w o.1.ordered key
 
     by_inside : (a : Option ℕ) → section_at w 0 ≡ a
-        → IsDraining (where_inside a w (after_alone w)) × IsStrict (where_inside a w (after_alone w)) × NobodyInside (where_inside a w (after_alone w))
+        → IsDraining (state_where_inside a w (after_alone w)) × IsStrict (state_where_inside a w (after_alone w)) × NobodyInside (state_where_inside a w (after_alone w))
     by_inside None e = (o.0, o.1, free e)
     by_inside (Some t) e =
         let kept = turns_keep_draining w t o.0 o.1 in

@@ -30,7 +30,7 @@ use Rattle.lot_laws.proofs.alone.Leads.{Leads, leads_barred, leads_step}
 use Rattle.lot_laws.proofs.calls.OwnPlace.{goes_from_there, told_from_there}
 use Rattle.lot_laws.specs.Refinement.{owner_at}
 use Rattle.spec_locks.specs.Sites.{Main}
-use Rattle.lot_laws.specs.Solo.{EntersAt}
+use Rattle.lot_laws.specs.Solo.{EntersSection}
 use Rattle.lot_laws.specs.Locations.{location, location_at}
 use Rattle.lot_laws.specs.SitesOf.{AreCondvars, AreCounted, IsInductive}
 use Rattle.lot_machine.proofs.Shape.{after_shaped, after_size, main_key_there, main_line_there}
@@ -155,7 +155,7 @@ module _ (w : State) (t l : ℕ) (p : Place) (v : ℕ) (o s : Option ℕ) (q : L
         lock = l;
         line = Main;
         other = u;
-        enters = subst (EntersAt (2 * l)) (sym (ap act_of f.place ∙ is)) refl;
+        enters = subst (EntersSection (2 * l)) (sym (ap act_of f.place ∙ is)) refl;
         inside = e;
         another = λ mine. let within : (location_at (place_at w t) l).inside ≡ Some Main = (f.steady.stands.sections t l Main).1 (e ∙ ap Some mine) in
             let out : (location_at (place_at w t) l).inside ≡ None = nothing_at (place_at w t) l (subst IsSingle (sym f.place) f.single) (λ x. x.inside) refl (ap (λ x. (location x).inside) f.place ∙ outside) in cc;

@@ -38,7 +38,7 @@ use Rattle.lot_machine.specs.Machine.{Alone as Ran, State, after, after_steps, a
 use Rattle.lot_laws.specs.Refinement.{call_at, call_state, lock_state, locks_of}
 use Rattle.lot_laws.specs.SitesOf.{IsInductive, IsWorld, key_of, rules_in, site_of}
 use Rattle.lot_laws.specs.Locations.{role_on}
-use Rattle.lot_laws.specs.Solo.{BumpsShared, ComesBack, EndsAlone, locks_behind, EntersAlone, GivesWay, MayEnterAtOnce, NeedsNoWay, Rests, WaitsAlone, WaitsForReaders, EntersAt, HasWhatItReads, IsBarred}
+use Rattle.lot_laws.specs.Solo.{BumpsShared, ComesBack, EndsAlone, locks_behind, EntersAlone, BumpGivesWay, MayEnterAtOnce, NeedsNoWay, Rests, WaitsAlone, WaitsForReaders, EntersSection, HasWhatItReads, IsBarred}
 use Rattle.lot_laws.specs.WorldRuns.{IsWorldRun}
 use Rattle.lot_laws.proofs.machine.Parts.{role_here, inside_is, put_here}
 use Rattle.lot_laws.proofs.alone.Leads.{Leads, or_so}
@@ -208,7 +208,7 @@ module _ (w : State) (t l : ℕ) (a : Admission) (x : Access) (holds : IsWorld w
   writes_pending shared h = writer_beside_readers (rules_in w l) s site.state shared h
 
   gives_so : (x2 : Access) → HasWhatItReads w t (Some (Bumps l (wanted x2)))
-      → GivesWay (rules_in w l) s (wanted x2) → gives_way a x2 word ≡ true
+      → BumpGivesWay (rules_in w l) s (wanted x2) → gives_way a x2 word ≡ true
   gives_so access.Shared reads g = ap (λ b. b && (not a.recursive || (count_in word == 1))) (writer_is ∙ pending_writes g.0) ∙ last_reader g.1
   gives_so access.Upgradable reads g = has_waiter reads g
   gives_so access.Exclusive reads g = has_waiter reads g
@@ -247,9 +247,9 @@ module _ (w : State) (t l : ℕ) (a : Admission) (x : Access) (holds : IsWorld w
 
     -- it enters no section there
     unbarred : IsBarred between t → ⊥
-    unbarred b = by_access x (subst (λ p. EntersAt (key_of b.lock b.line) (act_of p)) e.alone.place b.enters)
+    unbarred b = by_access x (subst (λ p. EntersSection (key_of b.lock b.line) (act_of p)) e.alone.place b.enters)
       where
-        by_access : (y : Access) → EntersAt (key_of b.lock b.line) (act_of (RwLock l a (enters_again y))) → ⊥
+        by_access : (y : Access) → EntersSection (key_of b.lock b.line) (act_of (RwLock l a (enters_again y))) → ⊥
         by_access access.Exclusive h = h
         by_access access.Shared h = h
         by_access access.Upgradable h = h

@@ -30,7 +30,7 @@ use Rattle.lot_machine.proofs.Shape.{after_shaped, after_size, main_key_there, p
 use Rattle.lot_laws.proofs.calls.OwnPlace.{goes_from_there, told_from_there}
 use Rattle.lot_laws.specs.SitesOf.{AreCondvars, AreCounted, IsInductive, RunsInClosures, key_of, stood_in}
 use Rattle.lot_laws.proofs.once.Runs.{running_after}
-use Rattle.lot_laws.specs.Solo.{EntersAt, IsBarred}
+use Rattle.lot_laws.specs.Solo.{EntersSection, IsBarred}
 use Rattle.lot_laws.specs.Locations.{location, location_at}
 use Rattle.lot_laws.proofs.alone.Leads.{Leads, leads_barred, leads_step}
 use Rattle.lot_laws.proofs.machine.Parts.{nothing_at, next_single, IsSingle}
@@ -190,7 +190,7 @@ module _ (w : State) (t l : ℕ) (p : Place) (v : ℕ) (q : Line → List Waiter
         lock = l;
         line = m;
         other = u;
-        enters = subst (EntersAt (key_of l m)) (sym (ap act_of f.place ∙ is)) refl;
+        enters = subst (EntersSection (key_of l m)) (sym (ap act_of f.place ∙ is)) refl;
         inside = e;
         another = λ mine. let within : (location_at (place_at w t) l).inside ≡ Some m = (f.steady.stands.sections t l m).1 (e ∙ ap Some mine) in
             let out : (location_at (place_at w t) l).inside ≡ None = nothing_at (place_at w t) l (subst IsSingle (sym f.place) f.single) (λ x. x.inside) refl (ap (λ x. (location x).inside) f.place ∙ outside) in cc;

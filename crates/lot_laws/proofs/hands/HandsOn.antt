@@ -53,7 +53,7 @@ use Rattle.lot_machine.specs.Machine.{State, owners_at, place_at, put, queue_at,
 use Rattle.lot_machine.specs.Fits.{IsWellFormed}
 use Rattle.lot_laws.specs.Refinement.{taken_at}
 use Rattle.lot_laws.specs.MutexDeeds.{acts}
-use Rattle.lot_laws.specs.SitesOf.{FitsItsLock, Goes, HasRoom, IsCounted, IsInductive, carried_at, hand_at, rules_in}
+use Rattle.lot_laws.specs.SitesOf.{FitsItsLock, Goes, LimitHasRoom, IsCounted, IsInductive, carried_at, hand_at, rules_in}
 use Rattle.lot_laws.specs.Locations.{role_on, location}
 use Rattle.lot_laws.proofs.sites.ActsKept.{lock_by}
 use Rattle.steps_base.specs.Profiles.{Hand}
@@ -204,7 +204,7 @@ module _ (w : State) (t l : ℕ) (a : Admission) (c : RwLockCallPlace) (steady :
     in_hand = has_in_hand w t l steady of g.any carries k count;
   }
 
-  limits : HasRoom (length w.places) (rules_in w l) × HasLimit (rules_in w l) here.lock
+  limits : LimitHasRoom (length w.places) (rules_in w l) × HasLimit (rules_in w l) here.lock
   limits = steady.sites.limits l fits.0.0
 
   room : a.limit < 2 ^ 60 - 1

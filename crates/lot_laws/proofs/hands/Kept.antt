@@ -35,7 +35,7 @@ use Rattle.lot_laws.specs.Refinement.{taken_at}
 use Rattle.lot_laws.specs.MutexDeeds.{acts}
 use Rattle.lot_laws.specs.MutexDeeds as deeds
 use Rattle.lot_laws.specs.Locations.{Location, location, location_at, nowhere, role_on}
-use Rattle.lot_laws.specs.SitesOf.{locations_of, ActsNeeded, HasRoom, IsInductive, Goes, Hands, TakesOne, FitsItsLock, after_acts, rules_in, carried_at, hand_at}
+use Rattle.lot_laws.specs.SitesOf.{locations_of, ActsNeeded, LimitHasRoom, IsInductive, Goes, Hands, TakesOne, FitsItsLock, after_acts, rules_in, carried_at, hand_at}
 use Rattle.lot_laws.proofs.machine.Parts.{free_of, held_calls, Parts, parts_at, lock_in, seen_in, same, put_here, put_other, put_same, IsOf, location_here, untaken, held_tells, thread_is, past_all, IsSingle, of_single, single_taken, single_wants, next_of}
 use Rattle.lot_laws.proofs.machine.KindsStay.{given_kinds}
 use Rattle.lot_laws.proofs.sites.OneStep.{AreQuiet, AreSingle, acts_keep, full_then, fills_by, others_same}
@@ -357,7 +357,7 @@ module _ (w : State) (t l : ℕ) (steady : IsInductive w) (own : IsOf l (place_a
   limits = subst (λ x. HasLimit x here.lock) rules (steady.sites.limits l (ap (λ x. has_readers x.sort) rules ∙ sharers)).1
 
   room : (r.limit < 2 ^ 60 - 1) × (length w.places ≤ r.limit)
-  room = let all_room = subst (λ x. HasRoom (length w.places) x) rules (steady.sites.limits l (ap (λ x. has_readers x.sort) rules ∙ sharers)).0 in (all_room.1, all_room.2)
+  room = let all_room = subst (λ x. LimitHasRoom (length w.places) x) rules (steady.sites.limits l (ap (λ x. has_readers x.sort) rules ∙ sharers)).0 in (all_room.1, all_room.2)
 
   shares_are : shares_handed_over w t l ≡ sharing_from t taken 0 (shares_at w l)
   shares_are = given_is t 0 taken w.places (shares_at w l) (λ j. subst (λ k. shares_handed t (taken k) ≡ (if shares_in_hand t (held (place_at w j)) then 1 else 0)) (let z : j ≡ 0 + j = omega arith in z) (share_is j)) (sym (steady.numbers.threads l)) (let a : locks.count here.lock ≡ sum (shares_at w l) + locks.one_if_some (owners_at w l).upgradable = refl in let b : locks.count here.lock ≤ r.limit + 1 = limits.top in let c : r.limit < 2 ^ 60 - 1 = room.0 in omega arith)

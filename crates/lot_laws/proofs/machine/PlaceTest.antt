@@ -77,7 +77,7 @@ use Rattle.lot_laws.specs.MutexDeeds.{mutex_row}
 use Rattle.lot_laws.specs.Promises.{IsTry}
 use Rattle.lot_laws.specs.Refinement.{keys_entered, runs_closure, sleeps}
 use Rattle.lot_laws.specs.SitesOf.{key_of}
-use Rattle.lot_laws.specs.Solo.{EntersAt}
+use Rattle.lot_laws.specs.Solo.{EntersSection}
 use Rattle.lot_laws.specs.Locations.{Location, location_by}
 
 -- ---------------------------------------------------------------- acts
@@ -138,7 +138,7 @@ pub record PlaceFacts (shared : Bool) (l : ℕ) (row : Profile) (a : Act) : Type
   -- its act is on a line of the lock
   pub line : IsLineAct l (location_by row) a
   -- on the main one, where there is no other
-  pub main : shared ≡ false → (key : ℕ) → EntersAt key a → 2 * l ≡ key
+  pub main : shared ≡ false → (key : ℕ) → EntersSection key a → 2 * l ≡ key
   -- a try goes freely
   pub tries : shared ≡ false → IsTry (Some (row.purpose l)) → IsFree a
 
@@ -316,7 +316,7 @@ module _ (l : ℕ) (m : Line) (row : Profile) where
   line_so a e h = tt
 
 main_so : (l : ℕ) (m : Line) (row : Profile) (a : Act) → key_or (key_of l m) a ≡ key_of l m → line_test m row a ≡ true → is_line Main (Some m) ≡ true
-    → (key : ℕ) → EntersAt key a → 2 * l ≡ key
+    → (key : ℕ) → EntersSection key a → 2 * l ≡ key
 main_so l Main row (act.Enter (One k)) e h main key enters = sym e ∙ enters
 main_so l Second row (act.Enter (One k)) e h main key enters = absurd cc
 main_so l m row (act.Enter (Two j k)) e h main key enters = absurd cc

@@ -47,7 +47,7 @@ use Rattle.spec_locks.specs.Locks.{LockState, Rules, Taken, LockCase, Enter, Pen
 use Rattle.spec_locks.specs.Locks as locks
 use Rattle.spec_locks.specs.Runs.{CallState, AreLockStates, IsStep, MayMove, rules_at, locks_after, Moves}
 use Rattle.lot_laws.specs.Refinement.{call_at, lock_state, locks_of, call_state, owner_at}
-use Rattle.lot_laws.specs.Fair.{ReleasesFairly, IsFairRelease, OwnsOn, HandsOver, LetsGo, IsFair, IsToGiveAt, GivesUpFairly, ComesTo as GivesFrom}
+use Rattle.lot_laws.specs.Fair.{ReleasesFairly, IsFairRelease, OwnsOn, HandsMutexOver, LetsMutexGo, IsFair, IsToGiveAt, GivesUpFairly, FairReleaseComesTo as GivesFrom}
 use Rattle.steps_rwlock_fair.specs.FairGives.{IsToGive}
 use Rattle.steps_rwlock_fair.specs.FairSteps.{call_act}
 use Rattle.lot_laws.proofs.rwlock.FairHands.{goes_giving, owner_stays}
@@ -475,7 +475,7 @@ is_fair w s shape steady counted condvars = record {
     owned t l h e = (e, locked_by (word_at (after w s) l) (owner_at (after w s) l) t (coded t l h) e)
 
     told : (t l : ℕ) → ReleasesFairly w t l → ComesTo w t l (after w s)
-        → OwnsOn (after w s) t l ⊎ (HandsOver w (after w s) t l ⊎ LetsGo w (after w s) t l)
+        → OwnsOn (after w s) t l ⊎ (HandsMutexOver w (after w s) t l ⊎ LetsMutexGo w (after w s) t l)
     told t l fair (inl e) = inl (owned t l fair e)
     told t l fair (inr (inl h)) = inr (inl (h.0, h.1, h.2, locked_by (word_at (after w s) l) (owner_at (after w s) l) h.0 (coded t l fair) h.2))
     told t l fair (inr (inr h)) = inr (inr h)

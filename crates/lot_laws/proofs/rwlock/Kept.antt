@@ -74,7 +74,7 @@ use Rattle.lot_machine.proofs.Shape.{main_key_there}
 use Rattle.lot_laws.specs.Refinement.{taken_at}
 use Rattle.lot_laws.specs.MutexDeeds.{acts}
 use Rattle.lot_laws.specs.Locations.{location, role_on}
-use Rattle.lot_laws.specs.SitesOf.{IsInductive, Goes, FitsItsLock, TakesOne, HasRoom, carried_at, hand_at, is_mutex, rules_in, key_of}
+use Rattle.lot_laws.specs.SitesOf.{IsInductive, Goes, FitsItsLock, TakesOne, LimitHasRoom, carried_at, hand_at, is_mutex, rules_in, key_of}
 use Rattle.steps_condvar.specs.declared.places.CondvarPlace.{CondvarPlace}
 use Rattle.lot_steps.specs.Steps.{is_lock}
 use Rattle.steps_base.specs.Profiles.{Hand}
@@ -425,7 +425,7 @@ module _ (w : State) (t l : ℕ) (a : Admission) (c : RwLockCallPlace) (steady :
       nowhere : standing t here.lock ≡ 0
       nowhere = nowhere_here w t l steady there own (rules_in w l) refl (call_move a c) same_row g.out g.free
 
-      limits : HasRoom (length w.places) (rules_in w l) × HasLimit (rules_in w l) here.lock
+      limits : LimitHasRoom (length w.places) (rules_in w l) × HasLimit (rules_in w l) here.lock
       limits = steady.sites.limits l admits.0
 
       room : a.limit < 2 ^ 60 - 1

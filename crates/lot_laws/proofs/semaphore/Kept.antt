@@ -62,7 +62,7 @@ use Rattle.lot_machine.proofs.Shape.{main_key_there}
 use Rattle.lot_laws.specs.Refinement.{taken_at}
 use Rattle.lot_laws.specs.MutexDeeds.{acts}
 use Rattle.lot_laws.specs.Locations.{role_on, location}
-use Rattle.lot_laws.specs.SitesOf.{FitsItsLock, GivesUpTimed, Goes, IsInductive, TakesOne, is_mutex, key_of, rules_in}
+use Rattle.lot_laws.specs.SitesOf.{FitsItsLock, LateIsTimed, Goes, IsInductive, TakesOne, is_mutex, key_of, rules_in}
 use Rattle.lot_laws.proofs.sites.ActsKept.{lock_by, place_goes}
 use Rattle.lot_laws.proofs.sites.OneStep.{steps_by}
 use Rattle.lot_laws.proofs.machine.Parts.{not_beside, IsOf, role_here, free_of, next_of, parts_at, put_here}
@@ -444,7 +444,7 @@ claims_first semaphore_call.Release = Some (Has Shared)
 pub record Opens (c : SemaphoreCall) : Type 0 where
   pub location : location (Semaphore 0 (semaphore_first c)) ≡ location Idle
   pub role : semaphore_role (semaphore_first c) ≡ record (semaphore_role (Try tries.Load)) { claims = claims_first c }
-  pub timed : GivesUpTimed (semaphore_first c)
+  pub timed : LateIsTimed (semaphore_first c)
 
 pub opens : (c : SemaphoreCall) → Opens c
 opens (semaphore_call.Acquire how.Patient) = record { location = refl; role = refl; timed = λ e. absurd cc }

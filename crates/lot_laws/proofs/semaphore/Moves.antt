@@ -32,7 +32,7 @@ use Rattle.steps_semaphore.specs.SemaphoreLaws.{MayHear, next_row}
 use Rattle.steps_semaphore.specs.SemaphoreLaws as laws
 use Rattle.steps_semaphore.specs.SemaphoreProfiles.{semaphore_late_line, semaphore_profile}
 use Rattle.steps_semaphore.specs.SemaphoreSteps.{acquired, in_acquire, in_release, in_try, is_free, next_release, next_try, semaphore_act, semaphore_next}
-use Rattle.lot_laws.specs.SitesOf.{GivesUpTimed}
+use Rattle.lot_laws.specs.SitesOf.{LateIsTimed}
 
 abbrev pub semaphore_move : SemaphorePlace → Move
 semaphore_move p = record {
@@ -133,7 +133,7 @@ attempts : (l was : ℕ) (free : Bool)
 attempts l was true = (refl, attempts_put was)
 attempts l was false = (refl, attempts_put was)
 
-pub semaphore_acts_move : (l : ℕ) (p : SemaphorePlace) → GivesUpTimed p → SemaphoreMoves l (semaphore_move p) (semaphore_hears p) (semaphore_act l p)
+pub semaphore_acts_move : (l : ℕ) (p : SemaphorePlace) → LateIsTimed p → SemaphoreMoves l (semaphore_move p) (semaphore_hears p) (semaphore_act l p)
 semaphore_acts_move l (Acquire timed again acquire.Load) h = (refl, record { out = refl; free = refl; deeds = λ seen. tt; goes = λ seen. refl })
 semaphore_acts_move l (Acquire timed again (acquire.Decide was)) h = decides l timed again was (is_free was) (was == 0)
 semaphore_acts_move l (Acquire timed again acquire.Check) h = (Main, refl, refl, record { was = refl; parks = refl; parked = refl; turns = refl; turned = refl; may = λ r s t b e out. (e, out) })
@@ -236,7 +236,7 @@ semaphore_late_move (Release at) m h = absurd cc
 -- ---------------------------------------------------------------- only a timed call gives up
 
 abbrev pub NextTimed : Next SemaphorePlace → Type 0
-NextTimed (At p) = GivesUpTimed p
+NextTimed (At p) = LateIsTimed p
 NextTimed (Over answer) = Unit {0}
 
 exchanged_timed : (timed again other free : Bool) (seen : ℕ)
@@ -257,7 +257,7 @@ releasing_timed (At (release.Clear any)) = λ e. absurd cc
 releasing_timed (At (release.Leave any)) = λ e. absurd cc
 releasing_timed (Over answer) = tt
 
-pub next_timed : (p : SemaphorePlace) (told : Reply) → GivesUpTimed p → (told ≡ reply.Late → (semaphore_profile p).timed ≡ true) → NextTimed (semaphore_next p told)
+pub next_timed : (p : SemaphorePlace) (told : Reply) → LateIsTimed p → (told ≡ reply.Late → (semaphore_profile p).timed ≡ true) → NextTimed (semaphore_next p told)
 next_timed (Acquire timed again acquire.Load) (reply.Value seen) h late = λ e. absurd cc
 next_timed (Acquire timed again (acquire.Decide was)) (reply.Value seen) h late = exchanged_timed timed again (not (seen == was)) (is_free seen) seen
 next_timed (Acquire timed again (acquire.Decide was)) reply.Done h late = λ e. absurd cc

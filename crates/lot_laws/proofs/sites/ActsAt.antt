@@ -23,7 +23,7 @@ use Rattle.lot_machine.specs.Machine.{State, unlocked, place_at, word_at, owners
 use Rattle.lot_laws.specs.Refinement.{taken_at}
 use Rattle.lot_laws.specs.MutexDeeds.{acts}
 use Rattle.lot_laws.specs.Locations.{Location, location_at, nowhere, role_on}
-use Rattle.lot_laws.specs.SitesOf.{locations_of, TakesOne, ActsNeeded, IsInductive, Follows, Goes, FitsItsLock, Waits, AreWaiting, rules_in, key_of, stood_in}
+use Rattle.lot_laws.specs.SitesOf.{locations_of, TakesOne, ActsNeeded, IsInductive, SiteFollows, Goes, FitsItsLock, Waits, AreWaiting, rules_in, key_of, stood_in}
 use Rattle.lot_laws.proofs.semaphore.Permits.{all_by}
 use Rattle.lot_laws.proofs.hands.Counts.{without_absent}
 use Rattle.lot_laws.proofs.machine.Parts.{base_at, parts_at, seen_in, same, differ, put_places, put_here, inside_is}
@@ -141,7 +141,7 @@ module _ (w : State) (t l : ℕ) (steady : IsInductive w) (there : t < length w.
   -- a place and the section of its lock change
   place_follows : (v : State) (ds : List Deed) → (has_readers r.sort ≡ true → NoHandOff ds) → v.locks ≡ w.locks
       → v.shares ≡ w.shares → v.queues ≡ w.queues → v.places ≡ set w.places t p2
-      → Steps r l (parts_at w l) (parts_at w l) (place_at w) t p2 ds → Follows w v l (acts t ds)
+      → Steps r l (parts_at w l) (parts_at w l) (place_at w) t p2 ds → SiteFollows w v l (acts t ds)
   place_follows v ds plain el es eq ep steps = follows_by w v l (parts_at w l) (putting (place_at w) t p2)
       (lines_move v (queue_at w (2 * l)) (queue_at w (2 * l + 1)) el es ep (ap (λ (qs : List (List Waiter)). get_or qs (2 * l) []) eq) (ap (λ (qs : List (List Waiter)). get_or qs (2 * l + 1) []) eq) (λ k ne n. ap (λ (qs : List (List Waiter)). get_or qs (key_of k n) []) eq))
       r rules (acts t ds) (λ e. all_by (length w.places) t ds there) (limited w l steady r rules (acts t ds) (λ h. ordinary_by (length w.places) t ds there (plain h)) steps.needed) steps.site steps.needed (word_by_lines (queue_at w (2 * l)) (queue_at w (2 * l + 1)) (putting (place_at w) t p2))
@@ -199,10 +199,10 @@ module _ (w : State) (t l : ℕ) (steady : IsInductive w) (there : t < length w.
       (es : v.sections ≡ w.sections) (ep : v.places ≡ set w.places t p2) (here : queue_at v (key_of l m) ≡ q)
       (elsewhere : (key : ℕ) → key ≢ key_of l m → queue_at v key ≡ queue_at w key) where
     line_follows : (ds : List Deed) → (has_readers r.sort ≡ true → NoHandOff ds)
-        → Steps r l (parts_at w l) (with_line (parts_at w l) m q) (place_at w) t p2 ds → Follows w v l (acts t ds)
+        → Steps r l (parts_at w l) (with_line (parts_at w l) m q) (place_at w) t p2 ds → SiteFollows w v l (acts t ds)
     line_follows ds plain steps = by_line m refl
       where
-        by_line : (n : Line) → m ≡ n → Follows w v l (acts t ds)
+        by_line : (n : Line) → m ≡ n → SiteFollows w v l (acts t ds)
         by_line Main e = follows_by w v l (with_line (parts_at w l) Main q) (putting (place_at w) t p2)
             (lines_move v q (queue_at w (2 * l + 1)) el eh ep (subst (λ n. queue_at v (key_of l n) ≡ q) e here) (elsewhere (2 * l + 1) (subst (λ n. 2 * l + 1 ≢ key_of l n) (sym e) (λ h. omega arith))) (λ k ne n. elsewhere (key_of k n) (other_key l k m n ne)))
             r rules (acts t ds) (λ e. all_by (length w.places) t ds there) (limited w l steady r rules (acts t ds) (λ h. ordinary_by (length w.places) t ds there (plain h)) (subst (λ n. Steps r l (parts_at w l) (with_line (parts_at w l) n q) (place_at w) t p2 ds) e steps).needed) (subst (λ n. Steps r l (parts_at w l) (with_line (parts_at w l) n q) (place_at w) t p2 ds) e steps).site (subst (λ n. Steps r l (parts_at w l) (with_line (parts_at w l) n q) (place_at w) t p2 ds) e steps).needed

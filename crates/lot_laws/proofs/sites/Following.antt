@@ -21,7 +21,7 @@ use Rattle.lot_laws.specs.Refinement.{lock_state, taken_at}
 use Rattle.lot_laws.specs.MutexDeeds.{acts}
 use Rattle.lot_laws.specs.MutexDeeds as deeds
 use Rattle.lot_laws.specs.Locations.{role_on}
-use Rattle.lot_laws.specs.SitesOf.{ActsNeeded, AllBy, HasRoom, SameNumbers, IsInductive, Follows, Goes, after_acts, site_of, rules_in, stood_in, Stands, FollowAll, GoesAll}
+use Rattle.lot_laws.specs.SitesOf.{ActsNeeded, AllBy, LimitHasRoom, SameNumbers, IsInductive, SiteFollows, Goes, after_acts, site_of, rules_in, stood_in, Stands, FollowAll, GoesAll}
 use Rattle.lot_laws.proofs.machine.Parts.{Parts, parts_at, lock_in, seen_in, same, put_here, put_other}
 use Rattle.lot_laws.proofs.semaphore.Permits.{permits_by}
 use Rattle.lot_laws.proofs.sites.OneStep.{AreOrdinary, Steps, steps_by, noted, acts_keep, acts_limited, same_filled, queued_behind}
@@ -74,7 +74,7 @@ module _ (w v : State) (l : ℕ) (b : Parts) (q : ℕ → Place) (moves : Moves 
   -- tells what one lock has been through
   pub follows_by : (ds : List deeds.Act) → (r.sort ≡ locks.Semaphore → AllBy (length w.places) ds) → (has_readers r.sort ≡ true → HasLimit r (after_acts r ds (lock_by w l r)).lock)
       → seen_in r l b q ≡ after_acts r ds (lock_by w l r) → ActsNeeded r ds (lock_by w l r) → b.word ≡ code r (seen_in r l b q)
-      → Follows w v l ds
+      → SiteFollows w v l ds
   follows_by ds by limit led needed coded = record {
     site = site_here ∙ led ∙ sym (λ i. after_acts (rules i) ds (lock_by w l (rules i)));
     needed = subst (λ x. ActsNeeded x ds (lock_by w l x)) (sym rules) needed;
@@ -110,7 +110,7 @@ goes_all_steady w v ds steady f stands = record {
     word = λ k. f.word k ∙ (λ i. code (rules_of (sym (f.kinds k) i)) (site_of v k));
     unfilled = λ k h. let of_w = was_sort k false h in
         ap (λ (s : Site). s.filled) (f.site k) ∙ same_filled (rules_in w k) (ds k) (site_of w k) of_w ∙ steady.sites.unfilled k of_w;
-    limits = λ k h. subst (λ x. HasRoom (length v.places) (rules_of x) × HasLimit (rules_of x) (lock_state v k)) (sym (f.kinds k))
+    limits = λ k h. subst (λ x. LimitHasRoom (length v.places) (rules_of x) × HasLimit (rules_of x) (lock_state v k)) (sym (f.kinds k))
         (let of_w = was_sort k true h in (room_then k of_w, f.limit k of_w));
     permits = λ k sort. subst (λ x. HasPermits (rules_of x) (site_of v k) × ((rules_of x).limit ≤ 2 ^ 62)) (sym (f.kinds k))
         (let of_w : (rules_in w k).sort ≡ locks.Semaphore = sym (ap (λ x. (rules_of x).sort) (f.kinds k)) ∙ sort in let held = steady.sites.permits k of_w in
@@ -126,14 +126,14 @@ goes_all_steady w v ds steady f stands = record {
     was_sort : (k : ℕ) (b : Bool) → has_readers (rules_in v k).sort ≡ b → has_readers (rules_in w k).sort ≡ b
     was_sort k b h = sym (ap (λ x. has_readers (rules_of x).sort) (f.kinds k)) ∙ h
 
-    room_then : (k : ℕ) → has_readers (rules_in w k).sort ≡ true → HasRoom (length v.places) (rules_in w k)
-    room_then k h = subst (λ n. HasRoom n (rules_in w k)) (sym f.numbers.threads) (steady.sites.limits k h).0
+    room_then : (k : ℕ) → has_readers (rules_in w k).sort ≡ true → LimitHasRoom (length v.places) (rules_in w k)
+    room_then k h = subst (λ n. LimitHasRoom n (rules_in w k)) (sym f.numbers.threads) (steady.sites.limits k h).0
 
 -- a step of one lock leaves the others as they were
 abbrev pub only_at : ℕ → List deeds.Act → ℕ → List deeds.Act
 only_at l ds k = if k == l then ds else []
 
-follows_all : (w v : State) (l : ℕ) (ds : List deeds.Act) → IsInductive w → Follows w v l ds → FollowAll w v (only_at l ds)
+follows_all : (w v : State) (l : ℕ) (ds : List deeds.Act) → IsInductive w → SiteFollows w v l ds → FollowAll w v (only_at l ds)
 follows_all w v l ds steady f = record {
   site = λ k. (either k (k == l) refl).0;
   needed = λ k. (either k (k == l) refl).1;

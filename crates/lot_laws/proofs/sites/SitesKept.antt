@@ -41,7 +41,7 @@ use Rattle.spec_locks.specs.Picks.{queued_of}
 use Rattle.lot_laws.specs.MutexDeeds.{mutex_role, mutex_deeds, mutex_location, acts, queued}
 use Rattle.lot_laws.specs.Locations.{Location, hand, nowhere, location, location_at, role_on}
 use Rattle.lot_laws.specs.MutexDeeds as deeds
-use Rattle.lot_laws.specs.SitesOf.{SameNumbers, TakesOne, rules_in, ActsNeeded, IsInductive, Follows, Goes, FitsItsLock, carried_at, hand_at, after_acts}
+use Rattle.lot_laws.specs.SitesOf.{SameNumbers, TakesOne, rules_in, ActsNeeded, IsInductive, SiteFollows, Goes, FitsItsLock, carried_at, hand_at, after_acts}
 use Rattle.lot_laws.proofs.machine.Parts.{base_at, seen_in, seen, goes_from, put_places, put_here, put_other, IsOf, own_stance, leaving, none_given, untaken, WantsAlone, location_here, IsMutexOf, own_of, next_mutex, aparts}
 use Rattle.lot_laws.proofs.hands.Handed.{told_one, successor_one, lets_nobody, of_carries}
 use Rattle.lot_laws.proofs.mutex.Waiters.{CallsMutex, IsHeldThere, SleepsAt, WasGivenThere, calls_mutex_at, held_alone, held_there, given_there, holds_here}
@@ -90,7 +90,7 @@ module _ (w v : State) (l : ℕ) (rules : rules_in w l ≡ mutex) (q : ℕ → P
   -- tells what one mutex has been through
   pub follow : (ds : List deeds.Act)
       → seen l (base_at w l) word o m (queue_at w (2 * l + 1)) q ≡ after_acts mutex ds (mutex_at w l)
-      → ActsNeeded mutex ds (mutex_at w l) → IsCode word o.exclusive → Follows w v l ds
+      → ActsNeeded mutex ds (mutex_at w l) → IsCode word o.exclusive → SiteFollows w v l ds
   follow ds led needed coded = follows_by w v l _ q (record {
     here = λ i. record { base = bases l i; word = words.here i; owners = owners.here i; main = mains.here i; second = seconds l i };
     others = λ k ne i. record { base = bases k i; word = words.other k ne i; owners = owners.other k ne i; main = mains.other k ne i; second = seconds k i };
@@ -412,7 +412,7 @@ module _ (w : State) (t l : ℕ) (steady : IsInductive w) (there : t < length w.
         (go_by w t (Mutex l (HandOff bumps (hand_off.Store true none_left))) (act.TheVariants.HandOver l (op.Store (hand_off_word true none_left)))) l
         (acts t (deeds.hands_over (Some u) none_left) ++ deeds.claims_of (Some u))
     hands_over = record {
-      follows = subst (λ (z : State). Follows w (put z t p2) l (acts t (deeds.hands_over (Some u) none_left) ++ deeds.claims_of (Some u))) (sym told) (follow w after l (rules w t l at steady is there) (putting (putting (place_at w) u pu) t p2) (if none_left then 1 else 3) (with_exclusive (owners_at w l) (Some u)) (queue_at w (2 * l)) places
+      follows = subst (λ (z : State). SiteFollows w (put z t p2) l (acts t (deeds.hands_over (Some u) none_left) ++ deeds.claims_of (Some u))) (sym told) (follow w after l (rules w t l at steady is there) (putting (putting (place_at w) u pu) t p2) (if none_left then 1 else 3) (with_exclusive (owners_at w l) (Some u)) (queue_at w (2 * l)) places
           (record { threads = length-set (set w.places u pu) t p2 ∙ length-set w.places u pu; locks = length-set w.locks l _; shares = length-set w.shares l (shares_handed_over w t l) })
           (λ k i. record { shared = ((λ j. get_or (set w.shares l (shares_handed_over w t l)) k (replicate ((length-set (set w.places u pu) t p2 ∙ length-set w.places u pu) j) 0)) ∙ given_shares w t l (none_given t w.places (shares_at w l) (alone_at w t l at steady is)) k) i; filled = given_filled w t (Mutex l at) l (op.Store (hand_off_word true none_left)) (rules w t l at steady is there) k i })
           (changed_set (λ x. x.word) w.locks l _ (unlocked kind.TheVariants.Mutex) lt) owners_given
