@@ -23,7 +23,7 @@ pub use Rattle.spec_locks.specs.Headline.{want_of, mutex_seen, WakesWaiters, IsO
 use Rattle.spec_locks.specs.Purposes.{Purpose, Enters, Releases, Converts, Bumps, CallsOnce, Awaits, MayWait, Waits, Notifies}
 use Rattle.spec_locks.specs.declared.calls.Patience.TheVariants.{Try}
 use Rattle.lot_laws.specs.Refinement.{RunsClosure, lock_state, locks_of, call_at}
-use Rattle.lot_laws.specs.Stations.{doing_on}
+use Rattle.lot_laws.specs.Locations.{role_on}
 use Rattle.lot_laws.specs.SitesOf.{rules_in, key_of}
 use Rattle.lot_laws.specs.Owing.{Owes, IsInside, IsWait, LetsOthersIn, sort_at}
 
@@ -49,7 +49,7 @@ IsCoded w l =
 -- parked bit; or it has ended its run of a `Once`, has cleared the bit beside waiters, and is about
 -- to take them
 abbrev pub IsAboutToMark : State → ℕ → ℕ → Type 0
-IsAboutToMark w t l = (doing_on (place_at w t) l).sets ≡ true
+IsAboutToMark w t l = (role_on (place_at w t) l).sets ≡ true
 
 -- and it is inside the section, or, at a `Once`, owes those waiters their wake
 abbrev pub IsToMark : State → ℕ → ℕ → Type 0

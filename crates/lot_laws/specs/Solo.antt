@@ -53,8 +53,8 @@ abbrev pub IsOnly : ℕ → Option ℕ → Type 0
 IsOnly t who = (u : ℕ) → who ≡ Some u → u ≡ t
 
 -- nobody else is inside a section that its call may enter
-abbrev pub HasItsWay : State → ℕ → Type 0
-HasItsWay w t =
+abbrev pub IsUnobstructed : State → ℕ → Type 0
+IsUnobstructed w t =
     (l u : ℕ) (m : Line) → MayEnterOf w (place_at w t) l → HasLine (rules_of (kind_at w l)).sort m
     → section_at w (key_of l m) ≡ Some u → u ≡ t
 
@@ -66,17 +66,17 @@ Rests (outcome.TheVariants.Closure state) = Unit {0}
 Rests o = ⊥
 
 -- the act enters the section of this key
-abbrev pub EntersAt : ℕ → Act → Type 0
-EntersAt key (Enter (One k)) = k ≡ key
-EntersAt key (Enter (Two j k)) = (j ≡ key) ⊎ (k ≡ key)
-EntersAt key act = ⊥
+abbrev pub EntersSection : ℕ → Act → Type 0
+EntersSection key (Enter (One k)) = k ≡ key
+EntersSection key (Enter (Two j k)) = (j ≡ key) ⊎ (k ≡ key)
+EntersSection key act = ⊥
 
 -- the thread is barred: its next act enters a section that another thread is inside
 pub record IsBarred (w : State) (t : ℕ) : Type 0 where
   pub lock : ℕ
   pub line : Line
   pub other : ℕ
-  pub enters : EntersAt (key_of lock line) (act_of (place_at w t))
+  pub enters : EntersSection (key_of lock line) (act_of (place_at w t))
   pub inside : section_at w (key_of lock line) ≡ Some other
   pub another : other ≢ t
 
@@ -178,13 +178,13 @@ BumpsAlone t l (x ∷ q) o s =
 
 -- to whom a bump of a lock that is shared gives way: who shares it, to a pending writer, on a
 -- recursive lock only as the last; and any other owner to whoever stands in the queue
-abbrev pub GivesWay : Rules → LockState → Want → Type 0
-GivesWay r s Shared = (s.pending ≢ None) × (r.sort ≡ Recursive → count s ≡ 1)
-GivesWay r s x = s.queue ≢ []
+abbrev pub BumpGivesWay : Rules → LockState → Want → Type 0
+BumpGivesWay r s Shared = (s.pending ≢ None) × (r.sort ≡ Recursive → count s ≡ 1)
+BumpGivesWay r s x = s.queue ≢ []
 
 -- where there is nobody; a parked bit may stand where a waiter was and is gone
 abbrev pub NeedsNoWay : Type 0 → Rules → LockState → Want → Type 0
-NeedsNoWay unparked r s Shared = GivesWay r s Shared → ⊥
+NeedsNoWay unparked r s Shared = BumpGivesWay r s Shared → ⊥
 NeedsNoWay unparked r s x = unparked
 
 -- by so many of its steps it gives its right up, and from there comes to what a call comes to that
@@ -200,7 +200,7 @@ pub record ComesBack (later : ℕ → LocksState) (w : LocksState) (t l : ℕ) (
 -- a bump of a lock that is shared gives way, or ends with its right
 pub record BumpsShared (unparked : Type 0) (later : ℕ → LocksState) (w : LocksState) (t l : ℕ)
     (x : Want) (o : Outcome) (v : LocksState) : Type 0 where
-  pub gives_way : GivesWay (rules_at w l) (w.locks l) x → ComesBack later w t l x o v
+  pub gives_way : BumpGivesWay (rules_at w l) (w.locks l) x → ComesBack later w t l x o v
   pub stays : NeedsNoWay unparked (rules_at w l) (w.locks l) x
       → (o ≡ outcome.TheVariants.End answer.TheVariants.Ok) × Owns (v.locks l) t x
 
@@ -226,7 +226,7 @@ AwaitsAlone Poisoned s t false timed o s2 =
 AwaitsAlone phase s t forced timed o s2 = SleepsLast s t Wait o s2
 
 -- the end of a wait: it sleeps behind the last, its mutex let go, or ends where another mutex is shown
-pub record StandsAlone (w : LocksState) (t l m : ℕ) (o : Outcome) (v : LocksState) : Type 0 where
+pub record CondvarWaitsAlone (w : LocksState) (t l m : ℕ) (o : Outcome) (v : LocksState) : Type 0 where
   pub other : ShowsOther (w.locks l) m → o ≡ outcome.TheVariants.End answer.TheVariants.TwoMutexes
   pub own : (ShowsOther (w.locks l) m → ⊥)
       → SleepsLast (w.locks l) t Wait o (v.locks l) × ((v.locks m).exclusive ≡ None)
@@ -251,7 +251,7 @@ EndsBy words later w t (Some (CallsOnce l forced)) o v =
     CallsOnceAlone (w.locks l).phase (w.locks l) t forced o (v.locks l)
 EndsBy words later w t (Some (Awaits l forced timed)) o v =
     AwaitsAlone (w.locks l).phase (w.locks l) t forced timed o (v.locks l)
-EndsBy words later w t (Some (Waits l m timed)) o v = StandsAlone w t l m o v
+EndsBy words later w t (Some (Waits l m timed)) o v = CondvarWaitsAlone w t l m o v
 EndsBy words later w t (Some (Notifies l all)) o v =
     NotifiesAlone all (w.locks l).queue o (v.locks l).queue
 EndsBy words later w t None o v = Unit {0}

@@ -4,7 +4,7 @@ use Rattle.spec_locks.specs.Locks.{LockState, Rules, Sort, Semaphore, OfOnce, pu
 use Rattle.core_base.specs.declared.wants.Want.TheVariants.{Exclusive, Shared}
 use Rattle.spec_locks.specs.Onces.{Start, Finish, Fail, Rest, TakeAll}
 use Rattle.spec_locks.specs.Locks.{Enter, Leave, Convert, HandOff}
-use Rattle.spec_locks.specs.Sites.{Doing, Site, IsSite, Deed, Mark, Clear, Bring, Case, Main, Second, has_readers, is_full, after_deed, Needed, IsOpen, IsDebtor, shares_less}
+use Rattle.spec_locks.specs.Sites.{Role, Site, IsSite, Deed, Mark, Clear, Bring, Case, Main, Second, has_readers, is_full, after_deed, Needed, IsOpen, IsDebtor, shares_less}
 use Rattle.spec_locks.proofs.SiteKeeps.{deed_keeps}
 use Rattle.lot_world.specs.Drained.{EachDeedKeepsNow}
 
@@ -26,7 +26,7 @@ needed_all r (Bring taken moved) s t b n = n
 needed_all r d s t b n = n
 
 -- nor does what it leads to, but for that memory
-shares_less_all : (sort : Sort) (s : Site) (d : Doing) (b : Bool) → shares_less sort (with_filled b s) d ≡ shares_less sort s d
+shares_less_all : (sort : Sort) (s : Site) (d : Role) (b : Bool) → shares_less sort (with_filled b s) d ≡ shares_less sort s d
 shares_less_all Semaphore s d b = refl
 shares_less_all sort s d b = refl
 
@@ -40,7 +40,7 @@ led r (Case (Leave Shared)) s t b c = λ i. record {
   parked = s.parked;
   aside_parked = s.aside_parked;
   filled = c;
-  doing = putting s.doing t (shares_less_all r.sort s (s.doing t) b i);
+  role = putting s.role t (shares_less_all r.sort s (s.role t) b i);
 }
 led r (Case (Leave x)) s t b c = refl
 led r (Case (Convert x Exclusive)) s t b c = refl
@@ -89,9 +89,9 @@ another r s b h full spare = record {
   second = h.second;
 }
   where
-    by_spare : (s.lock.queue ≢ []) ⊎ ((t : ℕ) × ((s.doing t).brings ≡ true)) → IsOpen r.sort s.lock
+    by_spare : (s.lock.queue ≢ []) ⊎ ((t : ℕ) × ((s.role t).brings ≡ true)) → IsOpen r.sort s.lock
         → (s.filled ≡ false) ⊎ ((s.lock.queue ≡ []) × (has_readers r.sort ≡ true))
-        → (t : ℕ) × IsDebtor r.sort (s.doing t)
+        → (t : ℕ) × IsDebtor r.sort (s.role t)
     by_spare some is_open (inl room) = h.main some is_open room
     by_spare (inl some) is_open (inr none) = absurd (some none.0)
     by_spare (inr brings) is_open (inr none) = absurd (let mutex = (h.brought brings.0 brings.1).2 in let readers = none.1 in let g : has_readers r.sort ≡ false = ap has_readers mutex in cc)

@@ -90,7 +90,7 @@ module _ (rights : ℕ → Rights) (few : IsFew (rights 0)) where
   Began p = BeganWithFew 0 p rights × ReleasesOne p rights
 
   abbrev Given : Place → Type 0
-  Given p = IsJust (profile p).doing.claims (rights 0)
+  Given p = IsJust (profile p).role.claims (rights 0)
       → HadNone ((profile p).purpose 0) (profile p).released ((profile p).former 0 rights 0)
       → PendsInCall (Some ((profile p).purpose 0)) (rights 0) → Began p
 
@@ -146,7 +146,7 @@ module _ (rights : ℕ → Rights) (few : IsFew (rights 0)) where
     back : (x y : Want) → rights 0 ≡ with_right y no_rights → one_more_at 0 x (one_less_at 0 y rights) 0 ≡ with_right x no_rights
     back x y just = here (one_less_at 0 y rights) 0 _ ∙ ap (with_right x) (here rights 0 _ ∙ ap (without_right y) just ∙ gone y)
 
-    kept : (d : Downgrade) (b : Bool) (to : WakeAt) → IsJust (profile (plain (purpose.Downgrade d) b (at.Wake Main to))).doing.claims (rights 0)
+    kept : (d : Downgrade) (b : Bool) (to : WakeAt) → IsJust (profile (plain (purpose.Downgrade d) b (at.Wake Main to))).role.claims (rights 0)
         → rights 0 ≡ with_right (wanted (to_of d)) no_rights
     kept downgrade.ToShared b waking.Enter just = just
     kept downgrade.ToShared b waking.Take just = just
@@ -173,7 +173,7 @@ module _ (rights : ℕ → Rights) (few : IsFew (rights 0)) where
     no_upgrade : (how : Patience) (x : Want) (fair : Bool) → Converts 0 Upgradable Exclusive how ≡ Releases 0 x fair → ⊥
     no_upgrade how x fair is = no_convert Upgradable Exclusive x how fair is
 
-    parks_aside : (how : Patience) (b : Bool) (to : ParkAt) → IsJust (profile (plain (purpose.Upgrade how) b (at.Aside to))).doing.claims (rights 0)
+    parks_aside : (how : Patience) (b : Bool) (to : ParkAt) → IsJust (profile (plain (purpose.Upgrade how) b (at.Aside to))).role.claims (rights 0)
         → rights 0 ≡ record no_rights { pending = 1 }
     parks_aside how b parking.Check just = just
     parks_aside how b (parking.Leave true) just = just
@@ -184,7 +184,7 @@ module _ (rights : ℕ → Rights) (few : IsFew (rights 0)) where
     parks_aside how b parking.Clear just = just
     parks_aside how b parking.GiveUp just = just
 
-    wakes_up : (how : Patience) (b : Bool) (to : WakeAt) → IsJust (profile (plain (purpose.Upgrade how) b (at.Wake Main to))).doing.claims (rights 0)
+    wakes_up : (how : Patience) (b : Bool) (to : WakeAt) → IsJust (profile (plain (purpose.Upgrade how) b (at.Wake Main to))).role.claims (rights 0)
         → rights 0 ≡ with_right Upgradable no_rights
     wakes_up how b waking.Enter just = just
     wakes_up how b waking.Take just = just

@@ -19,7 +19,7 @@ use Rattle.lot_steps.specs.Steps.{first_place}
 use Rattle.lot_machine.specs.Machine.{State, after, can_begin, kind_at, place_at, section_at, solo, state_after_begin, word_at}
 use Rattle.lot_laws.specs.Refinement.{call_state, lock_state, locks_of}
 use Rattle.lot_laws.specs.SitesOf.{IsWorld, key_of, rules_in, site_of}
-use Rattle.lot_laws.specs.Solo.{EndsAlone, EndsBy, HasItsWay, locks_behind}
+use Rattle.lot_laws.specs.Solo.{EndsAlone, EndsBy, IsUnobstructed, locks_behind}
 use Rattle.lot_laws.proofs.calls.Begins.{begin_possible}
 use Rattle.lot_laws.proofs.machine.Parts.{IsSingle}
 use Rattle.lot_laws.proofs.alone.Rests.{ends_alone}
@@ -85,7 +85,7 @@ module _ (k : Kind) (v : ℕ) (w : State) (f : Passes k w Idle v) (c : Call) (he
   kind_there : kind_at w1 (lock_in c) ≡ k
   kind_there = ap (kind_at w1) here ∙ g.kind
 
-  way : HasItsWay w1 0
+  way : IsUnobstructed w1 0
   way l u m may has inside = absurd (let a : section_at w1 (key_of l m) ≡ None = ap (λ (x : State). section_at x (key_of l m)) leads ∙ outside (key_of l m) in
       let b : ◌≡◌ {A = Option ℕ} None (Some u) = sym a ∙ inside in cc)
 

@@ -18,7 +18,7 @@ use Rattle.steps_mutex.specs.declared.lock.LockAt.{LockAt}
 use Rattle.steps_mutex.specs.declared.lock.LockAt.TheVariants as lock
 use Rattle.core_base.specs.declared.wants.Want.TheVariants.{Exclusive}
 use Rattle.spec_locks.specs.Sites.{Has}
-use Rattle.lot_laws.specs.Stations.{doing_on}
+use Rattle.lot_laws.specs.Locations.{role_on}
 use Rattle.lot_steps.specs.declared.places.Place.{Place}
 use Rattle.lot_steps.specs.declared.places.Place.TheVariants as place
 use Rattle.lot_machine.specs.Fits.{IsOfItsKind, PlaceFits, is_once, is_semaphore}
@@ -215,8 +215,8 @@ counts_itself : (o : Option ℕ) (t : ℕ) → o ≡ Some t → 1 ≤ is_thread 
 counts_itself o t e = subst (λ x. 1 ≤ is_thread t x) (sym e) (grind (arith, nat_tests))
 
 owns_handed : (w : State) (t : ℕ) (e : Entry) (retries : Bool) (la : LockAt) → IsWorld w → place_at w t ≡ place.Mutex 0 (mutex.Lock e retries la) → OwnsHanded (mutex.Lock e retries la) (rights_of (lock_state w 0) t)
-owns_handed w t e retries (lock.Handed by) world is h = counts_itself (owners_at w 0).exclusive t ((world.steady.sites.site 0).held t (Has Exclusive) (ap (λ p. (doing_on p 0).claims) is))
-owns_handed w t e retries lock.Accept world is h = counts_itself (owners_at w 0).exclusive t ((world.steady.sites.site 0).held t (Has Exclusive) (ap (λ p. (doing_on p 0).claims) is))
+owns_handed w t e retries (lock.Handed by) world is h = counts_itself (owners_at w 0).exclusive t ((world.steady.sites.site 0).held t (Has Exclusive) (ap (λ p. (role_on p 0).claims) is))
+owns_handed w t e retries lock.Accept world is h = counts_itself (owners_at w 0).exclusive t ((world.steady.sites.site 0).held t (Has Exclusive) (ap (λ p. (role_on p 0).claims) is))
 owns_handed w t e retries lock.First world is h = absurd cc
 owns_handed w t e retries lock.Load world is h = absurd cc
 owns_handed w t e retries (lock.Decide seen) world is h = absurd cc

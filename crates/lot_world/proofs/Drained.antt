@@ -1,16 +1,16 @@
 -- A lock all of whose threads rest, and of which nobody owns anything, is empty.
 use Rattle.std.proofs.Common.{ℕ, false, Option, Some, None, ◌≡◌, List, [], ◌∷◌, inl, inr, refl, sym, ◌∙◌, ap}
 use Rattle.spec_locks.specs.Locks.{Pending, Queued, Rules, Sort, Mutex, Normal, Recursive, Taken}
-use Rattle.spec_locks.specs.Sites.{Doing, Site, IsSite, IsOpen, IsDebtor, counts_some}
+use Rattle.spec_locks.specs.Sites.{Role, Site, IsSite, IsOpen, IsDebtor, counts_some}
 use Rattle.lot_world.specs.Drained.{IsResting, OwnsNothing, Drains, RestingIsEmpty}
 
 -- a thread that rests looks after nobody
-no_debtor : (sort : Sort) (d : Doing) → IsResting d → IsDebtor sort d → ⊥
+no_debtor : (sort : Sort) (d : Role) → IsResting d → IsDebtor sort d → ⊥
 no_debtor sort d rest (inl e) = let f = rest.wakes in cc
 no_debtor sort d rest (inr (inl e)) = let f = rest.covers in cc
 no_debtor sort d rest (inr (inr e)) = absurd (let f : counts_some sort d.retries ≡ false = ap (counts_some sort) rest.retries in cc)
 
-module _ (r : Rules) (s : Site) (site : IsSite r s) (resting : (t : ℕ) → IsResting (s.doing t)) (none : OwnsNothing s.lock) where
+module _ (r : Rules) (s : Site) (site : IsSite r s) (resting : (t : ℕ) → IsResting (s.role t)) (none : OwnsNothing s.lock) where
   nobody_aside : (o : Option ℕ) → s.lock.aside ≡ o → s.lock.aside ≡ None
   nobody_aside None e = e
   nobody_aside (Some u) e = absurd (
@@ -39,7 +39,7 @@ module _ (r : Rules) (s : Site) (site : IsSite r s) (resting : (t : ℕ) → IsR
   nobody_queued is_open unfilled [] e = e
   nobody_queued is_open unfilled (x ∷ q) e = absurd (
       let debt = site.main (inl (λ h. let g : ◌≡◌ {A = List Queued} [] (x ∷ q) = sym h ∙ e in cc)) is_open unfilled in
-      no_debtor r.sort (s.doing debt.0) (resting debt.0) debt.1)
+      no_debtor r.sort (s.role debt.0) (resting debt.0) debt.1)
 
 pub resting_is_empty : RestingIsEmpty
 resting_is_empty r s site drains resting none unfilled =

@@ -8,16 +8,16 @@ use Rattle.lot_steps.specs.declared.places.Place.{Place}
 use Rattle.lot_steps.specs.declared.places.Place.TheVariants.{Idle}
 use Rattle.lot_steps.specs.Steps.{act_of, is_lock, next_place, profile}
 use Rattle.lot_machine.specs.Machine.{State, after, can_do, go_of, reply_to, is_possible, place_at, section_at, state_after_go}
-use Rattle.lot_laws.specs.Solo.{HasItsWay, IsUnderWay}
+use Rattle.lot_laws.specs.Solo.{IsUnobstructed, IsUnderWay}
 use Rattle.lot_laws.specs.SitesOf.{key_of}
-use Rattle.lot_laws.specs.Stations.{station, station_at}
+use Rattle.lot_laws.specs.Locations.{location, location_at}
 use Rattle.lot_laws.proofs.calls.OwnPlace.{gone_place}
 use Rattle.lot_laws.proofs.alone.Rests.{rests_alone}
 use Rattle.lot_world.specs.Second.{left_inside}
 use Rattle.lot_world.specs.Quiet.{IsDraining}
 use Rattle.lot_world.specs.Full.{IsStrict}
 use Rattle.lot_world.specs.Turns.{IsOrdered, NobodyInside, after_alone}
-use Rattle.lot_world.specs.Entry.{EntryLeaves, out_of_main, out_of_second, where_inside}
+use Rattle.lot_world.specs.Entry.{EntryLeaves, state_out_of_main, out_of_second, state_where_inside}
 use Rattle.lot_world.proofs.Quiet.{OnlyHere}
 use Rattle.lot_world.proofs.Turns.{here, never_closes, single_of, solo_keeps, solo_rests_there, stands_of, stands_there, stepped}
 use Rattle.lot_world.proofs.Outside.{OnlyInside, all_free, only_step, outside_at}
@@ -32,14 +32,14 @@ Outside w = IsDraining w × IsStrict w × (section_at w 1 ≡ None)
 same_thread : (a b : ℕ) → ◌≡◌ {A = Option ℕ} (Some a) (Some b) → a ≡ b
 same_thread a b e = cc
 
-inside_there : (p : Place) → OnlyHere p → (m : Line) → (station_at p 0).inside ≡ Some m → (profile p).doing.inside ≡ Some m
+inside_there : (p : Place) → OnlyHere p → (m : Line) → (location_at p 0).inside ≡ Some m → (profile p).role.inside ≡ Some m
 inside_there p (inl idle) m e = absurd (outside_at p (inl idle) (inl idle) m e)
 inside_there p (inr only) m e =
-    let own : station_at p 0 ≡ station p = rw (ap (is_lock 0) only.0) refl in
+    let own : location_at p 0 ≡ location p = rw (ap (is_lock 0) only.0) refl in
     sym (ap (λ x. x.inside) own) ∙ e
 
 module _ (w : State) (t : ℕ) (h : IsStrict w) (inside : section_at w 1 ≡ Some t) where
-  at_second : (profile (place_at w t)).doing.inside ≡ Some Second
+  at_second : (profile (place_at w t)).role.inside ≡ Some Second
   at_second = inside_there (place_at w t) (here w h.ordered t) Second ((h.ordered.world.steady.stands.sections t 0 Second).1 inside)
 
   busy : place_at w t ≢ Idle
@@ -84,7 +84,7 @@ second_left (suc n) w h strict few = by_inside (section_at w 1) refl (λ t. seco
   where
     by_inside : (o : Option ℕ) → section_at w 1 ≡ o
         → ((t : ℕ) → ((u : ℕ) → section_at (after w (go_of t)) 1 ≡ Some u → left_inside (place_at (after w (go_of t)) u) ≤ n) → Outside (out_of_second n (after w (go_of t))))
-        → Outside (where_inside o w (λ t. out_of_second n (after w (go_of t))))
+        → Outside (state_where_inside o w (λ t. out_of_second n (after w (go_of t))))
     by_inside None e more = (h, strict, e)
     by_inside (Some t) e more = more t
         (λ u now. subst (λ x. left_inside (place_at (after w (go_of t)) x) ≤ n) (sym (only_it w t strict e u now))
@@ -99,7 +99,7 @@ module _ (w : State) (t : ℕ) (h : IsOrdered w) (second : section_at w 1 ≡ No
   only (suc zero) = inl second
   only (suc (suc key)) = inl (past w h key)
 
-  standing : (station_at (place_at w t) 0).inside ≡ Some Main
+  standing : (location_at (place_at w t) 0).inside ≡ Some Main
   standing = (h.world.steady.stands.sections t 0 Main).1 inside
 
   under_way : IsUnderWay w t
@@ -109,7 +109,7 @@ module _ (w : State) (t : ℕ) (h : IsOrdered w) (second : section_at w 1 ≡ No
     never_closes (place_at w t) (here w h t),
   )
 
-  way : HasItsWay w t
+  way : IsUnobstructed w t
   way l u m may has within = elim (only (key_of l m)) [
     | inl none ↦ absurd (let g : ◌≡◌ {A = Option ℕ} None (Some u) = sym none ∙ within in cc)
     | inr mine ↦ same_thread u t (sym within ∙ mine)
@@ -122,7 +122,7 @@ module _ (w : State) (t : ℕ) (h : IsOrdered w) (second : section_at w 1 ≡ No
       (solo_rests_there t 64 w outcome.NotNow h (λ r. r) (rests_alone w t h.world.shaped h.world.steady h.world.counted h.world.condvars h.world.running under_way way))
       kept.only
 
-then_main : (w : State) → Outside w → IsDraining (out_of_main w) × IsStrict (out_of_main w) × NobodyInside (out_of_main w)
+then_main : (w : State) → Outside w → IsDraining (state_out_of_main w) × IsStrict (state_out_of_main w) × NobodyInside (state_out_of_main w)
 then_main w o = by_inside (section_at w 0) refl
   where
     free : section_at w 0 ≡ None → NobodyInside w
@@ -131,7 +131,7 @@ then_main w o = by_inside (section_at w 0) refl
     free e (suc (suc key)) = past w o.1.ordered key
 
     by_inside : (a : Option ℕ) → section_at w 0 ≡ a
-        → IsDraining (where_inside a w (after_alone w)) × IsStrict (where_inside a w (after_alone w)) × NobodyInside (where_inside a w (after_alone w))
+        → IsDraining (state_where_inside a w (after_alone w)) × IsStrict (state_where_inside a w (after_alone w)) × NobodyInside (state_where_inside a w (after_alone w))
     by_inside None e = (o.0, o.1, free e)
     by_inside (Some t) e =
         let kept = turns_keep_draining w t o.0 o.1 in

@@ -24,7 +24,7 @@ use Rattle.lot_machine.specs.Fits.{AllBelow, SameSize}
 use Rattle.lot_machine.proofs.Shape.{after_size}
 use Rattle.lot_laws.specs.Refinement.{call_at, call_state, lock_state, locks_of}
 use Rattle.lot_laws.specs.SitesOf.{key_of, rules_in, stood_in}
-use Rattle.lot_laws.specs.Stations.{station, station_at}
+use Rattle.lot_laws.specs.Locations.{location, location_at}
 use Rattle.lot_laws.proofs.sites.StandsKept.{in_main}
 use Rattle.lot_world.specs.Drained.{OneEach, counted}
 use Rattle.lot_world.specs.Few.{HasFew, IsFew, IsPlain, number}
@@ -102,17 +102,17 @@ module _ (w : State) (h : IsStrict w) where
   -- a thread in the main line owns nothing
   queued_none : (t : ℕ) → 1 ≤ times t (queue_at w (key_of 0 Main)) → counted s t ≡ 0
   queued_none t stands = elim (here w h.ordered t) [
-    | inl idle ↦ absurd (let e : stood_in (station_at Idle 0).stands Main ≡ 0 = refl in let f : times t (queue_at w (key_of 0 Main)) ≡ stood_in (station_at Idle 0).stands Main = lines ∙ ap (λ p. stood_in (station_at p 0).stands Main) idle in omega arith)
+    | inl idle ↦ absurd (let e : stood_in (location_at Idle 0).stands Main ≡ 0 = refl in let f : times t (queue_at w (key_of 0 Main)) ≡ stood_in (location_at Idle 0).stands Main = lines ∙ ap (λ p. stood_in (location_at p 0).stands Main) idle in omega arith)
     | inr only ↦
-        let own : station_at (place_at w t) 0 ≡ station (place_at w t) = rw (ap (is_lock 0) only.0) refl in
-        let main : (profile (place_at w t)).stands ≡ Some Main = sym (ap (λ x. x.stands) own) ∙ in_main (station_at (place_at w t) 0).stands (let l = lines in omega arith) in
+        let own : location_at (place_at w t) 0 ≡ location (place_at w t) = rw (ap (is_lock 0) only.0) refl in
+        let main : (profile (place_at w t)).stands ≡ Some Main = sym (ap (λ x. x.stands) own) ∙ in_main (location_at (place_at w t) 0).stands (let l = lines in omega arith) in
         let none : rights t 0 ≡ no_rights = queued_own_nothing (place_at w t) (rights t) only.1 only.0 main (began (place_at w t) (rights t) only.0 only.1 (h.ordered.few t)) in
         let a : slice_index s.shared t ≡ 0 = ap (λ (r : Rights). r.shared) none in
         let b : is_thread t s.upgradable ≡ 0 = ap (λ (r : Rights). r.upgradable) none in
         omega arith
   ]
     where
-      lines : times t (queue_at w (key_of 0 Main)) ≡ stood_in (station_at (place_at w t) 0).stands Main
+      lines : times t (queue_at w (key_of 0 Main)) ≡ stood_in (location_at (place_at w t) 0).stands Main
       lines = h.ordered.world.steady.stands.lines t 0 Main
 
   module _ (full : is_full (rules_in w 0) s ≡ true) where

@@ -15,7 +15,7 @@ use Rattle.steps_rwlock.specs.declared.places.RwLockAt.{RwLockAt}
 use Rattle.steps_rwlock.specs.declared.places.RwLockAt.TheVariants as at
 use Rattle.steps_rwlock.specs.declared.purposes.RwLockPurpose.{RwLockPurpose}
 use Rattle.steps_rwlock.specs.declared.purposes.RwLockPurpose.TheVariants as purpose
-use Rattle.steps_rwlock.specs.RwLockDeeds.{doing_at, again_of}
+use Rattle.steps_rwlock.specs.RwLockDeeds.{role_at, again_of}
 use Rattle.steps_rwlock_fair.specs.declared.places.RwLockCallPlace.TheVariants.{Plain, Glance, HandOver, Bump, Handed}
 use Rattle.steps_rwlock_fair.specs.declared.hand_over.HandOverAt.TheVariants as handing
 use Rattle.lot_steps.specs.declared.places.Place.{Place}
@@ -35,7 +35,7 @@ abbrev bump_at : ℕ → Admission → RwLockPurpose → Bool → RwLockAt → P
 bump_at l a q b to = RwLock l a (Bump (record { purpose = q; retries = b; at = to }))
 
 plain_falls : (w : State) (t l : ℕ) (a : Admission) (q : RwLockPurpose) (b : Bool) (to : RwLockAt) (again : Option Want)
-    → (doing_at again q to).inside ≡ Some Second → Falls w t (plain_at l a q b to)
+    → (role_at again q to).inside ≡ Some Second → Falls w t (plain_at l a q b to)
 plain_falls w t l a q b (at.Aside parking.Check) again h = (refl, omega arith, omega arith)
 plain_falls w t l a q b (at.Aside (parking.Leave true)) again h = (refl, omega arith, omega arith)
 plain_falls w t l a q b (at.Aside (parking.Leave false)) again h = (refl, omega arith, omega arith)
@@ -69,7 +69,7 @@ plain_falls w t l a q b at.RollBack again h = absurd cc
 plain_falls w t l a q b at.GiveWay again h = absurd cc
 
 bump_falls : (w : State) (t l : ℕ) (a : Admission) (q : RwLockPurpose) (b : Bool) (to : RwLockAt) (again : Option Want)
-    → (doing_at again q to).inside ≡ Some Second → Falls w t (bump_at l a q b to)
+    → (role_at again q to).inside ≡ Some Second → Falls w t (bump_at l a q b to)
 bump_falls w t l a q b (at.Aside parking.Check) again h = (refl, omega arith, omega arith)
 bump_falls w t l a q b (at.Aside (parking.Leave true)) again h = (refl, omega arith, omega arith)
 bump_falls w t l a q b (at.Aside (parking.Leave false)) again h = (refl, omega arith, omega arith)
@@ -105,7 +105,7 @@ bump_falls w t l a q b at.Marked again h = absurd cc
 bump_falls w t l a q b at.RollBack again h = absurd cc
 bump_falls w t l a q b at.GiveWay again h = absurd cc
 
-lock_never : (l : ℕ) (e : _) (retries : Bool) (to : LockAt) → (profile (Mutex l (mutex.Lock e retries to))).doing.inside ≡ Some Second → ⊥
+lock_never : (l : ℕ) (e : _) (retries : Bool) (to : LockAt) → (profile (Mutex l (mutex.Lock e retries to))).role.inside ≡ Some Second → ⊥
 lock_never l e retries lock.Check h = cc
 lock_never l e retries (lock.Leave parked) h = cc
 lock_never l e retries lock.Remove h = cc

@@ -24,12 +24,12 @@ use Rattle.lot_steps.specs.declared.places.Place.{Place}
 use Rattle.lot_steps.specs.declared.places.Place.TheVariants.{Idle, Mutex, RwLock, Once, Condvar, Semaphore}
 use Rattle.lot_steps.specs.Steps.{act_of, next_place}
 use Rattle.lot_machine.specs.Machine.{State, after, can_do, can_go, go_of, is_possible, kind_at, place_at, put, reply_to, state_after_act, state_after_go, state_after_going, unshared_then, word_at}
-use Rattle.lot_machine.specs.Fits.{IsShaped}
+use Rattle.lot_machine.specs.Fits.{IsWellFormed}
 use Rattle.lot_machine.proofs.Shape.{both}
 use Rattle.lot_laws.specs.Refinement.{taken_at}
 use Rattle.lot_laws.specs.MutexDeeds.{acts}
 use Rattle.lot_laws.specs.MutexDeeds as deeds
-use Rattle.lot_laws.specs.SitesOf.{AreCounted, FitsItsLock, Goes, IsSteady, is_mutex, rules_in, site_of}
+use Rattle.lot_laws.specs.SitesOf.{AreCounted, FitsItsLock, Goes, IsInductive, is_mutex, rules_in, site_of}
 use Rattle.lot_laws.proofs.hands.Kept.{claim_of, claims_given}
 use Rattle.lot_laws.proofs.hands.HandsOn.{hands_fails, hands_goes, hands_tell, whom}
 use Rattle.steps_base.specs.Moves.{claim_handed}
@@ -113,7 +113,7 @@ pub record Led (w v : State) (l : ℕ) : Type 0 where
   pub goes : Goes w v l ds
   pub one : HasOneCase ds
 
-module _ (w : State) (t l : ℕ) (a : Admission) (c : RwLockCallPlace) (steady : IsSteady w) (shape : IsShaped w)
+module _ (w : State) (t l : ℕ) (a : Admission) (c : RwLockCallPlace) (steady : IsInductive w) (shape : IsWellFormed w)
     (there : t < length w.places) (lt : l < length w.locks) (is : place_at w t ≡ RwLock l a c) (counted : AreCounted w) where
   abbrev leads : Act → State
   leads y = go_by w t (RwLock l a c) y

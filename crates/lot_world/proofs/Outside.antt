@@ -9,7 +9,7 @@ use Rattle.lot_steps.specs.declared.places.Place.TheVariants.{Idle}
 use Rattle.lot_steps.specs.Steps.{is_lock}
 use Rattle.lot_machine.specs.Machine.{State, after, go_of, place_at, section_at}
 use Rattle.lot_laws.specs.SitesOf.{key_of}
-use Rattle.lot_laws.specs.Stations.{station, station_at}
+use Rattle.lot_laws.specs.Locations.{location, location_at}
 use Rattle.lot_world.proofs.Sleepers.{sleepers_rest}
 use Rattle.lot_world.specs.Quiet.{AtRest}
 use Rattle.lot_world.specs.Turns.{EachTurnLeaves, IsOrdered, NobodyInside, after_alone}
@@ -34,11 +34,11 @@ only_step t w h = record {
 }
 
 -- a thread that rests is inside nowhere
-pub outside_at : (p : Place) → OnlyHere p → AtRest p → (m : Line) → (station_at p 0).inside ≡ Some m → ⊥
-outside_at p only (inl idle) m e = let f : (station_at Idle 0).inside ≡ Some m = subst (λ q. (station_at q 0).inside ≡ Some m) idle e in let g : ◌≡◌ {A = Option Line} None (Some m) = f in cc
-outside_at p (inl idle) (inr asleep) m e = let f : (station_at Idle 0).inside ≡ Some m = subst (λ q. (station_at q 0).inside ≡ Some m) idle e in let g : ◌≡◌ {A = Option Line} None (Some m) = f in cc
+pub outside_at : (p : Place) → OnlyHere p → AtRest p → (m : Line) → (location_at p 0).inside ≡ Some m → ⊥
+outside_at p only (inl idle) m e = let f : (location_at Idle 0).inside ≡ Some m = subst (λ q. (location_at q 0).inside ≡ Some m) idle e in let g : ◌≡◌ {A = Option Line} None (Some m) = f in cc
+outside_at p (inl idle) (inr asleep) m e = let f : (location_at Idle 0).inside ≡ Some m = subst (λ q. (location_at q 0).inside ≡ Some m) idle e in let g : ◌≡◌ {A = Option Line} None (Some m) = f in cc
 outside_at p (inr only) (inr asleep) m e =
-    let own : station_at p 0 ≡ station p = rw (ap (is_lock 0) only.0) refl in
+    let own : location_at p 0 ≡ location p = rw (ap (is_lock 0) only.0) refl in
     let g : ◌≡◌ {A = Option Line} None (Some m) = sym (sleepers_rest p only.1 asleep).1 ∙ sym (ap (λ x. x.inside) own) ∙ e in cc
 
 module _ (w : State) (t : ℕ) (h : IsOrdered w) (rest : AtRest (place_at w t)) (only : (key : ℕ) → (section_at w key ≡ None) ⊎ (section_at w key ≡ Some t)) where

@@ -30,7 +30,7 @@ use Rattle.lot_machine.specs.Fits.{SameSize}
 use Rattle.lot_machine.proofs.Acted.{acted_keeps}
 use Rattle.lot_machine.proofs.Shape.{after_shaped, after_size}
 use Rattle.lot_laws.specs.SitesOf.{key_of}
-use Rattle.lot_laws.specs.Stations.{station, station_at}
+use Rattle.lot_laws.specs.Locations.{location, location_at}
 use Rattle.lot_laws.proofs.condvar.StepsKeep.{after_condvars}
 use Rattle.lot_laws.proofs.hands.CountsKept.{counted_after}
 use Rattle.lot_laws.proofs.machine.Parts.{IsSingle, nothing_at}
@@ -104,23 +104,23 @@ module _ (k : Kind) (w : State) (p : Place) (v : ℕ) (f : Passes k w p v) where
   by_hand n e x is step more = goes_on n e _ _ _ step (hand_comes w 0 0 p v no_lines f.alone x is) more
 
   -- outside of its section it finds it free, since all others are in no call
-  free_main : (station p).inside ≡ None → section_at w 0 ≡ None
+  free_main : (location p).inside ≡ None → section_at w 0 ≡ None
   free_main outside = by_who (section_at w 0) refl
     where
-      none_inside : (u : ℕ) (q : Place) → place_at w u ≡ q → IsSingle q → (station q).inside ≡ None → (station_at (place_at w u) 0).inside ≡ None
-      none_inside u q is single out = nothing_at (place_at w u) 0 (subst IsSingle (sym is) single) (λ x. x.inside) refl (ap (λ x. (station x).inside) is ∙ out)
+      none_inside : (u : ℕ) (q : Place) → place_at w u ≡ q → IsSingle q → (location q).inside ≡ None → (location_at (place_at w u) 0).inside ≡ None
+      none_inside u q is single out = nothing_at (place_at w u) 0 (subst IsSingle (sym is) single) (λ x. x.inside) refl (ap (λ x. (location x).inside) is ∙ out)
 
-      out_there : (u : ℕ) → (station_at (place_at w u) 0).inside ≡ None
+      out_there : (u : ℕ) → (location_at (place_at w u) 0).inside ≡ None
       out_there zero = none_inside 0 p f.alone.place f.alone.single outside
       out_there (suc u) = none_inside (suc u) Idle (f.others (suc u) (λ h. omega arith)) tt refl
 
       by_who : (who : Option ℕ) → section_at w 0 ≡ who → section_at w 0 ≡ None
       by_who None e = e
-      by_who (Some u) e = absurd (let within : (station_at (place_at w u) 0).inside ≡ Some Main = (f.alone.steady.stands.sections u 0 Main).1 e in
-          let out : (station_at (place_at w u) 0).inside ≡ None = out_there u in cc)
+      by_who (Some u) e = absurd (let within : (location_at (place_at w u) 0).inside ≡ Some Main = (f.alone.steady.stands.sections u 0 Main).1 e in
+          let out : (location_at (place_at w u) 0).inside ≡ None = out_there u in cc)
 
   -- into the section of the main line
-  pub into : (n : ℕ) (e : ℕ) → act_of p ≡ act.Enter (One 0) → (station p).inside ≡ None → outcome_of (next_act p Done) ≡ outcome.Step
+  pub into : (n : ℕ) (e : ℕ) → act_of p ≡ act.Enter (One 0) → (location p).inside ≡ None → outcome_of (next_act p Done) ≡ outcome.Step
       → (Passes k (after w (go_of 0)) (next_place p Done) v → LeadsSurely n (after w (go_of 0)) 0 (Ended k e))
       → LeadsSurely (n + 1) w 0 (Ended k e)
   into n e is outside step more = goes_on n e _ _ _ step (enter_comes w 0 0 p v no_lines f.alone Main is (free_main outside)) more

@@ -17,7 +17,7 @@ use Rattle.lot_machine.specs.Machine.{State, place_at, queue_at}
 use Rattle.lot_machine.specs.Fits.{PlaceFits}
 use Rattle.lot_laws.specs.Refinement.{call_state, lock_state}
 use Rattle.lot_laws.specs.SitesOf.{FitsItsLock, key_of, rules_in, site_of, stood_in}
-use Rattle.lot_laws.specs.Stations.{doing_on, station, station_at}
+use Rattle.lot_laws.specs.Locations.{role_on, location, location_at}
 use Rattle.lot_world.specs.Drained.{Drains, IsEmptied, IsResting, OwnsNothing, as_now}
 use Rattle.lot_world.specs.Few.{HasFew}
 use Rattle.lot_world.proofs.Drained.{resting_is_empty}
@@ -103,20 +103,20 @@ module _ (w : State) (draining : IsDraining w) (quiet : IsQuiet w) where
     ]
   ]
 
-  station_here : (t : ℕ) → Sleeps t → station_at (place_at w t) 0 ≡ station (place_at w t)
-  station_here t h = rw (calls_here (place_at w t) h.of) refl
+  location_here : (t : ℕ) → Sleeps t → location_at (place_at w t) 0 ≡ location (place_at w t)
+  location_here t h = rw (calls_here (place_at w t) h.of) refl
 
-  resting : (t : ℕ) → IsResting (doing_on (place_at w t) 0)
+  resting : (t : ℕ) → IsResting (role_on (place_at w t) 0)
   resting t = elim (idle_or t) [
-    | inl idle ↦ subst (λ p. IsResting (doing_on p 0)) (sym idle) (record { wakes = refl; carries = refl; covers = refl; retries = refl })
-    | inr h ↦ subst IsResting (sym (let e : doing_on (place_at w t) 0 ≡ (profile (place_at w t)).doing = rw (calls_here (place_at w t) h.of) refl in e)) (sleepers_rest (place_at w t) h.stands h.asleep).0
+    | inl idle ↦ subst (λ p. IsResting (role_on p 0)) (sym idle) (record { wakes = refl; carries = refl; covers = refl; retries = refl })
+    | inr h ↦ subst IsResting (sym (let e : role_on (place_at w t) 0 ≡ (profile (place_at w t)).role = rw (calls_here (place_at w t) h.of) refl in e)) (sleepers_rest (place_at w t) h.stands h.asleep).0
   ]
 
   -- nobody has anybody in hand
-  no_carrier : (t : ℕ) (b : Bool) → (station_at (place_at w t) 0).carries ≡ Some b → ⊥
+  no_carrier : (t : ℕ) (b : Bool) → (location_at (place_at w t) 0).carries ≡ Some b → ⊥
   no_carrier t b e = elim (idle_or t) [
-    | inl idle ↦ let f : (station_at Idle 0).carries ≡ Some b = subst (λ p. (station_at p 0).carries ≡ Some b) idle e in let g : ◌≡◌ {A = Option Bool} None (Some b) = f in cc
-    | inr h ↦ let row = sleepers_stand (place_at w t) h.stands h.asleep in let g : ◌≡◌ {A = Option Bool} None (Some b) = sym row.carries ∙ sym (ap (λ x. x.carries) (station_here t h)) ∙ e in cc
+    | inl idle ↦ let f : (location_at Idle 0).carries ≡ Some b = subst (λ p. (location_at p 0).carries ≡ Some b) idle e in let g : ◌≡◌ {A = Option Bool} None (Some b) = f in cc
+    | inr h ↦ let row = sleepers_stand (place_at w t) h.stands h.asleep in let g : ◌≡◌ {A = Option Bool} None (Some b) = sym row.carries ∙ sym (ap (λ x. x.carries) (location_here t h)) ∙ e in cc
   ]
 
   -- so who sleeps stands in a line
@@ -125,7 +125,7 @@ module _ (w : State) (draining : IsDraining w) (quiet : IsQuiet w) where
     | inl main ↦ inl main
     | inr more ↦ elim more [
       | inl second ↦ inr second
-      | inr held ↦ absurd (no_carrier held.0 held.1 (draining.world.steady.stands.hands.taken held.0 t 0 held.1 (ap (λ x. x.hand) (station_here t h) ∙ held.2)))
+      | inr held ↦ absurd (no_carrier held.0 held.1 (draining.world.steady.stands.hands.taken held.0 t 0 held.1 (ap (λ x. x.hand) (location_here t h) ∙ held.2)))
     ]
   ]
 
@@ -161,10 +161,10 @@ module _ (w : State) (draining : IsDraining w) (quiet : IsQuiet w) where
 
   -- how often it stands there
   stands_aside : (t : ℕ) → Sleeps t → (profile (place_at w t)).stands ≡ Some Second → times t (queue_at w (key_of 0 Second)) ≡ 1
-  stands_aside t h second = draining.world.steady.stands.lines t 0 Second ∙ ap (λ x. stood_in x Second) (ap (λ x. x.stands) (station_here t h) ∙ second)
+  stands_aside t h second = draining.world.steady.stands.lines t 0 Second ∙ ap (λ x. stood_in x Second) (ap (λ x. x.stands) (location_here t h) ∙ second)
 
   stands_main : (t : ℕ) → Sleeps t → (profile (place_at w t)).stands ≡ Some Main → times t (queue_at w (key_of 0 Main)) ≡ 1
-  stands_main t h main = draining.world.steady.stands.lines t 0 Main ∙ ap (λ x. stood_in x Main) (ap (λ x. x.stands) (station_here t h) ∙ main)
+  stands_main t h main = draining.world.steady.stands.lines t 0 Main ∙ ap (λ x. stood_in x Main) (ap (λ x. x.stands) (location_here t h) ∙ main)
 
   somebody_aside : (o : Option Pending) → s.pending ≡ o → s.pending ≢ None → s.aside ≢ None
   somebody_aside None e some away = some e

@@ -7,7 +7,7 @@ use Rattle.lot_machine.specs.Machine.{State, after, after_steps, go_of, kind_at,
 use Rattle.lot_machine.specs.Fits.{SameSize}
 use Rattle.lot_machine.proofs.Shape.{after_size}
 use Rattle.lot_laws.specs.SitesOf.{IsWorld, key_of}
-use Rattle.lot_laws.specs.Stations.{station_at}
+use Rattle.lot_laws.specs.Locations.{location_at}
 use Rattle.lot_world.specs.Course.{left_in}
 use Rattle.lot_world.specs.Drains.{IsDrain, IsDrainable, IsDrained}
 use Rattle.lot_world.specs.DrainLaws.{SchedulesDrain}
@@ -78,8 +78,8 @@ module _ (w : State) (world : IsWorld w) (h : IsDrainable w) where
     where
       by_thread : (o : Option ℕ) → section_at w (key_of 0 m) ≡ o → section_at w (key_of 0 m) ≡ None
       by_thread None e = e
-      by_thread (Some t) e = absurd (let a : (station_at (place_at w t) 0).inside ≡ Some m = (world.steady.stands.sections t 0 m).1 e in
-          let b : (station_at Idle 0).inside ≡ Some m = subst (λ p. (station_at p 0).inside ≡ Some m) (over.over.idle t) a in
+      by_thread (Some t) e = absurd (let a : (location_at (place_at w t) 0).inside ≡ Some m = (world.steady.stands.sections t 0 m).1 e in
+          let b : (location_at Idle 0).inside ≡ Some m = subst (λ p. (location_at p 0).inside ≡ Some m) (over.over.idle t) a in
           let c : ◌≡◌ {A = Option Line} None (Some m) = b in cc)
 
   no_steps : IsDrained w → schedule_of w ≡ []

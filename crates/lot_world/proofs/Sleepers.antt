@@ -4,7 +4,7 @@ use Rattle.std.proofs.lemmas.Bool.Decides.{nat_tests}
 use Rattle.spec_locks.specs.Codes.{has_aside}
 use Rattle.spec_locks.specs.Locks.{Rights, putting, with_right}
 use Rattle.spec_locks.specs.Runs.{no_rights, one_more_at}
-use Rattle.spec_locks.specs.Sites.{Doing}
+use Rattle.spec_locks.specs.Sites.{Role}
 use Rattle.core_base.specs.declared.keys.Line.TheVariants.{Main, Second}
 use Rattle.core_base.specs.declared.wants.Want.{Want}
 use Rattle.core_base.specs.declared.wants.Want.TheVariants.{Exclusive, Upgradable, Shared, Wait, CallOnce}
@@ -28,7 +28,7 @@ use Rattle.steps_rwlock.specs.declared.purposes.RwLockPurpose.{RwLockPurpose}
 use Rattle.steps_rwlock.specs.declared.purposes.RwLockPurpose.TheVariants as purpose
 use Rattle.steps_rwlock.specs.RwLockSteps.{act_at, decided, wanted}
 use Rattle.steps_rwlock.specs.RwLockCalls.{StandsAt}
-use Rattle.steps_rwlock.specs.RwLockDeeds.{doing_at, again_of}
+use Rattle.steps_rwlock.specs.RwLockDeeds.{role_at, again_of}
 use Rattle.steps_rwlock.specs.RwLockProfiles.{stands_at}
 use Rattle.steps_rwlock.specs.RwLockProfiles as rows
 use Rattle.steps_rwlock_fair.specs.FairCalls.{IsOfBump}
@@ -42,13 +42,13 @@ use Rattle.lot_world.specs.Drained.{IsResting}
 use Rattle.lot_world.proofs.Waits.{decided_sleeps, either_sleeps, hand_off_wakes, handing_wakes, unlock_wakes}
 use Rattle.lot_world.specs.Sleepers.{BeganWithFew, PendingOwnNothing, SleepersOwnNothing, SleepersRest, SleepersStand, StandsSomewhere, without_pending}
 
-abbrev RestsOutside : Doing → Type 0
+abbrev RestsOutside : Role → Type 0
 RestsOutside d = IsResting d × (d.inside ≡ None)
 
 -- ---------------------------------------------------------------- places of a mutex
 
 lock_rests : (l : ℕ) (e : Entry) (retries : Bool) (to : LockAt) → steps.lock_act l to ≡ act.Sleep
-    → RestsOutside (profile (Mutex l (mutex.Lock e retries to))).doing
+    → RestsOutside (profile (Mutex l (mutex.Lock e retries to))).role
 lock_rests l e retries lock.Asleep h = (record { wakes = refl; carries = refl; covers = refl; retries = refl }, refl)
 lock_rests l e retries (lock.Taken by) h = (record { wakes = refl; carries = refl; covers = refl; retries = refl }, refl)
 lock_rests l e retries (lock.Handed by) h = (record { wakes = refl; carries = refl; covers = refl; retries = refl }, refl)
@@ -69,7 +69,7 @@ lock_rests l e retries lock.GiveUp h = absurd cc
 
 rwlock_rests : (l : ℕ) (a : Admission) (q : RwLockPurpose) (b : Bool) (to : RwLockAt)
     → act_at l a (record { purpose = q; retries = b; at = to }) to ≡ act.Sleep
-    → (again : Option Want) → RestsOutside (doing_at again q to)
+    → (again : Option Want) → RestsOutside (role_at again q to)
 rwlock_rests l a q b (at.Park parking.Asleep) h again = (record { wakes = refl; carries = refl; covers = refl; retries = refl }, refl)
 rwlock_rests l a q b (at.Park (parking.Taken by)) h again = (record { wakes = refl; carries = refl; covers = refl; retries = refl }, refl)
 rwlock_rests l a q b (at.Aside parking.Asleep) h again = (record { wakes = refl; carries = refl; covers = refl; retries = refl }, refl)
@@ -103,7 +103,7 @@ accept_wakes l access.Shared h = cc
 accept_wakes l access.Upgradable h = cc
 
 handed_rests : (l : ℕ) (a : Admission) (x : Access) (how : Patience) (b : Bool) (to : HandedAt)
-    → act_of (RwLock l a (Handed x how b to)) ≡ act.Sleep → RestsOutside (profile (RwLock l a (Handed x how b to))).doing
+    → act_of (RwLock l a (Handed x how b to)) ≡ act.Sleep → RestsOutside (profile (RwLock l a (Handed x how b to))).role
 handed_rests l a x how b (handed.Asleep by alone) h = (record { wakes = refl; carries = refl; covers = refl; retries = refl }, refl)
 handed_rests l a x how b handed.Accept h = absurd (accept_wakes l x h)
 

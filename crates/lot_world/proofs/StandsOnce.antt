@@ -10,7 +10,7 @@ use Rattle.lot_steps.specs.declared.places.Place.TheVariants as place
 use Rattle.lot_machine.specs.Copies.{StandOnce}
 use Rattle.lot_machine.specs.Machine.{State, kind_at, place_at, queue_at}
 use Rattle.lot_laws.specs.SitesOf.{IsWorld, stood_in}
-use Rattle.lot_laws.specs.Stations.{Station, nowhere, station, station_at}
+use Rattle.lot_laws.specs.Locations.{Location, nowhere, location, location_at}
 use Rattle.lot_world.specs.Drains.{HasOneLock}
 use Rattle.lot_world.proofs.DrainableTells.{IsOfOwners, of_owners}
 
@@ -48,7 +48,7 @@ stood_other (Some Second) Second Second h ne = absurd (ne refl)
 stood_other (Some Second) Second Main h ne = refl
 stood_other (Some Second) Main n h ne = absurd (omega (arith, h))
 
-gone : (b : Bool) (s : Station) (m : Line) → b ≡ false → stood_in (cond b s nowhere).stands m ≡ 0
+gone : (b : Bool) (s : Location) (m : Line) → b ≡ false → stood_in (cond b s nowhere).stands m ≡ 0
 gone true s m h = absurd cc
 gone false s m h = refl
 
@@ -56,12 +56,12 @@ not_first : (l : ℕ) → (0 == suc l) ≡ false
 not_first l = ne_eqb 0 (suc l) (λ e. omega (arith, e))
 
 -- nobody stands at a lock that isn't there
-stands_there : (p : Place) (l : ℕ) (m : Line) → IsOfOwners p → 1 ≤ stood_in (station_at p l).stands m → l ≡ 0
+stands_there : (p : Place) (l : ℕ) (m : Line) → IsOfOwners p → 1 ≤ stood_in (location_at p l).stands m → l ≡ 0
 stands_there p zero m h there = refl
 stands_there place.Idle (suc l) m h there = absurd (omega (arith, there))
-stands_there (place.Mutex zero a) (suc l) m h there = let none = gone (0 == suc l) (station (place.Mutex 0 a)) m (not_first l) in absurd (omega (arith, none, there))
+stands_there (place.Mutex zero a) (suc l) m h there = let none = gone (0 == suc l) (location (place.Mutex 0 a)) m (not_first l) in absurd (omega (arith, none, there))
 stands_there (place.Mutex (suc k) a) (suc l) m h there = absurd (omega (arith, h))
-stands_there (place.RwLock zero a c) (suc l) m h there = let none = gone (0 == suc l) (station (place.RwLock 0 a c)) m (not_first l) in absurd (omega (arith, none, there))
+stands_there (place.RwLock zero a c) (suc l) m h there = let none = gone (0 == suc l) (location (place.RwLock 0 a c)) m (not_first l) in absurd (omega (arith, none, there))
 stands_there (place.RwLock (suc k) a c) (suc l) m h there = absurd (omega (arith, h))
 stands_there (place.Once k o) (suc l) m h there = absurd h
 stands_there (place.Semaphore k o) (suc l) m h there = absurd h
@@ -77,11 +77,11 @@ stand_once w world single = record { once = once; nowhere_else = nowhere_else }
     own : (t : ℕ) → IsOfOwners (place_at w t)
     own t = of_owners (length w.locks) (kind_at w) (place_at w t) single.one single.sort (world.shaped.places t) (world.shaped.kinds t)
 
-    counted : (t key : ℕ) → let k = key_at key in times t (queue_at w key) ≡ stood_in (station_at (place_at w t) k.lock).stands k.line
+    counted : (t key : ℕ) → let k = key_at key in times t (queue_at w key) ≡ stood_in (location_at (place_at w t) k.lock).stands k.line
     counted t key = let k = key_at key in ap (λ n. times t (queue_at w n)) k.is ∙ world.steady.stands.lines t k.lock k.line
 
     once : (t key : ℕ) → times t (queue_at w key) ≤ 1
-    once t key = let k = key_at key in subst (λ n. n ≤ 1) (sym (counted t key)) (stood_once (station_at (place_at w t) k.lock).stands k.line)
+    once t key = let k = key_at key in subst (λ n. n ≤ 1) (sym (counted t key)) (stood_once (location_at (place_at w t) k.lock).stands k.line)
 
     nowhere_else : (t key other : ℕ) → 1 ≤ times t (queue_at w key) → other ≢ key → times t (queue_at w other) ≡ 0
     nowhere_else t key other there ne = none_if (times t (queue_at w other)) (λ twice. both twice)
@@ -95,8 +95,8 @@ stand_once w world single = record { once = once; nowhere_else = nowhere_else }
             let also = subst (λ n. 1 ≤ n) (counted t other) twice in
             let first : k.lock ≡ 0 = stands_there p k.lock k.line (own t) here in
             let second : o.lock ≡ 0 = stands_there p o.lock o.line (own t) also in
-            let at_first = subst (λ l. 1 ≤ stood_in (station_at p l).stands k.line) first here in
-            let at_second = subst (λ l. 1 ≤ stood_in (station_at p l).stands o.line) second also in
+            let at_first = subst (λ l. 1 ≤ stood_in (location_at p l).stands k.line) first here in
+            let at_second = subst (λ l. 1 ≤ stood_in (location_at p l).stands o.line) second also in
             let other_line : o.line ≢ k.line = λ e. ne (o.is ∙ ap (λ l. key_of l o.line) second ∙ ap (key_of 0) e ∙ sym (k.is ∙ ap (λ l. key_of l k.line) first)) in
-            let none = stood_other (station_at p 0).stands k.line o.line at_first other_line in
+            let none = stood_other (location_at p 0).stands k.line o.line at_first other_line in
             omega (arith, none, at_second)

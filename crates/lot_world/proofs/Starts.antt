@@ -11,7 +11,7 @@ use Rattle.lot_steps.specs.Steps.{is_lock, lock_of, profile}
 use Rattle.lot_machine.specs.Machine.{State, filled_at, place_at}
 use Rattle.lot_laws.specs.Refinement.{call_at, call_state, lock_state}
 use Rattle.lot_laws.specs.SitesOf.{IsWorld, rules_in, site_of}
-use Rattle.lot_laws.specs.Stations.{doing_on}
+use Rattle.lot_laws.specs.Locations.{role_on}
 use Rattle.lot_world.specs.Drained.{as_now}
 use Rattle.lot_world.specs.Few.{HadNone, HasFew, HasNoneBefore, IsFew, PendsInCall, number}
 use Rattle.lot_world.proofs.Few.{rights_are}
@@ -36,7 +36,7 @@ same_purpose p q e = cc
 
 -- by the place
 begun_at : (p : Place) (rights : ℕ → Rights) → OnlyHere p → IsFew (rights 0)
-    → (lock_of p ≡ Some 0 → IsJust (profile p).doing.claims (rights 0))
+    → (lock_of p ≡ Some 0 → IsJust (profile p).role.claims (rights 0))
     → HasNoneBefore (call_state p rights) → PendsInCall (call_state p rights).purpose (rights 0)
     → Begun (call_state p rights) (rights 0)
 begun_at Idle rights only few just had none =
@@ -87,13 +87,13 @@ module _ (w : State) (world : IsWorld w) (h : IsDrainable w) where
   abbrev rights : (t l : ℕ) → Rights
   rights t l = rights_of (lock_state w l) t
 
-  just : (t : ℕ) → lock_of (place_at w t) ≡ Some 0 → IsJust (profile (place_at w t)).doing.claims (rights t 0)
-  just t of = by_claim (profile (place_at w t)).doing.claims refl
+  just : (t : ℕ) → lock_of (place_at w t) ≡ Some 0 → IsJust (profile (place_at w t)).role.claims (rights t 0)
+  just t of = by_claim (profile (place_at w t)).role.claims refl
     where
-      here : doing_on (place_at w t) 0 ≡ (profile (place_at w t)).doing
+      here : role_on (place_at w t) 0 ≡ (profile (place_at w t)).role
       here = rw (ap (is_lock 0) of) refl
 
-      by_claim : (o : Option Claim) → (profile (place_at w t)).doing.claims ≡ o → IsJust o (rights t 0)
+      by_claim : (o : Option Claim) → (profile (place_at w t)).role.claims ≡ o → IsJust o (rights t 0)
       by_claim None e = tt
       by_claim (Some c) e = just_that s t c ((world.steady.sites.site 0).held t c (ap (λ d. d.claims) here ∙ e)) (h.few t)
 

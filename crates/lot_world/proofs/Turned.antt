@@ -119,7 +119,7 @@ second_out (suc n) w d draining strict h = by_inside (section_at d.state 1) refl
   where
     by_inside : (o : Option ℕ) → section_at d.state 1 ≡ o
         → ((t : ℕ) → HasCome w (one_more d (go_of t)) → IsOut w n (one_more d (go_of t)) (out_of_second n (one_more d (go_of t))) (before.out_of_second n (after d.state (go_of t))))
-        → IsOut w (suc n) d (where_inside o d (λ t. out_of_second n (one_more d (go_of t)))) (before.where_inside o d.state (λ t. before.out_of_second n (after d.state (go_of t))))
+        → IsOut w (suc n) d (where_inside o d (λ t. out_of_second n (one_more d (go_of t)))) (before.state_where_inside o d.state (λ t. before.out_of_second n (after d.state (go_of t))))
     by_inside None e more = record { gone = stays w (suc n) d h; led = refl }
     by_inside (Some t) e more =
         let one = goes_one w d (go_of t) h (go_possible d.state t (possible d.state t strict e)) in
@@ -129,10 +129,10 @@ second_out (suc n) w d draining strict h = by_inside (section_at d.state 1) refl
           led = rest.led;
         }
 
-main_out : (w : State) (d : Progress) → HasCome w d → IsOut w 64 d (out_of_main d) (before.out_of_main d.state)
+main_out : (w : State) (d : Progress) → HasCome w d → IsOut w 64 d (out_of_main d) (before.state_out_of_main d.state)
 main_out w d h = by_inside (section_at d.state 0)
   where
-    by_inside : (o : Option ℕ) → IsOut w 64 d (where_inside o d (go_alone d)) (before.where_inside o d.state (after_alone d.state))
+    by_inside : (o : Option ℕ) → IsOut w 64 d (where_inside o d (go_alone d)) (before.state_where_inside o d.state (after_alone d.state))
     by_inside None = record { gone = stays w 64 d h; led = refl }
     by_inside (Some t) = record { gone = alone_goes w 64 d t h; led = alone_state 64 d t outcome.NotNow }
 
@@ -144,7 +144,7 @@ pub enters : (w : State) (d : Progress) → IsDraining d.state → IsStrict d.st
 enters w d draining strict h =
     let second = second_out 3 w d draining strict h in
     let main = main_out w (out_of_second 3 d) second.gone.come in
-    let led : before.entry d.state ≡ (out_of_main (out_of_second 3 d)).state = sym (main.led ∙ ap before.out_of_main second.led) in
+    let led : before.entry d.state ≡ (out_of_main (out_of_second 3 d)).state = sym (main.led ∙ ap before.state_out_of_main second.led) in
     let leaves = entry_leaves d.state draining strict in
     record {
       gone = goes_then w 3 64 d (out_of_second 3 d) (out_of_main (out_of_second 3 d)) second.gone main.gone;

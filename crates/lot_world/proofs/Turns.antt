@@ -22,7 +22,7 @@ use Rattle.lot_machine.specs.Machine.{State, after, alone_after, go_of, go_reply
 use Rattle.lot_machine.specs.Fits.{SameSize}
 use Rattle.lot_machine.proofs.Shape.{after_size, both}
 use Rattle.lot_laws.specs.Refinement.{call_state, lock_state, locks_of, runs_closure, sleeps}
-use Rattle.lot_laws.specs.Solo.{HasItsWay, IsUnderWay, Rests}
+use Rattle.lot_laws.specs.Solo.{IsUnobstructed, IsUnderWay, Rests}
 use Rattle.lot_laws.specs.SitesOf.{key_of}
 use Rattle.lot_laws.specs.Promises.{IsKept}
 use Rattle.lot_laws.proofs.machine.Befallen.{others_keep_it}
@@ -334,7 +334,7 @@ module _ (w : State) (t : ℕ) (h : IsOrdered w) (outside : NobodyInside w) (up 
     never_closes (place_at w t) (here w h t),
   )
 
-  way : HasItsWay w t
+  way : IsUnobstructed w t
   way l u m may has inside = absurd (let f = outside (key_of l m) in let g : ◌≡◌ {A = Option ℕ} None (Some u) = sym f ∙ inside in cc)
 
   pub rests : AtRest (place_at led t)

@@ -23,7 +23,7 @@ IsJust (Some Ran) r = Unit {0}
 abbrev pub PlacesBegan : Type 0
 PlacesBegan =
     (p : Place) (rights : ℕ → Rights) → MayStandAt p → lock_of p ≡ Some 0 → IsFew (rights 0)
-    → IsJust (profile p).doing.claims (rights 0)
+    → IsJust (profile p).role.claims (rights 0)
     → HadNone ((profile p).purpose 0) (profile p).released ((profile p).former 0 rights 0)
     → PendsInCall (Some ((profile p).purpose 0)) (rights 0)
     → BeganWithFew 0 p rights × ReleasesOne p rights

@@ -2,10 +2,10 @@
 -- loop.
 use Rattle.std.specs.Prelude.{ℕ, true, false, Some, None, ◌≡◌, ◌≢◌, ◌≤◌, ◌<◌, ◌+◌, [], length, slice_index}
 use Rattle.spec_locks.specs.Locks.{LockState, Rules, Sort, Mutex, Normal, Recursive, Semaphore, Once, Condvar, is_thread, readers}
-use Rattle.spec_locks.specs.Sites.{Doing, Site, IsSite, is_full, after_deed, Needed, Deed}
+use Rattle.spec_locks.specs.Sites.{Role, Site, IsSite, is_full, after_deed, Needed, Deed}
 
 -- a thread that is in no call, or sleeps: it is to wake nobody, has nobody in hand, and wasn't woken
-pub record IsResting (d : Doing) : Type 0 where
+pub record IsResting (d : Role) : Type 0 where
   pub wakes : d.wakes ≡ None
   pub carries : d.carries ≡ false
   pub covers : d.covers ≡ false
@@ -36,7 +36,7 @@ Drains Condvar = ⊥
 
 abbrev pub RestingIsEmpty : Type 0
 RestingIsEmpty =
-    (r : Rules) (s : Site) → IsSite r s → Drains r.sort → ((t : ℕ) → IsResting (s.doing t))
+    (r : Rules) (s : Site) → IsSite r s → Drains r.sort → ((t : ℕ) → IsResting (s.role t))
     → OwnsNothing s.lock → s.filled ≡ false
     → IsEmptied s.lock
 

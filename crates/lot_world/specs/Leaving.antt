@@ -10,6 +10,6 @@ use Rattle.lot_world.specs.Waits.{MayStandAt}
 -- it may go on, and has fewer steps left there
 abbrev pub LeavesSecond : Type 0
 LeavesSecond =
-    (w : State) (t : ℕ) (p : Place) → MayStandAt p → (profile p).doing.inside ≡ Some Second
+    (w : State) (t : ℕ) (p : Place) → MayStandAt p → (profile p).role.inside ≡ Some Second
     → (can_do w (act_of p) ≡ true)
     × (left_inside (next_place p (reply_to w t (act_of p))) < left_inside p) × (left_inside p ≤ 3)

@@ -18,7 +18,7 @@ pub use Rattle.lot_laws.specs.Fair
 pub use Rattle.lot_laws.specs.Owing
 pub use Rattle.lot_laws.specs.WorldRuns
 pub use Rattle.lot_laws.specs.Solo
-pub use Rattle.lot_laws.specs.Stations
+pub use Rattle.lot_laws.specs.Locations
 pub use Rattle.lot_laws.specs.MutexDeeds
 pub use Rattle.lot_laws.specs.SitesOf
 pub use Rattle.lot_laws.specs.Laws

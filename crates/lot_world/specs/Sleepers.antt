@@ -15,7 +15,7 @@ use Rattle.lot_world.specs.Waits.{MayStandAt}
 abbrev pub SleepersRest : Type 0
 SleepersRest =
     (p : Place) → MayStandAt p → act_of p ≡ act.Sleep
-    → IsResting (profile p).doing × ((profile p).doing.inside ≡ None)
+    → IsResting (profile p).role × ((profile p).role.inside ≡ None)
 
 -- its rights now, where its row tells what it owned as its call began
 abbrev pub BeganWithFew : ℕ → Place → (ℕ → Rights) → Type 0

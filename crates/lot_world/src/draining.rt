@@ -1,7 +1,7 @@
 //! The schedule that drains a machine of one lock, worked out on the machine itself.
 ghost use Rattle.std.specs.Prelude.{◌≡◌, ◌<◌, ◌^◌, IfOk, IfErr, length};
 ghost use Rattle.lot_machine.specs.Machine.{go_of, kind_at, step_outcome};
-ghost use Rattle.lot_machine.specs.Fits.{IsShaped};
+ghost use Rattle.lot_machine.specs.Fits.{IsWellFormed};
 ghost use Rattle.lot_world.specs.Schedules.{one_more, alone_by, begin_of, go_alone, call_alone, out_of_second, out_of_main, is_up, first_up, releases, first_begin, first_release, next_turn, turn_taken, turns, most_turns, entry_of, fair_release_of, clear, schedule_of};
 
 use core_base::{Fault, Queues, main_key, second_key};
@@ -51,19 +51,19 @@ struct Drain<Q: Queues + Drop> {
 
 impl<Q: Queues + Drop> Model for Drain<Q> {
     ghost use Rattle.std.specs.Prelude.{◌≡◌, length};
-    ghost use Rattle.lot_machine.specs.Fits.{IsShaped};
+    ghost use Rattle.lot_machine.specs.Fits.{IsWellFormed};
     ghost use Rattle.lot_world.specs.Schedules.{Progress};
 
     ghost Value = { Progress };
 
     ghost view = { λ d. record { state = d.machine; steps = d.steps.items } };
 
-    ghost invariant = { λ d. IsShaped d.machine × (length d.machine.locks ≡ 1) };
+    ghost invariant = { λ d. IsWellFormed d.machine × (length d.machine.locks ≡ 1) };
 }
 
 /// The steps that drain a machine. They are taken.
 pub fn schedule<Q: Queues + Drop>(alloc: Global, machine: Machine<Q>) -> Result<Vec<Step>, Fault>
-    requires shaped { IsShaped machine }
+    requires shaped { IsWellFormed machine }
     requires one { length machine.locks ≡ 1 }
     ensures ok { IfOk result (λ steps. steps.items ≡ schedule_of machine) }
     ensures err { IfErr result (λ fault. fault ≡ Fault.NoMemory) }

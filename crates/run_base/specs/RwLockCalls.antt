@@ -18,7 +18,7 @@ use Rattle.steps_base.specs.declared.acts.Next.TheVariants.{At, End}
 use Rattle.steps_base.specs.declared.acts.Reply.TheVariants.{Value}
 use Rattle.steps_rwlock.specs.RwLockBegins.{first_at, rwlock_first}
 use Rattle.steps_rwlock_fair.specs.FairBegins.{call_first, plain_first}
-use Rattle.steps_rwlock.specs.RwLockDeeds.{rwlock_doing}
+use Rattle.steps_rwlock.specs.RwLockDeeds.{rwlock_role}
 use Rattle.steps_rwlock.specs.RwLockSteps.{wanted, to_of, entered, give_op, rwlock_next}
 use Rattle.steps_rwlock.specs.declared.places.Admission.{Admission}
 use Rattle.steps_rwlock.specs.declared.places.RwLockAt.{RwLockAt}
@@ -66,7 +66,7 @@ first_op q = op_at q (first_at q)
 
 -- the thread has the right that the call needs, beside these
 abbrev pub BeginsWith : ℕ → RwLockPurpose → List Ownership → List Ownership → Type 0
-BeginsWith l c base owns = OwnsBeside l (rwlock_doing (rwlock_first c)).claims base owns
+BeginsWith l c base owns = OwnsBeside l (rwlock_role (rwlock_first c)).claims base owns
 
 -- the answer tells of the rights at the end of a call, whether its first step ended it or not
 abbrev pub AnswersCall : Type 0 → ℕ → List Ownership → Admission → RwLockPurpose → Answer → Stage

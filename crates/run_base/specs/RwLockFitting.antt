@@ -22,7 +22,7 @@ use Rattle.spec_locks.specs.Sites.{Claim, Has, Pends}
 use Rattle.steps_base.specs.declared.acts.Whom.{Whom}
 use Rattle.steps_base.specs.declared.acts.Whom.TheVariants as whom_taken
 use Rattle.steps_rwlock.specs.RwLockCalls.{MayStand}
-use Rattle.steps_rwlock.specs.RwLockDeeds.{rwlock_doing}
+use Rattle.steps_rwlock.specs.RwLockDeeds.{rwlock_role}
 use Rattle.steps_rwlock.specs.RwLockProfiles.{rwlock_profile}
 use Rattle.steps_rwlock.specs.RwLockSteps.{access_of, wanted, to_of, start_of, entered, rollback_op, unparked, whom}
 use Rattle.steps_rwlock.specs.declared.park.ParkAt.{ParkAt}
@@ -306,8 +306,8 @@ module _ (up : Type 0) where
     pub room : a.limit < 2 ^ 60 - 1
     pub begun : HasGivenWay p.at
     pub seen : HasSeen p.at
-    pub owns : OwnsBeside l (rwlock_doing p).claims base st.owns
-    pub within : IsWithin l a p.purpose (rwlock_doing p).inside (rwlock_doing p).carries st.inside
+    pub owns : OwnsBeside l (rwlock_role p).claims base st.owns
+    pub within : IsWithin l a p.purpose (rwlock_role p).inside (rwlock_role p).carries st.inside
     pub stood : HasStood l p.at st.steps
     pub late : (rwlock_profile a p).late ≡ true → up
 

@@ -21,7 +21,7 @@ use Rattle.core_words.specs.declared.owners.Ownership.{Ownership}
 use Rattle.parking_lot_core.specs.declared.lot.ParkingLot.{ParkingLot}
 use Rattle.parking_lot_core.specs.declared.sections.Section.{Section}
 use Rattle.parking_lot_core.specs.declared.tokens.Token.{Token}
-use Rattle.run_base.specs.Fitting.{IsStopped, ReachedBy, aim_of, answer_of}
+use Rattle.run_base.specs.Fitting.{IsStopped, ReachedBy, call_purpose, answer_of}
 use Rattle.run_base.specs.Stages.{Stage, inside_of, stage_of}
 use Rattle.run_base.specs.Turns.{HasTurned, IsAt}
 use Rattle.run_base.specs.declared.driver.Stop.TheVariants.{Paused}
@@ -32,7 +32,7 @@ use Rattle.run_locks.specs.MutexCourses.{taken_on}
 use Rattle.run_locks.proofs.CondvarCalling.{notify_never_pauses, wait_never_pauses}
 
 -- no call of a condition variable runs a closure
-pub never_pauses : (up : Type 0) (base : List Ownership) (p q : Place) (state : OnceState) (st : Stage) → IsOfCondvar p → IsStopped up base (aim_of p) (Paused q state) st → ⊥
+pub never_pauses : (up : Type 0) (base : List Ownership) (p q : Place) (state : OnceState) (st : Stage) → IsOfCondvar p → IsStopped up base (call_purpose p) (Paused q state) st → ⊥
 never_pauses up base Idle q state st of s = of
 never_pauses up base (Mutex l at) q state st of s = of
 never_pauses up base (RwLock l a at) q state st of s = of
@@ -49,8 +49,8 @@ keyed n small = omega arith
 -- a thread that ended a call is outside all sections
 pub turn_outside : (up : Type 0) (lot : ParkingLot) (words : Words) (p : Place) (reply : Reply) (old new : Token) (section now : Option Section) (answer : Answer) → IsAt up lot words p old section → HasTurned up lot words p reply old section new now → answer_of (next_act p reply) ≡ Some answer → inside_of now ≡ None
 turn_outside up lot words p reply old new section now answer at turned some =
-    let over = subst (λ (o : Option Answer). ReachedBy up at.4.0 (aim_of p) (next_place p reply) o (stage_of new now)) some (turned.3 at.4.0 at.4.1) in
-    outside up at.4.0 (stage_of new now).owns (aim_of p) answer (inside_of now) (stage_of new now).last (stage_of new now).steps over
+    let over = subst (λ (o : Option Answer). ReachedBy up at.4.0 (call_purpose p) (next_place p reply) o (stage_of new now)) some (turned.3 at.4.0 at.4.1) in
+    outside up at.4.0 (stage_of new now).owns (call_purpose p) answer (inside_of now) (stage_of new now).last (stage_of new now).steps over
 
 module _ (c m : ℕ) where
   -- the mutex isn't free

@@ -19,7 +19,7 @@ use Rattle.run_base.specs.CondvarFitting.{AnswersBy}
 use Rattle.run_base.specs.Paths.{Walks, condvar_at, mutex_at, step}
 use Rattle.run_base.specs.Telling.{steps_of}
 use Rattle.run_base.proofs.Paths.{ends_at_once, goes_on}
-use Rattle.run_locks.specs.CondvarCalls.{HasNotified, Notifies, TellsMoved, at_condvar, notify_begin, notify_behind}
+use Rattle.run_locks.specs.CondvarCalls.{HasNotified, Notifies, TellsMoved, at_condvar, notify_begin, notify_slow}
 
 -- beside another mutex the word of the condition variable stands at its own place
 own_word : (n m : ℕ) → m ≢ n → at_condvar n m n ≡ condvar_at n
@@ -37,7 +37,7 @@ module _ (n : ℕ) (all : Bool) (seen : ℕ) (answer : Answer) (old mid : List W
         (subst (λ v. next_act (notify_begin n all) (Value v) ≡ End answer) (sym zero) (ap End (sym told))),
   )
 
-  leads : (m : ℕ) → seen ≡ m + 1 → next_place (notify_begin n all) (Value seen) ≡ notify_behind n m all
+  leads : (m : ℕ) → seen ≡ m + 1 → next_place (notify_begin n all) (Value seen) ≡ notify_slow n m all
   leads m e =
       let some : (seen == 0) ≡ false = ne_eqb seen 0 (λ none. omega arith) in
       let back : seen - 1 ≡ m = omega arith in

@@ -47,11 +47,11 @@ abbrev pub HasWaited : ℕ → ℕ → Bool → Answer → List WordStep → Lis
 HasWaited c m timed answer old new = Walks (at_condvar c m) (wait_begin c m timed) old new answer
 
 -- and where a notification goes on that has seen a mutex
-abbrev pub notify_behind : ℕ → ℕ → Bool → Place
-notify_behind c m all = Condvar c (Notify all m notify.Enter)
+abbrev pub notify_slow : ℕ → ℕ → Bool → Place
+notify_slow c m all = Condvar c (Notify all m notify.Enter)
 
 abbrev pub HasNotified : ℕ → ℕ → Bool → Answer → List WordStep → List WordStep → Type 0
-HasNotified c m all answer old new = Walks (at_condvar c m) (notify_behind c m all) old new answer
+HasNotified c m all answer old new = Walks (at_condvar c m) (notify_slow c m all) old new answer
 
 -- a thread of the lot, and a condition variable of it whose keys are numbers
 abbrev pub MeetsCondvar : ParkingLot → Token → Word → Type 0

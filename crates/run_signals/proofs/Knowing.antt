@@ -18,7 +18,7 @@ use Rattle.parking_lot_core.specs.Tokens.{last_of}
 use Rattle.spec_locks.specs.declared.calls.OnceCall.TheVariants.{CallOnce, Wait, WaitTimed}
 use Rattle.spec_locks.specs.declared.outcomes.OnceState.{OnceState}
 use Rattle.lot_steps.specs.Steps.{next_place}
-use Rattle.run_base.specs.Fitting.{ReachedBy, aim_of, answer_of}
+use Rattle.run_base.specs.Fitting.{ReachedBy, call_purpose, answer_of}
 use Rattle.run_base.specs.OnceFitting.{LooksAnswer, OwnsBehind, OwnsKnowing, OwnsRun, knowing}
 use Rattle.run_base.specs.Paths.{once_at}
 use Rattle.run_base.specs.Stages.{stage_of}
@@ -82,7 +82,7 @@ module _ (n : ℕ) where
 
   -- a thread that finds it done knows it, and any call ends with that
   pub found_done : (seen : ℕ) (old new : Token) → is_done seen ≡ true → HasSeen n seen old new → FoundDone n old new
-  found_done seen old new done saw = let call = Wait true in let over = subst (λ (a : Act). ReachedBy ⊥ (owns_of old) (aim_of (once_begin n call)) (next_place (once_begin n call) (Value seen)) (answer_of a) (stage_of new None)) (done_ends n call seen done) (saw.2 call) in
+  found_done seen old new done saw = let call = Wait true in let over = subst (λ (a : Act). ReachedBy ⊥ (owns_of old) (call_purpose (once_begin n call)) (next_place (once_begin n call) (Value seen)) (answer_of a) (stage_of new None)) (done_ends n call seen done) (saw.2 call) in
       ((saw.0, stays_of true (owns_of old) (owns_of new) over.1.1), over.1.1, λ (c : OnceCall). looks_ended n c seen (steps_of old) (steps_of new) (when_done c) saw.1 (done_ends n c seen done))
 
   -- a call that came to its closure, and ended its run

@@ -19,7 +19,7 @@ ghost use Rattle.parking_lot_core.specs.declared.tokens.Token.{Token};
 ghost use Rattle.run_signals.specs.OnceCalls.{Closes, EndsRun, HasSeen};
 ghost use Rattle.run_signals.specs.Looks.{CameTo, FoundDone, came_by};
 
-use crate::once_calls::{Look, begin, begin_behind, close};
+use crate::once_calls::{Look, begin, begin_slow, close};
 use core_base::{main_key, to_deadline};
 use core_words::laws::once_may_step;
 use parking_lot_core::{Clock, Fault, Key, Op, ParkingLot, Token, Word, WordKind};
@@ -28,7 +28,7 @@ use spec_locks::{Answer, OnceCall, OnceState};
 use std::sync::{Arc, Wait};
 use std::time::Duration;
 use steps_base::bits::{is_done, is_poisoned, is_running};
-use steps_once::{DONE, RUNNING};
+use steps_once::{DONE, LOCKED};
 use thiserror::Error;
 
 /// Why a call of a `Once` came to no end that is done.
@@ -118,7 +118,7 @@ impl Once {
     {
         let start = Op::Exchange {
             from: 0,
-            to: RUNNING,
+            to: LOCKED,
         };
         let seen = self.lot.word(token, self.word, start);
         if seen != 0 {
@@ -240,7 +240,7 @@ impl Once {
         ensures came { (before : Token) → HasSeen (number_of self.now) seen before token.old
             → CameTo (IsUp C.tells limit.now) (number_of self.now) call before token.new result }
     {
-        match begin_behind(rt, &self.lot, token, self.word, *limit, call, seen) {
+        match begin_slow(rt, &self.lot, token, self.word, *limit, call, seen) {
             Look::Ended(answer) => came_by(answer),
             Look::Runs(state) => Came::Runs(state),
         }

@@ -49,7 +49,7 @@ pub(crate) fn begin(lot: &ParkingLot, token: &mut Token, word: Word) -> u64
 /// the call has one: any other pays no heed to it.
 #[cold]
 #[inline(never)]
-pub(crate) fn begin_behind<R: Wait, C: Clock>(
+pub(crate) fn begin_slow<R: Wait, C: Clock>(
     rt: &R,
     lot: &ParkingLot,
     token: &mut Token,

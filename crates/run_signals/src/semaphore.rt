@@ -21,7 +21,7 @@ ghost use Rattle.run_base.specs.Stages.{TookNobodyAt};
 ghost use Rattle.run_base.specs.Telling.{owns_of, steps_of};
 ghost use Rattle.run_signals.specs.SemaphoreCalls.{HasReleased, HasWaited, HasWalked, StaysAs, answer_by, deciding, trying};
 
-use crate::semaphore_calls::{acquire_behind, give, give_all, look, take, try_behind, wake_first};
+use crate::semaphore_calls::{acquire_slow, give, give_all, look, take, try_slow, wake_first};
 use core_base::{main_key, to_deadline};
 use parking_lot_core::{Clock, Fault, Held, Key, ParkingLot, Token, Want, Word};
 use run_base::driver::FOR_EVER;
@@ -90,7 +90,7 @@ impl Semaphore {
             (answer_by answers.Yes result) }
         ensures none { IfNone result (SawNoneFree (number_of self.now) (steps_of token.new)) }
     {
-        let answer = try_behind(rt, &self.lot, token, self.word, found);
+        let answer = try_slow(rt, &self.lot, token, self.word, found);
         if let Answer::No = answer {
             return None;
         }
@@ -179,7 +179,7 @@ impl Semaphore {
         ensures left { IfNone result (TookNobodyAt (number_of self.now) (last_of token.new)) }
         ensures late { IfNone result ((timed ≡ true) × IsUp C.tells limit.now) }
     {
-        let answer = acquire_behind(rt, &self.lot, token, self.word, *limit, timed, seen);
+        let answer = acquire_slow(rt, &self.lot, token, self.word, *limit, timed, seen);
         if let Answer::No = answer {
             return None;
         }

@@ -8,7 +8,7 @@ ghost use Rattle.core_words.specs.Steps.{has, holding, without};
 ghost use Rattle.core_words.specs.declared.owners.Ownership.{Ownership};
 ghost use Rattle.core_words.specs.declared.views.WordStep.{WordStep};
 ghost use Rattle.parking_lot_core.specs.Tokens.{IsSameThread, IsTokenOf, last_of};
-ghost use Rattle.run_base.specs.Fitting.{AreWordsFor, Fits, IsOver, aim_of};
+ghost use Rattle.run_base.specs.Fitting.{AreWordsFor, Fits, IsOver, call_purpose};
 ghost use Rattle.run_base.specs.Paths.{Walks, at_semaphore, semaphore_at, step};
 ghost use Rattle.run_base.specs.SemaphoreFitting.{FitsSemaphore, IsSemaphoreOver, acquires, permit, purpose_at, releases, tries_once};
 ghost use Rattle.lot_steps.specs.declared.places.Place.TheVariants.{Semaphore};
@@ -121,7 +121,7 @@ fn run_out<R: Wait, C: Clock>(
 /// Runs the rest of a call that waits for a permit and whose last step saw this.
 #[cold]
 #[inline(never)]
-pub(crate) fn acquire_behind<R: Wait, C: Clock>(
+pub(crate) fn acquire_slow<R: Wait, C: Clock>(
     rt: &R,
     lot: &ParkingLot,
     token: &mut Token,
@@ -148,7 +148,7 @@ pub(crate) fn acquire_behind<R: Wait, C: Clock>(
 /// Runs the rest of a call that tries to take a permit and whose last step saw one free.
 #[cold]
 #[inline(never)]
-pub(crate) fn try_behind<R: Wait>(
+pub(crate) fn try_slow<R: Wait>(
     rt: &R,
     lot: &ParkingLot,
     token: &mut Token,

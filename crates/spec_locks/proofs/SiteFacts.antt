@@ -7,7 +7,7 @@ use Rattle.std.proofs.lemmas.List.{get_or_past, set_past}
 use Rattle.std.proofs.lemmas.List.Sums.{sum_by-set}
 use Rattle.std.proofs.lemmas.Bool.Decides.{nat_tests}
 use Rattle.spec_locks.specs.Locks.{LockState, Queued, Sort, Rules, LockCase, has_caller, IsLockState, Mutex, Normal, Recursive, Semaphore, Once, putting, Condvar}
-use Rattle.spec_locks.specs.Sites.{Site, IsSite, Case, Needed, after_deed, done, case_doing, IsOpen}
+use Rattle.spec_locks.specs.Sites.{Site, IsSite, Case, Needed, after_deed, done, case_role, IsOpen}
 use Rattle.spec_locks.specs.Locks as locks
 use Rattle.spec_locks.proofs.LockKeeps.{case_keeps}
 use Rattle.spec_locks.proofs.Turns.{Local, Changed, turn_keeps}
@@ -67,8 +67,8 @@ alone_aside r s c stands = by_aside s.aside refl
 
 module _ (r : Rules) (s : Site) (t : ℕ) (h : IsSite r s) where
   -- a case of the lock
-  pub acts : (c : LockCase) → Local r s (done r c s t (locks.after_case r c s.lock t)) t (s.doing t) (case_doing r.sort s (locks.after_case r c s.lock t) c (s.doing t)) → IsSite r (after_deed r (Case c) s t)
-  acts c local = turn_keeps r s (done r c s t (locks.after_case r c s.lock t)) t (s.doing t) _ h refl (put_changed s.doing t _) local
+  pub acts : (c : LockCase) → Local r s (done r c s t (locks.after_case r c s.lock t)) t (s.role t) (case_role r.sort s (locks.after_case r c s.lock t) c (s.role t)) → IsSite r (after_deed r (Case c) s t)
+  acts c local = turn_keeps r s (done r c s t (locks.after_case r c s.lock t)) t (s.role t) _ h refl (put_changed s.role t _) local
 
   pub state : (c : LockCase) → Needed r (Case c) s t → IsLockState r (locks.after_case r c s.lock t)
   state c n = case_keeps r c s.lock t h.state n.0

@@ -194,7 +194,7 @@ moving all m = if all then Takes m else Sees m
 abbrev pub WaitsAside : CondvarSite → Site → ℕ → Type 0
 WaitsAside c s m =
     (u : ℕ) → 1 ≤ times u c.waiters → c.waits_with u ≡ Some m
-    → (standing u s.lock ≡ 0) × ((s.doing u).retries ≡ None)
+    → (standing u s.lock ≡ 0) × ((s.role u).retries ≡ None)
 
 -- a notification moves somebody, each waits with the mutex that is shown, and that mutex may be
 -- brought them
@@ -210,6 +210,6 @@ EachMoveFits =
     (r : Rules) (all locked : Bool) (c : CondvarSite) (s : Site) (t m : ℕ) → r.sort ≡ Mutex
     → IsCondvar c
     → WaitsAside c s m → IsInsideAt c t (moving all m)
-    → (s.doing t).inside ≡ Some Main → (s.doing t).carries ≡ false → (s.doing t).wakes ≡ None
-    → (s.doing t).retries ≡ None → (locked ≡ true → (s.doing t).brings ≡ true)
+    → (s.role t).inside ≡ Some Main → (s.role t).carries ≡ false → (s.role t).wakes ≡ None
+    → (s.role t).retries ≡ None → (locked ≡ true → (s.role t).brings ≡ true)
     → MoveFits r all locked c s t m

@@ -44,7 +44,7 @@ pub record CallState : Type 0 where
   pub recalls : Recall
 
 -- how a thread stands between two steps
-pub record Stance : Type 0 where
+pub record Status : Type 0 where
   -- it sleeps until another thread wakes it
   pub asleep : Bool
   -- it runs the closure of its call
@@ -63,7 +63,7 @@ pub record LocksState : Type 0 where
   -- the thread inside the section of each key
   pub inside : ℕ → Option ℕ
   pub calls : ℕ → CallState
-  pub stances : ℕ → Stance
+  pub stances : ℕ → Status
 
 abbrev pub rules_at : LocksState → ℕ → Rules
 rules_at w l = rules_of (w.kinds l)
@@ -97,7 +97,7 @@ abbrev pub no_call : CallState
 no_call = new_call None (λ l. no_rights)
 
 -- and it is awake
-abbrev pub no_stance : Stance
+abbrev pub no_stance : Status
 no_stance = record { asleep = false; in_closure = false; enters = None; may_spin = false }
 
 -- nobody owns, nobody waits, nobody is in a call, and nobody is inside a section

@@ -7,7 +7,7 @@ use Rattle.spec_locks.specs.Condvars.{Stage}
 use Rattle.spec_locks.specs.Locks.{Rights, Taken}
 use Rattle.spec_locks.specs.Purposes.{Purpose, Enters, Recall, Blank}
 use Rattle.spec_locks.specs.declared.calls.Patience.TheVariants.{Try}
-use Rattle.spec_locks.specs.Sites.{Doing, Line, idle}
+use Rattle.spec_locks.specs.Sites.{Role, Line, idle}
 
 -- in whose hand a thread is, and whether it was handed the lock since
 pub data Hand : Type 0 where
@@ -29,7 +29,7 @@ in_hand any handed = if any then Some handed else None
 
 pub record Profile : Type 0 where
   -- its deeds at the lock
-  pub doing : Doing
+  pub role : Role
   -- in which line it stands
   pub stands : Option Line
   -- whether it has anybody in hand, and if so, whether it has handed the lock over
@@ -63,7 +63,7 @@ pub record Profile : Type 0 where
 -- the row of a try: each other row is told by what is otherwise
 abbrev pub blank : Profile
 blank = record {
-  doing = idle;
+  role = idle;
   stands = None;
   carries = None;
   hand = None;
@@ -85,7 +85,7 @@ blank = record {
 
 -- it brings no waiters: only a condition variable does
 abbrev pub bringing_nobody : Profile → Profile
-bringing_nobody row = record row { doing = record row.doing { brings = false; sets = false } }
+bringing_nobody row = record row { role = record row.role { brings = false; sets = false } }
 
 -- by whom it was taken from a queue of the lock, where it was not handed the lock since
 abbrev pub taken_from : Option Hand → Option Want → Bool → Option Taken

@@ -172,7 +172,7 @@ goes_behind m timed (stands.Noted note.HandOff) = ((λ e. cc), tt)
 
 -- after its first step it owns the mutex no more
 abbrev OwnsNot : Stands → Next UnlockAt → Type 0
-OwnsNot st (At q) = has_mutex st ≡ true → (mutex_profile (mutex.Unlock q)).doing.claims ≡ None
+OwnsNot st (At q) = has_mutex st ≡ true → (mutex_profile (mutex.Unlock q)).role.claims ≡ None
 OwnsNot st (Over answer) = Unit {0}
 
 owns_not : (st : Stands) (at : UnlockAt) (told : Reply) → OwnsNot st (At at) → OwnsNot st (next_unlock at told)

@@ -179,5 +179,5 @@ CondvarMovesFit =
     (r : Rules) (all locked : Bool) (c : CondvarSite) (s : Site) (t m : ℕ) → r.sort ≡ Mutex
     → IsCondvar c → WaitsAside c s m
     → IsAt c t (Notify all m (notify.Move locked))
-    → s.doing t ≡ (notify_row all m (notify.Move locked)).doing
+    → s.role t ≡ (notify_row all m (notify.Move locked)).role
     → MoveFits r all locked c s t m

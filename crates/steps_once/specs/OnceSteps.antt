@@ -34,7 +34,7 @@ use Rattle.steps_once.specs.declared.run.RunAt.{RunAt}
 use Rattle.steps_once.specs.declared.run.RunAt.TheVariants as run
 use Rattle.steps_once.specs.declared.give_up.GiveUpAt.{GiveUpAt}
 use Rattle.steps_once.specs.declared.give_up.GiveUpAt.TheVariants as give_up
-use Rattle.steps_once.specs.declared.places.TheConstants.{NOT_MARKED}
+use Rattle.steps_once.specs.declared.places.TheConstants.{NOT_PARKED}
 use Rattle.steps_once.specs.declared.places.OncePlace.{OncePlace}
 use Rattle.steps_once.specs.declared.places.OncePlace.TheVariants.{Look, Run, GiveUp}
 
@@ -136,7 +136,7 @@ run_act l (run.Leave succeeded any) = act.Leave (One (2 * l)) (wakes_taken any N
 
 abbrev pub give_up_act : ℕ → GiveUpAt → Act
 give_up_act l give_up.Remove = act.Remove (2 * l)
-give_up_act l give_up.Clear = act.Word l (op.And NOT_MARKED)
+give_up_act l give_up.Clear = act.Word l (op.And NOT_PARKED)
 give_up_act l give_up.Leave = act.Leave (One (2 * l)) Nobody
 
 abbrev pub once_act : ℕ → OncePlace → Act

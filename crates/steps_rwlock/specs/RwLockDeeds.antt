@@ -34,31 +34,31 @@ use Rattle.steps_base.specs.declared.owners.Owners.{Owners}
 use Rattle.steps_base.specs.Owners.{lock_seen, shares_then}
 use Rattle.steps_base.specs.Moves.{IsFree, StandsAlone, MayTake}
 use Rattle.spec_locks.specs.Locks.{Rules, Taken, Enter, Pend, Settle, Leave, Convert, Park, Aside, TakeAside, TakePicked, Late, Rollback, is_recursive, keeps_more, standing}
-use Rattle.spec_locks.specs.Sites.{Claim, Has, Pends, Doing, idle, is_main, Site, IsSite, has_readers, Deed, End, In, Out, Mark, Clear, FindNobody, Case}
+use Rattle.spec_locks.specs.Sites.{Claim, Has, Pends, Role, idle, is_main, Site, IsSite, has_readers, Deed, End, In, Out, Mark, Clear, FindNobody, Case}
 pub use Rattle.spec_locks.specs.Deeds.{after_all, AllNeeded}
 use Rattle.spec_locks.specs.Codes.{code, HasLimit, count_in, has_aside, has_parked}
 
 -- ---------------------------------------------------------------- what a thread does, by its place
 
-abbrev pub at_rest : Option Want → Option Claim → Doing
+abbrev pub at_rest : Option Want → Option Claim → Role
 at_rest again claims = record idle { retries = again; claims = claims }
 
-abbrev pub within : Line → Option Want → Option Claim → Doing
+abbrev pub within : Line → Option Want → Option Claim → Role
 within m again claims = record idle { inside = Some m; retries = again; claims = claims }
 
 -- it has seen the queue empty
-abbrev pub finding : Line → Option Claim → Doing
+abbrev pub finding : Line → Option Claim → Role
 finding m claims = record idle { inside = Some m; empty = Some m; claims = claims }
 
-abbrev pub parking_doing : Line → Option Want → Option Claim → ParkAt → Doing
-parking_doing m again claims parking.Check = within m again claims
-parking_doing m again claims (parking.Leave false) = within m again claims
-parking_doing m again claims (parking.Leave true) = within m None claims
-parking_doing m again claims parking.Asleep = at_rest None claims
-parking_doing m again claims (parking.Taken by) = at_rest None claims
-parking_doing m again claims parking.Remove = within m None claims
-parking_doing m again claims parking.Clear = finding m claims
-parking_doing m again claims parking.GiveUp = within m None claims
+abbrev pub parking_role : Line → Option Want → Option Claim → ParkAt → Role
+parking_role m again claims parking.Check = within m again claims
+parking_role m again claims (parking.Leave false) = within m again claims
+parking_role m again claims (parking.Leave true) = within m None claims
+parking_role m again claims parking.Asleep = at_rest None claims
+parking_role m again claims (parking.Taken by) = at_rest None claims
+parking_role m again claims parking.Remove = within m None claims
+parking_role m again claims parking.Clear = finding m claims
+parking_role m again claims parking.GiveUp = within m None claims
 
 -- the right that a thread keeps while it wakes others
 abbrev pub kept_claim : Option Want → Option Claim
@@ -75,11 +75,11 @@ MayKeep start = ⊥
 abbrev pub covers_line : Option Want → Line → Bool
 covers_line start m = is_main m && not (keeps_more start)
 
-abbrev pub waking_doing : Option Want → Line → WakeAt → Doing
-waking_doing start m waking.Enter = record idle { wakes = Some m; claims = kept_claim start }
-waking_doing start m waking.Take =
+abbrev pub waking_role : Option Want → Line → WakeAt → Role
+waking_role start m waking.Enter = record idle { wakes = Some m; claims = kept_claim start }
+waking_role start m waking.Take =
     record idle { inside = Some m; wakes = Some m; claims = kept_claim start }
-waking_doing start m (waking.Clear any) =
+waking_role start m (waking.Clear any) =
     record idle {
       inside = Some m;
       carries = true;
@@ -87,7 +87,7 @@ waking_doing start m (waking.Clear any) =
       empty = Some m;
       claims = kept_claim start;
     }
-waking_doing start m (waking.Leave any) =
+waking_role start m (waking.Leave any) =
     record idle {
       inside = Some m;
       carries = true;
@@ -112,30 +112,30 @@ abbrev pub held_of : RwLockPurpose → Want
 held_of (purpose.Upgrade how) = Upgradable
 held_of q = wanted (access_of q)
 
-abbrev pub doing_at : Option Want → RwLockPurpose → RwLockAt → Doing
-doing_at again q at.First = at_rest again None
-doing_at again q at.Load = at_rest again (claimed q)
-doing_at again q (at.Decide seen) = at_rest again (claimed q)
-doing_at again q (at.Park to) = parking_doing Main again None to
-doing_at again q at.Look = at_rest again (pends q)
-doing_at again q (at.Count seen) = at_rest again (pends q)
-doing_at again q at.Marked = at_rest again (pends q)
-doing_at again q (at.Aside to) = parking_doing Second again (pends q) to
-doing_at again q at.RollBack = at_rest None (pends q)
-doing_at again q at.GiveWay = at_rest None (Some (Has (held_of q)))
-doing_at again q (at.Wake m to) = waking_doing (start_of q) m to
+abbrev pub role_at : Option Want → RwLockPurpose → RwLockAt → Role
+role_at again q at.First = at_rest again None
+role_at again q at.Load = at_rest again (claimed q)
+role_at again q (at.Decide seen) = at_rest again (claimed q)
+role_at again q (at.Park to) = parking_role Main again None to
+role_at again q at.Look = at_rest again (pends q)
+role_at again q (at.Count seen) = at_rest again (pends q)
+role_at again q at.Marked = at_rest again (pends q)
+role_at again q (at.Aside to) = parking_role Second again (pends q) to
+role_at again q at.RollBack = at_rest None (pends q)
+role_at again q at.GiveWay = at_rest None (Some (Has (held_of q)))
+role_at again q (at.Wake m to) = waking_role (start_of q) m to
 
 -- its want again since it was woken
 abbrev pub again_of : RwLockPlace → Option Want
 again_of p = if p.retries then Some (want_at p) else None
 
-abbrev pub rwlock_doing : RwLockPlace → Doing
-rwlock_doing p = doing_at (again_of p) p.purpose p.at
+abbrev pub rwlock_role : RwLockPlace → Role
+rwlock_role p = role_at (again_of p) p.purpose p.at
 
 -- the state after a step, at its next place or in no call
-abbrev pub doing_next : Next RwLockPlace → Doing
-doing_next (next.At p) = rwlock_doing p
-doing_next (next.End answer) = idle
+abbrev pub role_next : Next RwLockPlace → Role
+role_next (next.At p) = rwlock_role p
+role_next (next.End answer) = idle
 
 -- ---------------------------------------------------------------- the deeds of each step
 
@@ -287,20 +287,20 @@ AtFits (purpose.Upgrade how) to = AtUpgrade how to
 pub record IsAt (r : Rules) (a : Admission) (s : Site) (t : ℕ) (p : RwLockPlace) : Type 0 where
   pub admits : Admits r a
   pub site : IsSite r s
-  pub doing : s.doing t ≡ rwlock_doing p
+  pub role : s.role t ≡ rwlock_role p
   pub fresh : IsFreshTry (patience_at p) p.retries
   pub place : AtFits p.purpose p.at
   pub there : t < length s.lock.shared
 
 -- the deeds may be done, and the thread does then what this says
-pub record Follows (r : Rules) (s : Site) (t : ℕ) (ds : List Deed) (d : Doing) : Type 0 where
+pub record Follows (r : Rules) (s : Site) (t : ℕ) (ds : List Deed) (d : Role) : Type 0 where
   pub needed : AllNeeded r ds s t
-  pub doing : (after_all r ds s t).doing t ≡ d
+  pub role : (after_all r ds s t).role t ≡ d
 
 -- the deeds of a reply may be done, and the next place says what the thread does then
 abbrev pub FollowsBy : Rules → Admission → Site → ℕ → RwLockPlace → Option ℕ → Reply → Type 0
 FollowsBy r a s t p whom told =
-    Follows r s t (rwlock_deeds a p whom told) (doing_next (rwlock_next a p told))
+    Follows r s t (rwlock_deeds a p whom told) (role_next (rwlock_next a p told))
 
 -- each step on the word follows
 abbrev pub RwLockStepsFollow : Type 0

@@ -19,7 +19,7 @@ use Rattle.steps_rwlock.specs.declared.park.ParkAt.TheVariants as parking
 use Rattle.steps_rwlock.specs.declared.release.WakeAt.{WakeAt}
 use Rattle.steps_rwlock.specs.declared.release.WakeAt.TheVariants as waking
 use Rattle.steps_rwlock.specs.RwLockSteps.{wanted, from_of, to_of, patience_of, decided}
-use Rattle.steps_rwlock.specs.RwLockDeeds.{rwlock_doing}
+use Rattle.steps_rwlock.specs.RwLockDeeds.{rwlock_role}
 use Rattle.steps_base.specs.Profiles.{Hand, Profile, hand, hand_owner, in_hand, in_line}
 use Rattle.spec_locks.specs.Codes.{has_aside}
 use Rattle.spec_locks.specs.Locks.{Rights, putting}
@@ -169,7 +169,7 @@ before (purposes.Upgrade how) to l rights =
 
 abbrev pub rwlock_profile : Admission → RwLockPlace → Profile
 rwlock_profile a p = record {
-  doing = rwlock_doing p;
+  role = rwlock_role p;
   stands = stands_at p.at;
   carries = carries_at p.at;
   hand = hand_at p.at;

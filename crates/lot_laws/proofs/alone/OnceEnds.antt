@@ -35,7 +35,7 @@ use Rattle.lot_machine.specs.Machine.{State, after, go_of, queue_at, solo, word_
 use Rattle.lot_laws.specs.Refinement.{lock_state}
 use Rattle.lot_laws.specs.SitesOf.{FitsItsLock, key_of, rules_in, site_of}
 use Rattle.lot_laws.specs.Solo.{EndsAlone, IsBarred}
-use Rattle.lot_laws.specs.Stations.{doing_on}
+use Rattle.lot_laws.specs.Locations.{role_on}
 use Rattle.lot_laws.proofs.machine.Parts.{same}
 use Rattle.lot_laws.proofs.alone.TwoLines.{Comes, StepsAlone, leads_into, leave_comes, park_comes, parks_last, word_comes}
 use Rattle.lot_laws.proofs.mutex.Words.{queued_behind}
@@ -85,7 +85,7 @@ module _ (t l : ℕ) where
 
         running : (lock_state (after w (go_of t)) l).phase ≡ InProgress t
         running = (there.steady.sites.site l).held t Running
-            (ap (λ p. (doing_on p l).claims) there.place ∙ ap (λ (z : Bool). (if z then (once_profile (Run forced (run.Closure poisoned))).doing else idle).claims) (same l))
+            (ap (λ p. (role_on p l).claims) there.place ∙ ap (λ (z : Bool). (if z then (once_profile (Run forced (run.Closure poisoned))).role else idle).claims) (same l))
 
   module _ (c : OnceCall) where
     leaves : (again : Bool) (v : ℕ) (w : State) (q q2 : Queues) → q2 Main ≡ q Main ++ waiter (2 * l) t (want_of c) ∷ []

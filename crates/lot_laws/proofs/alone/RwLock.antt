@@ -45,7 +45,7 @@ use Rattle.lot_laws.proofs.calls.PlainCalls.{plain_goes, plain_does}
 use Rattle.lot_machine.specs.Machine.{State, word_at, queue_at, queues_without_first, state_after_taking, after, go_of}
 use Rattle.steps_rwlock.specs.RwLockCalls.{IsNoRefusal, MayStand, StandsAt, IsDecided}
 use Rattle.steps_rwlock.proofs.RwLockStands.{decides_to_park, aside_set}
-use Rattle.lot_laws.specs.SitesOf.{IsSteady, key_of, rules_in, site_of}
+use Rattle.lot_laws.specs.SitesOf.{IsInductive, key_of, rules_in, site_of}
 use Rattle.spec_locks.specs.Locks.{Rules, Sort, Mutex, Normal, Recursive, Semaphore, Once, count, one_if_some, Condvar}
 use Rattle.lot_laws.specs.Solo.{Rests}
 use Rattle.lot_laws.proofs.machine.Parts.{same}
@@ -574,7 +574,7 @@ code_small r s readers site few top = by_sort r.sort readers
     by_sort Once h = absurd cc
     by_sort Condvar h = absurd cc
 
-pub word_small : (w : State) (l : ℕ) → IsSteady w → has_readers (rules_in w l).sort ≡ true → word_at w l < 2 ^ 64
+pub word_small : (w : State) (l : ℕ) → IsInductive w → has_readers (rules_in w l).sort ≡ true → word_at w l < 2 ^ 64
 word_small w l steady readers = let limits = steady.sites.limits l readers in
     subst (λ n. n < 2 ^ 64) (sym (steady.sites.word l)) (code_small (rules_in w l) (site_of w l) readers (steady.sites.site l) limits.0.1 limits.1.top)
 

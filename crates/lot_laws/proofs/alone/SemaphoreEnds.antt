@@ -44,7 +44,7 @@ use Rattle.lot_steps.specs.declared.places.Place.TheVariants.{Semaphore}
 use Rattle.lot_steps.specs.Steps.{semaphore_does, semaphore_goes}
 use Rattle.lot_machine.specs.Machine.{State, after, go_of, place_at, queue_at, queues_without_first, solo, state_after_taking, word_at}
 use Rattle.lot_laws.specs.Refinement.{call_at, call_state, lock_state, locks_of}
-use Rattle.lot_laws.specs.SitesOf.{IsSteady, key_of, rules_in, site_of}
+use Rattle.lot_laws.specs.SitesOf.{IsInductive, key_of, rules_in, site_of}
 use Rattle.lot_laws.specs.Solo.{EndsAlone, EntersAlone, IsBarred, ReleasesAlone, SleepsLast, WaitsAlone, entered_answer}
 use Rattle.lot_laws.proofs.machine.Parts.{put_here, same}
 use Rattle.lot_laws.proofs.alone.TwoLines.{Comes, StepsAlone, leads_into, leave_comes, park_comes, parks_last, take_comes, word_comes}
@@ -217,7 +217,7 @@ module _ (t l : ℕ) where
 
 -- ---------------------------------------------------------------- as the abstract locks see it
 
-module _ (w : State) (l : ℕ) (steady : IsSteady w) (sort : (rules_in w l).sort ≡ OfSemaphores) where
+module _ (w : State) (l : ℕ) (steady : IsInductive w) (sort : (rules_in w l).sort ≡ OfSemaphores) where
   abbrev s : LockState
   s = lock_state w l
 
@@ -258,7 +258,7 @@ module _ (w : State) (l : ℕ) (steady : IsSteady w) (sort : (rules_in w l).sort
   no_readers : has_readers (rules_in w l).sort ≡ true → ⊥
   no_readers h = let f : false ≡ true = sym (ap has_readers sort) ∙ h in cc
 
-module _ (w : State) (t l : ℕ) (steady : IsSteady w) (sort : (rules_in w l).sort ≡ OfSemaphores) (v2 : State) (x : Outcome)
+module _ (w : State) (t l : ℕ) (steady : IsInductive w) (sort : (rules_in w l).sort ≡ OfSemaphores) (v2 : State) (x : Outcome)
     (run : RunsAlone w t x v2) where
   abbrev queues : Line → List Waiter
   queues m = queue_at w (key_of l m)
@@ -305,7 +305,7 @@ module _ (w : State) (t l : ℕ) (steady : IsSteady w) (sort : (rules_in w l).so
 
 -- ---------------------------------------------------------------- each call, from its beginning
 
-pub semaphore_alone : (w : State) (t l : ℕ) (c : SemaphoreCall) (n : ℕ) (last : Outcome) → 5 ≤ n → IsSteady w
+pub semaphore_alone : (w : State) (t l : ℕ) (c : SemaphoreCall) (n : ℕ) (last : Outcome) → 5 ≤ n → IsInductive w
     → (rules_in w l).sort ≡ OfSemaphores → place_at w t ≡ Semaphore l (semaphore_first c)
     → StepsAlone w t l (Semaphore l (semaphore_first c)) (word_at w l) (λ m. queue_at w (key_of l m))
     → RunsAlone w t (solo n w t last).outcome (solo n w t last).state

@@ -17,7 +17,7 @@ use Rattle.spec_locks.specs.Sites.{Line, Main}
 use Rattle.spec_locks.proofs.CondvarKeeps.{condvar_deed_keeps}
 use Rattle.lot_machine.specs.Machine.{State, place_at, section_at}
 use Rattle.lot_laws.specs.Refinement.{lock_state}
-use Rattle.lot_laws.specs.Stations.{station_at}
+use Rattle.lot_laws.specs.Locations.{location_at}
 use Rattle.lot_laws.specs.SitesOf.{Stands, condvar_of, inside_as, key_of, stage_or}
 use Rattle.lot_laws.proofs.condvar.Rows.{names_of, row_says, stage_of}
 use Rattle.lot_laws.proofs.condvar.Sites.{at_place}
@@ -150,8 +150,8 @@ module _ (w v : State) (t l : ℕ) (at : CondvarPlace) (told : Reply) (stands : 
           → IsInsideNot (inside_as o (λ u. (profile_at (place_at v u) l).stage)) t
       by_section None e = tt
       by_section (Some u) e = λ own.
-          let there : (station_at (place_at v t) l).inside ≡ Some Main = (stands_then.sections t l Main).1 (e ∙ ap Some own) in
-          let nowhere_now : (station_at (place_at v t) l).inside ≡ None = ap (λ p. (station_at p l).inside) idle in
+          let there : (location_at (place_at v t) l).inside ≡ Some Main = (stands_then.sections t l Main).1 (e ∙ ap Some own) in
+          let nowhere_now : (location_at (place_at v t) l).inside ≡ None = ap (λ p. (location_at p l).inside) idle in
           let both : ◌≡◌ {A = Option Line} None (Some Main) = sym nowhere_now ∙ there in cc
 
   inside_led : (condvar_of v l).inside ≡ led.inside

@@ -52,9 +52,9 @@ use Rattle.spec_locks.specs.Locks as locks
 use Rattle.spec_locks.specs.Picks.{queued_of}
 use Rattle.lot_machine.specs.declared.locks.Lock.{Lock}
 use Rattle.lot_machine.proofs.Shape.{main_line_there}
-use Rattle.lot_machine.specs.Fits.{IsShaped}
+use Rattle.lot_machine.specs.Fits.{IsWellFormed}
 use Rattle.lot_machine.specs.Machine.{State, can_do, kind_at, left_behind, owners_at, place_at, queue_at, queues_with_last, queues_without, queues_without_first, reply_to, state_after_act, state_after_operation, state_after_park, state_after_requeue, state_after_take_first, state_after_taking, state_after_wake, state_with_sections, unlocked, word_at}
-use Rattle.lot_laws.specs.SitesOf.{FitsCondvar, IsSteady, condvar_of, rules_in}
+use Rattle.lot_laws.specs.SitesOf.{FitsCondvar, IsInductive, condvar_of, rules_in}
 use Rattle.lot_laws.proofs.condvar.Replies.{at_it, fits_here, word_is}
 use Rattle.lot_laws.proofs.hands.Counts.{without_absent}
 use Rattle.lot_laws.proofs.sites.OneStep.{queued_behind, queued_times, queued_without}
@@ -64,7 +64,7 @@ dropped : (q : List Waiter) → map queued_of (drop 1 q) ≡ drop 1 (map queued_
 dropped [] = refl
 dropped (x ∷ q) = refl
 
-module _ (w : State) (t l : ℕ) (at : CondvarPlace) (shape : IsShaped w) (steady : IsSteady w) (is : place_at w t ≡ Condvar l at)
+module _ (w : State) (t l : ℕ) (at : CondvarPlace) (shape : IsWellFormed w) (steady : IsInductive w) (is : place_at w t ≡ Condvar l at)
     (lt : l < length w.locks) where
   abbrev here : CondvarSite
   here = condvar_of w l

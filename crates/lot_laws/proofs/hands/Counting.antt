@@ -49,7 +49,7 @@ use Rattle.lot_steps.specs.declared.places.Place.TheVariants.{Idle, Mutex, RwLoc
 use Rattle.lot_steps.specs.Steps.{first_place, in_mutex, in_once, in_rwlock, late_key, looking, mutex_goes, next_place, once_goes, rwlock_goes, condvar_goes, in_condvar, in_semaphore, semaphore_goes}
 use Rattle.lot_machine.specs.Machine.{State, held, place_at}
 use Rattle.lot_laws.specs.SitesOf.{AreCounted, IsCounted, carried_at}
-use Rattle.lot_laws.specs.Stations.{nowhere, station}
+use Rattle.lot_laws.specs.Locations.{nowhere, location}
 use Rattle.lot_laws.proofs.machine.Parts.{IsOf, same}
 use Rattle.lot_laws.proofs.promises.RowPromises.{Befalls}
 
@@ -131,9 +131,9 @@ pub record HasCounted (l : ℕ) (p : Place) : Type 0 where
   pub carries : carried_at p l ≡ in_hand any false
 
 has_counted : (l : ℕ) (k : Counted) (a : Admission) (c : RwLockCallPlace) → in_hand_of c ≡ Some k → HasCounted l (RwLock l a c)
-has_counted l k a (HandOver x b (handing.Store m)) e = record { of = refl; unheld = refl; any = any_taken m; carries = ap (λ y. (if y then station (RwLock l a (HandOver x b (handing.Store m))) else nowhere).carries) (same l) }
-has_counted l k a (HandOver x b (handing.Look m)) e = record { of = refl; unheld = refl; any = any_taken m; carries = ap (λ y. (if y then station (RwLock l a (HandOver x b (handing.Look m))) else nowhere).carries) (same l) }
-has_counted l k a (HandOver x b (handing.Exchange m seen)) e = record { of = refl; unheld = refl; any = any_taken m; carries = ap (λ y. (if y then station (RwLock l a (HandOver x b (handing.Exchange m seen))) else nowhere).carries) (same l) }
+has_counted l k a (HandOver x b (handing.Store m)) e = record { of = refl; unheld = refl; any = any_taken m; carries = ap (λ y. (if y then location (RwLock l a (HandOver x b (handing.Store m))) else nowhere).carries) (same l) }
+has_counted l k a (HandOver x b (handing.Look m)) e = record { of = refl; unheld = refl; any = any_taken m; carries = ap (λ y. (if y then location (RwLock l a (HandOver x b (handing.Look m))) else nowhere).carries) (same l) }
+has_counted l k a (HandOver x b (handing.Exchange m seen)) e = record { of = refl; unheld = refl; any = any_taken m; carries = ap (λ y. (if y then location (RwLock l a (HandOver x b (handing.Exchange m seen))) else nowhere).carries) (same l) }
 has_counted l k a (HandOver x b to) e = absurd cc
 has_counted l k a c e = absurd cc
 

@@ -17,16 +17,16 @@ use Rattle.spec_locks.specs.Locks as locks
 use Rattle.lot_machine.specs.Machine.{State, place_at, shares_at, state_after_telling, held, pending_for, owners_of_successor, shares_handed_over, owners_handed_over, state_after_reply}
 use Rattle.lot_laws.specs.Refinement.{lock_seen, taken_at}
 pub use Rattle.steps_mutex.specs.MutexLaws.{heir}
-use Rattle.lot_laws.specs.Stations.{Station, hand}
+use Rattle.lot_laws.specs.Locations.{Location, hand}
 use Rattle.lot_laws.specs.SitesOf.{carried_at, hand_at, Hands}
-use Rattle.lot_laws.proofs.machine.Parts.{mutex, put_other, stays, untaken, IsOf, station_elsewhere, WantsAlone, none_given, IsApart, held_tells, in_hand_where, Base, LetGo, IsInHandOf, successor_in, successor_is, told_in}
+use Rattle.lot_laws.proofs.machine.Parts.{mutex, put_other, stays, untaken, IsOf, location_elsewhere, WantsAlone, none_given, IsApart, held_tells, in_hand_where, Base, LetGo, IsInHandOf, successor_in, successor_is, told_in}
 
 -- a thread that has somebody in hand at one lock at most
 abbrev pub CarriesAt : ℕ → Place → Type 0
 CarriesAt l p = (k : ℕ) → k ≢ l → carried_at p k ≡ None
 
 pub of_carries : (l : ℕ) (p : Place) → IsOf l p → CarriesAt l p
-of_carries l p of k ne = ap (λ (y : Station). y.carries) (station_elsewhere l k p of ne)
+of_carries l p of k ne = ap (λ (y : Location). y.carries) (location_elsewhere l k p of ne)
 
 -- each thread that is in the hand of t is so there
 pub in_hand_here : {one : ℕ → Type 0} (p : ℕ → Place) → Hands one p → (t l u : ℕ) → CarriesAt l (p t) → (x : IsInHandOf (p u) t)

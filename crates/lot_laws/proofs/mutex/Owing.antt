@@ -32,7 +32,7 @@ use Rattle.lot_machine.specs.Machine.{State, place_at, word_at, queue_at, is_the
 use Rattle.lot_laws.specs.Refinement.{owner_at}
 use Rattle.spec_locks.specs.Sites.{Main}
 use Rattle.lot_laws.specs.MutexPromises.{IsMutexWord}
-use Rattle.lot_laws.specs.SitesOf.{IsSteady}
+use Rattle.lot_laws.specs.SitesOf.{IsInductive}
 use Rattle.lot_laws.proofs.machine.AtPlaces.{coded_for, owns}
 use Rattle.lot_steps.specs.Steps.{line_owed, profile}
 use Rattle.lot_laws.proofs.promises.RowPromises.{LetsIn, RowSees, RowOwesNext, IsLateNext, Befalls}
@@ -117,7 +117,7 @@ mutex_befallen l at r b k = absurd b
 
 -- a row that owes just while it is inside
 abbrev Within : Place → Type 0
-Within q = (m : Line) → (profile q).owes ≡ Some m → (profile q).doing.inside ≡ Some m
+Within q = (m : Line) → (profile q).owes ≡ Some m → (profile q).role.inside ≡ Some m
 
 locked_within : (k : ℕ) (e : Entry) (r : Bool) (n : Next LockAt) → Within (mutex_goes k (in_lock e r n))
 locked_within k e r (next.At at) m h = lock_owes (is_timed e) r at ∙ h
@@ -134,7 +134,7 @@ main_is Main word k at s = refl
 main_is Second word k at s = absurd (let f : false ≡ true = s.2 in cc)
 
 within : (word k : ℕ) (at : MutexPlace) (o : Outcome) (q : Place) → (profile q).owes ≡ Some Main
-    → (profile q).doing.inside ≡ Some Main → RowOwesNext locks.Mutex k word (mutex_row at) o (profile q)
+    → (profile q).role.inside ≡ Some Main → RowOwesNext locks.Mutex k word (mutex_row at) o (profile q)
 within word k at o q owes inside = record {
   since = λ m h. inl (inside ∙ sym owes ∙ h);
   sees = λ m s step. owes ∙ ap Some (sym (main_is m word k at s));
@@ -164,7 +164,7 @@ entering word k e r a o q within = record {
 abbrev pub OwesNext : ℕ → ℕ → MutexPlace → Next MutexPlace → Type 0
 OwesNext k word at n = RowOwesNext locks.Mutex k word (mutex_row at) (outcome_of (mutex_does k n)) (profile (mutex_goes k n))
 
-module _ (w : State) (t : ℕ) (steady : IsSteady w) (k : ℕ) where
+module _ (w : State) (t : ℕ) (steady : IsInductive w) (k : ℕ) where
   -- the word of an owner that isn't 1 says that somebody may wait
   beside_owner : (at : MutexPlace) → place_at w t ≡ Mutex k at → owner_at w k ≡ Some t → (word_at w k == 1) ≡ false
       → is_parked (word_at w k) ≡ true

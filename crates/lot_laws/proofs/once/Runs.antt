@@ -37,10 +37,10 @@ use Rattle.steps_condvar.specs.CondvarSteps.{condvar_next}
 use Rattle.lot_steps.specs.declared.places.Place.{Place}
 use Rattle.lot_steps.specs.declared.places.Place.TheVariants.{Idle, Mutex, RwLock, Once, Condvar, Semaphore}
 use Rattle.lot_steps.specs.Steps.{act_of, lock_of, looking, mutex_goes, next_place, once_goes, rwlock_goes, condvar_goes, semaphore_goes}
-use Rattle.lot_machine.specs.Fits.{IsShaped}
+use Rattle.lot_machine.specs.Fits.{IsWellFormed}
 use Rattle.lot_machine.specs.Machine.{State, after, opening, place_at, put, runs_closure, step_outcome}
 use Rattle.lot_laws.specs.Refinement.{RunsClosure, call_at, call_state, lock_state, locks_of, sleeps}
-use Rattle.lot_laws.specs.SitesOf.{AreCondvars, AreCounted, IsSteady, RunsInClosures}
+use Rattle.lot_laws.specs.SitesOf.{AreCondvars, AreCounted, IsInductive, RunsInClosures}
 use Rattle.lot_laws.proofs.machine.Befallen.{others_keep_it}
 use Rattle.lot_laws.proofs.calls.Closures.{call_runs_none, course_runs_none, mutex_runs_none, runs_one, condvar_runs_none, semaphore_runs_none}
 use Rattle.lot_laws.proofs.machine.Parts.{put_here, put_other, same}
@@ -328,7 +328,7 @@ module _ (w : State) (s : Step) (o : Outcome) (step : IsStep (locks_of w) s o (l
     | inr refused ↦ unchanged refused.1.1
   ]
 
-pub running_after : (w : State) (s : Step) → IsShaped w → IsSteady w → AreCounted w → AreCondvars w → RunsInClosures w
+pub running_after : (w : State) (s : Step) → IsWellFormed w → IsInductive w → AreCounted w → AreCondvars w → RunsInClosures w
     → RunsInClosures (after w s)
 running_after w s shape steady counted condvars running = runs_on w s (step_outcome w s) (after_step w s shape steady counted condvars) running
 

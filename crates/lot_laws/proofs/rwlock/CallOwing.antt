@@ -123,11 +123,11 @@ module _ (r : Rules) (shared : has_readers r.sort ≡ true) (a : Admission) (l w
 
   -- it owes on the line that it lets in, since it saw somebody wait there, or inside
   owes_on : (c : RwLockCallPlace) (n : Next RwLockCallPlace) (m : Line) → (then_row n).owes ≡ Some m → line_by c ≡ m
-      → ((then_row n).doing.inside ≡ Some m)
+      → ((then_row n).role.inside ≡ Some m)
       ⊎ (RowFinds r.sort l word (call_profile a c) m × (outcome_of (call_does l a n) ≡ told.Step))
       → Owing c n
   owes_on c n m owes line finds = record {
-    since = λ k h. subst (λ k. ((then_row n).doing.inside ≡ Some k) ⊎ (RowFinds r.sort l word (call_profile a c) k × (outcome_of (call_does l a n) ≡ told.Step))) (some_line m k (sym owes ∙ h)) finds;
+    since = λ k h. subst (λ k. ((then_row n).role.inside ≡ Some k) ⊎ (RowFinds r.sort l word (call_profile a c) k × (outcome_of (call_does l a n) ≡ told.Step))) (some_line m k (sym owes ∙ h)) finds;
     sees = λ k s step looks. owes ∙ ap Some (sym line ∙ s.1);
   }
 
@@ -218,7 +218,7 @@ module _ (r : Rules) (shared : has_readers r.sort ≡ true) (a : Admission) (l w
 
     -- inside the section
     within : (x : Access) (to to2 : HandOverAt) → HandsOverAt x to → (call_profile a (HandOver x b to2)).owes ≡ Some Main
-        → (call_profile a (HandOver x b to2)).doing.inside ≡ Some Main → Owing (HandOver x b to) (next.At (HandOver x b to2))
+        → (call_profile a (HandOver x b to2)).role.inside ≡ Some Main → Owing (HandOver x b to) (next.At (HandOver x b to2))
     within access.Shared to to2 fits owes inside = absurd fits
     within access.Upgradable to to2 fits owes inside = owes_on (up to) (next.At (up to2)) Main owes (line_up to) (inl inside)
     within access.Exclusive to to2 fits owes inside = owes_on (ex to) (next.At (ex to2)) Main owes (line_ex to) (inl inside)
@@ -284,7 +284,7 @@ module _ (r : Rules) (shared : has_readers r.sort ≡ true) (a : Admission) (l w
   bumping_owes (purpose.Downgrade d) row = refl
   bumping_owes (purpose.Upgrade how) row = refl
 
-  bumping_inside : (q : RwLockPurpose) (row : Profile) → (bumping q row).doing.inside ≡ row.doing.inside
+  bumping_inside : (q : RwLockPurpose) (row : Profile) → (bumping q row).role.inside ≡ row.role.inside
   bumping_inside (purpose.Enter x how) row = refl
   bumping_inside (purpose.Release x) row = refl
   bumping_inside (purpose.Downgrade d) row = refl
@@ -292,7 +292,7 @@ module _ (r : Rules) (shared : has_readers r.sort ≡ true) (a : Admission) (l w
 
   within_again : (x : Access) (n : Next RwLockPlace) → IsWithin n → (m : Line)
       → (then_row (bump_next (purpose.Enter x Patient) n)).owes ≡ Some m
-      → (then_row (bump_next (purpose.Enter x Patient) n)).doing.inside ≡ Some m
+      → (then_row (bump_next (purpose.Enter x Patient) n)).role.inside ≡ Some m
   within_again x (next.At p) h m e = bumping_inside p.purpose (rwlock_profile a p) ∙ h m (sym (bumping_owes p.purpose (rwlock_profile a p)) ∙ e)
   within_again x (next.End answer) h m e = absurd cc
 
@@ -339,7 +339,7 @@ module _ (r : Rules) (shared : has_readers r.sort ≡ true) (a : Admission) (l w
   shut_waking to (inr h) = elim h.1 [ inl less ↦ less | inr left ↦ let e : false ≡ true = left.0 in cc ]
 
   wakes_owe : (to : WakeAt) (n : Next RwLockCallPlace)
-      → ((m : Line) → (then_row n).owes ≡ Some m → (then_row n).doing.inside ≡ Some m) → Owing (leaving (at.Wake Second to)) n
+      → ((m : Line) → (then_row n).owes ≡ Some m → (then_row n).role.inside ≡ Some m) → Owing (leaving (at.Wake Second to)) n
   wakes_owe to n inside = record { since = λ m h. inl (inside m h); sees = λ m s step looks. absurd (shut_waking to s.0) }
 
 -- ---------------------------------------------------------------- each place
