@@ -11,7 +11,7 @@ use Rattle.spec_locks.specs.Runs.{no_rights}
 use Rattle.spec_locks.specs.Sites.{Site}
 use Rattle.lot_world.specs.Drained.{Drains}
 use Rattle.lot_world.proofs.Few.{rights_are}
-use Rattle.lot_world.proofs.Owners.{index_sum}
+use Rattle.lot_world.proofs.DrainOwners.{index_sum}
 use Rattle.lot_world.proofs.Releases.{one_thread}
 use Rattle.lot_world.proofs.Quiet.{zero_sum}
 

@@ -17,7 +17,7 @@ pub mod AsNow
 pub mod Crowded
 pub mod Potential
 pub mod Few
-pub mod Pending
+pub mod DrainPending
 pub mod Waits
 pub mod Sleepers
 pub mod PlaceOwners
@@ -33,6 +33,6 @@ pub mod Full
 pub mod Now
 pub mod OnNow
 pub mod Begins
-pub mod Entry
+pub mod DrainEntry
 pub mod Course
-pub mod Owners
+pub mod DrainOwners

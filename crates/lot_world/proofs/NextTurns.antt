@@ -27,7 +27,7 @@ use Rattle.lot_world.specs.Quiet.{AtRest, IsQuiet}
 use Rattle.lot_world.specs.Full.{IsStrict}
 use Rattle.lot_world.specs.Owners.{ReleaseThere, releases}
 use Rattle.lot_world.specs.Turns.{awake, begin_of, is_up}
-use Rattle.lot_world.proofs.Owners.{owners_may_release}
+use Rattle.lot_world.proofs.DrainOwners.{owners_may_release}
 use Rattle.lot_world.proofs.Releases.{one_thread}
 use Rattle.lot_world.proofs.Turns.{idle_is}
 use Rattle.lot_world.specs.Schedules.{first_begin, first_release, first_up, next_turn, or_else}

@@ -39,9 +39,9 @@ use Rattle.lot_world.specs.Drained.{Drains}
 use Rattle.lot_world.specs.Few.{IsOfOneLock, PendsInCall}
 use Rattle.lot_world.specs.Pending.{AllBeganUnpending, BeganUnpending, OnlyWaitersStand}
 use Rattle.lot_world.proofs.Few.{put_other, put_same, rights_are}
-use Rattle.lot_world.proofs.Pending.{others_own, unpending_go_on}
+use Rattle.lot_world.proofs.DrainPending.{others_own, unpending_go_on}
 use Rattle.lot_world.specs.Quiet.{HasOneLock}
-use Rattle.lot_world.proofs.Owners.{index_sum}
+use Rattle.lot_world.proofs.DrainOwners.{index_sum}
 use Rattle.lot_world.proofs.Quiet.{only_here}
 use Rattle.lot_world.proofs.Turns.{called_here}
 use Rattle.lot_world.specs.Reached.{ReachedHaveOwners}

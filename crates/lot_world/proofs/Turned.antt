@@ -14,7 +14,7 @@ use Rattle.lot_world.specs.Full.{IsStrict}
 use Rattle.lot_world.specs.Turns.{NobodyInside, after_alone, after_release, awake, begin_of, weight}
 use Rattle.lot_world.proofs.Begins.{releases_keep_draining, turns_keep_draining}
 use Rattle.lot_world.proofs.Course.{alone_size, lowered, release_size, weighs}
-use Rattle.lot_world.proofs.Entry.{entry_leaves, possible}
+use Rattle.lot_world.proofs.DrainEntry.{entry_leaves, possible}
 use Rattle.lot_world.proofs.Full.{strict_goes_on}
 use Rattle.lot_world.proofs.OnNow.{draining_goes_on}
 use Rattle.lot_world.proofs.Outside.{each_turn_leaves}

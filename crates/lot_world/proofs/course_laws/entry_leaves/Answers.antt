@@ -1,4 +1,4 @@
-use Rattle.lot_world.proofs.Entry.{entry_leaves}
+use Rattle.lot_world.proofs.DrainEntry.{entry_leaves}
 use Rattle.lot_world.proofs.course_laws.entry_leaves.Goals as goal
 
 pub returns : goal.returns

@@ -1,4 +1,4 @@
-use Rattle.lot_world.proofs.Owners.{owners_may_release}
+use Rattle.lot_world.proofs.DrainOwners.{owners_may_release}
 use Rattle.lot_world.proofs.course_laws.owners_may_release.Goals as goal
 
 pub returns : goal.returns
