@@ -15,9 +15,10 @@ ghost use Rattle.lock_monitor.specs.Conditions.{At, WaitsAtLast, WaitsOften};
 ghost use Rattle.spec_locks.specs.declared.outcomes.Answer.TheVariants as answers;
 
 use crate::monitor::Monitor;
+use core_base::Clock;
 use lock_api::condvar::TokenOf;
 use lock_api::mutex::run_on;
-use lock_api::{MutexGuard, RawCondvar};
+use lock_api::{MutexGuard, RawCondvar, RawCondvarTimed, WaitTimeoutResult};
 use std::sync::Wait;
 
 impl<R: RawCondvar, T, const N: usize> Monitor<R, T, N> {
@@ -101,5 +102,74 @@ impl<R: RawCondvar, T, const N: usize> Monitor<R, T, N> {
         let answer = run_on(&mut *guard, f);
         guard.unlock(rt, token);
         answer
+    }
+}
+
+impl<R: RawCondvarTimed, T, const N: usize> Monitor<R, T, N> {
+    /// Waits as `wait` does, or until the clock, in nanoseconds, has come to the deadline. Tells
+    /// whether that was so.
+    pub fn wait_until<'a, W: Wait, C: Clock>(
+        &self,
+        rt: &W,
+        token: &mut TokenOf<R>,
+        mut guard: MutexGuard<'a, R::RawMutex, T>,
+        at: usize,
+        clock: &C,
+        deadline: u64,
+    ) -> (MutexGuard<'a, R::RawMutex, T>, WaitTimeoutResult)
+        requires token { R.RawMutex.is_token_of (R.RawMutex.lot_of self.now.0) token.old }
+        requires mutex { lock_of guard ≡ self.now.0 }
+        requires number { at < N }
+        ensures token { R.RawMutex.is_token_of (R.RawMutex.lot_of self.now.0) token.new
+            × R.RawMutex.stays token.old token.new }
+        ensures guard { lock_of result.0 ≡ self.now.0 }
+        ensures path { At self.now.1 at (λ condition. WaitsAtLast
+            (R.waited condition self.now.0 true) (late_answer result.1) token.old token.new) }
+        ensures late { result.1 ≡ true → HasPassed (C.tells clock.now) deadline }
+    {
+        let condition = self.condition(at);
+        for _ in rt.forever() {
+            match condition.wait_until(rt, token, guard, clock, deadline) {
+                Ok(ended) => return ended,
+                Err((_, back)) => guard = back,
+            }
+        }
+        unreachable!()
+    }
+
+    /// Waits as `wait_while` does, or until the clock, in nanoseconds, has come to the deadline.
+    /// The condition is called once more then, and the result tells whether it still held.
+    pub fn wait_while_until<'a, W: Wait, C: Clock, F: FnMut(&mut T) -> bool + Drop>(
+        &self,
+        rt: &W,
+        token: &mut TokenOf<R>,
+        mut guard: MutexGuard<'a, R::RawMutex, T>,
+        at: usize,
+        mut condition: F,
+        clock: &C,
+        deadline: u64,
+    ) -> (MutexGuard<'a, R::RawMutex, T>, bool)
+        requires token { R.RawMutex.is_token_of (R.RawMutex.lot_of self.now.0) token.old }
+        requires mutex { lock_of guard ≡ self.now.0 }
+        requires number { at < N }
+        requires callable { F.IsAlwaysCallable condition }
+        ensures token { R.RawMutex.is_token_of (R.RawMutex.lot_of self.now.0) token.new
+            × WaitedOrNot R.RawMutex.stays token.old token.new }
+        ensures guard { lock_of result.0 ≡ self.now.0 }
+        ensures ended { AnsweredAt F.step (CallKeepsClosure F.FnMut condition) condition
+            result.1 (value_of result.0) }
+        ensures late { result.1 ≡ true → HasPassed (C.tells clock.now) deadline }
+    {
+        let mut late = false;
+        for _ in rt.forever() {
+            let holds = condition(&mut *guard);
+            if late || !holds {
+                return (guard, holds);
+            }
+            let (back, ended) = self.wait_until(rt, token, guard, at, clock, deadline);
+            guard = back;
+            late = ended.timed_out();
+        }
+        unreachable!()
     }
 }

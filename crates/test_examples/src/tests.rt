@@ -8,6 +8,7 @@ mod prices;
 mod rates;
 mod spawned;
 mod table;
+mod visits;
 mod workers;
 
 ghost use Rattle.parking_lot.specs.Names.{IsTokenOf, lot_of};
