@@ -6,6 +6,7 @@ mod cache;
 mod pool;
 mod prices;
 mod rates;
+mod register;
 mod spawned;
 mod table;
 mod visits;
