@@ -2,6 +2,7 @@
 #![tactic(auto)]
 
 pub mod monitor;
+mod retries;
 pub mod waits;
 
 pub use monitor::Monitor;

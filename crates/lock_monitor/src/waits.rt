@@ -1,13 +1,9 @@
 //! Waits of a monitor. Each gives its guard back.
-//!
-//! A condition variable refuses a wait while others wait on it with another mutex. Those of a
-//! monitor are used with its own mutex alone. No contract knows that, so a wait that is refused is
-//! begun again.
-ghost use Rattle.std.specs.Prelude.{◌≡◌, ◌<◌, IfOk, false, true};
+ghost use Rattle.std.specs.Prelude.{◌≡◌, ◌<◌, false, true};
 ghost use Rattle.std.specs.Fn.{FnOnceReturnsAtMut};
 ghost use Rattle.std.specs.Iterator.Runs.{CallKeepsClosure};
 ghost use Rattle.std.specs.Sync.Condvar.{AnsweredAt, StoppedAt};
-ghost use Rattle.core_base.specs.Clocks.{HasElapsed, HasPassed};
+ghost use Rattle.core_base.specs.Clocks.{HasPassed};
 ghost use Rattle.lock_raw.specs.Answers.{late_answer};
 ghost use Rattle.lock_api.specs.Conditions.{WaitedOrNot};
 ghost use Rattle.lock_api.specs.Guards.{lock_of, value_of};
@@ -15,10 +11,11 @@ ghost use Rattle.lock_monitor.specs.Conditions.{At, WaitsAtLast, WaitsOften};
 ghost use Rattle.spec_locks.specs.declared.outcomes.Answer.TheVariants as answers;
 
 use crate::monitor::Monitor;
+use crate::retries::{wait_on, wait_until_on, wait_while_on, wait_while_until_on};
 use core_base::Clock;
 use lock_api::condvar::TokenOf;
 use lock_api::mutex::run_on;
-use lock_api::{MutexGuard, RawCondvar, RawCondvarTimed, WaitTimeoutResult};
+use lock_api::{MutexGuard, RawCondvar, RawCondvarTimed};
 use std::sync::Wait;
 
 impl<R: RawCondvar, T, const N: usize> Monitor<R, T, N> {
@@ -27,7 +24,7 @@ impl<R: RawCondvar, T, const N: usize> Monitor<R, T, N> {
         &self,
         rt: &W,
         token: &mut TokenOf<R>,
-        mut guard: MutexGuard<'a, R::RawMutex, T>,
+        guard: MutexGuard<'a, R::RawMutex, T>,
         at: usize,
     ) -> MutexGuard<'a, R::RawMutex, T>
         requires token { R.RawMutex.is_token_of (R.RawMutex.lot_of self.now.0) token.old }
@@ -36,17 +33,10 @@ impl<R: RawCondvar, T, const N: usize> Monitor<R, T, N> {
         ensures token { R.RawMutex.is_token_of (R.RawMutex.lot_of self.now.0) token.new
             × R.RawMutex.stays token.old token.new }
         ensures guard { lock_of result ≡ self.now.0 }
-        ensures path { At self.now.1 at (λ condition. WaitsAtLast
-            (R.waited condition self.now.0 false) answers.Ok token.old token.new) }
+        ensures path { At self.now.1 at (λ condvar. WaitsAtLast
+            (R.waited condvar self.now.0 false) answers.Ok token.old token.new) }
     {
-        let condition = self.condition(at);
-        for _ in rt.forever() {
-            match condition.wait(rt, token, guard) {
-                Ok(back) => return back,
-                Err((_, back)) => guard = back,
-            }
-        }
-        unreachable!()
+        wait_on(self.condition(at), rt, token, guard)
     }
 
     /// Waits on a condition variable for as long as the condition holds of the value. It is called
@@ -55,9 +45,9 @@ impl<R: RawCondvar, T, const N: usize> Monitor<R, T, N> {
         &self,
         rt: &W,
         token: &mut TokenOf<R>,
-        mut guard: MutexGuard<'a, R::RawMutex, T>,
+        guard: MutexGuard<'a, R::RawMutex, T>,
         at: usize,
-        mut condition: F,
+        condition: F,
     ) -> MutexGuard<'a, R::RawMutex, T>
         requires token { R.RawMutex.is_token_of (R.RawMutex.lot_of self.now.0) token.old }
         requires mutex { lock_of guard ≡ self.now.0 }
@@ -66,16 +56,12 @@ impl<R: RawCondvar, T, const N: usize> Monitor<R, T, N> {
         ensures token { R.RawMutex.is_token_of (R.RawMutex.lot_of self.now.0) token.new
             × WaitedOrNot R.RawMutex.stays token.old token.new }
         ensures guard { lock_of result ≡ self.now.0 }
+        ensures path { At self.now.1 at (λ condvar. WaitsOften
+            (R.waited condvar self.now.0 false) answers.Ok token.old token.new) }
         ensures ended { StoppedAt F.step (CallKeepsClosure F.FnMut condition) condition
             (value_of result) }
     {
-        for _ in rt.forever() {
-            if !condition(&mut *guard) {
-                return guard;
-            }
-            guard = self.wait(rt, token, guard, at);
-        }
-        unreachable!()
+        wait_while_on(self.condition(at), rt, token, guard, condition)
     }
 
     /// Locks the mutex, waits on a condition variable for as long as the condition holds of the
@@ -112,29 +98,22 @@ impl<R: RawCondvarTimed, T, const N: usize> Monitor<R, T, N> {
         &self,
         rt: &W,
         token: &mut TokenOf<R>,
-        mut guard: MutexGuard<'a, R::RawMutex, T>,
+        guard: MutexGuard<'a, R::RawMutex, T>,
         at: usize,
         clock: &C,
         deadline: u64,
-    ) -> (MutexGuard<'a, R::RawMutex, T>, WaitTimeoutResult)
+    ) -> (MutexGuard<'a, R::RawMutex, T>, bool)
         requires token { R.RawMutex.is_token_of (R.RawMutex.lot_of self.now.0) token.old }
         requires mutex { lock_of guard ≡ self.now.0 }
         requires number { at < N }
         ensures token { R.RawMutex.is_token_of (R.RawMutex.lot_of self.now.0) token.new
             × R.RawMutex.stays token.old token.new }
         ensures guard { lock_of result.0 ≡ self.now.0 }
-        ensures path { At self.now.1 at (λ condition. WaitsAtLast
-            (R.waited condition self.now.0 true) (late_answer result.1) token.old token.new) }
+        ensures path { At self.now.1 at (λ condvar. WaitsAtLast
+            (R.waited condvar self.now.0 true) (late_answer result.1) token.old token.new) }
         ensures late { result.1 ≡ true → HasPassed (C.tells clock.now) deadline }
     {
-        let condition = self.condition(at);
-        for _ in rt.forever() {
-            match condition.wait_until(rt, token, guard, clock, deadline) {
-                Ok(ended) => return ended,
-                Err((_, back)) => guard = back,
-            }
-        }
-        unreachable!()
+        wait_until_on(self.condition(at), rt, token, guard, clock, deadline)
     }
 
     /// Waits as `wait_while` does, or until the clock, in nanoseconds, has come to the deadline.
@@ -143,9 +122,9 @@ impl<R: RawCondvarTimed, T, const N: usize> Monitor<R, T, N> {
         &self,
         rt: &W,
         token: &mut TokenOf<R>,
-        mut guard: MutexGuard<'a, R::RawMutex, T>,
+        guard: MutexGuard<'a, R::RawMutex, T>,
         at: usize,
-        mut condition: F,
+        condition: F,
         clock: &C,
         deadline: u64,
     ) -> (MutexGuard<'a, R::RawMutex, T>, bool)
@@ -160,16 +139,14 @@ impl<R: RawCondvarTimed, T, const N: usize> Monitor<R, T, N> {
             result.1 (value_of result.0) }
         ensures late { result.1 ≡ true → HasPassed (C.tells clock.now) deadline }
     {
-        let mut late = false;
-        for _ in rt.forever() {
-            let holds = condition(&mut *guard);
-            if late || !holds {
-                return (guard, holds);
-            }
-            let (back, ended) = self.wait_until(rt, token, guard, at, clock, deadline);
-            guard = back;
-            late = ended.timed_out();
-        }
-        unreachable!()
+        wait_while_until_on(
+            self.condition(at),
+            rt,
+            token,
+            guard,
+            condition,
+            clock,
+            deadline,
+        )
     }
 }
