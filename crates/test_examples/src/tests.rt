@@ -3,6 +3,7 @@
 //! and a thread that is spawned.
 mod accounts;
 mod cache;
+mod door;
 mod pool;
 mod prices;
 mod rates;
