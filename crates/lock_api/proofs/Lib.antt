@@ -1,3 +1,3 @@
-mod Stays
-mod WaitsOn
+pub mod Stays
+pub mod WaitsOn
 mod Visits

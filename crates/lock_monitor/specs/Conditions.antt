@@ -15,7 +15,7 @@ abbrev pub WaitsAtLast : {Token : Type 0} → (Answer → Token → Token → Ty
 WaitsAtLast {Token = Token} waited answer old new = (last : Token)
     × Waits (waited TwoMutexes) old last × waited answer last new
 
--- any number of such waits, also none
+-- any number of such waits, one after another, also none
 abbrev pub WaitsOften : {Token : Type 0} → (Answer → Token → Token → Type 0) → Answer
     → Token → Token → Type 0
 WaitsOften waited answer old new = Waits (WaitsAtLast waited answer) old new

@@ -3,6 +3,7 @@
 #![tactic(auto)]
 
 pub mod monitor;
+mod retries;
 pub mod team;
 pub mod waits;
 

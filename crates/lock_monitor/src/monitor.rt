@@ -52,7 +52,7 @@ fn conditions<R: RawCondvar + Drop>(
 {
     let mut made = Vec::with_capacity(alloc, number)?;
     for _ in 0..number {
-        made.push_reserved(Condvar::new(lot, token)?);
+        made.push(Condvar::new(lot, token)?)?;
     }
     Ok(made)
 }

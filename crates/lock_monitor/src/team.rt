@@ -77,7 +77,6 @@ impl Team {
     ///
     /// `SizesOutOfRange`, but for 1 to 2^20 words and up to 1023 threads, and `NoMemory`, where
     /// memory was refused.
-    #[tactic(auto, using(crate::proofs::Members::number_of_tickets))]
     pub fn with_words(alloc: Global, words: usize, threads: usize) -> Result<(Team, Token), Fault>
         ensures made { IfOk result (λ made. IsTokenOf made.0 made.1
             × (made.0.words.count ≡ words) × (made.0.records.count ≡ threads + 1)) }

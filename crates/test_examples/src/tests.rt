@@ -3,11 +3,14 @@
 //! and a thread that is spawned.
 mod accounts;
 mod cache;
+mod door;
 mod pool;
 mod prices;
 mod rates;
+mod register;
 mod spawned;
 mod table;
+mod visits;
 mod workers;
 
 ghost use Rattle.parking_lot.specs.Names.{IsTokenOf, lot_of};

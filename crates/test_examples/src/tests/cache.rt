@@ -1,6 +1,6 @@
 //! Prices with their tax, which many threads look up. The first who misses one works it out, and
 //! the others find it.
-ghost use Rattle.std.specs.Prelude.{◌≡◌, ◌+◌, ◌*◌, ◌/◌, IfSome};
+ghost use Rattle.std.specs.Prelude.{◌≡◌, ◌+◌, ◌*◌, ◌/◌, IfOk, IfSome};
 ghost use Rattle.parking_lot.specs.Names.{IsTokenOf, lot_of_rwlock};
 
 use super::{all_are, holds, same};
@@ -40,8 +40,7 @@ fn find(known: &[Priced], net: u32) -> Option<u64>
     None
 }
 
-// Reads beside others that read. Where the price is missing, one thread at a time looks with the
-// right to write later, so none works out what another has written meanwhile.
+// Reads beside others that read, and waits for nobody but a writer.
 fn look_up<R: Wait>(
     rt: &R,
     cache: &RwLock<Vec<Priced>>,
@@ -49,22 +48,43 @@ fn look_up<R: Wait>(
     net: u32,
 ) -> Result<u64, Fault>
     requires { IsTokenOf (lot_of_rwlock cache.now) token.old }
-    ensures { IsTokenOf (lot_of_rwlock cache.now) token.new }
+    ensures token { IsTokenOf (lot_of_rwlock cache.now) token.new }
+    ensures right { IfOk result (λ gross. gross ≡ net + net * 19 / 100) }
 {
-    let found = cache.with_read(rt, token, |known: &Vec<Priced>| find(known.as_slice(), net))?;
-    if let Some(gross) = found {
+    let guard = cache.read(rt, token)?;
+    let found = find(guard.as_slice(), net);
+    guard.unlock(rt, token);
+    match found {
+        Some(gross) => Ok(gross),
+        None => fill_in(rt, cache, token, net),
+    }
+}
+
+// One thread at a time looks with the right to write later, so none works out what another has
+// written meanwhile. Readers are kept out only from the upgrade on.
+fn fill_in<R: Wait>(
+    rt: &R,
+    cache: &RwLock<Vec<Priced>>,
+    token: &mut Token,
+    net: u32,
+) -> Result<u64, Fault>
+    requires { IsTokenOf (lot_of_rwlock cache.now) token.old }
+    ensures token { IsTokenOf (lot_of_rwlock cache.now) token.new }
+    ensures right { IfOk result (λ gross. gross ≡ net + net * 19 / 100) }
+{
+    let guard = cache.upgradable_read(rt, token)?;
+    if let Some(gross) = find(guard.as_slice(), net) {
+        guard.unlock(rt, token);
         return Ok(gross);
     }
-    cache.with_upgradable(
-        rt,
-        token,
-        |known: &Vec<Priced>| find(known.as_slice(), net).map(Ok),
-        |known: &mut Vec<Priced>| {
-            let priced = work_out(net);
-            known.push(priced)?;
-            Ok(priced.gross)
-        },
-    )?
+    let priced = work_out(net);
+    let mut guard = guard.upgrade(rt, token);
+    let pushed = guard.push(priced);
+    guard.unlock(rt, token);
+    match pushed {
+        Ok(()) => Ok(priced.gross),
+        Err(_) => Err(Fault::NoMemory),
+    }
 }
 
 // Returns the sum of all prices.

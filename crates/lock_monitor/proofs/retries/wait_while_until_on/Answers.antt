@@ -1,0 +1,46 @@
+use Rattle.std.proofs.Common.{◌∙◌, ap, inl, refl}
+use denote.Param.Always.{mut_next}
+use denote.Param.Members.{was_Called}
+use Rattle.lock_api.proofs.Stays.{stays_behind}
+use Rattle.lock_api.proofs.WaitsOn.{late_or_holds, not_begun}
+use Rattle.lock_monitor.proofs.retries.wait_while_until_on.Goals as goal
+
+pub loop-init : goal.loop-init
+loop-init g c = record {
+  turns = (tt, tt);
+  thread = c.requires.token;
+  stays = inl refl;
+  guard = refl;
+  passed = not_begun;
+  callable = c.requires.callable;
+  kept = λ _. refl;
+}
+
+pub loop-preserved : goal.loop-preserved
+loop-preserved g c = record {
+  turns = (tt, tt);
+  thread = c.wait_until_on.ensures.token.0;
+  stays = stays_behind g.R.RawMutex.RawMutex.stays g.R.RawMutex.RawMutex.stays_on _ _ _ c.loop.invariant.stays c.wait_until_on.ensures.token.1;
+  guard = c.wait_until_on.ensures.guard ∙ c.loop.invariant.guard;
+  passed = c.wait_until_on.ensures.late;
+  callable = mut_next g.F.FnMut _ _ _ _ _ (record { met = c.condition-holds.ensures.met }) refl c.loop.invariant.callable;
+  kept = λ stays. stays _ _ _ (was_Called g.F.FnMut c.args.condition c.loop.condition _ _ _ c.condition-holds.new.self c.condition-holds.ensures.met (c.loop.invariant.kept stays) refl);
+}
+
+pub wait_until_on-requires-clause-token : goal.wait_until_on-requires-clause-token
+wait_until_on-requires-clause-token g c = c.loop.invariant.thread
+
+pub wait_until_on-requires-clause-lot : goal.wait_until_on-requires-clause-lot
+wait_until_on-requires-clause-lot g c = ap g.R.RawMutex.RawMutex.lot_of c.loop.invariant.guard ∙ c.requires.lot
+
+pub returns-then-late-clause-token : goal.returns-then-late-clause-token
+returns-then-late-clause-token g c = (c.loop.invariant.thread, c.loop.invariant.stays)
+
+pub returns-then-late-clause-guard : goal.returns-then-late-clause-guard
+returns-then-late-clause-guard g c = c.loop.invariant.guard
+
+pub returns-then-late-clause-ended : goal.returns-then-late-clause-ended
+returns-then-late-clause-ended g c = (_, _, _, _, record { met = c.condition-holds.ensures.met }, refl, c.loop.invariant.kept)
+
+pub returns-then-late-clause-late : goal.returns-then-late-clause-late
+returns-then-late-clause-late g c = λ holds. c.loop.invariant.passed (late_or_holds c.then-late.either holds)
