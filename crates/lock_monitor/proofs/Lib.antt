@@ -1,1 +1,2 @@
+mod More
 mod Stays
