@@ -1,5 +1,5 @@
 #!/usr/bin/env python3
-"""Refuses each allocation of the tests `refusals` of `test_drain` in turn, and checks that they pass still.
+"""Refuses each allocation of the tests `refusals` of `test_drain` and `test_mutexes` in turn, and checks that they pass.
 
 The tests are written so: whatever is refused, they see the fault, find nothing lost, and go on. Each is run without the
 proofs, in a copy of the crates in which its crate has no other tests, and counts its allocations anew.
@@ -15,7 +15,7 @@ import sys
 import tempfile
 
 TOP = os.path.join(os.path.dirname(os.path.abspath(__file__)), "..")
-CRATE = "test_drain"
+CRATES = ["test_drain", "test_mutexes"]
 MODULE = "refusals"
 LAST = 48
 
@@ -49,20 +49,25 @@ def tried(crate, refused):
     return re.findall(r"^test (?!result).*$", done.stdout, flags=re.M), done.stdout + done.stderr
 
 
-def main():
-    last = int(sys.argv[1]) if len(sys.argv) > 1 else LAST
+def refused_in_turn(name, last):
+    """Tries the tests of one crate, and returns how many refusals went wrong."""
     wrong = 0
     with tempfile.TemporaryDirectory() as folder:
         copied(folder)
-        crate = os.path.join(folder, "crates", CRATE)
+        crate = os.path.join(folder, "crates", name)
         keep_alone(crate, MODULE)
         for refused in range(1, last + 1):
             tests, output = tried(crate, refused)
             if not tests or not all(test.endswith("... ok") for test in tests):
                 wrong += 1
-                print(f"allocation {refused}: wrong\n{output}", flush=True)
-    print(f"{last} refusals in each of {len(tests)} tests, {wrong} wrong", flush=True)
-    return 1 if wrong else 0
+                print(f"{name}, allocation {refused}: wrong\n{output}", flush=True)
+    print(f"{name}: {last} refusals in each of {len(tests)} tests, {wrong} wrong", flush=True)
+    return wrong
+
+
+def main():
+    last = int(sys.argv[1]) if len(sys.argv) > 1 else LAST
+    return 1 if sum(refused_in_turn(name, last) for name in CRATES) else 0
 
 
 if __name__ == "__main__":

@@ -29,14 +29,14 @@ THEIRS = os.path.join(RUST, "out", "release", "lotbench")
 REGISTRY = "/usr/share/cargo/registry"
 MUTEXES = ["raw_mutex", "raw_mutex_try", "mutex", "mutex_try", "fair", "many", "many_fair", "remutex", "remutex2"]
 RWLOCKS = ["raw_read", "raw_write", "read", "write", "rw_mix", "read_recursive", "upgradable", "upgrade", "downgrade"]
-CONDVARS = ["notify", "notify_all", "pingpong", "queue"]
+CONDVARS = ["notify", "notify_all", "pingpong", "many_turns", "queue"]
 SEMAPHORES = ["semaphore", "semaphore2"]
 MODES = MUTEXES + RWLOCKS + ["once"] + SEMAPHORES + CONDVARS
 # Ours beside a mode of the other program that has another name.
 BESIDE = {"once": ["once", "std_once"]}
 THREADS = [1, 2, 4, 8]
 # Where threads wait for one another: for how many, and one operation for so many of another mode.
-TOGETHER = {"notify_all": [2, 4, 8], "pingpong": [2], "queue": [2, 4, 8]}
+TOGETHER = {"notify_all": [2, 4, 8], "pingpong": [2], "many_turns": [2, 4, 8], "queue": [2, 4, 8]}
 FEWER = 100
 # A process that keeps a processor busy, until its parent ends.
 LOOP = "import os\nparent = os.getppid()\nwhile os.getppid() == parent:\n    for _ in range(1000000):\n        pass"

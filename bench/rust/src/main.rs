@@ -15,7 +15,7 @@ const ONE_IN: u64 = 16;
 const PLACES: u64 = 16;
 const MOST_THREADS: usize = 64;
 const MOST_OPERATIONS: u64 = 1_000_000_000_000;
-const USAGE: &str = "usage: lotbench raw_mutex|raw_mutex_try|mutex|mutex_try|fair|many|many_fair|remutex|remutex2|raw_read|raw_write|read|write|rw_mix|read_recursive|upgradable|upgrade|downgrade|once|semaphore|semaphore2|notify|notify_all|pingpong|queue|std_once THREADS N";
+const USAGE: &str = "usage: lotbench raw_mutex|raw_mutex_try|mutex|mutex_try|fair|many|many_fair|remutex|remutex2|raw_read|raw_write|read|write|rw_mix|read_recursive|upgradable|upgrade|downgrade|once|semaphore|semaphore2|notify|notify_all|pingpong|many_turns|queue|std_once THREADS N";
 
 #[derive(Clone, Copy)]
 enum Mode {
@@ -43,6 +43,7 @@ enum Mode {
     Notify,
     NotifyAll,
     PingPong,
+    ManyTurns,
     Queue,
     /// `Once`, of the standard library.
     StdOnce,
@@ -75,6 +76,7 @@ impl Mode {
             "notify" => Some(Mode::Notify),
             "notify_all" => Some(Mode::NotifyAll),
             "pingpong" => Some(Mode::PingPong),
+            "many_turns" => Some(Mode::ManyTurns),
             "queue" => Some(Mode::Queue),
             "std_once" => Some(Mode::StdOnce),
             _ => None,
@@ -107,6 +109,7 @@ impl Mode {
             Mode::Notify => "notify",
             Mode::NotifyAll => "notify_all",
             Mode::PingPong => "pingpong",
+            Mode::ManyTurns => "many_turns",
             Mode::Queue => "queue",
             Mode::StdOnce => "std_once",
         }
@@ -231,7 +234,7 @@ impl Desk {
         loop {
             let any = match mode {
                 Mode::NotifyAll => self.meet(threads),
-                Mode::PingPong => self.take_turn(number, threads),
+                Mode::PingPong | Mode::ManyTurns => self.take_turn(number, threads),
                 _ if number % 2 == 0 => self.send(),
                 _ => self.receive(),
             };
@@ -283,6 +286,8 @@ struct Bench {
     semaphore: Apart<Semaphore>,
     semaphore2: Apart<Semaphore>,
     desk: Apart<Desk>,
+    /// A desk for each pair of threads.
+    desks: Vec<Desk>,
     taken: Apart<AtomicU64>,
     operations: u64,
 }
@@ -482,6 +487,10 @@ fn notify_nobody(bench: &Bench, times: u64) {
 }
 
 fn work(mode: Mode, bench: &Bench, threads: usize, number: usize) -> u64 {
+    if matches!(mode, Mode::ManyTurns) {
+        let alone = number % 2 == 0 && number + 1 == threads;
+        return bench.desks[number / 2].work(mode, if alone { 1 } else { 2 });
+    }
     if matches!(mode, Mode::NotifyAll | Mode::PingPong | Mode::Queue) {
         return bench.desk.0.work(mode, threads as u64);
     }
@@ -514,7 +523,7 @@ fn work(mode: Mode, bench: &Bench, threads: usize, number: usize) -> u64 {
             Mode::Semaphore => hold_permit(&bench.semaphore.0, times),
             Mode::Semaphore2 => hold_permit(&bench.semaphore2.0, times),
             Mode::Notify => notify_nobody(bench, times),
-            Mode::NotifyAll | Mode::PingPong | Mode::Queue => {}
+            Mode::NotifyAll | Mode::PingPong | Mode::ManyTurns | Mode::Queue => {}
             Mode::StdOnce => call_std_once(bench, times),
         }
         done += times;
@@ -543,6 +552,7 @@ fn main() -> ExitCode {
         eprintln!("lotbench: no such plan; {USAGE}, 1 to 64 threads, 1 to 10^12 operations");
         return ExitCode::from(2);
     };
+    let pairs = threads.div_ceil(2) as u64;
     let bench = Box::new(Bench {
         raw: Apart(RawMutex::INIT),
         value: Apart(Mutex::new(0)),
@@ -557,6 +567,7 @@ fn main() -> ExitCode {
         semaphore: Apart(Semaphore::new(1)),
         semaphore2: Apart(Semaphore::new(2)),
         desk: Apart(Desk::new(operations)),
+        desks: (0..pairs).map(|pair| Desk::new(operations / pairs + u64::from(pair < operations % pairs))).collect(),
         taken: Apart(AtomicU64::new(0)),
         operations,
     });

@@ -25,7 +25,7 @@ times_both : (thread : ℕ) (xs ys : List Waiter) → times thread (xs ++ ys) �
 times_both thread [] ys = omega arith
 times_both thread (x ∷ xs) ys = omega (arith, times_both thread xs ys)
 
--- who moves stands as often as before
+-- a thread that moves stands as often as before
 times_moved : (thread to : ℕ) (waiters : List Waiter) → times thread (map (λ (x : Waiter). waiter to x.thread Exclusive) waiters) ≡ times thread waiters
 times_moved thread to [] = refl
 times_moved thread to (x ∷ xs) = omega (arith, times_moved thread to xs)

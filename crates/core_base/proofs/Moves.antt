@@ -38,7 +38,7 @@ length-line key (x ∷ xs) = grind (arith, nat_tests, length-line key xs)
 abbrev moved_to : ℕ → List Waiter → List Waiter
 moved_to to waiters = map (λ (x : Waiter). waiter to x.thread Exclusive) waiters
 
--- who was moved stands under another key
+-- a thread that was moved stands under another key
 without_key_moved : (from to : ℕ) (waiters : List Waiter) → from ≢ to → without_key from (moved_to to waiters) ≡ moved_to to waiters
 without_key_moved from to [] differ = refl
 without_key_moved from to (x ∷ xs) differ = grind (arith, nat_tests, without_key_moved from to xs differ)

@@ -86,7 +86,7 @@ length_seated (suc capacity) waiters seated =
 pub length_without_seated : (thread capacity : ℕ) (waiters : List Waiter) → IsSeated waiters capacity → thread < capacity → length (without thread waiters) < capacity
 length_without_seated thread capacity waiters seated below = omega (arith, length_seated capacity _ (seated_append 0 thread capacity Wait waiters seated below), length-append (without thread waiters) (waiter 0 thread Wait ∷ []))
 
--- who stands first stands somewhere
+-- a thread that stands first stands somewhere
 times_first : (key thread : ℕ) (waiters : List Waiter) → first_of (line key waiters) ≡ Some thread → 1 ≤ times thread waiters
 times_first key thread [] first = absurd cc
 times_first key thread (x ∷ xs) first = grind (arith, nat_tests, times_first key thread xs)

@@ -7,7 +7,7 @@ use Rattle.core_base.specs.declared.wants.Want.{Want}
 abbrev pub waiter : ℕ → ℕ → Want → Waiter
 waiter key thread want = record { key = key; thread = thread; want = want }
 
--- who stands under a key, in the order in which they came
+-- the waiters under a key, in the order in which they came
 abbrev pub line : ℕ → List Waiter → List Waiter
 line key waiters = filter (λ (x : Waiter). x.key == key) waiters
 

@@ -8,7 +8,7 @@ use Rattle.core_base.specs.declared.wants.Waiter.{Waiter}
 use Rattle.core_base.specs.declared.wants.Want.{Want}
 use Rattle.core_base.specs.declared.wants.Want.TheVariants.{Exclusive, Upgradable, Shared}
 
--- who is taken of a line: the picker is asked for each want from the front, until it answers `Stop`
+-- the waiters taken of a line: the picker is asked for each want from the front, until it answers `Stop`
 abbrev pub picked : {P : Type 0} → (P → Want → Pick) → (P → Want → P) → P → List Waiter
     → List Waiter
 picked answer next picker [] = []
@@ -30,7 +30,7 @@ without_picked answer next picker key (x ∷ xs) = if x.key == key
     ])
     else (x ∷ without_picked answer next picker key xs)
 
--- whom a thread picks of a reader-writer lock's main queue, by the right of its own that it keeps
+-- the waiters that a thread picks of a reader-writer lock's main queue, by the right of its own that it keeps
 abbrev pub lock_picker : Option Want → Bool → LockPicker
 lock_picker (Some Exclusive) recursive = Readers
 lock_picker (Some Upgradable) recursive = Readers
@@ -48,7 +48,7 @@ next_picker (Anyone false) Exclusive = Nobody
 next_picker (Anyone _) _ = Readers
 next_picker picker _ = picker
 
--- who is picked so, and the list without them
+-- the waiters picked so, and the list without them
 abbrev pub lock_picked : Option Want → Bool → List Waiter → List Waiter
 lock_picked start recursive line = picked lock_answer next_picker (lock_picker start recursive) line
 

@@ -6,7 +6,7 @@ use Rattle.core_base.specs.declared.requeues.Requeue.TheVariants.{One, All, Take
 use Rattle.core_base.specs.declared.wants.Waiter.{Waiter}
 use Rattle.core_base.specs.declared.wants.Want.TheVariants.{Exclusive}
 
--- who is taken of a line
+-- the waiters taken of a line
 abbrev pub taken_by : Requeue → List Waiter → Option ℕ
 taken_by TakeOneMoveRest line = first_of line
 taken_by _ line = None

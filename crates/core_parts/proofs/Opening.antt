@@ -70,7 +70,7 @@ module _ {M : Type 1} {𝓤 : Ura M} (𝓛 : Logic 𝓤) where
     pub shuts : A.inv I ∗ ⟦ Away ⟧ ⊢ H.⇛ ⟦ permit_owns id ⟧
     shuts = qed 𝓛 (‵ (finv I) ∷ ‵ Away ∷ []) ∵ suffices ! _ (𝓛.invs.inv_acc I ⟦ permit_owns id ⟧) $ frame ! $ assume ! (‵ I) $ fpick ! (λ y. by ! (lays y))
 
-  -- what a `&` to the place and its permit make, and back
+  -- tells what a `&` to the place and its permit make, and back
   pub opened : (β : Lft) (R : RattleType) (id : PermitId) (b o : ℕ) (q : Share) → ⟦ place_shares R id (block_ptr b o) β ⟧ ∗ ⟦ permit_owns id ⟧ ∗ A.lft β q
       ⊢ H.⇛ (ex 𝓤 (λ (x : R.Denot). ⟦ open_owns β R id (block_ptr b o) x ⟧) ∗ A.lft β q)
   opened β R id b o q = qed 𝓛 (‵ (place_shares R id (block_ptr b o) β) ∷ ‵ (permit_owns id) ∷ ‵ (flft β q) ∷ []) ∵ updating ! $ fpick ! (λ t. fsplit ! $

@@ -258,7 +258,7 @@ module _ {T K : Type 0} (fits : K → ℕ → T → ℕ → Type 0) (tag : T →
       subst (λ (x : Me (Option T) (View K)). Allows (Shares {T = T} {K = K} (fits key) tag) slots id x i (λ _. 1) (λ found after. enters {T = T} {K = K} (fits x.0.key) tag (step slots i 1 0 none) x found after)) (sym e)
       (enter {T = T} {K = K} (fits key) tag slots id i key owns mark below)
 
-  -- who has come in has what is there, and the slot is bare then
+  -- a thread that has come in has what is there, and the slot is bare then
   pub came_in : (slots i : ℕ) (me after last : Me (Option T) (View K)) (key : K) (owns : List ℕ) (mark found : ℕ) (out : Option T) → me ≡ (view key owns [] 0 mark 0, [])
       → enters {T = T} {K = K} (fits me.0.key) tag (step slots i 1 0 none) me found after → found ≢ 1 → after.1 ≡ (i, out) ∷ rest after.1 → last ≡ (after.0, (i, None) ∷ rest after.1)
       → (last.0.key ≡ key) × (last.0.owns ≡ owns) × FitsShares (fits key i) out last.0.knows × (times i owns ≤ last.0.knows)
@@ -284,11 +284,11 @@ module _ {T K : Type 0} (fits : K → ℕ → T → ℕ → Type 0) (tag : T →
         subst (λ (x : Me (Option T) (View K)). x ≡ (view x.0.key x.0.owns (i ∷ []) x.0.knows x.0.tag x.0.found, (i, None) ∷ [])) (sym e) refl,
       )
 
-  -- who stays out has what it had
+  -- a thread that stays out has what it had
   pub stays_out : (me after : Me (Option T) (View K)) (key : K) → me ≡ (view key me.0.owns [] 0 me.0.tag 0, []) → after ≡ me → after ≡ (view key after.0.owns [] 0 after.0.tag 0, [])
   stays_out me after key is same = subst (λ (x : Me (Option T) (View K)). x ≡ (view key x.0.owns [] 0 x.0.tag 0, [])) (sym same) is
 
-  -- who has a share finds something there
+  -- a thread that has a share finds something there
   pub some_there : (i : ℕ) (out : Option T) (key : K) (knows : ℕ) → FitsShares (fits key i) out knows → times i (i ∷ []) ≤ knows → IsSome out
   some_there i None key knows ok fewer = absurd (omega (arith, ok, fewer, here i i refl))
   some_there i (Some value) key knows ok fewer = refl

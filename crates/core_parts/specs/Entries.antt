@@ -16,7 +16,7 @@ abbrev pub IsShareOf : {K T : Type 0} → TableId → K → ℕ → Share K T �
 IsShareOf table key at share = (share.seat.table_id ≡ table) × (share.seat.me.0.key ≡ key)
     × (share.seat.me.0.owns ≡ at ∷ [])
 
--- who is inside a place has these shares
+-- a thread inside a place has these shares
 abbrev pub IsInside : {K T : Type 0} → TableId → K → ℕ → List ℕ → Entered K T → Type 0
 IsInside table key at owns entered = (entered.seat.table_id ≡ table) × (entered.at ≡ at)
     × (entered.seat.me.0.key ≡ key) × (entered.seat.me.0.owns ≡ owns)

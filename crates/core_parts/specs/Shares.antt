@@ -77,7 +77,7 @@ enters {T} fits tag st me found after =
       (st.word, content) ∷ [],
     )))
 
--- what a seat has in its hand
+-- the shares that a seat has in its hand
 abbrev pub in_hand : {T : Type 0} → List (ℕ × Option T) → Option T
 in_hand [] = None
 in_hand (slot ∷ slots) = slot.1

@@ -26,7 +26,7 @@ come_lines records others buckets new bits b key thread wanted linked now bucket
     lines_come (shown_as_chained records buckets bits) (shown_as_chained others new bits) key thread wanted
     (hashed records buckets bits (chains_of records buckets) linked) (hashed others new bits (chains_of others new) (as_shown others new bits _ now)) refl (rw (← bucket) fits) (rw (← bucket) (shown_is others new bits _ now))
 
--- whoever has a record stands in its chain
+-- each thread that has a record stands in its chain
 pub stands_there : (records : List (Option Record)) (buckets : List (Option Ends)) (bits thread : ℕ) (r : Record) → IsLinked records buckets bits (chains_of records buckets) → record_of records thread ≡ Some r → 1 ≤ times thread (slice_index_or (chains_of records buckets) (bucket_of bits r.key) [])
 stands_there records buckets bits thread r linked is = linked.stands thread r.key (ap key_in is)
 

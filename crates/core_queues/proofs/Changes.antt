@@ -13,7 +13,7 @@ use Rattle.core_queues.specs.declared.records.Record.{Record}
 use Rattle.core_queues.specs.declared.records.Ends.{Ends}
 use Rattle.core_queues.proofs.Leads.{times_here, times_more, times_later, once, nobody_without, leads_kept, last_of_all}
 
--- who has a record is below their number
+-- a thread that has a record is below their number
 pub room : (records : List (Option Record)) (thread : ℕ) (r : Record) → record_of records thread ≡ Some r → thread < length records
 room records thread r here = elim (cases_lt thread (length records)) [
   | inl h ↦ h
@@ -30,7 +30,7 @@ without_here thread x xs same = grind (arith, nat_tests)
 without_later : (thread : ℕ) (x : Waiter) (xs : List Waiter) → x.thread ≢ thread → without thread (x ∷ xs) ≡ x ∷ without thread xs
 without_later thread x xs differ = grind (arith, nat_tests)
 
--- who stands behind one who stands there does so too
+-- a thread that stands behind one who stands there does so too
 pub next_stands : (records : List (Option Record)) (from : Option ℕ) (xs : List Waiter) (before thread : ℕ) → Leads records from xs → 1 ≤ times before xs → next_of records before ≡ Some thread → 1 ≤ times thread xs
 next_stands records from [] before thread a h next = absurd (omega arith)
 next_stands records from (x ∷ []) before thread a h next = elim (cases_eq x.thread before) [
@@ -45,7 +45,7 @@ next_stands records from (x ∷ y ∷ ys) before thread a h next = elim (cases_e
   | inr differ ↦ omega (arith, times_more thread x (y ∷ ys), next_stands records (next_of records x.thread) (y ∷ ys) before thread a.2 (times_later before x (y ∷ ys) differ h) next)
 ]
 
--- what a record is once the thread behind `before` has left
+-- tells what a record is once the thread behind `before` has left
 record_else : (records : List (Option Record)) (before thread other : ℕ) → other ≢ before → other ≢ thread → record_of (unlinked_records records (Some before) thread) other ≡ record_of records other
 record_else records before thread other b t = get_or-set_other (with_next records before (next_of records thread)) thread other None None t ∙ get_or-set_other records before other _ None b
 
@@ -106,7 +106,7 @@ unlinked_first records (x ∷ xs) thread a =
     (λ t stands. get_or-set_other records thread t None None (λ k. let m : times thread xs ≡ times t xs = ap (λ (u : ℕ). times u xs) (sym k) in omega arith))
     (subst (λ (t : ℕ). Leads records (next_of records t) xs) gone a.2))
 
--- whom a thread stands behind: nobody, as the first, or another of the chain
+-- the one that a thread stands behind: nobody, as the first, or another of the chain
 abbrev pub IsBehind : List (Option Record) → Ends → Option ℕ → ℕ → List Waiter → Type 0
 IsBehind records e None thread xs = e.first ≡ thread
 IsBehind records e (Some before) thread xs = (1 ≤ times before xs) × (next_of records before ≡ Some thread)

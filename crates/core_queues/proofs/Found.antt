@@ -22,7 +22,7 @@ leads_from : (records : List (Option Record)) (ends : Option Ends) (xs : List Wa
 leads_from records ends xs None a h = a
 leads_from records ends xs (Some b) a h = leads_behind records (first_in ends) xs b a h
 
--- who is first behind a thread stands there
+-- a thread that is first behind a thread stands there
 pub first_stands : (before : Option ℕ) (xs : List Waiter) (y : Waiter) (ys : List Waiter) → behind before xs ≡ y ∷ ys → 1 ≤ times y.thread xs
 first_stands None xs y ys is = rw is (times_here y ys)
 first_stands (Some b) [] y ys is = absurd cc
@@ -32,10 +32,10 @@ first_stands (Some b) (x ∷ xs) y ys is = elim (cases_eq x.thread b) [
 ]
 
 -- and behind it stand the others
-pub rest_behind : (before : Option ℕ) (xs : List Waiter) (y : Waiter) (ys : List Waiter) → ((thread : ℕ) → times thread xs ≤ 1) → behind before xs ≡ y ∷ ys → behind (Some y.thread) xs ≡ ys
-rest_behind None xs y ys once is = ap (behind (Some y.thread)) is ∙ behind_here y.thread y ys refl
-rest_behind (Some b) [] y ys once is = absurd cc
-rest_behind (Some b) (x ∷ xs) y ys once is = elim (cases_eq x.thread b) [
+pub rest_slow : (before : Option ℕ) (xs : List Waiter) (y : Waiter) (ys : List Waiter) → ((thread : ℕ) → times thread xs ≤ 1) → behind before xs ≡ y ∷ ys → behind (Some y.thread) xs ≡ ys
+rest_slow None xs y ys once is = ap (behind (Some y.thread)) is ∙ behind_here y.thread y ys refl
+rest_slow (Some b) [] y ys once is = absurd cc
+rest_slow (Some b) (x ∷ xs) y ys once is = elim (cases_eq x.thread b) [
   | inl same ↦
       let rest : xs ≡ y ∷ ys = sym (behind_here b x xs same) ∙ is in
       let there : 1 ≤ times y.thread xs = subst (λ (l : List Waiter). 1 ≤ times y.thread l) (sym rest) (times_here y ys) in
@@ -45,14 +45,14 @@ rest_behind (Some b) (x ∷ xs) y ys once is = elim (cases_eq x.thread b) [
       let is_later : behind (Some b) xs ≡ y ∷ ys = sym (behind_later b x xs differ) ∙ is in
       let there : 1 ≤ times y.thread xs = first_stands (Some b) xs y ys is_later in
       behind_later y.thread x xs (not_first x xs y.thread (once y.thread) there)
-      ∙ rest_behind (Some b) xs y ys (λ thread. omega (arith, once thread, times_more thread x xs)) is_later
+      ∙ rest_slow (Some b) xs y ys (λ thread. omega (arith, once thread, times_more thread x xs)) is_later
 ] where
   not_first : (x : Waiter) (xs : List Waiter) (thread : ℕ) → times thread (x ∷ xs) ≤ 1 → 1 ≤ times thread xs → x.thread ≢ thread
   not_first x xs thread once there = λ (k : x.thread ≡ thread). grind (arith, nat_tests)
 
 match_head : (before : Option ℕ) (xs zs : List Waiter) → ((thread : ℕ) → times thread xs ≤ 1) → behind before xs ≡ zs → MatchOption (head_of zs) (behind before xs ≡ []) (λ w. behind before xs ≡ w ∷ behind (Some w.thread) xs)
 match_head before xs [] once is = is
-match_head before xs (y ∷ ys) once is = is ∙ ap (λ (l : List Waiter). y ∷ l) (sym (rest_behind before xs y ys once is))
+match_head before xs (y ∷ ys) once is = is ∙ ap (λ (l : List Waiter). y ∷ l) (sym (rest_slow before xs y ys once is))
 
 head_stands : (before : Option ℕ) (xs zs : List Waiter) → behind before xs ≡ zs → IfSome (head_of zs) (λ w. 1 ≤ times w.thread xs)
 head_stands before xs [] is = tt

@@ -45,7 +45,7 @@ line_there k xs xs' (Some ys) same = line_both k xs' ys ∙ ap (λ (l : List Wai
 pub line_old : (key : ℕ) (xs old : List Waiter) (others : Option (List Waiter)) → HasNone key others → lines (both xs others) ≡ lines old → line key xs ≡ line key old
 line_old key xs old others none same = sym (line_here key xs others none) ∙ same_line (both xs others) old key same
 
--- what changes under a key of the first list alone changes under that key of both
+-- a change under a key of the first list alone is one under that key of both
 one_side : (key : ℕ) (f g : List Waiter → List Waiter) → ((l : List Waiter) → line key (f l) ≡ g (line key l)) → ((k : ℕ) (l : List Waiter) → k ≢ key → line k (f l) ≡ line k l) → (xs xs' old : List Waiter) (others : Option (List Waiter)) → HasNone key others → lines (both xs others) ≡ lines old → lines xs' ≡ lines (f xs) → lines (both xs' others) ≡ lines (f old)
 one_side key f g here there xs xs' old others none same is = everywhere _ _ (λ k. elim (cases_eq k key) [
   | inl e ↦ rw e (line_here key xs' others none ∙ same_line xs' (f xs) key is ∙ here xs ∙ ap g (line_old key xs old others none same) ∙ sym (here old))

@@ -55,7 +55,7 @@ line_at q key hashed = at_bucket q.bits 0 key q.chains (bucket_of q.bits key) (�
 pub few : (q : Chained) (key : ℕ) → IsHashed q → length (line key (joined q.chains)) ≤ q.capacity
 few q key hashed = rw (line_at q key hashed) (line_seated key q.capacity (chain q (bucket_of q.bits key)) (hashed.seated (bucket_of q.bits key)))
 
--- what each line is once one chain has changed
+-- tells what each line is once one chain has changed
 lines_by : (q q' : Chained) (b : ℕ) (ys : List Waiter) (now : ℕ → List Waiter) → IsHashed q → IsHashed q' → q'.bits ≡ q.bits → b < length q.chains → q'.chains ≡ slice_set q.chains b ys → ((k : ℕ) → bucket_of q.bits k ≡ b → line k ys ≡ now k) → ((k : ℕ) → bucket_of q.bits k ≢ b → line k (joined q.chains) ≡ now k) → (k : ℕ) → line k (joined q'.chains) ≡ now k
 lines_by q q' b ys now hashed hashed' bits fits is here there k =
     let c : ℕ = bucket_of q.bits k in
@@ -135,7 +135,7 @@ lines_first q q' key hashed hashed' bits fits is =
     ])
     (λ k differ. sym (line_first_other k key (joined q.chains) (λ (e : k ≡ key). differ (ap (bucket_of q.bits) e)))))
 
--- who is first under a key is the one without whom its line loses the first
+-- a thread that is first under a key is the one without whom its line loses the first
 pub first_leaves : (key thread : ℕ) (xs : List Waiter) → ((t : ℕ) → times t xs ≤ 1) → first_of (line key xs) ≡ Some thread → without thread xs ≡ without_first key xs
 first_leaves key thread [] once first = absurd cc
 first_leaves key thread (x ∷ xs) once first = elim (cases_eq x.key key) [

@@ -105,7 +105,7 @@ seated records from xs a = record {
   once = λ thread. once records from xs thread a;
 }
 
--- who stands behind a thread
+-- the thread behind a thread
 pub leads_behind : (records : List (Option Record)) (from : Option ℕ) (xs : List Waiter) (thread : ℕ) → Leads records from xs → 1 ≤ times thread xs → Leads records (next_of records thread) (behind (Some thread) xs)
 leads_behind records from [] thread a h = absurd (omega arith)
 leads_behind records from (x ∷ xs) thread a h = elim (cases_eq x.thread thread) [
@@ -113,7 +113,7 @@ leads_behind records from (x ∷ xs) thread a h = elim (cases_eq x.thread thread
   | inr differ ↦ rw (behind_later thread x xs differ) (leads_behind records (next_of records x.thread) xs thread a.2 (times_later thread x xs differ h))
 ]
 
--- who has nobody behind, is the last
+-- a thread that has nobody behind, is the last
 pub last_of_all : (records : List (Option Record)) (xs : List Waiter) → Leads records None xs → xs ≡ []
 last_of_all records [] a = refl
 last_of_all records (x ∷ xs) a = let e : None ≡ Some x.thread = a.0 in absurd cc

@@ -34,7 +34,7 @@ shown_is records buckets bits chains linked =
     (length_seated (length records) (slice_index_or chains i []) (seated records (first_in (slice_index_or buckets i None)) (slice_index_or chains i []) (linked.leads i)))
     (linked.leads i))
 
--- who stands has a key
+-- a thread that stands has a key
 pub has_key : (records : List (Option Record)) (from : Option ℕ) (xs : List Waiter) (thread : ℕ) → Leads records from xs → 1 ≤ times thread xs → key_of thread xs ≡ key_in (record_of records thread)
 has_key records from [] thread a h = absurd (omega arith)
 has_key records from (x ∷ xs) thread a h = elim (cases_eq x.thread thread) [
@@ -56,7 +56,7 @@ apart records buckets bits chains b c thread linked here there = go (record_of r
 
 -- ---------------------------------------------------------------- one chain changes
 
--- what is asked of the records and the chain that come of it
+-- tells what is asked of the records and the chain that come of it
 pub record IsChange (records others : List (Option Record)) (bits : ℕ) (chains : List (List Waiter)) (b : ℕ) (had : Option Ends) (xs : List Waiter) : Type 0 where
   pub leads : Leads others (first_in had) xs
   pub ends : EndsAt others had xs
@@ -142,7 +142,7 @@ before_stands : (records : List (Option Record)) (e : Ends) (before : Option ℕ
 before_stands records e None a thread xs is behind = let e : None ≡ Some a = is in absurd cc
 before_stands records e (Some before) a thread xs is behind = let same : before ≡ a = cc in subst (λ (t : ℕ). 1 ≤ times t xs) same behind.0
 
--- who stands behind another in a chain leaves it
+-- a thread that stands behind another in a chain leaves it
 pub one_leaves : (records : List (Option Record)) (buckets : List (Option Ends)) (bits : ℕ) (chains : List (List Waiter)) (b : ℕ) (e : Ends) (before : Option ℕ) (thread : ℕ) → IsLinked records buckets bits chains → b < length buckets → slice_index_or buckets b None ≡ Some e → IsBehind records e before thread (slice_index_or chains b []) → 1 ≤ times thread (slice_index_or chains b []) → IsLinked (unlinked_records records before thread) (slice_set buckets b (unlinked_ends e before (next_of records thread))) bits (slice_set chains b (without thread (slice_index_or chains b [])))
 one_leaves records buckets bits chains b e before thread linked fits is behind stands =
     let xs : List Waiter = slice_index_or chains b [] in

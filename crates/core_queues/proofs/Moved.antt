@@ -15,7 +15,7 @@ use Rattle.core_queues.proofs.Changes.{IsBehind}
 use Rattle.core_queues.proofs.Linked.{shown_is, one_leaves, one_comes, key_found, gone}
 use Rattle.core_queues.proofs.Found.{first_stands}
 
--- who stands has a place among the records
+-- a thread that stands has a place among the records
 pub place : (records : List (Option Record)) (from : Option ℕ) (xs : List Waiter) (thread : ℕ) → Leads records from xs → 1 ≤ times thread xs → thread < length records
 place records from xs thread a h = elim (cases_lt thread (length records)) [
   | inl fits ↦ fits
@@ -66,7 +66,7 @@ none_standing (Some r) h = let e : Some r.key ≡ None = h in absurd cc
 pub no_record : (records : List (Option Record)) (buckets : List (Option Ends)) (bits : ℕ) (chains : List (List Waiter)) (thread : ℕ) → IsLinked records buckets bits chains → key_of thread (joined chains) ≡ None → record_of records thread ≡ None
 no_record records buckets bits chains thread linked alone = none_standing (record_of records thread) (sym (key_found records buckets bits chains thread linked) ∙ alone)
 
--- what is shown is linked
+-- the queues that are shown are linked
 pub as_shown : (records : List (Option Record)) (buckets : List (Option Ends)) (bits : ℕ) (chains : List (List Waiter)) → IsLinked records buckets bits chains → IsLinked records buckets bits (chains_of records buckets)
 as_shown records buckets bits chains linked = subst (λ (l : List (List Waiter)). IsLinked records buckets bits l) (sym (shown_is records buckets bits chains linked)) linked
 

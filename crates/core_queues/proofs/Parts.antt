@@ -8,7 +8,7 @@ use Rattle.core_base.specs.Lines.{times, without}
 use Rattle.core_queues.specs.Chains.{behind}
 use Rattle.core_queues.proofs.Joined.{without_none}
 
--- who stands up to a thread
+-- the waiters up to a thread
 abbrev pub upto : Option ℕ → List Waiter → List Waiter
 upto None xs = []
 upto (Some thread) [] = []

@@ -9,7 +9,7 @@ use Rattle.core_base.specs.declared.wants.Want.{Want}
 use Rattle.core_queues.specs.Wants.{wants_of}
 
 module _ {P : Type 0} (answer : P → Want → Pick) (next : P → Want → P) where
-  -- what comes of the first of a line, by what is answered to its want
+  -- tells what comes of the first of a line, by what is answered to its want
   abbrev by_answer : P → Waiter → List Waiter → Pick → List Waiter
   by_answer picker x xs pick = elim pick [
     | Unpark ↦ x ∷ picked answer next (next picker x.want) xs

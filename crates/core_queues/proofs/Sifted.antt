@@ -37,7 +37,7 @@ module _ {P : Type 0} (answer : P → Want → Pick) (next : P → Want → P) w
   left_stop : (picker : P) (key : ℕ) (w : Waiter) (ys : List Waiter) → w.key ≡ key → answer picker w.want ≡ Stop → without_picked answer next picker key (w ∷ ys) ≡ w ∷ ys
   left_stop picker key w ys same stop = rw (test_same w key same, stop) refl
 
-  -- whoever stays
+  -- the waiters that stay
   stays : (picker then : P) (key : ℕ) (before : Option ℕ) (xs : List Waiter) (w : Waiter) → ((t : ℕ) → times t xs ≤ 1) → behind before xs ≡ w ∷ behind (Some w.thread) xs → without_picked answer next picker key (w ∷ behind (Some w.thread) xs) ≡ w ∷ without_picked answer next then key (behind (Some w.thread) xs) → upto (Some w.thread) xs ++ without_picked answer next then key (behind (Some w.thread) xs) ≡ upto before xs ++ without_picked answer next picker key (behind before xs)
   stays picker then key before xs w once is left =
       let rest : List Waiter = without_picked answer next then key (behind (Some w.thread) xs) in
@@ -99,7 +99,7 @@ module _ {P : Type 0} (answer : P → Want → Pick) (next : P → Want → P) w
   pub ended_taken : (picker : P) (key : ℕ) (before : Option ℕ) (xs : List Waiter) (out : List ℕ) → behind before xs ≡ [] → out ++ threads_of (picked answer next picker (line key (behind before xs))) ≡ out
   ended_taken picker key before xs out is = ap (λ (l : List Waiter). out ++ threads_of (picked answer next picker (line key l))) is ∙ append-nil out
 
-  -- what is left once all was asked
+  -- tells what is left once all was asked
   pub sifted_lines : (picker : P) (q q' : Chained) (key bucket : ℕ) → IsHashed q → IsHashed q' → q'.bits ≡ q.bits → bucket ≡ bucket_of q.bits key → bucket < length q.chains → q'.chains ≡ slice_set q.chains bucket (chain q' bucket) → chain q' bucket ≡ without_picked answer next picker key (chain q bucket) → lines (joined q'.chains) ≡ lines (without_picked answer next picker key (joined q.chains))
   sifted_lines picker q q' key bucket hashed hashed' bits is fits chains left =
       lines_picked answer next picker q q' key hashed hashed' bits (subst (λ (b : ℕ). b < length q.chains) is fits)
@@ -132,7 +132,7 @@ falls before xs ys w once is left =
     let parts = upto_left before xs w (behind (Some w.thread) xs) once is in
     rw (left, parts.1, is) (omega arith)
 
--- whom a thread stands behind stays as it leaves
+-- the one that a thread stands behind stays as it leaves
 pub still_stands : (before : Option ℕ) (xs : List Waiter) (w : Waiter) → behind before xs ≡ w ∷ behind (Some w.thread) xs → IfSome before (λ b. 1 ≤ times b xs) → IfSome before (λ b. 1 ≤ times b (without w.thread xs))
 still_stands None xs w is stands = tt
 still_stands (Some b) xs w is stands =

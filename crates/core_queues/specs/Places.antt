@@ -7,7 +7,7 @@ use Rattle.core_queues.specs.declared.queueing.Queueing.{Queueing}
 abbrev pub IsSameBucket : Queueing → Queueing → Type 0
 IsSameBucket old new = (new.seats ≡ old.seats) × (new.number ≡ old.number) × (new.bits ≡ old.bits)
 
--- whom its section took
+-- the waiters that its section took
 abbrev pub TookSame : Queueing → Queueing → Type 0
 TookSame old new = (new.taken.items ≡ old.taken.items) × (new.rightless.items ≡ old.rightless.items)
     × (new.wants.items ≡ old.wants.items)

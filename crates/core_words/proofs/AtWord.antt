@@ -34,7 +34,7 @@ use Rattle.core_words.specs.declared.words.WordKind.{WordKind}
 use Rattle.core_words.specs.declared.words.WordKind.TheVariants.{Mutex, RwLock, Condvar, Once, Count, Semaphore}
 use Rattle.core_words.proofs.Indices.{rank_lt, rank_plain, word_kind_at-index, plain_mutex}
 
--- what a step tells of the plain kind it tells of the kind
+-- a step tells of the kind what it tells of the plain kind
 of_plain : (family at : ℕ) (kind : WordKind) (op : Op) (me after : Me PermitSlot View) (found : ℕ) → TakesStepOf family (plain kind) at op me found after → TakesStepOf family kind at op me found after
 of_plain family at Mutex op me after found t = t
 of_plain family at RwLock op me after found t = t
@@ -43,7 +43,7 @@ of_plain family at Once op me after found t = t
 of_plain family at Count op me after found t = t
 of_plain family at (Semaphore permits) op me after found t = t
 
--- what a step at an index tells, by the word that has this index and the operation that was matched
+-- gives what a step at an index tells, by the word that has this index and the operation that was matched
 pub tells_step : {at : ℕ} {op op' : Op} (family number : ℕ) (kind : WordKind) (me after : Me PermitSlot View) (found : ℕ) → at ≡ word_index number kind → op ≡ op'
     → TakesStep family at op' me found after → TakesStepOf family kind (word_index number kind) op me found after
 tells_step {at} {op} {op'} family number kind me after found there is told =
@@ -153,7 +153,7 @@ module _ (lot : LotWords) (seat : Seat PermitSlot View) (word : Word) (own : IsS
   pub at_mutex : word.kind ≡ Mutex → word_index word.number word.kind ≡ word_index word.number Mutex
   at_mutex is = ap (λ (k : WordKind). word_index word.number k) is
 
-  -- what may be done to a mutex may be done to a word that is one
+  -- each step that a mutex allows is allowed at a word that is one
   pub may_mutex : word.kind ≡ Mutex → (op : Op) → MayStep Mutex (word_index word.number Mutex) op seat.me.0.owns → MayStep word.kind (word_index word.number word.kind) op seat.me.0.owns
   may_mutex is op may = subst (λ (k : WordKind). MayStep k (word_index word.number k) op seat.me.0.owns) (sym is) may
 
@@ -208,7 +208,7 @@ pub table_lays_back : (lot : LotWords) (seat : Seat PermitSlot View) → IsSeatO
 table_lays_back lot seat own =
     (own.0, lays_back_allowed lot.table.shared.key.0 lot.table.shared.key.1.family lot.table.shared.table_id.slots seat.id seat.me own.1)
 
--- who goes on behind an exchange that leaves a mutex where nobody waits has left it so
+-- a thread that goes on after an exchange that leaves a mutex where nobody waits has left it so
 pub goes_leaving : (v : View) (word : Word) (seen : ℕ) → goes_on_with v (leaving_alone blank word seen) ≡ leaving_alone v word seen
 goes_leaving v word seen = by_test (eqb seen 1)
   where
@@ -218,7 +218,7 @@ goes_leaving v word seen = by_test (eqb seen 1)
     by_test true = refl
     by_test false = refl
 
--- what is owned otherwise than as a mutex alone is no mutex's whose permit may be out
+-- an ownership other than that of a mutex alone is no mutex's whose permit may be out
 not_exclusive : (owner : Owner) → (takes_permit Mutex owner ≡ true → ⊥) → exclusive owner ≡ 0
 not_exclusive Exclusive other = absurd (other refl)
 not_exclusive Pending other = refl

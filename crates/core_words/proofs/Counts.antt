@@ -12,7 +12,7 @@ use Rattle.core_words.specs.declared.views.View.{View}
 use Rattle.core_words.proofs.Totals.{total-set, term_le, cond_same, cond_other}
 use Rattle.core_words.proofs.Trades.{total-without}
 
--- who isn't there says nothing
+-- a thread that isn't there says nothing
 no_count : (at : ℕ) (owns : List Ownership) → owned at everyone owns ≡ 0 → counted at owns ≡ 0
 no_count at [] none = refl
 no_count at (x ∷ xs) none = dite (ℕ_discrete x.at at)
@@ -23,7 +23,7 @@ pub no_counts : (at : ℕ) (views : List View) → named at everyone views ≡ 0
 no_counts at [] none = refl
 no_counts at (v ∷ vs) none = omega (arith, no_count at v.owns (omega arith), no_counts at vs (omega arith))
 
--- what an only owner says is all that is said
+-- an only owner says all that is said
 pub counted-where : (views : List View) (id : ℕ) (v : View) → get_elem? views id ≡ some v → (at count : ℕ) → has (owning_with at count) v.owns ≡ true → named at everyone views ≤ 1
     → count ≡ total (λ (u : View). counted at u.owns) views
 counted-where views id v me at count there one =

@@ -185,7 +185,7 @@ draw_permits words family slots id me permits seen few saw room s o wide at fits
 
 -- ---------------------------------------------------------------- the permits stay as many
 
--- who drew a number knows all that was granted of it
+-- a thread that drew a number knows all that was granted of it
 known_granted : (words family : ℕ) (s : State PermitSlot View) → LotRule words family s → (number seat : ℕ) (v : View) → get_elem? s.views seat ≡ some v
     → 0 < drew_permits number v → granted number s.views ≡ drew_permits number v
 known_granted words family s o number seat v me some' =

@@ -30,7 +30,7 @@ pub index-kind : (number number' : ℕ) (kind kind' : WordKind) → word_index n
 index-kind number number' kind kind' e = let r : rank kind ≡ rank kind' = omega (arith, rank_lt kind, rank_lt kind') in
     sym (kind_of_rank-rank kind) ∙ ap kind_of_rank r ∙ kind_of_rank-rank kind'
 
--- what is plainly a mutex is one
+-- a plain mutex is one
 pub plain_mutex : (kind : WordKind) → plain kind ≡ Mutex → kind ≡ Mutex
 plain_mutex Mutex e = refl
 plain_mutex RwLock e = e

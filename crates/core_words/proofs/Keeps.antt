@@ -35,20 +35,20 @@ use Rattle.core_words.proofs.Indices.{rank_lt, index-number, index-kind, plain_m
 pub shows_more : (P Q : ℕ → Type 0) (n : ℕ) → ((k : ℕ) → P k → Q k) → Shows P n → Shows Q n
 shows_more P Q n more h = ⊎_elim (λ z. inl z) (λ t. inr (t.0, t.1, more t.0 t.2)) h
 
--- what was shown may be shown still, as views list more steps
+-- a mutex that was shown may be shown still, as views list more steps
 pub shown_still : (words number : ℕ) (old new : List View) (n : ℕ)
     → ((mutex : ℕ) → total (steps_at (word_index mutex Mutex)) old ≤ total (steps_at (word_index mutex Mutex)) new)
     → Shows (MayBeShown words number old) n → Shows (MayBeShown words number new) n
 shown_still words number old new n more = shows_more (MayBeShown words number old) (MayBeShown words number new) n
     (λ k h. let stepped = h.2 in (h.0, h.1, omega (arith, more k)))
 
--- what ties the value of a word to the word of a mutex
+-- tells what ties the value of a word to the word of a mutex
 abbrev pub Tied : ℕ → WordKind → ℕ → ℕ → List View → Type 0
 Tied words Condvar number n views = Shows (MayBeShown words number views) n
 Tied words Count number n views = IsCountCode n × (n ≡ total (λ (v : View). counted (mutex_of_count (word_index number Count)) v.owns) views)
 Tied words _ number n views = Unit {0}
 
--- what the number of permits in a kind has no part in
+-- tells what the number of permits in a kind has no part in
 to_plain : (kind : WordKind) (n : ℕ) (owners : Owners) → Codes kind n owners → Codes (plain kind) n owners
 to_plain Mutex n owners c = c
 to_plain RwLock n owners c = c
@@ -185,7 +185,7 @@ module _ (words family : ℕ) (s : State PermitSlot View) (o : LotRule words fam
 pub steps_more : (v : View) (at found r : ℕ) (op : Op) → total (λ (step : WordStep). cond (eqb step.at r) 1 0) (listed v at op found) ≡ steps_at r v + cond (eqb at r) 1 0
 steps_more v at found r op = omega (arith, total-append (λ (step : WordStep). cond (eqb step.at r) 1 0) v.steps (record { at = at; op = op; seen = found } ∷ []))
 
--- what a step does to ownerships, by any weight of owners, and to what is said of count words
+-- tells what a step does to ownerships, by any weight of owners, and to what is said of count words
 record Steps (kind : WordKind) (at : ℕ) (op : Op) (found : ℕ) (owns : List Ownership) : Type 0 where
   here : (weight : Owner → ℕ) → owned at weight (owns_after_step kind at op found owns) + total weight (trade kind at op found owns).gives ≡ owned at weight owns + total weight (trade kind at op found owns).gets
   elsewhere : (r : ℕ) → r ≢ at → (weight : Owner → ℕ) → owned r weight (owns_after_step kind at op found owns) ≡ owned r weight owns
@@ -238,7 +238,7 @@ module _ (words family : ℕ) (s : State PermitSlot View) (o : LotRule words fam
             (λ nz. omega arith),
       )
 
-  -- what a seat says of the mutex before a count word is the value of that word
+  -- the count that a seat says of the mutex before a count word is the value of that word
   agreed : (number : ℕ) (kind : WordKind) (id : ℕ) (v : View) → get_elem? s.views id ≡ some v → number < words → CountAgrees kind (word_index number kind) (get_or s.words (word_index number kind) 0) v.owns
   agreed number Count id v at below = let here = o.counts number below in (here.0, λ count there. counted-where s.views id v at (mutex_of_count (word_index number Count)) count there (one_owner number count id v at there) ∙ sym here.1)
     where
@@ -291,7 +291,8 @@ no_trade : (kind : WordKind) → kind ≡ Mutex → (at : ℕ) (op : Op) (n : �
 no_trade kind is at op n owns e = subst (λ (k : WordKind). total exclusive (trade k at op n owns).gives ≡ 0) (sym is)
     (ap (λ b. total exclusive (cond b (trading [] []) (cond (eqb (n % 2) 0) (trading [] (Exclusive ∷ [])) (trading (Exclusive ∷ []) []))).gives) (eq-eqb (n % 2) (apply op n % 2) e))
 
--- who has a permit out behind a step owns its mutex still, where the step neither locks one nor unlocks it, or nothing is out
+-- a seat with a permit out after a step owns its mutex still, where the step neither locks one nor unlocks
+-- it, or nothing is out
 carries_on : (words number : ℕ) (kind : WordKind) (op : Op) (n : ℕ) (v : View) → MayHaveOut words v.out v.owns → Steps kind (word_index number kind) op n v.owns
     → (kind ≡ Mutex → (n % 2 ≡ apply op n % 2) ⊎ (v.out ≡ [])) → MayHaveOut words v.out (owns_after_step kind (word_index number kind) op n v.owns)
 carries_on words number kind op n v carries so same = ⊎_elim (λ none. inl none)

@@ -29,7 +29,7 @@ mutex_step at op owns ok n owners fits code mine agrees =
     (λ nz. subst (λ b. Goal (cond b (trading [] (Exclusive ∷ [])) (trading (Exclusive ∷ []) []))) (sym (ne_eqb (n % 2) 0 nz))
     ((step.1 (omega arith) (omega arith), tt), (λ after same. (near, omega (arith, same everyone), omega (arith, same exclusive))), tt))))
 
--- of the four codes
+-- each of the four codes
 pub each_code : (P : ℕ → Type 0) → P 0 → P 1 → P 2 → P 3 → (n : ℕ) → n < 4 → P n
 each_code P p₀ p₁ p₂ p₃ n h = dite (ℕ_discrete n 0) (λ e. subst P (sym e) p₀) (λ n₀. dite (ℕ_discrete n 1) (λ e. subst P (sym e) p₁) (λ n₁. dite (ℕ_discrete n 2) (λ e. subst P (sym e) p₂)
     (λ n₂. let e : n ≡ 3 = omega arith in subst P (sym e) p₃)))

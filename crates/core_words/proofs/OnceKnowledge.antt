@@ -35,7 +35,7 @@ module _ (at : ℕ) where
   runs_only : is_this run (owning at Witness) ≡ false
   runs_only = rw (eq-eqb at at refl) refl
 
-  -- who has run knows what it knew
+  -- a thread that has run knows what it knew
   still : (owns : List Ownership) → known owns → known (without run owns)
   still [] e = absurd (false≢true e)
   still (y ∷ ys) e =

@@ -15,7 +15,7 @@ use Rattle.core_words.specs.declared.owners.Ownership.{Ownership}
 use Rattle.core_words.specs.declared.words.WordKind.TheVariants.{Once}
 use Rattle.core_words.proofs.Trades.{owned_some}
 
--- of the seven values
+-- each of the seven values
 pub each_once_code : (P : ℕ → Type 0) → P 0 → P 1 → P 2 → P 4 → P 8 → P 10 → P 12 → (n : ℕ) → IsOnceWord n → P n
 each_once_code P p₀ p₁ p₂ p₄ p₈ p₁₀ p₁₂ n (inl e) = subst P (sym e) p₁
 each_once_code P p₀ p₁ p₂ p₄ p₈ p₁₀ p₁₂ n (inr h) = let small = h.0 in elim h.1 [
@@ -25,7 +25,8 @@ each_once_code P p₀ p₁ p₂ p₄ p₈ p₁₀ p₁₂ n (inr h) = let small 
 ]
 
 module _ (at : ℕ) (owns : List Ownership) where
-  -- what a step has to meet at a value: it leaves a value, what is done stays done, and who clears LOCKED runs it
+  -- the condition of a step at a value: it leaves a value, what is done stays done, and a step that clears
+  -- LOCKED runs it
   abbrev Fits : ℕ → ℕ → Type 0
   Fits n m = IsOnceWord m × (n ≡ 1 → m ≡ 1) × (n / 4 % 2 ≡ 1 → m / 4 % 2 ≡ 0 → has (owning at Runner) owns ≡ true)
 

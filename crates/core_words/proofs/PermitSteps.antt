@@ -23,7 +23,7 @@ use Rattle.core_words.proofs.Lists.{has_index, set_again, set_else, set_here}
 use Rattle.core_words.proofs.Totals.{total-le, total-set, cond_same, cond_other}
 use Rattle.core_words.proofs.Indices.{rank_lt}
 
--- who has at most one slot has none without it
+-- a thread that has at most one slot has none without it
 pub rest_none : (words family : ℕ) (out : List ℕ) (owns : List Ownership) → MayHaveOut words out owns → rest (slots_of family out) ≡ []
 rest_none words family out owns carries = ⊎_elim (λ none. ap (λ l. rest (slots_of family l)) none) (λ t. ap (λ l. rest (slots_of family l)) t.2) carries
 
@@ -58,7 +58,7 @@ module _ (words family : ℕ) (s : State PermitSlot View) (o : LotRule words fam
       (λ q u e. ⊎_elim (λ t. subst (λ (y : View). MayHaveOut words y.out y.owns) t.1 carries) (λ t. o.carried q u t.1) (at_set s.views id q w u e))
       same permits
 
-  -- what is out with a seat is laid back
+  -- the permit that is out with a seat is laid back
   pub laid_back : (id : ℕ) (v : View) → get_elem? s.views id ≡ some v
       → LotRule words family (record { words = s.words; homes = put_back s.homes (slots_of family v.out); views = set s.views id (shown v) })
   laid_back id v at = let size = o.size in let same-homes = o.homes in
@@ -75,7 +75,7 @@ module _ (words family : ℕ) (s : State PermitSlot View) (o : LotRule words fam
       (λ ne. set_else s.homes j r (some slot) ne ∙ o.permits number below (omega (arith, sum r, one_out j r v.out t.2, cond_other j r 1 (λ e. ne (sym e))))))))
       (o.carried id v at)
 
-  -- who owns a mutex, and has nothing out, finds its permit in the slot, and has it out then
+  -- a thread that owns a mutex, and has nothing out, finds its permit in the slot, and has it out then
   pub goes_out : (number id : ℕ) (v : View) → get_elem? s.views id ≡ some v → v.out ≡ [] → number < words → 0 < owned (word_index number Mutex) exclusive v.owns
       → (get_elem? s.homes (word_index number Mutex) ≡ some (some (slot_at family (word_index number Mutex))))
       × LotRule words family (record { words = s.words; homes = set s.homes (word_index number Mutex) none; views = set s.views id (with_out (word_index number Mutex ∷ []) v) })
@@ -105,7 +105,7 @@ lays_back_allowed words family slots id me held s o wide at = (
   ap (λ c. (shown me.0, c)) (ap rest held ∙ rest_none words family me.0.out me.0.owns (o.carried id me.0 at)),
 )
 
--- who owns a mutex has its permit out, and no other
+-- a thread that owns a mutex has its permit out, and no other
 pub takes_out_allowed : (words family slots id : ℕ) (me : Me PermitSlot View) (number : ℕ) → number < words → 0 < owned (word_index number Mutex) exclusive me.0.owns → me.1 ≡ slots_of family me.0.out
     → Stirs (LotRule words family) slots id me (takes_out family (word_index number Mutex) me)
 takes_out_allowed words family slots id me number below some' held s o wide at =

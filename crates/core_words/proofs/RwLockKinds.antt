@@ -22,7 +22,7 @@ cleared : (n k : ℕ) → n < 2 ^ 64 → 2 ^ k < 2 ^ 64 → bit_and n (2 ^ 64 - 
 cleared n k fits small = omega (arith, and-not 64 (2 ^ k) n small fits, and_comm n (2 ^ 64 - 1 - 2 ^ k), and_comm n (2 ^ k))
 
 module _ (at : ℕ) (owns : List Ownership) where
-  -- what a kind of step has to meet where it finds a code
+  -- tells what a kind of step has to meet where it finds a code
   abbrev Law : Op → ℕ → Type 0
   Law op n = (owners : Owners) (code : IsRwLockCode n owners) (mine : (weight : Owner → ℕ) → owned at weight owns ≤ owners weight) → n < 2 ^ 64 → Trades at owns op n (apply op n) owners code mine
 

@@ -75,7 +75,7 @@ module _ (at n : ℕ) (owns : List Ownership) (code : CodesWith RwLock at n owns
     left_over : without (owning at o) owns ≡ rest
     left_over = ap (without (owning at o)) mine ∙ first_goes at o rest
 
-    -- who gives it up for another right
+    -- a thread that gives it up for another right
     turned : (op : Op) (to : Owner) → rwlock_trade at op n (apply op n) owns ≡ trading (o ∷ []) (to ∷ []) → owns_after_step RwLock at op n owns ≡ owning at to ∷ rest
     turned op to e = by_trade op (trading (o ∷ []) (to ∷ [])) e ∙ ap (λ (l : List Ownership). owning at to ∷ l) left_over
 
@@ -83,7 +83,7 @@ module _ (at n : ℕ) (owns : List Ownership) (code : CodesWith RwLock at n owns
     given_up op e = by_trade op (trading (o ∷ []) []) e ∙ left_over
 
   module _ (rest : List Ownership) where
-    -- who waits for the last readers owns alone from the look that finds none left
+    -- a thread that waits for the last readers owns alone from the look that finds none left
     pub looks_alone : (op : Op) (o : Owner) → MayHand RwLock wants.Exclusive o → owns ≡ owning at o ∷ rest → apply op n / 4 ≡ n / 4 → is_look op n ≡ true → n / 16 ≡ 0 → owns_after_step RwLock at op n owns ≡ owning at Exclusive ∷ rest
     looks_alone op o may mine same look none = elim may [
       | inl x ↦ let mine' : owns ≡ owning at Exclusive ∷ rest = mine ∙ ap (λ (w : Owner). owning at w ∷ rest) x in let some = there at owns op n (apply op n) code.0 code.1 code.2 Exclusive exclusive refl (has_it Exclusive rest mine') in let few = code.1.1 in

@@ -39,7 +39,7 @@ record Sorts (os : List Owner) (s u x p g : ℕ) : Type 0 where
 only_shared : (k : ℕ) → Sorts (so_many_shared k) k 0 0 0 0
 only_shared k = record { in_shared = many_of shared refl k; in_upgradable = none_of upgradable refl k; in_exclusive = none_of exclusive refl k; in_pending = none_of pending refl k; in_upgrading = none_of upgrading refl k }
 
--- what so many quarters stand for
+-- tells what so many quarters stand for
 pub record Parts (part left : ℕ) (op : Op) (os : List Owner) : Type 0 where
   pub sum : part ≡ 4 * (total shared os + total upgradable os) + 2 * (total exclusive os + total pending os + total upgrading os) + total upgradable os
   pub one : total exclusive os + total pending os + total upgrading os + total upgradable os ≤ 1
@@ -70,14 +70,14 @@ parts part left op small not_one = dite (ℕ_discrete (part % 4) 2)
     (λ ne. let o = only_shared (part / 4) in subst (λ b. Parts part left op (cond b (Upgradable ∷ so_many_shared (part / 4 - 1)) (so_many_shared (part / 4)))) (sym (ne_eqb (part % 4) 1 ne)) (record { sum = omega arith; one = omega arith; alone = λ h. absurd (omega arith); waits = λ h. omega arith }))))
 
 module _ (at : ℕ) (owns : List Ownership) (op : Op) (n m : ℕ) (owners : Owners) (code : IsRwLockCode n owners) (mine : (weight : Owner → ℕ) → owned at weight owns ≤ owners weight) where
-  -- what a trade has to meet
+  -- tells what a trade has to meet
   abbrev Keeps : Trade → Type 0
   Keeps t = HasAll at t.gives owns × ((after : Owners) → ((weight : Owner → ℕ) → after weight + total weight t.gives ≡ owners weight + total weight t.gets) → IsRwLockCode m after) × Unit {0}
 
   abbrev pub Trades : Type 0
   Trades = Keeps (rwlock_trade at op n m owns)
 
-  -- what is left is a code, by the owners of each sort that are given up and got
+  -- the value left is a code, by the owners of each sort that are given up and got
   keeps : (t : Trade) → HasAll at t.gives owns
       → m / 4 + (4 * (total shared t.gives + total upgradable t.gives) + 2 * (total exclusive t.gives + total pending t.gives + total upgrading t.gives) + total upgradable t.gives)
       ≡ n / 4 + (4 * (total shared t.gets + total upgradable t.gets) + 2 * (total exclusive t.gets + total pending t.gets + total upgrading t.gets) + total upgradable t.gets)
@@ -98,7 +98,7 @@ module _ (at : ℕ) (owns : List Ownership) (op : Op) (n m : ℕ) (owners : Owne
     tt,
   )
 
-  -- who has an ownership is among the owners
+  -- a thread that has an ownership is among the owners
   pub there : (o : Owner) (weight : Owner → ℕ) → weight o ≡ 1 → has (owning at o) owns ≡ true → 0 < owners weight
   there o weight one h = omega (arith, mine weight, owned_some at o owns h weight (omega arith))
 
@@ -192,7 +192,7 @@ module _ (at : ℕ) (owns : List Ownership) (op : Op) (n m : ℕ) (owners : Owne
   upgradable_enters e free room = let code₀ = code.0 in let code₁ = code.1 in
       subst Keeps (sym (upgradable_enters_trade e free)) (keeps (trading [] (Upgradable ∷ [])) tt (omega arith) (omega arith) (λ h. absurd (omega arith)) (omega arith))
 
-  -- who upgrades falls back
+  -- a thread that upgrades falls back
   pub falls_back_trade : has (owning at Upgrading) owns ≡ true → m / 4 ≡ n / 4 + 3 → rwlock_trade at op n m owns ≡ trading (Upgrading ∷ []) (Upgradable ∷ [])
   falls_back_trade g e = let some = there Upgrading upgrading refl g in let code₁ = code.1 in let nx = absent Exclusive exclusive refl (omega arith) in let nu = absent Upgradable upgradable refl (omega arith) in
       rw (ne_eqb (m / 4) (n / 4) (λ z. omega arith), nx, ne_eqb (m / 4 + 4) (n / 4) (λ z. omega arith), ne_eqb (m / 4) (n / 4 + 2) (λ z. omega arith), ne_eqb (m / 4) (n / 4 + 4) (λ z. omega arith), nu, ne_eqb (m / 4) (n / 4 + 5) (λ z. omega arith), g)

@@ -32,7 +32,7 @@ record AreParts (w u v : View) : Type 0 where
   drawn : (weight : Drawn → ℕ) → total weight w.drawn + total weight u.drawn ≡ total weight v.drawn
   out : (r : ℕ) → outs r w + outs r u ≡ outs r v
 
--- who has a permit out owns its mutex
+-- a thread that has a permit out owns its mutex
 abbrev Carries : ℕ → View → Type 0
 Carries words v = MayHaveOut words v.out v.owns
 
@@ -61,7 +61,7 @@ pub seats_another : (words family id : ℕ) (v : View) → Splits (LotRule words
 seats_another words family id v = splits words family id v v blank
     (record { names = λ r weight. omega arith; says = λ r. omega arith; did = λ r. omega arith; drawn = λ weight. omega arith; out = λ r. omega arith }) (omega arith) (omega arith) (λ c. (c, inl refl))
 
--- who gives up what isn't of the mutex whose permit is out has that permit out still
+-- a thread that gives up what isn't of the mutex whose permit is out has that permit out still
 keeps_out : (words : ℕ) (v : View) (x : Ownership) → has x v.owns ≡ true → ((r : ℕ) → word_kind_at r ≡ Mutex → cond (eqb x.at r) (exclusive x.owner) 0 ≡ 0) → Carries words v → MayHaveOut words v.out (without x v.owns)
 keeps_out words v x there apart carries = ⊎_elim (λ none. inl none)
     (λ t. let j : ℕ = word_index t.0 Mutex in let some' = t.3 in
@@ -124,7 +124,7 @@ joins words family id v other w b parts saw carries s o me apart them =
     refl
     (λ number below none. let r : ℕ = word_index number Mutex in o.permits number below (sym (paste (outs r) s.views id other v w b refl me them (parts.out r)) ∙ none))
 
--- who owns no less may have out what it had
+-- a thread that owns no less may have out what it had
 owns_no_less : (words : ℕ) (out : List ℕ) (owns all : List Ownership) → ((r : ℕ) → owned r exclusive owns ≤ owned r exclusive all) → MayHaveOut words out owns → MayHaveOut words out all
 owns_no_less words out owns all more carries = ⊎_elim (λ none. inl none)
     (λ t. let r : ℕ = word_index t.0 Mutex in let some' = t.3 in inr (t.0, t.1, t.2, omega (arith, more r)))
@@ -161,7 +161,7 @@ turned u v w parts = record {
   out = λ r. omega (arith, parts.out r);
 }
 
--- what another seat, which drew nothing and has nothing out, has done and owns comes to a seat
+-- all that another seat has done and owns, which drew nothing and has nothing out, comes to a seat
 pub goes_on : (words family id : ℕ) (v : View) (other : ℕ) (w : View) → w.drawn ≡ [] → w.out ≡ [] → Joins (LotRule words family) id v other w (with_out v.out (goes_on_with v w)) blank
 goes_on words family id v other w none nothing = joins words family id v other w (with_out v.out (goes_on_with v w))
     (are_parts v w v.out none (λ r. omega (arith, none_out r w.out nothing))) (inl (omega arith))

@@ -22,7 +22,7 @@ pub many_of : (weight : Owner → ℕ) → weight Shared ≡ 1 → (n : ℕ) →
 many_of weight one zero = refl
 many_of weight one (suc n) = omega (arith, many_of weight one n)
 
--- who has so many has no fewer
+-- a thread that has so many has no fewer
 pub has_many : (at many : ℕ) (owns : List Ownership) → HasAll at (so_many_shared many) owns → many ≤ owned at shared owns
 has_many at zero owns h = omega arith
 has_many at (suc n) owns h = omega (arith, has_many at n (without (owning at Shared) owns) h.1, total-without (λ (x : Ownership). cond (eqb x.at at) (shared x.owner) 0) (owning at Shared) owns h.0, cond_same at at 1 refl)
@@ -32,7 +32,7 @@ one_of : (at k : ℕ) (owns : List Ownership) → k ≡ 0 → HasAll at (so_many
 one_of at k owns e = subst (λ n. HasAll at (so_many_shared n) owns) (sym e) tt
 
 module _ (permits at : ℕ) (owns : List Ownership) where
-  -- what a step has to meet where it finds a code: it gives up what the seat has
+  -- the condition of a step where it finds a code: it gives up what the seat has
   by_law : (op : Op) → ((n : ℕ) → n < 2 ^ 64 → n / 2 + owned at shared owns ≤ 2 ^ 62 → HasAll at (so_many_shared (apply op n / 2 - n / 2)) owns) → MayStep (Semaphore permits) at op owns
   by_law op ok n owners fits code mine agrees = let a : ℕ = n / 2 in let b : ℕ = apply op n / 2 in let few = code.0 in let all = code.1 in (
     ok n fits (omega (arith, mine shared)),

@@ -28,7 +28,7 @@ use Rattle.core_words.proofs.MutexSteps.{each_code, mutex_steps}
 use Rattle.core_words.proofs.PermitSteps.{goes_out, laid_back, rest_none}
 use Rattle.core_words.proofs.Totals.{cond_same}
 
--- what a step does that leaves a mutex as locked as it was, locks it, or unlocks it
+-- the effect of a step that leaves a mutex as locked as it was, locks it, or unlocks it
 module _ (at : ℕ) (op : Op) (n : ℕ) where
   pub stays_trade : n % 2 ≡ apply op n % 2 → mutex_trade n (apply op n) ≡ trading [] []
   stays_trade e = ap (λ b. cond b (trading [] []) (cond (eqb (n % 2) 0) (trading [] (Exclusive ∷ [])) (trading (Exclusive ∷ []) []))) (eq-eqb (n % 2) (apply op n % 2) e)
@@ -59,7 +59,7 @@ module _ (words family id : ℕ) (me : Me PermitSlot View) (number : ℕ) (op : 
   abbrev Fits : WordKind → Type 0
   Fits kind = found kind < 18446744073709551616
 
-  -- what the table asks of a step, by the slots that are out with the seat
+  -- tells what the table asks of a step, by the slots that are out with the seat
   abbrev Goes : WordKind → List (ℕ × PermitSlot) → Type 0
   Goes kind c = (w : View) × (a : Act PermitSlot) × Valid s.homes c a × LotRule words family (stepped s (word_index number kind) (apply op (found kind)) id c w a)
       × TakesStepOf family kind (word_index number kind) op me (found kind) (w, carried_after c a)
@@ -179,7 +179,8 @@ expected_allowed words family slots id me number real first second op_of below h
     ))
     which
 
--- what an exchange that enters a mutex expects, and what gives one up: the real number, or one by which it does nothing
+-- the value that an exchange expects which enters a mutex, or gives one up: the real number, or one by which
+-- it does nothing
 pub enters_or_not : (unlocked : ℕ) → (unlocked ≢ 0 → 3 < unlocked) → (unlocked ≡ 0) ⊎ ((unlocked ≢ 0) × ((n : ℕ) → n < 4 → apply (Exchange unlocked 1) n ≡ n))
 enters_or_not unlocked expects = dite (ℕ_discrete unlocked 0) (λ is. inl is)
     (λ ne. let large = expects ne in inr (ne, λ n small. ap (λ b. if b then 1 else n) (ne_eqb n unlocked (λ e. omega arith))))
@@ -194,7 +195,7 @@ takes_nothing n small = each_code (λ m. apply (Sub 0) m ≡ m) refl refl refl r
 pub exchanges_nothing : (n : ℕ) → n < 4 → apply (Exchange 0 0) n ≡ n
 exchanges_nothing n small = each_code (λ m. apply (Exchange 0 0) m ≡ m) refl refl refl refl n small
 
--- what the or of a try leaves of a mutex's word, locked and unlocked
+-- the rest of a mutex's word after the or of a try, locked and unlocked
 still_locked : (n : ℕ) → n < 4 → (n % 2 ≡ 0 → ⊥) → apply (Or 1) n ≡ n
 still_locked n small odd = each_code (λ k. (k % 2 ≡ 0 → ⊥) → apply (Or 1) k ≡ k) (λ odd. absurd (odd refl)) (λ odd. refl) (λ odd. absurd (odd refl)) (λ odd. refl) n small odd
 

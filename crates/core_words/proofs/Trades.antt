@@ -73,11 +73,12 @@ traded_counts at t owns h r = let f = λ (x : Ownership). cond (eqb x.at r) x.co
     let none : (os : List Owner) → total (λ o. f (owning at o)) os ≡ 0 = λ os. total-none (λ (o : Owner). f (owning at o)) os (λ o. zero_either (eqb at r)) in
     omega (arith, traded f at t owns h, none t.gives, none t.gets)
 
--- who has an ownership has some of the word, by each weight in which it counts
+-- a thread that has an ownership has some of the word, by each weight in which it counts
 pub owned_some : (at : ℕ) (o : Owner) (owns : List Ownership) → has (owning at o) owns ≡ true → (weight : Owner → ℕ) → 0 < weight o → 0 < owned at weight owns
 owned_some at o owns there weight some = omega (arith, total-without (λ (x : Ownership). cond (eqb x.at at) (weight x.owner) 0) (owning at o) owns there, cond_same at at (weight o) refl)
 
--- who says another count of a mutex owns it as before, by any weight that does not ask for the count
+-- a thread that says another count of a mutex owns it as before, by any weight that does not ask for the
+-- count
 pub said_total : (weight : Ownership → ℕ) (mutex found left : ℕ) (owns : List Ownership) → (left ≡ found) ⊎ (has (owning_with mutex found) owns ≡ true)
     → total weight (says_instead mutex found left owns) + weight (owning_with mutex found) ≡ total weight owns + weight (owning_with mutex left)
 said_total weight mutex found left owns may = dite (ℕ_discrete found left)
@@ -92,7 +93,7 @@ pub is_itself : (x : Ownership) → is_this x x ≡ true
 is_itself x = ap (λ b. b && (eqb (owner_rank x.owner) (owner_rank x.owner) && eqb x.count x.count)) (eq-eqb x.at x.at refl)
     ∙ ap (λ b. b && eqb x.count x.count) (eq-eqb (owner_rank x.owner) (owner_rank x.owner) refl) ∙ eq-eqb x.count x.count refl
 
--- what is left of a list without what it begins with
+-- the rest of a list without its beginning
 pub without_first : (x : Ownership) (owns : List Ownership) → without x (x ∷ owns) ≡ owns
 without_first x owns = ap (λ b. cond b owns (x ∷ without x owns)) (is_itself x)
 

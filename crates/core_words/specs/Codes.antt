@@ -80,8 +80,8 @@ Codes (Semaphore permits) n owners = IsSemaphoreCode n owners
 abbrev pub Shows : (ℕ → Type 0) → ℕ → Type 0
 Shows is_mutex n = (n ≡ 0) ⊎ ((number : ℕ) × (n ≡ number + 1) × is_mutex number)
 
--- what a thread may find in that of this number, in a lot of so many words: it shows nothing, or a
--- mutex of the lot beside it
+-- the values that a thread may find in the word of this number, in a lot of so many words: it shows nothing,
+-- or a mutex of the lot beside it
 abbrev pub ShowsBeside : ℕ → ℕ → ℕ → Type 0
 ShowsBeside words condvar = Shows (λ mutex. (mutex < words) × (mutex ≢ condvar))
 

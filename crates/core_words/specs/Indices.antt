@@ -19,11 +19,11 @@ rank (Semaphore permits) = 5
 abbrev pub counter : ℕ
 counter = 0
 
--- of the word of a number and a kind: each number has eight, which is a cache line
+-- the index of the word of a number and a kind: each number has eight, which is a cache line
 abbrev pub word_index : ℕ → WordKind → ℕ
 word_index number kind = 8 * (number + 1) + rank kind
 
--- of the mutex of a count word: the word of the number before
+-- the mutex of a count word: the word of the number before
 abbrev pub mutex_of_count : ℕ → ℕ
 mutex_of_count at = at - 12
 

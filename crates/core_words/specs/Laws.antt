@@ -32,17 +32,17 @@ pub record MutexSteps (at : ℕ) (owns : List Ownership) : Type 0 where
   pub set_locked : MayStep Mutex at (Or 1) owns
   pub set_parked : MayStep Mutex at (Exchange 1 3) owns
   pub clear_parked : MayStep Mutex at (And 18446744073709551613) owns
-  -- who notifies marks a locked mutex, or any mutex to which it moved waiters
+  -- a notifying thread marks a locked mutex, or any mutex to which it moved waiters
   pub mark : (s : ℕ) → (s ≡ 1) ⊎ (s ≡ 3) → MayStep Mutex at (Exchange s 3) owns
   pub mark_any : MayStep Mutex at (Or 2) owns
-  -- who subtracts 1 owns the mutex
+  -- a thread that subtracts 1 owns the mutex
   pub leave : has (owning at Exclusive) owns ≡ true → MayStep Mutex at (Sub 1) owns
   -- and so does who leaves a word that nobody waits on, or stores a word in a section
   pub leave_alone : has (owning at Exclusive) owns ≡ true → MayStep Mutex at (Exchange 1 0) owns
   pub hand_over : (m : ℕ) → m < 4 → has (owning at Exclusive) owns ≡ true
       → MayStep Mutex at (Store m) owns
 
--- whoever it is, it may take them
+-- any thread may take them
 abbrev pub MutexMaySteps : Type 0
 MutexMaySteps = (at : ℕ) (owns : List Ownership) → MutexSteps at owns
 
@@ -81,7 +81,7 @@ pub record RwLockSteps (at : ℕ) (owns : List Ownership) : Type 0 where
   pub fall_back : has (owning at Upgrading) owns ≡ true → MayStep RwLock at (Add 12) owns
   pub give_up : has (owning at Pending) owns ≡ true → MayStep RwLock at (Sub 8) owns
 
--- whoever it is, it may take them
+-- any thread may take them
 abbrev pub RwLockMaySteps : Type 0
 RwLockMaySteps = (at : ℕ) (owns : List Ownership) → RwLockSteps at owns
 
@@ -94,11 +94,11 @@ pub record OnceSteps (at : ℕ) (owns : List Ownership) : Type 0 where
   pub set_parked : (s : ℕ) → (s ≡ 0) ⊎ ((s ≡ 2) ⊎ (s ≡ 4))
       → MayStep Once at (Exchange s (s + 8)) owns
   pub clear_parked : MayStep Once at (And 18446744073709551607) owns
-  -- who runs it leaves it done or poisoned
+  -- the thread that runs it leaves it done or poisoned
   pub finish : (m : ℕ) → (m ≡ 1) ⊎ (m ≡ 2) → has (owning at Runner) owns ≡ true
       → MayStep Once at (Swap m) owns
 
--- whoever it is, it may take them
+-- any thread may take them
 abbrev pub OnceMaySteps : Type 0
 OnceMaySteps = (at : ℕ) (owns : List Ownership) → OnceSteps at owns
 
@@ -109,22 +109,22 @@ pub record SemaphoreSteps (permits at : ℕ) (owns : List Ownership) : Type 0 wh
   pub take : (s : ℕ) → 2 ≤ s → MayStep (Semaphore permits) at (Exchange s (s - 2)) owns
   pub set_parked : MayStep (Semaphore permits) at (Exchange 0 1) owns
   pub clear_parked : MayStep (Semaphore permits) at (And 18446744073709551614) owns
-  -- who holds one gives it back
+  -- a holder gives its permit back
   pub give : has (owning at Shared) owns ≡ true → MayStep (Semaphore permits) at (Add 2) owns
   -- and who holds as many as it drew gives them all
   pub fill : (many : ℕ) → HasAll at (so_many_shared many) owns
       → MayStep (Semaphore permits) at (Add (2 * many)) owns
 
--- what its kinds of step trade
+-- the trades of its kinds of step
 pub record SemaphoreTrades (permits at : ℕ) (owns : List Ownership) : Type 0 where
-  -- who takes a permit has one more
+  -- a thread that takes a permit has one more
   pub takes : (s : ℕ) → 2 ≤ s
       → owns_after_step (Semaphore permits) at (Exchange s (s - 2)) s owns
       ≡ owning at Shared ∷ owns
-  -- who gives one back has one less
+  -- a thread that gives one back has one less
   pub gives : (n : ℕ) → n / 2 < 2 ^ 62
       → owns_after_step (Semaphore permits) at (Add 2) n owns ≡ without (owning at Shared) owns
-  -- who drew the word may give all back, and has none of them then
+  -- the thread that drew the word may give all back, and has none of them then
   pub has_all : (many : ℕ) → HasAll at (so_many_shared many) (holding at many ++ owns)
   pub fills : (many n : ℕ) → n / 2 + many ≤ 2 ^ 62
       → owns_after_step (Semaphore permits) at (Add (2 * many)) n (holding at many ++ owns) ≡ owns
@@ -132,46 +132,45 @@ pub record SemaphoreTrades (permits at : ℕ) (owns : List Ownership) : Type 0 w
   pub few : (n : ℕ) → CodesWith (Semaphore permits) at n owns
       → n / 2 + owned at shared owns ≤ 2 ^ 62
 
--- of whoever it is
+-- for any thread
 abbrev pub SemaphoreTrading : Type 0
 SemaphoreTrading = (permits at : ℕ) (owns : List Ownership) → SemaphoreTrades permits at owns
 
--- whoever it is, it may take them
+-- any thread may take them
 abbrev pub SemaphoreMaySteps : Type 0
 SemaphoreMaySteps = (permits at : ℕ) (owns : List Ownership) → SemaphoreSteps permits at owns
 
--- what is known of a `Once` that is done
+-- facts known of a `Once` that is done
 pub record OnceKnowledge (at : ℕ) (owns : List Ownership) : Type 0 where
-  -- who leaves it done knows it
+  -- a thread that leaves it done knows it
   pub learns : (op : Op) (found : ℕ) → apply op found ≡ 1
       → has (owning at Witness) (owns_after_step Once at op found owns) ≡ true
-  -- who knows it does so behind each step, and finds it done
+  -- a thread that knows it does so after each step, and finds it done
   pub keeps : (op : Op) (found : ℕ) → has (owning at Witness) owns ≡ true
       → has (owning at Witness) (owns_after_step Once at op found owns) ≡ true
   pub finds : (n : ℕ) → CodesWith Once at n owns → has (owning at Witness) owns ≡ true → n ≡ 1
 
--- of whoever it is
+-- for any thread
 abbrev pub OnceIsKnown : Type 0
 OnceIsKnown = (at : ℕ) (owns : List Ownership) → OnceKnowledge at owns
 
 -- the kinds of step on a condition variable's word
 pub record CondvarSteps (at : ℕ) (owns : List Ownership) : Type 0 where
   pub load : MayStep Condvar at Load owns
-  -- who owns a mutex of another number shows it, where none is shown
+  -- an owner of a mutex of another number shows it, where none is shown
   pub show : (mutex : ℕ) → at ≢ word_index mutex Condvar
       → has (owning (word_index mutex Mutex) Exclusive) owns ≡ true
       → MayStep Condvar at (Exchange 0 (mutex + 1)) owns
   pub hide : MayStep Condvar at (Store 0) owns
 
--- whoever it is, it may take them
+-- any thread may take them
 abbrev pub CondvarMaySteps : Type 0
 CondvarMaySteps = (at : ℕ) (owns : List Ownership) → CondvarSteps at owns
 
 -- the kinds of step on the count word of the mutex before it
 pub record CountSteps (mutex : ℕ) (owns : List Ownership) : Type 0 where
   pub load : MayStep Count (word_index (mutex + 1) Count) Load owns
-  -- who owns the mutex, and says this count of it, counts once more or once less, or stores another
-  -- count
+  -- an owner of the mutex that says this count of it counts once more or once less, or stores another count
   pub raise : (count : ℕ) → has (owning_with (word_index mutex Mutex) count) owns ≡ true
       → IsCountCode (count + 1)
       → MayStep Count (word_index (mutex + 1) Count) (Add 1) owns
@@ -182,6 +181,6 @@ pub record CountSteps (mutex : ℕ) (owns : List Ownership) : Type 0 where
       → IsCountCode m
       → MayStep Count (word_index (mutex + 1) Count) (Store m) owns
 
--- whoever it is, it may take them
+-- any thread may take them
 abbrev pub CountMaySteps : Type 0
 CountMaySteps = (mutex : ℕ) (owns : List Ownership) → CountSteps mutex owns

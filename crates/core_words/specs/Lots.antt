@@ -14,7 +14,7 @@ abbrev pub IsSeatOf : LotWords → Seat PermitSlot View → Type 0
 IsSeatOf lot seat = (seat.table_id ≡ lot.table.shared.table_id)
     × (seat.me.1 ≡ slots_of lot.table.shared.key.1.family seat.me.0.out)
 
--- of the lot that drew it, by its tag
+-- the lot that drew it, told by its tag
 abbrev pub IsWordOf : LotWords → Word → Type 0
 IsWordOf lot word = (word.tag ≡ lot.tag) × (word.number < lot.count)
 

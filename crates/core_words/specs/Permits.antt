@@ -7,7 +7,7 @@ use Rattle.core_words.specs.declared.words.WordKind.TheVariants.{Mutex}
 use Rattle.core_parts.specs.PermitIds.{PermitId}
 use Rattle.core_parts.specs.declared.slot.PermitSlot.{PermitSlot}
 
--- of the word at an index, from where the lot's permits come
+-- the permit of the word at an index, told by the source of the lot's permits
 abbrev pub permit_at : ℕ → ℕ → PermitId
 permit_at family at = record { family = family; number = at }
 
@@ -18,8 +18,8 @@ slot_at family at = record { holds = permit_at family at ∷ [] }
 abbrev pub slots_of : ℕ → List ℕ → List (ℕ × PermitSlot)
 slots_of family out = map (λ at. (at, slot_at family at)) out
 
--- whose permit is out behind a step at an index: who locks a mutex takes its permit with that step,
--- in place of any other, and who unlocks one lays back with that step what is out
+-- the permit that is out after a step at an index: a thread that locks a mutex takes its permit with that
+-- step, in place of any other, and one that unlocks lays back with that step what is out
 abbrev pub out_after : WordKind → ℕ → Op → ℕ → List ℕ → List ℕ
 out_after Mutex at op found out =
     cond (found % 2 == apply op found % 2) out (cond (found % 2 == 0) (at ∷ []) [])

@@ -187,7 +187,7 @@ tries_seen family st me found after =
     × ((found ≢ st.first → IsEven found → after ≡ me)
     × ((IsEven found → ⊥) → TakesStep family st.word (Or 1) me found after))
 
--- who owns the mutex of an index has its permit out, and no other
+-- an owner of the mutex of an index has its permit out, and no other
 abbrev pub takes_out : ℕ → ℕ → Me PermitSlot View → Me PermitSlot View → Type 0
 takes_out family at me after = after ≡ (with_out (at ∷ []) me.0, slots_of family (at ∷ []))
 

@@ -14,7 +14,7 @@ use Rattle.core_words.specs.declared.words.WordKind.TheVariants.{Mutex, RwLock}
 use Rattle.core_base.specs.declared.ops.Op.TheVariants.{Exchange}
 use Rattle.core_base.specs.declared.wants.Want as wants
 
--- who has what was wanted owns the word so
+-- a thread that has what was wanted owns the word so
 abbrev pub owner_for : wants.Want → Owner
 owner_for wants.TheVariants.Exclusive = Exclusive
 owner_for wants.TheVariants.Upgradable = Upgradable
@@ -73,8 +73,8 @@ with_permit word = with_out (word_index word.number word.kind ∷ []) (piece_of 
 abbrev pub handed : Word → Owner → View
 handed word owner = cond (takes_permit word.kind owner) (with_permit word) (piece_of word owner)
 
--- what a view is behind the exchange that leaves a mutex where nobody waits, which saw this: where
--- it missed, the mutex is owned still
+-- the view after the exchange that leaves a mutex where nobody waits, which saw this: where it missed, the
+-- mutex is owned still
 abbrev pub leaving_alone : View → Word → ℕ → View
 leaving_alone v word seen = let at = word_index word.number word.kind in
     cond (seen == 1) (stepping v at (Exchange 1 0) seen)

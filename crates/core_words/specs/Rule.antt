@@ -14,19 +14,19 @@ use Rattle.core_words.specs.declared.views.View.{View}
 use Rattle.core_words.specs.declared.words.WordKind.{WordKind}
 use Rattle.core_words.specs.declared.words.WordKind.TheVariants.{Mutex, Condvar, Count, Semaphore}
 
--- what a condition variable of this number may show, in a lot of so many words: a mutex of the lot,
--- of another number, on which somebody has stepped
+-- the mutexes that a condition variable of this number may show, in a lot of so many words: of the lot, of
+-- another number, on which some thread has stepped
 abbrev pub MayBeShown : ℕ → ℕ → List View → ℕ → Type 0
 MayBeShown words number views mutex =
     (mutex < words) × (mutex ≢ number) × (0 < total (steps_at (word_index mutex Mutex)) views)
 
--- what may be out with a seat that owns these: no permit, or that of one mutex which it owns
+-- the permits that may be out with a seat that owns these: none, or that of one mutex which it owns
 abbrev pub MayHaveOut : ℕ → List ℕ → List Ownership → Type 0
 MayHaveOut words out owns = (out ≡ [])
     ⊎ ((number : ℕ) × (number < words) × (out ≡ word_index number Mutex ∷ [])
     × (0 < owned (word_index number Mutex) exclusive owns))
 
--- of a lot of so many words, whose permits come from one source
+-- the rule of a lot of so many words, whose permits come from one source
 pub record LotRule (words family : ℕ) (s : State PermitSlot View) : Type 0 where
   pub size : length s.words ≡ table_size words
   -- each lock word is the code of the owners that all views together name
@@ -46,7 +46,7 @@ pub record LotRule (words family : ℕ) (s : State PermitSlot View) : Type 0 whe
   pub semaphores : (number : ℕ) → number < words
       → slice_index s.words (word_index number (Semaphore 0)) / 2
       + named (word_index number (Semaphore 0)) shared s.views ≡ granted number s.views
-  -- what is owned is a word of the lot, and not the counter
+  -- each thing owned is a word of the lot, and not the counter
   pub owned : (at : ℕ) (weight : Owner → ℕ) → 0 < named at weight s.views
       → (0 < at) × (at < length s.words)
   -- a word on which nobody has stepped is 0
@@ -59,7 +59,7 @@ pub record LotRule (words family : ℕ) (s : State PermitSlot View) : Type 0 whe
   -- the counter never falls
   pub saw : (seat : ℕ) (v : View) → get_elem? s.views seat ≡ some v
       → v.saw ≤ slice_index s.words counter
-  -- whose permit is out with a seat, that mutex the seat owns
+  -- a seat owns the mutex whose permit is out with it
   pub carried : (seat : ℕ) (v : View) → get_elem? s.views seat ≡ some v
       → MayHaveOut words v.out v.owns
   -- each word has a slot, and that of a mutex holds its permit, but while that is out with a seat

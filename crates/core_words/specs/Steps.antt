@@ -14,7 +14,7 @@ use Rattle.core_words.specs.declared.views.WordStep.{WordStep}
 use Rattle.core_words.specs.declared.words.WordKind.{WordKind}
 use Rattle.core_words.specs.declared.words.WordKind.TheVariants.{Mutex, RwLock, Once, Condvar, Count, Semaphore}
 
--- what a step takes from who takes it, and what it brings
+-- the ownerships that a step takes from its thread, and those that it brings
 pub record Trade : Type 0 where
   pub gives : List Owner
   pub gets : List Owner
@@ -67,13 +67,13 @@ is_look Load found = true
 is_look (Exchange from to) found = not (found == from)
 is_look _ found = false
 
--- who waits for the last readers: who upgrades has subtracted, and a writer has exchanged or was
+-- a thread that waits for the last readers: an upgrade has subtracted, and a writer has exchanged or was
 -- handed the lock
 abbrev pub waits_by : Op → Owner
 waits_by (Sub _) = Upgrading
 waits_by _ = Pending
 
--- who becomes a writer is alone where the word is left without readers
+-- a new writer is alone where the word is left without readers
 abbrev pub writer_in : Op → ℕ → Owner
 writer_in op left = cond (left / 16 == 0) Exclusive (waits_by op)
 
@@ -91,7 +91,7 @@ abbrev pub owners_in : ℕ → Op → ℕ → List Owner
 owners_in part op left = cond (part % 4 == 2) (writer_in op left ∷ so_many_shared (part / 4))
     (cond (part % 4 == 1) (Upgradable ∷ so_many_shared (part / 4 - 1)) (so_many_shared (part / 4)))
 
--- who waits for the last readers owns alone from the look that finds none left
+-- a thread that waits for the last readers owns alone from the look that finds none left
 abbrev pub settles : ℕ → Op → ℕ → List Ownership → Trade
 settles at op found owns = cond (is_look op found && (found / 16 == 0))
     (cond (has (owning at Pending) owns) (trading (Pending ∷ []) (Exclusive ∷ []))
@@ -116,19 +116,19 @@ rwlock_trade at op found left owns = let a = found / 4 in let b = left / 4 in
     (cond (has (owning at Upgrading) owns) (trading (Upgrading ∷ []) (Upgradable ∷ []))
     (trading (Pending ∷ []) []))))))))
 
--- who sets LOCKED runs, who clears it has run, and who finds or leaves DONE knows it
+-- a thread that sets LOCKED runs, one that clears it has run, and one that finds or leaves DONE knows it
 abbrev pub once_trade : ℕ → ℕ → Trade
 once_trade found left = trading
     (cond ((found / 4 % 2 == 1) && (left / 4 % 2 == 0)) (Runner ∷ []) [])
     (cond (left == 1) (Witness ∷ [])
     (cond ((found / 4 % 2 == 0) && (left / 4 % 2 == 1)) (Runner ∷ []) []))
 
--- who takes free permits of a semaphore has them, and who frees some has them no more
+-- a thread that takes free permits of a semaphore has them, and one that frees some has them no more
 abbrev pub semaphore_trade : ℕ → ℕ → Trade
 semaphore_trade found left =
     trading (so_many_shared (left / 2 - found / 2)) (so_many_shared (found / 2 - left / 2))
 
--- of who steps on the word at an index and owns these: by the operation and the value found
+-- for a thread that steps on the word at an index and owns these: by the operation and the value found
 abbrev pub trade : WordKind → ℕ → Op → ℕ → List Ownership → Trade
 trade Mutex at op found owns = mutex_trade found (apply op found)
 trade RwLock at op found owns = rwlock_trade at op found (apply op found) owns
@@ -136,12 +136,12 @@ trade Once at op found owns = once_trade found (apply op found)
 trade (Semaphore permits) at op found owns = semaphore_trade found (apply op found)
 trade _ at op found owns = trading [] []
 
--- who changes a count word says the new count of its mutex from then on
+-- a thread that changes a count word says the new count of its mutex from then on
 abbrev pub says_instead : ℕ → ℕ → ℕ → List Ownership → List Ownership
 says_instead mutex found left owns =
     cond (found == left) owns (owning_with mutex left ∷ without (owning_with mutex found) owns)
 
--- what is owned after a step, by the operation and the value found
+-- the ownerships after a step, by the operation and the value found
 abbrev pub owns_after_step : WordKind → ℕ → Op → ℕ → List Ownership → List Ownership
 owns_after_step Count at op found owns =
     says_instead (mutex_of_count at) found (apply op found) owns
@@ -169,8 +169,8 @@ abbrev pub CodesWith : WordKind → ℕ → ℕ → List Ownership → Type 0
 CodesWith kind at n owns = (owners : Owners) × Codes kind n owners
     × ((weight : Owner → ℕ) → owned at weight owns ≤ owners weight) × CountAgrees kind at n owns
 
--- whatever code a step finds, of owners among whom these are: these have what it gives up, it
--- leaves the code of the owners after it, and a word that is tied to a mutex stays so
+-- each code that a step finds is of owners among whom these are: these have what it gives up, it leaves the
+-- code of the owners after it, and a word that is tied to a mutex stays so
 abbrev pub MayStep : WordKind → ℕ → Op → List Ownership → Type 0
 MayStep kind at op owns = (n : ℕ) (owners : Owners) → n < 2 ^ 64 → Codes kind n owners
     → ((weight : Owner → ℕ) → owned at weight owns ≤ owners weight) → CountAgrees kind at n owns

@@ -19,7 +19,7 @@ abbrev pub with_out : List ℕ → View → View
 with_out out v =
     record { steps = v.steps; owns = v.owns; drawn = v.drawn; saw = v.saw; out = out }
 
--- what it has done, owns, drew and saw: all but whose permit is out
+-- all that it has done, owns, drew and saw, but the permit that is out
 abbrev pub shown : View → View
 shown = with_out []
 
@@ -53,7 +53,7 @@ owned at weight owns = total (λ (x : Ownership). cond (x.at == at) (weight x.ow
 abbrev pub named : ℕ → (Owner → ℕ) → List View → ℕ
 named at weight views = total (λ (v : View). owned at weight v.owns) views
 
--- what the owners of the mutex at an index say that its count word is
+-- the count word, as the owners of the mutex at an index tell it
 abbrev pub counted : ℕ → List Ownership → ℕ
 counted at owns = total (λ (x : Ownership). cond (x.at == at) x.count 0) owns
 

@@ -2,7 +2,7 @@
 use Rattle.std.proofs.Common.{inl, inr, subst}
 use Rattle.lock_api.specs.Conditions.{WaitedOrNot}
 
--- behind one more wait it is the same thread still
+-- after one more wait it is the same thread still
 pub stays_behind : {Token : Type 0} (stays : Token → Token → Type 0)
     → ((first next last : Token) → stays first next → stays next last → stays first last)
     → (first next last : Token) → WaitedOrNot stays first next → stays next last → WaitedOrNot stays first last

@@ -4,7 +4,7 @@ use Rattle.spec_locks.specs.declared.outcomes.Answer.{Answer}
 use Rattle.spec_locks.specs.declared.outcomes.Answer.TheVariants as answers
 use Rattle.lock_api.specs.Visits.{CameAndWent}
 
--- who came in with a guard of the lock and released that guard came and went
+-- a thread that came in with a guard of the lock and released that guard came and went
 pub came_and_went : {Raw Token Call : Type 0} (walked : Raw → Call → Answer → Token → Token → Type 0)
     (released : Raw → Call → Token → Token → Type 0) (taken raw : Raw) (entry : Call) (answer : Answer)
     (release : Call) (old inside new : Token) → taken ≡ raw → walked raw entry answer old inside

@@ -17,7 +17,7 @@ pub waits_on : {Token Mutex : Type 0} (waited : Mutex → Token → Token → Ty
 waits_on waited back given old last new same before then =
     (suc before.0, (last, before.1, with_given waited back given last new same then))
 
--- what was waited of a call with a limit whose last wait ended late or not
+-- tells what was waited of a call with a limit whose last wait ended late or not
 abbrev pub WaitedSoFar : {Token : Type 0} → (Answer → Token → Token → Type 0) → Bool → Token → Token
     → Type 0
 WaitedSoFar waited false old new = Waits (waited answers.Notified) old new

@@ -21,7 +21,7 @@ WaitsWhile waited (Ok guard) old new = Waits (waited answers.Ok) old new
 WaitsWhile {Token = Token} waited (Err refused) old new = (last : Token)
     × Waits (waited answers.Ok) old last × waited answers.TwoMutexes last new
 
--- of one with a limit the last wait may end as timed out too
+-- the last wait of one with a limit may end as timed out too
 abbrev pub WaitsInTime : {Token A E : Type 0} → (Answer → Token → Token → Type 0) → Result A E
     → Token → Token → Type 0
 WaitsInTime {Token = Token} waited (Ok ended) old new = (last : Token)

@@ -106,11 +106,11 @@ impl<R: RawCondvar> Condvar<R> {
     {
         // As `notify_one` of the raw one. It isn't called, since behind each call that may wait a
         // flag is tested.
-        let seen = self.raw.begin_notify(token);
+        let seen = self.raw.notify_fast(token);
         if seen == 0 {
             return false;
         }
-        self.raw.notify_one_behind(rt, token, seen)
+        self.raw.notify_one_slow(rt, token, seen)
     }
 
     /// Notifies all who wait. How many did.
@@ -122,11 +122,11 @@ impl<R: RawCondvar> Condvar<R> {
         ensures path { R.notified self.now true (Number result) token.old token.new }
         ensures record { R.moved self.now true result token.old token.new }
     {
-        let seen = self.raw.begin_notify(token);
+        let seen = self.raw.notify_fast(token);
         if seen == 0 {
             return 0;
         }
-        self.raw.notify_all_behind(rt, token, seen)
+        self.raw.notify_all_slow(rt, token, seen)
     }
 
     /// The raw condition variable.

@@ -56,8 +56,8 @@ impl<'a, R: RawMutex, T> Guarded<Taken<'a, R, T>, Open<'a, T>> {
     {
         let (mutex, lot, guard) = self.close();
         let raw = mutex.raw();
-        if let Some(seen) = raw.begin_unlock(lot, token, guard) {
-            raw.unlock_behind(rt, token, seen);
+        if let Some(seen) = raw.unlock_fast(lot, token, guard) {
+            raw.unlock_slow(rt, token, seen);
         }
     }
 

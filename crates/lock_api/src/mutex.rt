@@ -91,9 +91,9 @@ impl<R: RawMutex, T> Mutex<R, T> {
         let lot = self.raw.lot();
         // As `lock` of the raw one. It isn't called, since behind each call that may wait a flag is
         // tested.
-        let raw = match self.raw.begin_lock(token) {
+        let raw = match self.raw.lock_fast(token) {
             Ok(raw) => raw,
-            Err(seen) => self.raw.lock_behind(rt, token, seen),
+            Err(seen) => self.raw.lock_slow(rt, token, seen),
         };
         self.open(lot, raw)
     }

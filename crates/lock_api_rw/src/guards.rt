@@ -55,8 +55,8 @@ impl<'a, R: RawRwLock, T> Held<Reading<'a, R, T>, Seen<'a, T>> {
         ensures record { R.woke (lock_of self.entry) (Release access.Shared) token.old token.new }
     {
         let (lock, raw) = self.close_shared();
-        if let Some(rest) = lock.raw().begin_unlock_shared(token, raw) {
-            lock.raw().unlock_behind(rt, token, Access::Shared, rest);
+        if let Some(rest) = lock.raw().unlock_shared_fast(token, raw) {
+            lock.raw().unlock_slow(rt, token, Access::Shared, rest);
         }
     }
 }
@@ -83,9 +83,8 @@ impl<'a, R: RawRwLockUpgrade, T> Held<Upgrading<'a, R, T>, Seen<'a, T>> {
             (Release access.Upgradable) token.old token.new }
     {
         let (lock, raw) = self.close_upgradable();
-        if let Some(rest) = lock.raw().begin_unlock_upgradable(token, raw) {
-            lock.raw()
-                .unlock_behind(rt, token, Access::Upgradable, rest);
+        if let Some(rest) = lock.raw().unlock_upgradable_fast(token, raw) {
+            lock.raw().unlock_slow(rt, token, Access::Upgradable, rest);
         }
     }
 
@@ -252,8 +251,8 @@ impl<'a, R: RawRwLock, T> Held<Writing<'a, R, T>, Open<'a, T>> {
             (Release access.Exclusive) token.old token.new }
     {
         let (lock, raw) = self.close_exclusive();
-        if let Some(rest) = lock.raw().begin_unlock_exclusive(token, raw) {
-            lock.raw().unlock_behind(rt, token, Access::Exclusive, rest);
+        if let Some(rest) = lock.raw().unlock_exclusive_fast(token, raw) {
+            lock.raw().unlock_slow(rt, token, Access::Exclusive, rest);
         }
     }
 

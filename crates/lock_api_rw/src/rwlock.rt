@@ -149,9 +149,9 @@ impl<R: RawRwLock, T> RwLock<R, T> {
             (reading_answer result) token.old token.new }
         ensures full { IfErr result (λ _. R.saw_full self.now access.Shared token.old token.new) }
     {
-        let entered = match self.raw.begin_lock_shared(token) {
+        let entered = match self.raw.lock_shared_fast(token) {
             Ok(entered) => entered,
-            Err(rest) => self.raw.lock_shared_behind(rt, token, rest),
+            Err(rest) => self.raw.lock_shared_slow(rt, token, rest),
         };
         match entered {
             Ok(raw) => Ok(self.open_shared(raw)),
@@ -193,9 +193,9 @@ impl<R: RawRwLock, T> RwLock<R, T> {
         ensures path { R.walked self.now
             (Enter access.Exclusive Patient) answers.Ok token.old token.new }
     {
-        let raw = match self.raw.begin_lock_exclusive(token) {
+        let raw = match self.raw.lock_exclusive_fast(token) {
             Ok(raw) => raw,
-            Err(rest) => self.raw.lock_exclusive_behind(rt, token, rest),
+            Err(rest) => self.raw.lock_exclusive_slow(rt, token, rest),
         };
         self.open_exclusive(raw)
     }
@@ -269,9 +269,9 @@ impl<R: RawRwLockUpgrade, T> RwLock<R, T> {
         ensures full { IfErr result
             (λ _. R.saw_full self.now access.Upgradable token.old token.new) }
     {
-        let entered = match self.raw.begin_lock_upgradable(token) {
+        let entered = match self.raw.lock_upgradable_fast(token) {
             Ok(entered) => entered,
-            Err(rest) => self.raw.lock_upgradable_behind(rt, token, rest),
+            Err(rest) => self.raw.lock_upgradable_slow(rt, token, rest),
         };
         match entered {
             Ok(raw) => Ok(self.open_upgradable(raw)),

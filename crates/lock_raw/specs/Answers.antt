@@ -11,12 +11,12 @@ abbrev pub answer_by : {A : Type 0} → Option A → Answer
 answer_by None = answers.No
 answer_by (Some _) = answers.Yes
 
--- who waits for ever comes in, or finds the lock full of readers
+-- a call that waits for ever comes in, or finds the lock full of readers
 abbrev pub reading_answer : {A E : Type 0} → Result A E → Answer
 reading_answer (Ok _) = answers.Ok
 reading_answer (Err _) = answers.ReadersFull
 
--- who doesn't may end without the lock too
+-- any other may end without the lock too
 abbrev pub counted_answer : {A E : Type 0} → Result (Option A) E → Answer
 counted_answer (Ok entered) = answer_by entered
 counted_answer (Err _) = answers.ReadersFull
@@ -36,7 +36,7 @@ IsRefusal found_full old new fault =
 abbrev pub IsFull : Fault → Type 0
 IsFull fault = fault ≡ faults.ReadersFull
 
--- who may end without the lock has such a guard where it came in, or found the lock full of readers
+-- a call that may end without the lock has such a guard where it came in, or found the lock full of readers
 abbrev pub TriesOrFull : {A : Type 0} → Result (Option A) Fault → (A → Type 0) → Type 0
 TriesOrFull result holds = MatchResult result (λ entered. IfSome entered holds) IsFull
 
@@ -74,6 +74,6 @@ GivesBack result holds = MatchResult result holds (IsRefusedWith holds)
 abbrev pub GivesBackTimed : {A B : Type 0} → Result (A × B) (Fault × A) → (A → Type 0) → Type 0
 GivesBackTimed result holds = MatchResult result (λ ended. holds ended.0) (IsRefusedWith holds)
 
--- who tells that its time was up says so of its clock
+-- a call that tells that its time was up says so of its clock
 abbrev pub IsLate : {A E : Type 0} → Result (A × Bool) E → Type 0 → Type 0
 IsLate result passed = IfOk result (λ ended. ended.1 ≡ true → passed)

@@ -78,7 +78,7 @@ pub trait RawCondvar {
 
     /// The first step of a notification, of one or of all. It answers what it sees of the condition
     /// variable: where that is 0, nobody waits, and the notification is over.
-    fn begin_notify(&self, token: &mut <Self::RawMutex as RawMutex>::Token) -> u64
+    fn notify_fast(&self, token: &mut <Self::RawMutex as RawMutex>::Token) -> u64
         requires { Self.RawMutex.is_token_of (lot_of self.now) token.old }
         ensures token { Self.RawMutex.is_token_of (lot_of self.now) token.new
             × Self.RawMutex.stays token.old token.new }
@@ -91,7 +91,7 @@ pub trait RawCondvar {
 
     /// The rest of a notification of the first who waits, whose first step saw this. Whether
     /// anybody did.
-    fn notify_one_behind<R: Wait>(
+    fn notify_one_slow<R: Wait>(
         &self,
         rt: &R,
         token: &mut <Self::RawMutex as RawMutex>::Token,
@@ -107,7 +107,7 @@ pub trait RawCondvar {
             × moved self.now false (moved_first result) before token.new };
 
     /// The rest of a notification of all who wait, whose first step saw this. How many did.
-    fn notify_all_behind<R: Wait>(
+    fn notify_all_slow<R: Wait>(
         &self,
         rt: &R,
         token: &mut <Self::RawMutex as RawMutex>::Token,
@@ -131,11 +131,11 @@ pub trait RawCondvar {
         ensures path { notified self.now false (notifying_answer result) token.old token.new }
         ensures record { moved self.now false (moved_first result) token.old token.new }
     {
-        let seen = self.begin_notify(token);
+        let seen = self.notify_fast(token);
         if seen == 0 {
             return false;
         }
-        self.notify_one_behind(rt, token, seen)
+        self.notify_one_slow(rt, token, seen)
     }
 
     /// Notifies all who wait. How many did.
@@ -147,11 +147,11 @@ pub trait RawCondvar {
         ensures path { notified self.now true (Number result) token.old token.new }
         ensures record { moved self.now true result token.old token.new }
     {
-        let seen = self.begin_notify(token);
+        let seen = self.notify_fast(token);
         if seen == 0 {
             return 0;
         }
-        self.notify_all_behind(rt, token, seen)
+        self.notify_all_slow(rt, token, seen)
     }
 }
 

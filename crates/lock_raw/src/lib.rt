@@ -138,9 +138,9 @@ pub trait RawMutex {
     ///
     /// # Errors
     ///
-    /// The value that the step saw, where somebody has the mutex. `lock_behind` is the rest of the
+    /// The value that the step saw, where somebody has the mutex. `lock_slow` is the rest of the
     /// call then.
-    fn begin_lock(&self, token: &mut Self::Token) -> Result<Self::Guard, u64>
+    fn lock_fast(&self, token: &mut Self::Token) -> Result<Self::Guard, u64>
         requires { is_token_of (lot_of self.now) token.old }
         ensures token { is_token_of (lot_of self.now) token.new }
         ensures over { IfOk result
@@ -150,7 +150,7 @@ pub trait RawMutex {
         ensures begun { IfErr result (λ seen. begun self.now Lock seen token.old token.new) };
 
     /// The rest of a `lock` whose first step saw this.
-    fn lock_behind<R: Wait>(&self, rt: &R, token: &mut Self::Token, seen: u64) -> Self::Guard
+    fn lock_slow<R: Wait>(&self, rt: &R, token: &mut Self::Token, seen: u64) -> Self::Guard
         requires token { is_token_of (lot_of self.now) token.old }
         requires begun { (before : Self.Token) × begun self.now Lock seen before token.old }
         ensures token { is_token_of (lot_of self.now) token.new }
@@ -163,11 +163,11 @@ pub trait RawMutex {
         ensures { result.now ≡ lot_of self.now };
 
     /// The first step of `unlock`, which spends the guard. It answers what it saw where the call
-    /// has more to do, which is `unlock_behind`.
+    /// has more to do, which is `unlock_slow`.
     ///
     /// The lot is that of the mutex: who has kept it since the mutex was taken needn't look for it
     /// behind an atomic step.
-    fn begin_unlock(
+    fn unlock_fast(
         &self,
         lot: &Self::Lot,
         token: &mut Self::Token,
@@ -183,7 +183,7 @@ pub trait RawMutex {
         ensures begun { IfSome result (λ seen. begun self.now Unlock seen token.old token.new) };
 
     /// The rest of an `unlock` whose first step saw this.
-    fn unlock_behind<R: Wait>(&self, rt: &R, token: &mut Self::Token, seen: u64)
+    fn unlock_slow<R: Wait>(&self, rt: &R, token: &mut Self::Token, seen: u64)
         requires token { is_token_of (lot_of self.now) token.old }
         requires begun { (before : Self.Token) × begun self.now Unlock seen before token.old }
         ensures token { is_token_of (lot_of self.now) token.new }

@@ -194,8 +194,8 @@ pub trait RawRwLock {
     ///
     /// # Errors
     ///
-    /// The rest of the call, for `lock_shared_behind`.
-    fn begin_lock_shared(
+    /// The rest of the call, for `lock_shared_slow`.
+    fn lock_shared_fast(
         &self,
         token: &mut Self::Token,
     ) -> Result<Result<Self::SharedGuard, Fault>, Self::Rest>
@@ -215,7 +215,7 @@ pub trait RawRwLock {
     /// # Errors
     ///
     /// `ReadersFull`, where as many share the lock as may.
-    fn lock_shared_behind<R: Wait>(
+    fn lock_shared_slow<R: Wait>(
         &self,
         rt: &R,
         token: &mut Self::Token,
@@ -237,8 +237,8 @@ pub trait RawRwLock {
     ///
     /// # Errors
     ///
-    /// The rest of the call, for `lock_exclusive_behind`.
-    fn begin_lock_exclusive(
+    /// The rest of the call, for `lock_exclusive_slow`.
+    fn lock_exclusive_fast(
         &self,
         token: &mut Self::Token,
     ) -> Result<Self::ExclusiveGuard, Self::Rest>
@@ -252,7 +252,7 @@ pub trait RawRwLock {
             (λ rest. begun self.now (Enter access.Exclusive Patient) rest token.old token.new) };
 
     /// Ends a `lock_exclusive` of which this is left.
-    fn lock_exclusive_behind<R: Wait>(
+    fn lock_exclusive_slow<R: Wait>(
         &self,
         rt: &R,
         token: &mut Self::Token,
@@ -269,8 +269,8 @@ pub trait RawRwLock {
             × walked self.now (Enter access.Exclusive Patient) answers.Ok before token.new };
 
     /// Takes the first steps of `unlock_shared`, which are all of it where it wakes nobody up.
-    /// Spends the guard, and answers what is left, for `unlock_behind`.
-    fn begin_unlock_shared(
+    /// Spends the guard, and answers what is left, for `unlock_slow`.
+    fn unlock_shared_fast(
         &self,
         token: &mut Self::Token,
         guard: Self::SharedGuard,
@@ -286,8 +286,8 @@ pub trait RawRwLock {
             (λ rest. begun self.now (Release access.Shared) rest token.old token.new) };
 
     /// Takes the first steps of `unlock_exclusive`, which are all of it where it wakes nobody up.
-    /// Spends the guard, and answers what is left, for `unlock_behind`.
-    fn begin_unlock_exclusive(
+    /// Spends the guard, and answers what is left, for `unlock_slow`.
+    fn unlock_exclusive_fast(
         &self,
         token: &mut Self::Token,
         guard: Self::ExclusiveGuard,
@@ -303,7 +303,7 @@ pub trait RawRwLock {
             (λ rest. begun self.now (Release access.Exclusive) rest token.old token.new) };
 
     /// Ends an unlock from this right of which this is left.
-    fn unlock_behind<R: Wait>(
+    fn unlock_slow<R: Wait>(
         &self,
         rt: &R,
         token: &mut Self::Token,
@@ -564,8 +564,8 @@ pub trait RawRwLockUpgrade: RawRwLock {
     ///
     /// # Errors
     ///
-    /// The rest of the call, for `lock_upgradable_behind`.
-    fn begin_lock_upgradable(
+    /// The rest of the call, for `lock_upgradable_slow`.
+    fn lock_upgradable_fast(
         &self,
         token: &mut Self::Token,
     ) -> Result<Result<Self::UpgradableGuard, Fault>, Self::Rest>
@@ -586,7 +586,7 @@ pub trait RawRwLockUpgrade: RawRwLock {
     /// # Errors
     ///
     /// `ReadersFull`, where as many share the lock as may.
-    fn lock_upgradable_behind<R: Wait>(
+    fn lock_upgradable_slow<R: Wait>(
         &self,
         rt: &R,
         token: &mut Self::Token,
@@ -605,8 +605,8 @@ pub trait RawRwLockUpgrade: RawRwLock {
             × IfErr result (λ _. Self.saw_full self.now access.Upgradable before token.new) };
 
     /// Takes the first steps of `unlock_upgradable`, which are all of it where it wakes nobody up.
-    /// Spends the guard, and answers what is left, for `unlock_behind`.
-    fn begin_unlock_upgradable(
+    /// Spends the guard, and answers what is left, for `unlock_slow`.
+    fn unlock_upgradable_fast(
         &self,
         token: &mut Self::Token,
         guard: Self::UpgradableGuard,

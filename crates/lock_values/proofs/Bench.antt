@@ -28,7 +28,7 @@ any_open {V} (r ∷ rs) = by_head r.0 refl (any_open rs)
     by_head false e (inl shut) = inl (e, shut)
     by_head false e (inr f) = inr (suc f.0, f.1, f.2)
 
--- who is in the book as open keeps it from being shut
+-- a thread that is in the book as open keeps it from being shut
 pub not_shut : {V : Type 0} (rs : List (Rec V)) (n : ℕ) (r : ℕ × (ℕ × V)) → get_elem? rs n ≡ some (true, r) → Shut rs → ⊥
 not_shut [] n r e s = some-ne-none (true, r) (sym e)
 not_shut (x ∷ xs) zero r e s = true≢false (sym (λ i. (some-injective x (true, r) e i).0) ∙ s.0)
@@ -83,7 +83,7 @@ module _ {M : Type 1} {𝓤 : Ura M} (𝓛 : Logic 𝓤) {V : Type 0} (cv : Code
   sits (r ∷ rs) q a i v m = qed 𝓛 (‵ (Bench q a (r ∷ rs)) ∷ ‵ (Seat i v) ∷ []) ∵ fsplit ! $ move ! (1 ∷ 2 ∷ []) $
       use2 𝓛 (‵ (Bench (right q) a (rs ++ (true, (a, (i, v))) ∷ [])) ⊛ ‵ (flft (a ∷ []) (part (right q) (length rs)))) (sits rs (right q) a i v m) $ split ! $ move ! (2 ∷ 0 ∷ []) $ fjoin ! $ done !
 
-  -- who is in the book as open has its seat here, and lays its part back for it
+  -- a thread that is in the book as open has its seat here, and lays its part back for it
   pub rises : (rs : List (Rec V)) (q : Share) (a n : ℕ) (r : ℕ × (ℕ × V)) → get_elem? rs n ≡ some (true, r)
       → ⟦ Bench q a rs ⟧ ⊢ guard 𝓤 ((r.0 ≡ a) × among r.1.1) (⟦ Seat r.1.0 r.1.1 ⟧ ∗ (A.lft (a ∷ []) (part q n) -∗ ⟦ Bench q a (set rs n (false, r)) ⟧))
   rises [] q a n r e = absurd (some-ne-none (true, r) (sym e))

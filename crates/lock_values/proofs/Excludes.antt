@@ -39,7 +39,7 @@ lot_excluded words family number below s o i j v w ne a b mine theirs = let at :
     reads)
     theirs
 
--- what is split off for a right owns so
+-- a seat split off for a right owns so
 same_index : (at a : ℕ) → cond (eqb at at) a 0 ≡ a
 same_index at a = ap (λ b. cond b a 0) (eq-eqb at at refl)
 

@@ -8,7 +8,7 @@ abbrev pub second_found : {A E F : Type 0} → Result A F → Result A (ThenErro
 second_found (Ok x) = Ok x
 second_found (Err e) = Err (Second e)
 
--- what the second finds in what the first found
+-- the finding of the second in that of the first
 abbrev pub found_behind : {A B E F : Type 0} → Result A E → (A → Result B F) → Result B (ThenError E F)
 found_behind (Ok x) finds = second_found (finds x)
 found_behind (Err e) finds = Err (First e)
@@ -37,7 +37,7 @@ module _ {X A B E F : Type 0}
         ap (λ one. found_behind one inner) outer ∙ ap second_found deep
     found_by value (Err e) found next is at = cc
 
-    -- what was written is found
+    -- a value that was written is found
     pub found_behind_written : (value : X) (found next : B) → found_behind (finds value) inner ≡ Ok found
         → found_behind (finds (written_behind (finds value) inner_written (written value) value next)) inner ≡ Ok next
     found_behind_written value found next at = found_by value (finds value) found next refl at

@@ -48,13 +48,13 @@ abbrev pub or_deed : Option Deed → Option Deed → Option Deed
 or_deed (Some d) other = Some d
 or_deed None other = other
 
--- what the call of a thread does at a lock
+-- the deed of a thread's call at a lock
 abbrev pub deed_of : State → ℕ → ℕ → Option Deed
 deed_of w t l =
     if owes_on (place_at w t) l then Some Owes
     else or_deed (waiting_in (queue_of w l) t l) (waking_deed w (place_at w t) l)
 
--- what a thread is to a lock
+-- the part of a thread at a lock
 abbrev pub cell_at : State → ℕ → ℕ → Cell
 cell_at w t l = record {
   right = right_in (owners_of w l) t;

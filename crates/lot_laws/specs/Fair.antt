@@ -31,14 +31,14 @@ abbrev pub OwnsOn : State → ℕ → ℕ → Type 0
 OwnsOn v t l = Owns (lock_state v l) t Exclusive × (is_locked (word_at v l) ≡ true)
 
 -- the waiter that it has taken owns the mutex in its place, and the word stays locked
-abbrev pub HandsOver : State → State → ℕ → ℕ → Type 0
-HandsOver w v t l =
+abbrev pub HandsMutexOver : State → State → ℕ → ℕ → Type 0
+HandsMutexOver w v t l =
     (u : ℕ) × IsTaken (lock_state w l) t u Exclusive × Owns (lock_state v l) u Exclusive
     × (is_locked (word_at v l) ≡ true)
 
 -- nobody owns the mutex then: it had taken nobody, and the parked bit was clear or the queue empty
-abbrev pub LetsGo : State → State → ℕ → ℕ → Type 0
-LetsGo w v t l =
+abbrev pub LetsMutexGo : State → State → ℕ → ℕ → Type 0
+LetsMutexGo w v t l =
     ((lock_state v l).exclusive ≡ None) × HasTakenNobody (lock_state w l) t
     × ((is_parked (word_at w l) ≡ false) ⊎ ((lock_state w l).queue ≡ []))
 
@@ -56,15 +56,15 @@ GivesUpFairly w t l x =
 
 -- from s to s2 it owns still; or all whom it has taken have what they waited for; or it had taken
 -- nobody, and the word told of nobody; or they would pass the limit, and it is to wake them
-abbrev pub ComesTo : Rules → (s s2 : LockState) → (word t : ℕ) → Want → Type 0
-ComesTo r s s2 word t x =
+abbrev pub FairReleaseComesTo : Rules → (s s2 : LockState) → (word t : ℕ) → Want → Type 0
+FairReleaseComesTo r s s2 word t x =
     Owns s2 t x ⊎ (GivesToAll s s2 t ⊎ (LetsItGo s word t ⊎ WakesThem r s s2 t x))
 
 -- a step of any thread, from w to v
 pub record IsFair (w v : State) : Type 0 where
-  pub gives : (t l : ℕ) → ReleasesFairly w t l → OwnsOn v t l ⊎ (HandsOver w v t l ⊎ LetsGo w v t l)
-  -- whom it has taken was the first of the queue
+  pub gives : (t l : ℕ) → ReleasesFairly w t l → OwnsOn v t l ⊎ (HandsMutexOver w v t l ⊎ LetsMutexGo w v t l)
+  -- the waiter that it has taken was the first of the queue
   pub takes : (t l u : ℕ) → ReleasesFairly w t l → IsTaken (lock_state v l) t u Exclusive
       → IsTaken (lock_state w l) t u Exclusive ⊎ (first_thread (lock_state w l).queue ≡ Some u)
   pub shared : (t l : ℕ) (x : Want) → GivesUpFairly w t l x
-      → ComesTo (rules_in w l) (lock_state w l) (lock_state v l) (word_at w l) t x
+      → FairReleaseComesTo (rules_in w l) (lock_state w l) (lock_state v l) (word_at w l) t x

@@ -45,7 +45,7 @@ row = calls 0 Lock ∷ goes 0
     ∷ calls 2 Lock ∷ goes 2 ∷ goes 2 ∷ goes 2 ∷ goes 2 ∷ goes 2
     ∷ calls 0 UnlockFair ∷ goes 0 ∷ goes 0 ∷ goes 0 ∷ goes 0 ∷ goes 0 ∷ []
 
--- what comes of each step
+-- the outcome of each step
 abbrev pub row_told : List Outcome
 row_told = told.Step ∷ told.End answer.Ok
     ∷ told.Step ∷ told.Step ∷ told.Step ∷ told.Step ∷ told.Step ∷ told.Step ∷ told.Sleep

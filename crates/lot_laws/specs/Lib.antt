@@ -5,7 +5,7 @@ pub mod Fair
 pub mod Owing
 pub mod WorldRuns
 pub mod Solo
-pub mod Stations
+pub mod Locations
 pub mod MutexDeeds
 pub mod SitesOf
 pub mod Laws

@@ -6,19 +6,19 @@ use Rattle.steps_mutex.specs.declared.places.MutexPlace.TheVariants.{HandOff}
 use Rattle.steps_mutex.specs.declared.hand_off.HandOffAt.TheVariants as hand_off
 use Rattle.steps_base.specs.declared.acts.Reply.{Reply}
 use Rattle.steps_base.specs.declared.acts.Reply.TheVariants.{Value}
-use Rattle.lot_laws.specs.Stations.{Station, station_by}
+use Rattle.lot_laws.specs.Locations.{Location, location_by}
 pub use Rattle.steps_mutex.specs.MutexDeeds.{enters, hands_over, hand_off_deeds, lock_deeds, mutex_deeds, queued, takes, unlock_deeds}
-pub use Rattle.steps_mutex.specs.MutexLaws.{mutex_doing, mutex_row}
+pub use Rattle.steps_mutex.specs.MutexLaws.{mutex_role, mutex_row}
 pub use Rattle.steps_mutex.specs.MutexProfiles.{mutex_profile, owner, inside, again, carrying}
 pub use Rattle.steps_base.specs.Profiles.{Hand, Of, hand, hand_owner, in_hand}
 use Rattle.spec_locks.specs.Sites.{Has, Deed, Begin}
 
-abbrev pub mutex_station : MutexPlace → Station
-mutex_station at = station_by (mutex_row at)
+abbrev pub mutex_location : MutexPlace → Location
+mutex_location at = location_by (mutex_row at)
 
 -- ---------------------------------------------------------------- the deeds of each step
 
--- who does it, if not the thread itself
+-- the thread that does it, if not the thread itself
 pub record Act : Type 0 where
   pub by : ℕ
   pub deed : Deed
@@ -27,7 +27,7 @@ abbrev pub acts : ℕ → List Deed → List Act
 acts t [] = []
 acts t (d ∷ ds) = record { by = t; deed = d } ∷ acts t ds
 
--- whom it hands the lock to claims it from then on
+-- a thread to which it hands the lock claims it from then on
 abbrev pub claims_of : Option ℕ → List Act
 claims_of None = []
 claims_of (Some u) = record { by = u; deed = Begin (Some (Has Exclusive)) } ∷ []
@@ -40,4 +40,4 @@ deeds t at whom reply = acts t (mutex_deeds at whom reply)
 
 -- the deed with which a call begins
 abbrev pub begins : MutexPlace → Deed
-begins at = Begin (mutex_doing at).claims
+begins at = Begin (mutex_role at).claims

@@ -61,14 +61,13 @@ pub record IsMutexKept (w : State) (l : ℕ) : Type 0 where
   pub parked : (t : ℕ) → WaitsFor w t l
       → (is_parked (word_at w l) ≡ true)
       ⊎ ((u : ℕ) × IsInside w u l Main × IsAboutToMark w u l)
-  -- who is shown to owe a wake is inside the section of the queue, or releases the mutex, or has in
+  -- a thread that is shown to owe a wake is inside the section of the queue, or releases the mutex, or has in
   -- a wait, on its way into it
   pub owing : (t : ℕ) → IsShownToOwe w t l → IsInside w t l Main ⊎ GoesToRelease w t l
-  -- whoever is inside does, and whoever is on its way but for a wait, which may be about to lock
-  -- the mutex again
+  -- each thread inside does, and each on its way but for a wait, which may be about to lock the mutex again
   pub inside_owes : (t : ℕ) → IsInside w t l Main → IsShownToOwe w t l
   pub going_owes : (t : ℕ) → GoesToRelease w t l → IsShownToOwe w t l ⊎ IsWait (call_at w t).purpose
-  -- whoever waits for a mutex that nobody owns has a debtor
+  -- a thread that waits for a mutex that nobody owns has a debtor
   pub nobody_forgotten : (t : ℕ) → WaitsFor w t l → owner_at w l ≡ None → HasDebtor w l
 
 -- each promise says so of a mutex
@@ -89,7 +88,7 @@ pub record OwesMutexSince (w : State) (t l : ℕ) (o : Outcome) (v : State) : Ty
   pub own : o ≢ told.NotNow → IsShownToOwe v t l ↔ (IsInside v t l Main ⊎ SeesParkedBit w t l o v)
   pub others : (u : ℕ) → u ≢ t → IsShownToOwe v u l ↔ IsShownToOwe w u l
 
--- what is promised of every step says so of a mutex
+-- the promises of every step say so of a mutex
 abbrev pub MutexesOwe : Type 0
 MutexesOwe =
     (w v : State) (t l : ℕ) (o : Outcome) → OwesSince w t o v → IsKept v

@@ -20,9 +20,10 @@ use Rattle.steps_once.specs.OnceSteps.{marked}
 use Rattle.spec_locks.specs.Runs.{AreLockStates}
 use Rattle.spec_locks.specs.Sites.{Line, Main, Second, counts_some, has_readers}
 pub use Rattle.spec_locks.specs.Headline.{want_of, mutex_seen, WakesWaiters, IsOpenNow, HasOrPends, GoesFreely}
-use Rattle.spec_locks.specs.Purposes.{Purpose, Enters, Releases, Converts, Bumps, CallsOnce, Awaits, MayWait, Try, Waits, Notifies}
+use Rattle.spec_locks.specs.Purposes.{Purpose, Enters, Releases, Converts, Bumps, CallsOnce, Awaits, MayWait, Waits, Notifies}
+use Rattle.spec_locks.specs.declared.calls.Patience.TheVariants.{Try}
 use Rattle.lot_laws.specs.Refinement.{RunsClosure, lock_state, locks_of, call_at}
-use Rattle.lot_laws.specs.Stations.{doing_on}
+use Rattle.lot_laws.specs.Locations.{role_on}
 use Rattle.lot_laws.specs.SitesOf.{rules_in, key_of}
 use Rattle.lot_laws.specs.Owing.{Owes, IsInside, IsWait, LetsOthersIn, sort_at}
 
@@ -48,7 +49,7 @@ IsCoded w l =
 -- parked bit; or it has ended its run of a `Once`, has cleared the bit beside waiters, and is about
 -- to take them
 abbrev pub IsAboutToMark : State → ℕ → ℕ → Type 0
-IsAboutToMark w t l = (doing_on (place_at w t) l).sets ≡ true
+IsAboutToMark w t l = (role_on (place_at w t) l).sets ≡ true
 
 -- and it is inside the section, or, at a `Once`, owes those waiters their wake
 abbrev pub IsToMark : State → ℕ → ℕ → Type 0
@@ -95,7 +96,7 @@ abbrev pub WasNeverFull : State → ℕ → Type 0
 WasNeverFull w l = has_readers (sort_at w l) ≡ true → filled_at w l ≡ false
 
 pub record NobodyForgotten (w : State) : Type 0 where
-  -- whoever waits for a lock whose way nobody bars is looked after
+  -- a thread that waits for a lock whose way nobody bars is looked after
   pub main : (t l : ℕ) → WaitsFor w t l → IsOpenNow (rules_in w l) (lock_state w l)
       → WasNeverFull w l
       → IsLookedAfter w l Main
@@ -203,17 +204,16 @@ pub record IsKept (w : State) : Type 0 where
       → (IsRunning (lock_state w l).phase → ⊥) → IsOwedWake w l
   -- a run of a `Once` is on exactly while its thread runs the closure of its call
   pub runs : (t l : ℕ) → (lock_state w l).phase ≡ InProgress t ↔ RunsClosure w t l
-  -- who is shown to owe a wake on a line is inside its section, or lets others in and is on its way
+  -- a thread that is shown to owe a wake on a line is inside its section, or lets others in and is on its way
   -- into it
   pub owing : (t l : ℕ) (m : Line) → Owes w t l m → IsInside w t l m ⊎ GoesToWake w t l m
-  -- whoever is inside does, and whoever is on its way but for a wait, which may be about to lock
-  -- its mutex again
+  -- each thread inside does, and each on its way but for a wait, which may be about to lock its mutex again
   pub inside_owes : (t l : ℕ) (m : Line) → IsInside w t l m → Owes w t l m
   pub going_owes : (t l : ℕ) (m : Line) → GoesToWake w t l m
       → Owes w t l m ⊎ IsWait (call_at w t).purpose
   -- and only a lock that is shared has a second line
   pub second_line : (t l : ℕ) → Owes w t l Second → has_readers (sort_at w l) ≡ true
-  -- who is shown to try a lock again was woken on it, and has got neither the lock nor a place in a
+  -- a thread that is shown to try a lock again was woken on it, and has got neither the lock nor a place in a
   -- queue since
   pub retrying : (t l : ℕ) → retries_on (place_at w t) l ≡ true ↔ (call_at w t).retries ≡ Some l
   -- a thread may look at a word once more only in place of such an act
@@ -223,8 +223,8 @@ pub record IsKept (w : State) : Type 0 where
   pub inside_goes : (t l : ℕ) (m : Line) → IsInside w t l m → GoesFreely ((locks_of w).stances t)
   -- so does a try, wherever it is
   pub tries : (t : ℕ) → IsTry (call_at w t).purpose → GoesFreely ((locks_of w).stances t)
-  -- who is asleep but stands nowhere was handed the lock that it waited for, by a thread that is
-  -- inside the section and wakes it
+  -- a sleeper that stands nowhere was handed the lock that it waited for, by a thread that is inside the
+  -- section and wakes it
   pub handing : (t : ℕ) → IsAsleepNowhere w t → IsHandedOver w t
   -- a waiter implies the parked bit while nobody is inside the section: else the thread inside has
   -- just brought it and is about to set the bit; or the thread that has ended a run of a `Once` and

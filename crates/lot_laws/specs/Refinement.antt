@@ -13,7 +13,7 @@ pub use Rattle.steps_mutex.specs.MutexProfiles.{mutex_profile, is_bump, entry_pu
 pub use Rattle.lot_machine.specs.Machine.{runs_closure}
 use Rattle.lot_machine.specs.Machine.{State, place_at, word_at, owners_at, shares_at, kind_at, queue_at, section_at}
 use Rattle.spec_locks.specs.Locks.{LockState, Taken, Rights}
-use Rattle.spec_locks.specs.Runs.{LocksState, CallState, Stance, no_call}
+use Rattle.spec_locks.specs.Runs.{LocksState, CallState, Status, no_call}
 use Rattle.spec_locks.specs.Locks as locks
 
 -- ---------------------------------------------------------------- one lock
@@ -48,7 +48,7 @@ abbrev pub keys_entered : Act → Option Keys
 keys_entered (Enter keys) = Some keys
 keys_entered a = None
 
-abbrev pub stance_by : Act → Option Place → Stance
+abbrev pub stance_by : Act → Option Place → Status
 stance_by a looks_from =
     record {
       asleep = sleeps a;
@@ -58,12 +58,12 @@ stance_by a looks_from =
     }
 
 -- by what it does next
-abbrev pub stance_of : Place → Stance
+abbrev pub stance_of : Place → Status
 stance_of p = stance_by (act_of p) (looking p)
 
 -- ---------------------------------------------------------------- calls
 
--- what a thread's call has come to, by its place and by what it owns now
+-- the state of a thread's call, by its place and by what it owns now
 abbrev pub call_on : Option ℕ → Profile → (ℕ → Rights) → CallState
 call_on None row rights = no_call
 call_on (Some l) row rights = call_by l row rights

@@ -12,7 +12,7 @@ use Rattle.spec_locks.specs.Codes.{code, parked_in, aside_in, HasLimit}
 use Rattle.spec_locks.specs.Permits.{HasPermits}
 use Rattle.spec_locks.specs.Purposes.{rules_of}
 use Rattle.lot_machine.specs.Machine.{State, held, place_at, word_at, shares_at, sharers, successor_from, want_of_successor, wants_more_in_hand, filled_at, kind_at, queue_at, section_at}
-use Rattle.lot_machine.specs.Fits.{IsShaped}
+use Rattle.lot_machine.specs.Fits.{IsWellFormed}
 use Rattle.lot_laws.specs.Refinement.{RunsClosure, lock_state}
 use Rattle.spec_locks.specs.Onces.{InProgress}
 use Rattle.spec_locks.specs.Condvars.{CondvarSite, Inside, IsCondvar, Rests, Stage}
@@ -31,7 +31,7 @@ use Rattle.steps_condvar.specs.CondvarCalls.{IsReached}
 use Rattle.steps_semaphore.specs.declared.places.SemaphorePlace.{SemaphorePlace}
 use Rattle.steps_semaphore.specs.SemaphoreProfiles.{semaphore_profile}
 use Rattle.lot_laws.specs.MutexDeeds.{Act}
-use Rattle.lot_laws.specs.Stations.{Hand, Station, hand, station_at, doing_on}
+use Rattle.lot_laws.specs.Locations.{Hand, Location, hand, location_at, role_on}
 
 abbrev pub rules_in : State → ℕ → Rules
 rules_in w l = rules_of (kind_at w l)
@@ -42,7 +42,7 @@ site_of w l = record {
   parked = parked_in (rules_in w l).sort (word_at w l);
   aside_parked = aside_in (rules_in w l).sort (word_at w l);
   filled = filled_at w l;
-  doing = λ u. doing_on (place_at w u) l;
+  role = λ u. role_on (place_at w u) l;
 }
 
 abbrev pub after_acts : Rules → List Act → Site → Site
@@ -60,8 +60,8 @@ AllBy threads [] = Unit {0}
 AllBy threads (a ∷ more) = (a.by < threads) × AllBy threads more
 
 -- a number of readers that a word can count, and that all threads may be
-abbrev pub HasRoom : ℕ → Rules → Type 0
-HasRoom threads r = (1 ≤ r.limit) × (r.limit < 2 ^ 60 - 1) × (threads ≤ r.limit)
+abbrev pub LimitHasRoom : ℕ → Rules → Type 0
+LimitHasRoom threads r = (1 ≤ r.limit) × (r.limit < 2 ^ 60 - 1) × (threads ≤ r.limit)
 
 -- each lock is a site, and its word says so
 pub record AreSites (w : State) : Type 0 where
@@ -71,7 +71,7 @@ pub record AreSites (w : State) : Type 0 where
   pub unfilled : (l : ℕ) → has_readers (rules_in w l).sort ≡ false → filled_at w l ≡ false
   -- as many readers as the limit lets in, or one more
   pub limits : (l : ℕ) → has_readers (rules_in w l).sort ≡ true
-      → HasRoom (length w.places) (rules_in w l) × HasLimit (rules_in w l) (lock_state w l)
+      → LimitHasRoom (length w.places) (rules_in w l) × HasLimit (rules_in w l) (lock_state w l)
   -- while somebody waits for a permit, those who hold one and those who look after the line are no
   -- fewer than the permits, which a word can count
   pub permits : (l : ℕ) → (rules_in w l).sort ≡ SemaphoreSort
@@ -86,46 +86,46 @@ stood_in (Some Second) Second = 1
 stood_in line m = 0
 
 -- how each thread stands at each lock
-abbrev pub stations_of : (ℕ → Place) → ℕ → ℕ → Station
-stations_of places t l = station_at (places t) l
+abbrev pub locations_of : (ℕ → Place) → ℕ → ℕ → Location
+locations_of places t l = location_at (places t) l
 
 -- a section is held by the thread inside it
-abbrev pub Sections : (ℕ → ℕ → Station) → (ℕ → Option ℕ) → Type 0
+abbrev pub Sections : (ℕ → ℕ → Location) → (ℕ → Option ℕ) → Type 0
 Sections at section = (t l : ℕ) (m : Line) → (at t l).inside ≡ Some m
     ↔ section (key_of l m) ≡ Some t
 
 -- a thread stands in the line that its place says, and once
-abbrev pub Lines : (ℕ → ℕ → Station) → (ℕ → List Waiter) → Type 0
+abbrev pub Lines : (ℕ → ℕ → Location) → (ℕ → List Waiter) → Type 0
 Lines at queue = (t l : ℕ) (m : Line) → times t (queue (key_of l m)) ≡ stood_in (at t l).stands m
 
 -- each who stands in the line does so under its key, and wants what its place says
-abbrev pub AreWaiting : (ℕ → ℕ → Station) → ℕ → Line → List Waiter → Type 0
+abbrev pub AreWaiting : (ℕ → ℕ → Location) → ℕ → Line → List Waiter → Type 0
 AreWaiting at l m [] = Unit {0}
 AreWaiting at l m (x ∷ q) =
     ((x.key ≡ key_of l m) × ((at x.thread l).waits ≡ Some x.want)) × AreWaiting at l m q
 
-abbrev pub Waits : (ℕ → ℕ → Station) → (ℕ → List Waiter) → Type 0
+abbrev pub Waits : (ℕ → ℕ → Location) → (ℕ → List Waiter) → Type 0
 Waits at queue = (l : ℕ) (m : Line) → AreWaiting at l m (queue (key_of l m))
 
--- whom a thread has in hand
-pub record HandsBy (one : ℕ → Type 0) (at : ℕ → ℕ → Station) : Type 0 where
-  -- who has somebody in hand, by its place, has one
+-- the threads that a thread has in hand
+pub record HandsBy (one : ℕ → Type 0) (at : ℕ → ℕ → Location) : Type 0 where
+  -- a thread with somebody in hand, by its place, has one
   pub carried : (t l : ℕ) (b : Bool) → (at t l).carries ≡ Some b
       → (u : ℕ) × ((at u l).hand ≡ hand t b)
   -- and there no second, where it takes one at a time
   pub alone : (t l u v : ℕ) (b c : Bool) → one l → (at u l).hand ≡ hand t b
       → (at v l).hand ≡ hand t c → v ≡ u
-  -- who is in the hand of a thread, is so by that one's place
+  -- a thread in the hand of another is so by that one's place
   pub taken : (t u l : ℕ) (b : Bool) → (at u l).hand ≡ hand t b → (at t l).carries ≡ Some b
 
 abbrev pub carried_at : Place → ℕ → Option Bool
-carried_at p l = (station_at p l).carries
+carried_at p l = (location_at p l).carries
 
 abbrev pub hand_at : Place → ℕ → Option Hand
-hand_at p l = (station_at p l).hand
+hand_at p l = (location_at p l).hand
 
 abbrev pub Hands : (ℕ → Type 0) → (ℕ → Place) → Type 0
-Hands one places = HandsBy one (stations_of places)
+Hands one places = HandsBy one (locations_of places)
 
 -- the waiters of a mutex are taken one at a time
 abbrev pub TakesOne : State → ℕ → Type 0
@@ -147,8 +147,8 @@ pub record FitsCondvar (w : State) (l : ℕ) (at : CondvarPlace) : Type 0 where
   pub mutex : (m : ℕ) → mutex_beside at ≡ Some m → is_plain_mutex (kind_at w m) ≡ true
 
 -- only a timed call for a permit gives up
-abbrev pub GivesUpTimed : SemaphorePlace → Type 0
-GivesUpTimed at = (semaphore_profile at).late ≡ true → (semaphore_profile at).timed ≡ true
+abbrev pub LateIsTimed : SemaphorePlace → Type 0
+LateIsTimed at = (semaphore_profile at).late ≡ true → (semaphore_profile at).timed ≡ true
 
 -- a call is of a lock of its sort, and stands where it may
 abbrev pub FitsItsLock : State → Place → Type 0
@@ -157,12 +157,12 @@ FitsItsLock w (OfMutex l at) = is_mutex (kind_at w l) ≡ true
 FitsItsLock w (OfRwLock l a c) = Admits (rules_in w l) a × CallStands a c
 FitsItsLock w (OfOnce l at) = (rules_in w l).sort ≡ OnceSort
 FitsItsLock w (OfCondvar l at) = FitsCondvar w l at
-FitsItsLock w (OfSemaphore l at) = ((rules_in w l).sort ≡ SemaphoreSort) × GivesUpTimed at
+FitsItsLock w (OfSemaphore l at) = ((rules_in w l).sort ≡ SemaphoreSort) × LateIsTimed at
 
 pub record Stands (w : State) : Type 0 where
-  pub sections : Sections (stations_of (place_at w)) (section_at w)
-  pub lines : Lines (stations_of (place_at w)) (queue_at w)
-  pub waits : Waits (stations_of (place_at w)) (queue_at w)
+  pub sections : Sections (locations_of (place_at w)) (section_at w)
+  pub lines : Lines (locations_of (place_at w)) (queue_at w)
+  pub waits : Waits (locations_of (place_at w)) (queue_at w)
   pub hands : Hands (TakesOne w) (place_at w)
   pub calls : (t : ℕ) → FitsItsLock w (place_at w t)
 
@@ -171,8 +171,8 @@ pub record HasNumbers (w : State) : Type 0 where
   pub locks : length w.shares ≡ length w.locks
   pub threads : (l : ℕ) → length (shares_at w l) ≡ length w.places
 
--- what holds between any two steps
-pub record IsSteady (w : State) : Type 0 where
+-- facts between any two steps
+pub record IsInductive (w : State) : Type 0 where
   pub sites : AreSites w
   pub stands : Stands w
   pub numbers : HasNumbers w
@@ -199,7 +199,7 @@ abbrev pub stage_or : Option Stage → Stage
 stage_or None = Rests
 stage_or (Some stage) = stage
 
--- who is inside the section, and what for by its place
+-- the thread inside the section, and its aim by its place
 abbrev pub inside_as : Option ℕ → (ℕ → Option Stage) → Option Inside
 inside_as None stage = None
 inside_as (Some t) stage = Some (record { thread = t; stage = stage_or (stage t) })
@@ -224,10 +224,10 @@ AreCondvars w = (l : ℕ) → (rules_in w l).sort ≡ CondvarSort → IsCondvar 
 abbrev pub RunsInClosures : State → Type 0
 RunsInClosures w = (t l : ℕ) → (lock_state w l).phase ≡ InProgress t → RunsClosure w t l
 
--- what a world keeps from step to step
+-- a world keeps this from step to step
 pub record IsWorld (w : State) : Type 0 where
-  pub shaped : IsShaped w
-  pub steady : IsSteady w
+  pub shaped : IsWellFormed w
+  pub steady : IsInductive w
   pub counted : AreCounted w
   pub condvars : AreCondvars w
   pub running : RunsInClosures w
@@ -252,7 +252,7 @@ pub record FollowAll (w v : State) (ds : ℕ → List Act) : Type 0 where
 
 -- one lock has been through deeds that are allowed, its word says so, and the others are as they
 -- were
-pub record Follows (w v : State) (l : ℕ) (ds : List Act) : Type 0 where
+pub record SiteFollows (w v : State) (l : ℕ) (ds : List Act) : Type 0 where
   pub site : site_of v l ≡ after_acts (rules_in w l) ds (site_of w l)
   pub needed : ActsNeeded (rules_in w l) ds (site_of w l)
   pub word : word_at v l ≡ code (rules_in w l) (site_of v l)
@@ -265,10 +265,10 @@ pub record Follows (w v : State) (l : ℕ) (ds : List Act) : Type 0 where
 
 -- and each thread stands where its place says
 pub record Goes (w v : State) (l : ℕ) (ds : List Act) : Type 0 where
-  pub follows : Follows w v l ds
+  pub follows : SiteFollows w v l ds
   pub stands : Stands v
 
--- of any number of locks
+-- for any number of locks
 pub record GoesAll (w v : State) (ds : ℕ → List Act) : Type 0 where
   pub follows : FollowAll w v ds
   pub stands : Stands v

@@ -18,7 +18,9 @@ use Rattle.lot_steps.specs.Steps.{act_of, beside_of, lock_of}
 use Rattle.lot_machine.specs.Machine.{State, place_at, word_at, kind_at, section_at, go_of, after_steps, runs_closure}
 use Rattle.spec_locks.specs.Locks.{Sort, Mutex, Recursive, Rules, LockState, first_thread, Queued, MayEnter, IsBlocked, Owns, count, readers, with_right}
 use Rattle.spec_locks.specs.Sites.{Line, Main, Second, has_readers}
-use Rattle.spec_locks.specs.Purposes.{rules_of, Purpose, Enters, Releases, Converts, Bumps, CallsOnce, Awaits, Patience, Patient, Try, Waits, Notifies}
+use Rattle.spec_locks.specs.Purposes.{rules_of, Purpose, Enters, Releases, Converts, Bumps, CallsOnce, Awaits, Waits, Notifies}
+use Rattle.spec_locks.specs.declared.calls.Patience.{Patience}
+use Rattle.spec_locks.specs.declared.calls.Patience.TheVariants.{Patient, Try}
 use Rattle.spec_locks.specs.Codes.{has_parked}
 use Rattle.spec_locks.specs.Onces.{Phase, New, Poisoned, InProgress, Done}
 use Rattle.spec_locks.specs.Runs.{LocksState, IsFull, IsRun, rules_at, rights_in, ShowsOther}
@@ -51,8 +53,8 @@ abbrev pub IsOnly : ℕ → Option ℕ → Type 0
 IsOnly t who = (u : ℕ) → who ≡ Some u → u ≡ t
 
 -- nobody else is inside a section that its call may enter
-abbrev pub HasItsWay : State → ℕ → Type 0
-HasItsWay w t =
+abbrev pub IsUnobstructed : State → ℕ → Type 0
+IsUnobstructed w t =
     (l u : ℕ) (m : Line) → MayEnterOf w (place_at w t) l → HasLine (rules_of (kind_at w l)).sort m
     → section_at w (key_of l m) ≡ Some u → u ≡ t
 
@@ -64,17 +66,17 @@ Rests (outcome.TheVariants.Closure state) = Unit {0}
 Rests o = ⊥
 
 -- the act enters the section of this key
-abbrev pub EntersAt : ℕ → Act → Type 0
-EntersAt key (Enter (One k)) = k ≡ key
-EntersAt key (Enter (Two j k)) = (j ≡ key) ⊎ (k ≡ key)
-EntersAt key act = ⊥
+abbrev pub EntersSection : ℕ → Act → Type 0
+EntersSection key (Enter (One k)) = k ≡ key
+EntersSection key (Enter (Two j k)) = (j ≡ key) ⊎ (k ≡ key)
+EntersSection key act = ⊥
 
 -- the thread is barred: its next act enters a section that another thread is inside
 pub record IsBarred (w : State) (t : ℕ) : Type 0 where
   pub lock : ℕ
   pub line : Line
   pub other : ℕ
-  pub enters : EntersAt (key_of lock line) (act_of (place_at w t))
+  pub enters : EntersSection (key_of lock line) (act_of (place_at w t))
   pub inside : section_at w (key_of lock line) ≡ Some other
   pub another : other ≢ t
 
@@ -98,7 +100,7 @@ OnlyTries (Some (Enters l x Try)) = Unit {0}
 OnlyTries (Some (Converts l x y Try)) = Unit {0}
 OnlyTries purpose = ⊥
 
--- what a call answers that has entered
+-- the answer of a call that has entered
 abbrev pub entered_answer : Patience → Answer
 entered_answer Patient = answer.TheVariants.Ok
 entered_answer how = answer.TheVariants.Yes
@@ -128,7 +130,7 @@ abbrev pub WaitsAlone : Patience → LockState → ℕ → Want → Outcome → 
 WaitsAlone Try s t x o s2 = o ≡ outcome.TheVariants.End answer.TheVariants.No
 WaitsAlone how s t x o s2 = SleepsLast s t x o s2
 
--- what a call comes to that waits for a right; clear says that no bit of the word is set
+-- the end of a call that waits for a right; clear says that no bit of the word is set
 pub record EntersAlone (clear : Type 0) (w : LocksState) (t l : ℕ) (x : Want) (how : Patience)
     (o : Outcome)
     (v : LocksState) : Type 0 where
@@ -146,7 +148,7 @@ pub record EntersAlone (clear : Type 0) (w : LocksState) (t l : ℕ) (x : Want) 
 abbrev pub DowngradesAlone : ℕ → Want → Outcome → LockState → Type 0
 DowngradesAlone t y o s2 = (o ≡ outcome.TheVariants.End answer.TheVariants.Ok) × Owns s2 t y
 
--- what a call comes to that turns its right into another
+-- the end of a call that turns its right into another
 abbrev pub ConvertsAlone : LockState → ℕ → Want → Patience → Outcome → LockState → Type 0
 ConvertsAlone s t Exclusive how o s2 =
     (readers s ≡ 0 → (o ≡ outcome.TheVariants.End (entered_answer how)) × Owns s2 t Exclusive)
@@ -176,13 +178,13 @@ BumpsAlone t l (x ∷ q) o s =
 
 -- to whom a bump of a lock that is shared gives way: who shares it, to a pending writer, on a
 -- recursive lock only as the last; and any other owner to whoever stands in the queue
-abbrev pub GivesWay : Rules → LockState → Want → Type 0
-GivesWay r s Shared = (s.pending ≢ None) × (r.sort ≡ Recursive → count s ≡ 1)
-GivesWay r s x = s.queue ≢ []
+abbrev pub BumpGivesWay : Rules → LockState → Want → Type 0
+BumpGivesWay r s Shared = (s.pending ≢ None) × (r.sort ≡ Recursive → count s ≡ 1)
+BumpGivesWay r s x = s.queue ≢ []
 
 -- where there is nobody; a parked bit may stand where a waiter was and is gone
 abbrev pub NeedsNoWay : Type 0 → Rules → LockState → Want → Type 0
-NeedsNoWay unparked r s Shared = GivesWay r s Shared → ⊥
+NeedsNoWay unparked r s Shared = BumpGivesWay r s Shared → ⊥
 NeedsNoWay unparked r s x = unparked
 
 -- by so many of its steps it gives its right up, and from there comes to what a call comes to that
@@ -198,7 +200,7 @@ pub record ComesBack (later : ℕ → LocksState) (w : LocksState) (t l : ℕ) (
 -- a bump of a lock that is shared gives way, or ends with its right
 pub record BumpsShared (unparked : Type 0) (later : ℕ → LocksState) (w : LocksState) (t l : ℕ)
     (x : Want) (o : Outcome) (v : LocksState) : Type 0 where
-  pub gives_way : GivesWay (rules_at w l) (w.locks l) x → ComesBack later w t l x o v
+  pub gives_way : BumpGivesWay (rules_at w l) (w.locks l) x → ComesBack later w t l x o v
   pub stays : NeedsNoWay unparked (rules_at w l) (w.locks l) x
       → (o ≡ outcome.TheVariants.End answer.TheVariants.Ok) × Owns (v.locks l) t x
 
@@ -206,7 +208,7 @@ pub record BumpsShared (unparked : Type 0) (later : ℕ → LocksState) (w : Loc
 abbrev pub RunsAlone : OnceState → ℕ → Outcome → LockState → Type 0
 RunsAlone found t o s2 = (o ≡ outcome.TheVariants.Closure found) × (s2.phase ≡ InProgress t)
 
--- what a call comes to that runs a closure, by how far the `Once` has come
+-- the end of a call that runs a closure, by how far the `Once` has come
 abbrev pub CallsOnceAlone : Phase → LockState → ℕ → Bool → Outcome → LockState → Type 0
 CallsOnceAlone New s t forced o s2 = RunsAlone once_state.TheVariants.New t o s2
 CallsOnceAlone Poisoned s t true o s2 = RunsAlone once_state.TheVariants.Poisoned t o s2
@@ -223,9 +225,8 @@ AwaitsAlone Poisoned s t false timed o s2 =
     o ≡ outcome.TheVariants.End answer.TheVariants.Poisoned
 AwaitsAlone phase s t forced timed o s2 = SleepsLast s t Wait o s2
 
--- what a wait comes to: it sleeps behind the last, its mutex let go, or ends where another mutex is
--- shown
-pub record StandsAlone (w : LocksState) (t l m : ℕ) (o : Outcome) (v : LocksState) : Type 0 where
+-- the end of a wait: it sleeps behind the last, its mutex let go, or ends where another mutex is shown
+pub record CondvarWaitsAlone (w : LocksState) (t l m : ℕ) (o : Outcome) (v : LocksState) : Type 0 where
   pub other : ShowsOther (w.locks l) m → o ≡ outcome.TheVariants.End answer.TheVariants.TwoMutexes
   pub own : (ShowsOther (w.locks l) m → ⊥)
       → SleepsLast (w.locks l) t Wait o (v.locks l) × ((v.locks m).exclusive ≡ None)
@@ -250,7 +251,7 @@ EndsBy words later w t (Some (CallsOnce l forced)) o v =
     CallsOnceAlone (w.locks l).phase (w.locks l) t forced o (v.locks l)
 EndsBy words later w t (Some (Awaits l forced timed)) o v =
     AwaitsAlone (w.locks l).phase (w.locks l) t forced timed o (v.locks l)
-EndsBy words later w t (Some (Waits l m timed)) o v = StandsAlone w t l m o v
+EndsBy words later w t (Some (Waits l m timed)) o v = CondvarWaitsAlone w t l m o v
 EndsBy words later w t (Some (Notifies l all)) o v =
     NotifiesAlone all (w.locks l).queue o (v.locks l).queue
 EndsBy words later w t None o v = Unit {0}
@@ -259,7 +260,7 @@ EndsBy words later w t None o v = Unit {0}
 abbrev pub locks_behind : State → ℕ → ℕ → LocksState
 locks_behind w t steps = locks_of (after_steps w (replicate steps (go_of t)))
 
--- what a call comes to, by what it is for
+-- the end of a call, by its goal
 abbrev pub EndsAlone : State → ℕ → Option Purpose → Outcome → State → Type 0
 EndsAlone w t purpose o v =
     EndsBy (word_at w) (locks_behind w t) (locks_of w) t purpose o (locks_of v)

@@ -27,7 +27,7 @@ abbrev pub IsUntouched : State → State → Type 0
 IsUntouched w v = ((l : ℕ) → word_at v l ≡ word_at w l)
     × ((key : ℕ) → queue_at v key ≡ queue_at w key)
 
--- who begins a call, looks at a word once more or is late changes no word and no queue
+-- a thread that begins a call, looks at a word once more or is late changes no word and no queue
 abbrev pub TouchesOnlyByGoing : State → Turn → State → Type 0
 TouchesOnlyByGoing w (turn.TheVariants.Begin c) v = IsUntouched w v
 TouchesOnlyByGoing w turn.TheVariants.Spin v = IsUntouched w v
@@ -82,6 +82,6 @@ IsWorldRun w [] [] v = v ≡ w
 IsWorldRun w (s ∷ ss) (o ∷ os) v = (u : State) × IsWorldStep w s o u × IsWorldRun u ss os v
 IsWorldRun w ss os v = ⊥
 
--- what was told stands behind what was there, and holds
+-- the outcomes told stand behind those that were there, and hold
 abbrev pub Tells : List Outcome → List Outcome → (List Outcome → Type 0) → Type 0
 Tells before now holds = (told : List Outcome) × (now ≡ before ++ told) × holds told

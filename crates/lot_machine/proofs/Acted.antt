@@ -23,7 +23,7 @@ use Rattle.lot_steps.specs.declared.places.Place.TheVariants.{Idle}
 use Rattle.lot_steps.specs.Steps.{next_place, taker}
 use Rattle.lot_machine.specs.Machine.{State, hand_over_told, listed, moved_threads, place_after_telling, place_at, places_told, queue_at, queues_without_first, state_after_act, state_after_hand_over_by, state_after_taking, state_with_sections, word_at}
 
--- what befalls a thread in a step of another
+-- tells what befalls a thread in a step of another
 abbrev pub Befalls : Reply → Type 0
 Befalls (TakenBy t) = Unit {0}
 Befalls (MovedTo key) = Unit {0}
@@ -40,7 +40,7 @@ tells (act.Leave keys (wakes.TheVariants.All n)) = true
 tells a = false
 
 module _ (P : Place → Type 0) where
-  -- what holds of a place holds of where this leads from there
+  -- a fact of a place holds of where this leads from there
   abbrev pub Keeps : Reply → Type 0
   Keeps r = (p : Place) → P p → P (next_place p r)
 
@@ -68,7 +68,7 @@ module _ (P : Place → Type 0) where
     took_keeps t kept queues None h = h
     took_keeps t kept queues (Some x) h = befallen_keeps u w.places x (TakenBy t) kept h
 
-    -- whatever is told to those in a hand
+    -- for all that is told to those in a hand
     hand_keeps : (t : ℕ) (r : Reply) → Keeps r → P (place_at w u) → P (get_or (map (place_after_telling t r) w.places) u Idle)
     hand_keeps t r kept h = subst P (sym (get_or-map (place_after_telling t r) w.places u Idle)) (either (is_thread t (taker (place_at w u))))
       where

@@ -16,7 +16,7 @@ use Rattle.steps_base.specs.Acts.{takes_effect, holds}
 use Rattle.lot_steps.specs.declared.places.Place.{Place}
 use Rattle.lot_machine.specs.Machine.{state_after_hand_over_by, State, unlocked, word_at, kind_at, queue_at, state_after_operation, state_after_hand_over, state_with_sections, queues_with_last, queues_without_first, state_after_park, state_after_taking, state_after_wake, state_after_act}
 
--- what holds of all elements holds of them after one is set
+-- a fact of all elements holds after one is set
 pub set_all : {A : Type 0} (P : A → Type 0) (xs : List A) (i : ℕ) (y d : A) → P y → ((j : ℕ) → P (get_or xs j d)) → (j : ℕ) → P (get_or (set xs i y) j d)
 set_all P [] i y d p h j = h j
 set_all P (x ∷ xs) zero y d p h zero = p
@@ -24,7 +24,7 @@ set_all P (x ∷ xs) zero y d p h (suc j) = h (suc j)
 set_all P (x ∷ xs) (suc i) y d p h zero = h zero
 set_all P (x ∷ xs) (suc i) y d p h (suc j) = set_all P xs i y d p (λ k. h (suc k)) j
 
--- what is read of each lock, where that of one is set
+-- the value read of each lock, where that of one is set
 pub set_field : {A B : Type 0} (f : A → B) (xs : List A) (i : ℕ) (y d : A) → f y ≡ f (get_or xs i d) → (j : ℕ) → f (get_or (set xs i y) j d) ≡ f (get_or xs j d)
 set_field f [] i y d e j = refl
 set_field f (x ∷ xs) zero y d e zero = e

@@ -141,7 +141,7 @@ look (Condvar l at) q is = condvar_look at is
     condvar_look (Wait m timed (wait.Lock late at)) is = locks m timed late at is
     condvar_look at is = absurd cc
 
--- who looks at a mutex's word enters it
+-- a thread that looks at a mutex's word enters it
 pub mutex_looks : (l : ℕ) (at : MutexPlace) (q : Place) → looking (Mutex l at) ≡ Some q → (e : Entry) × (again : Bool) × (q ≡ Mutex l (Lock e again lock.Load))
 mutex_looks l (Lock e again (lock.Decide seen)) q is = by_mark _ is
   where

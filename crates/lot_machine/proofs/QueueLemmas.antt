@@ -78,7 +78,7 @@ lines_append from (suc n) (suc i) key t wanted xs h e =
     let more = lines_append (suc from) n i key t wanted xs (omega arith) (omega arith) in
     cc
 
--- what an append does to the lines
+-- tells what an append does to the lines
 pub lines_appended : (n key t : ℕ) (wanted : Want) (xs ys : List Waiter) → key < n → lines ys ≡ lines (without t xs ++ waiter key t wanted ∷ []) → lines_from 0 n ys ≡ queues_with_last (lines_from 0 n xs) key t wanted
 lines_appended n key t wanted xs ys h e =
     lines_same 0 n ys (without t xs ++ waiter key t wanted ∷ []) e
@@ -115,18 +115,18 @@ lines_first from (suc n) (suc i) key xs h e =
     let more = lines_first (suc from) n i key xs (omega arith) (omega arith) in
     cc
 
--- what the taking of a first does to the lines
+-- tells what the taking of a first does to the lines
 pub lines_taken : (n key : ℕ) (xs ys : List Waiter) → key < n → lines ys ≡ lines (without_first key xs) → lines_from 0 n ys ≡ queues_without_first (lines_from 0 n xs) key
 lines_taken n key xs ys h e = lines_same 0 n ys (without_first key xs) e ∙ lines_first 0 n key key xs h (omega arith)
 
 pub line_here : (n key : ℕ) (xs : List Waiter) → key < n → slice_index_or (lines_from 0 n xs) key [] ≡ line key xs
 line_here n key xs h = line_at 0 n key xs h ∙ ap (λ k. line k xs) (omega arith)
 
--- whoever stands in a line has its key
+-- each thread that stands in a line has its key
 pub line_keyed : (key : ℕ) (xs : List Waiter) → StandUnder key (line key xs)
 line_keyed key xs = λ k d h. (Decides-eqb (slice_index_or (line key xs) k d).key key).0 (filter_passes (λ (x : Waiter). x.key == key) xs k d h)
 
--- what a removal does to the lines
+-- tells what a removal does to the lines
 pub lines_removed : (n t : ℕ) (xs ys : List Waiter) → lines ys ≡ lines (without t xs) → lines_from 0 n ys ≡ queues_without (lines_from 0 n xs) t
 lines_removed n t xs ys e = lines_same 0 n ys (without t xs) e ∙ lines_without 0 n t xs
 
@@ -163,7 +163,7 @@ line_gone_other : (k key : ℕ) (xs : List Waiter) → k ≢ key → line k (wit
 line_gone_other k key [] ne = refl
 line_gone_other k key (x ∷ xs) ne = grind (arith, nat_tests, line_gone_other k key xs ne)
 
--- what the taking of all does to the lines
+-- tells what the taking of all does to the lines
 pub lines_all_taken : (n key : ℕ) (xs ys : List Waiter) → key < n → lines ys ≡ lines (without_key key xs) → lines_from 0 n ys ≡ slice_set (lines_from 0 n xs) key []
 lines_all_taken n key xs ys h e =
     lines_one 0 n key key xs ys h (omega arith) (λ k ne. line_in k (without_key key xs) ys e ∙ line_gone_other k key xs ne)
@@ -181,7 +181,7 @@ line_picked_other start false k key xs ne = (pickers_pick Normal start key xs).e
 pub line_then_picked : (key : ℕ) (start : Option Want) (recursive : Bool) (xs ys : List Waiter) → lines ys ≡ lines (without_lock_picked start recursive key xs) → line key ys ≡ without_lock_picked start recursive key (line key xs)
 line_then_picked key start recursive xs ys e = line_in key (without_lock_picked start recursive key xs) ys e ∙ line_picked (lock_picker start recursive) key xs
 
--- what the taking of those who are picked does to the lines
+-- tells what the taking of those who are picked does to the lines
 pub lines_picked : (n key : ℕ) (start : Option Want) (recursive : Bool) (xs ys : List Waiter) → key < n → lines ys ≡ lines (without_lock_picked start recursive key xs)
     → lines_from 0 n ys ≡ slice_set (lines_from 0 n xs) key (without_lock_picked start recursive key (line key xs))
 lines_picked n key start recursive xs ys h e =
@@ -207,7 +207,7 @@ lines_left n from requeue.TheVariants.One xs h = lines_first 0 n from from xs h 
 lines_left n from requeue.TheVariants.All xs h = lines_all_taken n from xs (without_key from xs) h refl
 lines_left n from requeue.TheVariants.TakeOneMoveRest xs h = lines_all_taken n from xs (without_key from xs) h refl
 
--- what it does to the lines
+-- tells what it does to the lines
 pub lines_requeued : (n from to : ℕ) (how : Requeue) (xs ys : List Waiter) → from < n → to < n → lines ys ≡ lines (requeued how from to xs) → lines_from 0 n ys ≡ queues_requeued (lines_from 0 n xs) from to how
 lines_requeued n from to how xs ys hf ht e =
     let left : lines_from 0 n (left_by how from xs) ≡ slice_set (lines_from 0 n xs) from (left_behind how (line from xs)) = lines_left n from how xs hf in
@@ -220,7 +220,7 @@ lines_requeued n from to how xs ys hf ht e =
     here : line to ys ≡ line to (left_by how from xs) ++ moved_under to (moved_by how (line from xs))
     here = line_in to (requeued how from to xs) ys e ∙ line_both to (left_by how from xs) (moved_under to (moved_by how (line from xs))) ∙ ap (λ q. line to (left_by how from xs) ++ q) (line_moved to (moved_by how (line from xs)))
 
--- who is left in the line
+-- the waiters left in the line
 pub line_left : (from to : ℕ) (how : Requeue) (xs ys : List Waiter) → from ≢ to → lines ys ≡ lines (requeued how from to xs) → line from ys ≡ left_behind how (line from xs)
 line_left from to how xs ys ne e = line_in from (requeued how from to xs) ys e ∙ line_both from (left_by how from xs) (moved_under to (moved_by how (line from xs))) ∙ ap (λ q. line from (left_by how from xs) ++ q) (line_moved_other from to (moved_by how (line from xs)) ne) ∙ append-nil (line from (left_by how from xs)) ∙ stay how
   where

@@ -66,7 +66,7 @@ use Rattle.lot_steps.specs.Steps.{is_idle, first_place, act_of, next_place, mute
 use Rattle.lot_machine.specs.Machine.{first_word, state_after_hand_over_by, hand_over_told, State, unlocked, opening, kind_at, word_at, place_at, queue_at, put, state_after_operation, state_with_sections, queues_with_last, queues_without_first, queues_without, state_after_park, state_after_reply, place_after_telling, state_after_telling, state_after_hand_over, state_after_taking, state_after_wake, state_after_act, state_after_takes, state_after_take_first, state_after_requeue, queues_requeued, left_behind, moved_under, moved_threads, listed, places_told, state_after_going, going_outcome, closed_place, state_after_close, close_outcome, can_close, runs_closure, can_do, state_after_go, reply_to, state_after_begin, can_begin, is_open_to, state_after_spin, state_after_late, state_after_late_on, state_after_turn, can_turn, is_possible, after, state_after_look, look_outcome, spin_outcome, can_spin, can_go, go_outcome}
 use Rattle.steps_mutex.specs.declared.lock.LockAt as lock
 use Rattle.steps_base.specs.declared.acts.Whom as whom
-use Rattle.lot_machine.specs.Fits.{ActFits, AllBelow, IsOfItsKind, IsShaped, PlaceFits, SameSize, Shows}
+use Rattle.lot_machine.specs.Fits.{ActFits, AllBelow, IsOfItsKind, IsWellFormed, PlaceFits, SameSize, Shows}
 use Rattle.steps_condvar.specs.declared.notify.NotifyAt.{NotifyAt}
 use Rattle.steps_condvar.specs.declared.places.CondvarPlace.{CondvarPlace}
 use Rattle.steps_condvar.specs.declared.places.CondvarPlace.TheVariants.{Wait, Look, Notify}
@@ -84,10 +84,10 @@ pub use Rattle.lot_machine.proofs.Suits.{Suits, both}
 use Rattle.lot_machine.proofs.Closures.{closes_freely}
 
 -- a lock's main key has its section and its queue
-pub main_key_there : (w : State) (l : ℕ) → IsShaped w → l < length w.locks → 2 * l < length w.sections
+pub main_key_there : (w : State) (l : ℕ) → IsWellFormed w → l < length w.locks → 2 * l < length w.sections
 main_key_there w l s lt = let n : length w.sections ≡ 2 * length w.locks = s.sections in omega arith
 
-pub main_line_there : (w : State) (l : ℕ) → IsShaped w → l < length w.locks → 2 * l < length w.queues
+pub main_line_there : (w : State) (l : ℕ) → IsWellFormed w → l < length w.locks → 2 * l < length w.queues
 main_line_there w l s lt = let m : length w.queues ≡ length w.sections = s.queues in let key : 2 * l < length w.sections = main_key_there w l s lt in omega arith
 
 -- ---------------------------------------------------------------- waiters
@@ -148,14 +148,14 @@ below_behind_requeue n requeue.TheVariants.TakeOneMoveRest xs h = tt
 
 -- ---------------------------------------------------------------- lines and sections
 
--- what the shape says of them
+-- tells what the shape says of them
 record IsLined (w : State) : Type 0 where
   few : length w.locks ≤ 256
   sections : length w.sections ≡ 2 * length w.locks
   queues : length w.queues ≡ length w.sections
   waiting : (key : ℕ) → AllBelow (length w.places) (queue_at w key)
 
-lined : (w : State) → IsShaped w → IsLined w
+lined : (w : State) → IsWellFormed w → IsLined w
 lined w s = record { few = s.few; sections = s.sections; queues = s.queues; waiting = s.waiting }
 
 put_lined : (w : State) (t : ℕ) (p : Place) → IsLined w → IsLined (put w t p)
@@ -301,23 +301,23 @@ performed_counts w t p act = (refl, refl)
 
 -- ---------------------------------------------------------------- states
 
-pub suits : (w : State) → IsShaped w → (t : ℕ) → Suits (length w.locks) (kind_at w) (place_at w t)
+pub suits : (w : State) → IsWellFormed w → (t : ℕ) → Suits (length w.locks) (kind_at w) (place_at w t)
 suits w s t = (s.places t, s.kinds t)
 
-shaped : (w : State) → IsLined w → ((t : ℕ) → Suits (length w.locks) (kind_at w) (place_at w t)) → AreShown w → IsShaped w
+shaped : (w : State) → IsLined w → ((t : ℕ) → Suits (length w.locks) (kind_at w) (place_at w t)) → AreShown w → IsWellFormed w
 shaped w s suit shown = record { few = s.few; sections = s.sections; queues = s.queues; places = λ t. (suit t).0; kinds = λ t. (suit t).1; shown = shown; waiting = s.waiting }
 
-pub put_shaped : (w : State) (t : ℕ) (p : Place) → IsShaped w → Suits (length w.locks) (kind_at w) p → IsShaped (put w t p)
+pub put_shaped : (w : State) (t : ℕ) (p : Place) → IsWellFormed w → Suits (length w.locks) (kind_at w) p → IsWellFormed (put w t p)
 put_shaped w t p s h = shaped (put w t p) (put_lined w t p (lined w s)) (set_all (Suits (length w.locks) (kind_at w)) w.places t p Idle h (suits w s)) s.shown
 
-befallen_shaped : (w : State) (t : ℕ) (reply : Reply) → IsShaped w → ReplyFits (length w.locks) (kind_at w) (place_at w t) reply → IsShaped (state_after_reply w t reply)
+befallen_shaped : (w : State) (t : ℕ) (reply : Reply) → IsWellFormed w → ReplyFits (length w.locks) (kind_at w) (place_at w t) reply → IsWellFormed (state_after_reply w t reply)
 befallen_shaped w t reply s r = put_shaped w t (next_place (place_at w t) reply) s (next_suits (length w.locks) (kind_at w) (place_at w t) reply (suits w s t) r)
 
-filled_shaped : (w : State) (keys : Keys) (who : Option ℕ) → IsShaped w → IsShaped (state_with_sections w keys who)
+filled_shaped : (w : State) (keys : Keys) (who : Option ℕ) → IsWellFormed w → IsWellFormed (state_with_sections w keys who)
 filled_shaped w (One key) who s = shaped (state_with_sections w (One key) who) (filled_lined w (One key) who (lined w s)) (suits w s) s.shown
 filled_shaped w (Two first second) who s = shaped (state_with_sections w (Two first second) who) (filled_lined w (Two first second) who (lined w s)) (suits w s) s.shown
 
--- whatever befalls a thread suits it
+-- all that befalls a thread suits it
 befallen_fits : (locks : ℕ) (kinds : ℕ → Kind) (p : Place) (reply : Reply) → Befalls reply → ReplyFits locks kinds p reply
 befallen_fits locks kinds p (TakenBy u) h = tt
 befallen_fits locks kinds p (MovedTo key) h = tt
@@ -339,10 +339,10 @@ module _ (w : State) (t : ℕ) (p : Place) (a : Act) where
   shows_then : (v : ℕ) → Shows (length w.locks) (kind_at w) v → Shows (length done.locks) (kind_at done) v
   shows_then v h = subst (λ n. Shows n (kind_at done) v) (sym (performed_counts w t p a).1) (subst (λ f. Shows (length w.locks) f v) (sym same_kinds) h)
 
-  performed_suits : IsShaped w → (u : ℕ) → Suits (length w.locks) (kind_at w) (place_at done u)
+  performed_suits : IsWellFormed w → (u : ℕ) → Suits (length w.locks) (kind_at w) (place_at done u)
   performed_suits s u = acted_keeps (Suits (length w.locks) (kind_at w)) w u t p a (λ loud r b q h. next_suits (length w.locks) (kind_at w) q r h (befallen_fits (length w.locks) (kind_at w) q r b)) (suits w s u)
 
-  performed_shaped : IsShaped w → t < length w.places → Writes w a → IsShaped done
+  performed_shaped : IsWellFormed w → t < length w.places → Writes w a → IsWellFormed done
   performed_shaped s lt writes = shaped done (performed_lined w t p a (lined w s) lt) (λ u. suits_then (place_at done u) (performed_suits s u))
       (λ l of. shows_then (word_at done l) (performed_shown w t p a s.shown writes l of))
 
@@ -438,7 +438,7 @@ seeing_fits w t p is not_looking = others_hear (length w.locks) (kind_at w) (pla
     (acted_keeps LooksNot w t t p (act_of p) (λ loud r b q h. looks_not_next q r h) (subst LooksNot (sym is) not_looking)) (replies_timely w t (act_of p))
 
 -- a notification that looks sees a mutex that is there, and any other reply suits any place behind the act
-reply_fits : (w : State) (t : ℕ) (p : Place) → IsShaped w → place_at w t ≡ p
+reply_fits : (w : State) (t : ℕ) (p : Place) → IsWellFormed w → place_at w t ≡ p
     → ReplyFits (length w.locks) (kind_at w) (place_at (state_after_act w t p (act_of p)) t) (reply_to w t (act_of p))
 reply_fits w t (Condvar l (Look all)) s is =
     let kind : IsOfItsKind (kind_at w) (Condvar l (Look all)) = subst (IsOfItsKind (kind_at w)) is (s.kinds t) in
@@ -451,29 +451,29 @@ reply_fits w t (Semaphore l at) s is = seeing_fits w t (Semaphore l at) is tt
 reply_fits w t (Condvar l (Wait m timed at)) s is = seeing_fits w t (Condvar l (Wait m timed at)) is tt
 reply_fits w t (Condvar l (Notify all m at)) s is = seeing_fits w t (Condvar l (Notify all m at)) is tt
 
-went_shaped : (w : State) (t : ℕ) (p : Place) → IsShaped w → place_at w t ≡ p → t < length w.places → IsShaped (state_after_going w t p)
+went_shaped : (w : State) (t : ℕ) (p : Place) → IsWellFormed w → place_at w t ≡ p → t < length w.places → IsWellFormed (state_after_going w t p)
 went_shaped w t p s is lt =
     let v = state_after_act w t p (act_of p) in
     put_shaped v t (next_place (place_at v t) (reply_to w t (act_of p))) (performed_shaped w t p (act_of p) s lt (writes w p s (subst (Suits (length w.locks) (kind_at w)) is (suits w s t))))
     (suits_then w t p (act_of p) (next_place (place_at v t) (reply_to w t (act_of p)))
     (next_suits (length w.locks) (kind_at w) (place_at v t) (reply_to w t (act_of p)) (performed_suits w t p (act_of p) s t) (reply_fits w t p s is)))
 
-gone_shaped : (w : State) (t : ℕ) → IsShaped w → t < length w.places → IsShaped (state_after_go w t)
+gone_shaped : (w : State) (t : ℕ) → IsWellFormed w → t < length w.places → IsWellFormed (state_after_go w t)
 gone_shaped w t s lt = went_shaped w t (place_at w t) s refl lt
 
 -- where a closure's answer leads
-pub closed_fits : (w : State) (t : ℕ) (succeeded : Bool) → IsShaped w → Suits (length w.locks) (kind_at w) (closed_place w t succeeded)
+pub closed_fits : (w : State) (t : ℕ) (succeeded : Bool) → IsWellFormed w → Suits (length w.locks) (kind_at w) (closed_place w t succeeded)
 closed_fits w t succeeded s = next_suits (length w.locks) (kind_at w) (place_at w t) (Closed succeeded) (suits w s t) tt
 
-begun_shaped : (w : State) (t : ℕ) (c : Call) → IsShaped w → can_begin w t c ≡ true → IsShaped (state_after_begin w t c)
+begun_shaped : (w : State) (t : ℕ) (c : Call) → IsWellFormed w → can_begin w t c ≡ true → IsWellFormed (state_after_begin w t c)
 begun_shaped w t c s can = put_shaped w t (first_place (kind_at w (lock_in c)) c) s (call_suits w t c (both (is_idle (place_at w t)) (is_open_to w t c) can).1)
 
 -- a thread stands where it looks
-pub looking_shaped : (w : State) (t : ℕ) (q : Place) → IsShaped w → looking (place_at w t) ≡ Some q → IsShaped (put w t q)
+pub looking_shaped : (w : State) (t : ℕ) (q : Place) → IsWellFormed w → looking (place_at w t) ≡ Some q → IsWellFormed (put w t q)
 looking_shaped w t q s is = let k = look (place_at w t) q is in put_shaped w t q s (k.fits (length w.locks) (s.places t), k.kind (kind_at w) (s.kinds t))
 
 -- and loads the word of a lock that is there
-pub looks_fit : (w : State) (t : ℕ) (q : Place) → IsShaped w → t < length w.places → looking (place_at w t) ≡ Some q → ActFits (put w t q) (act_of (place_at (put w t q) t))
+pub looks_fit : (w : State) (t : ℕ) (q : Place) → IsWellFormed w → t < length w.places → looking (place_at w t) ≡ Some q → ActFits (put w t q) (act_of (place_at (put w t q) t))
 looks_fit w t q s lt is = let k = look (place_at w t) q is in
     subst (λ p. ActFits (put w t q) (act_of p)) (sym (get_or-set_same w.places t q Idle lt)) (subst (ActFits (put w t q)) (sym k.loads) (k.there (length w.locks) (s.places t)))
 
@@ -491,7 +491,7 @@ has_keys locks (Condvar l (Wait m timed at)) few h = (below locks l few h.0, bel
 has_keys locks (Condvar l (Look all)) few h = (below locks l few h.0, tt)
 has_keys locks (Condvar l (Notify all m at)) few h = (below locks l few h.0, below locks m few h.1)
 
-pub looks_keyed : (w : State) (t : ℕ) (q : Place) → IsShaped w → looking (place_at w t) ≡ Some q → HasKeys (place_at (put w t q) t)
+pub looks_keyed : (w : State) (t : ℕ) (q : Place) → IsWellFormed w → looking (place_at w t) ≡ Some q → HasKeys (place_at (put w t q) t)
 looks_keyed w t q s is = has_keys (length w.locks) (place_at (put w t q) t) s.few ((looking_shaped w t q s is).places t)
 
 looks_go : (w : State) (t : ℕ) (q : Place) → t < length w.places → looking (place_at w t) ≡ Some q → can_go (put w t q) t ≡ true
@@ -505,28 +505,28 @@ pub spun_told : {v w : State} → v ≡ w → (t : ℕ) (q : Place) (told : Outc
 spun_told {v} same t q told lt is e = subst (λ (w : State). told ≡ (if can_spin w t then spin_outcome w t else outcome.TheVariants.NotNow)) same
     (e ∙ ap (λ b. if b then go_outcome (put v t q) t else outcome.TheVariants.NotNow) (looks_go v t q lt is) ∙ sym (ap (λ o. if is_some o then look_outcome v t o else outcome.TheVariants.NotNow) is))
 
-spun_shaped : (w : State) (t : ℕ) → IsShaped w → t < length w.places → IsShaped (state_after_spin w t)
+spun_shaped : (w : State) (t : ℕ) → IsWellFormed w → t < length w.places → IsWellFormed (state_after_spin w t)
 spun_shaped w t s lt = by_place (looking (place_at w t)) refl
   where
-    by_place : (o : Option Place) → looking (place_at w t) ≡ o → IsShaped (state_after_look w t o)
+    by_place : (o : Option Place) → looking (place_at w t) ≡ o → IsWellFormed (state_after_look w t o)
     by_place None is = s
     by_place (Some q) is = gone_shaped (put w t q) t (looking_shaped w t q s is) (rw (length-set w.places t q) lt)
 
-lated_shaped : (w : State) (t : ℕ) → IsShaped w → IsShaped (state_after_late w t)
+lated_shaped : (w : State) (t : ℕ) → IsWellFormed w → IsWellFormed (state_after_late w t)
 lated_shaped w t s = by_place (place_at w t) refl
   where
-    asleep : (l : ℕ) (entry : Entry) (retries : Bool) → place_at w t ≡ Mutex l (Lock entry retries lock.TheVariants.Asleep) → (b : Bool) → is_timed entry ≡ b → IsShaped (state_after_late_on w t (key_in (Some l) (in_line b Main)))
+    asleep : (l : ℕ) (entry : Entry) (retries : Bool) → place_at w t ≡ Mutex l (Lock entry retries lock.TheVariants.Asleep) → (b : Bool) → is_timed entry ≡ b → IsWellFormed (state_after_late_on w t (key_in (Some l) (in_line b Main)))
     asleep l entry retries e true timed = befallen_shaped (state_with_sections w (One (2 * l)) (Some t)) t Late (filled_shaped w (One (2 * l)) (Some t) s) (rw e timed)
     asleep l entry retries e false timed = s
 
-    locks : (l : ℕ) (entry : Entry) (retries : Bool) (at : LockAt) → place_at w t ≡ Mutex l (Lock entry retries at) → IsShaped (state_after_late_on w t (late_key (Mutex l (Lock entry retries at))))
+    locks : (l : ℕ) (entry : Entry) (retries : Bool) (at : LockAt) → place_at w t ≡ Mutex l (Lock entry retries at) → IsWellFormed (state_after_late_on w t (late_key (Mutex l (Lock entry retries at))))
     locks l entry retries lock.TheVariants.Asleep e = asleep l entry retries e (is_timed entry) refl
     locks l entry retries at e = s
 
-    waits : (l : ℕ) (at : CondvarPlace) → place_at w t ≡ Condvar l at → IsShaped (state_after_late_on w t (late_key (Condvar l at)))
+    waits : (l : ℕ) (at : CondvarPlace) → place_at w t ≡ Condvar l at → IsWellFormed (state_after_late_on w t (late_key (Condvar l at)))
     waits l (Wait m true (wait.Asleep st)) e = by_key (late_key (Condvar l (Wait m true (wait.Asleep st))))
       where
-        by_key : (o : Option ℕ) → IsShaped (state_after_late_on w t o)
+        by_key : (o : Option ℕ) → IsWellFormed (state_after_late_on w t o)
         by_key None = s
         by_key (Some key) = befallen_shaped (state_with_sections w (One key) (Some t)) t Late (filled_shaped w (One key) (Some t) s) (rw e refl)
     waits l (Wait m false (wait.Asleep st)) e = s
@@ -534,7 +534,7 @@ lated_shaped w t s = by_place (place_at w t) refl
     waits l (Look all) e = s
     waits l (Notify all m at) e = s
 
-    by_place : (p : Place) → place_at w t ≡ p → IsShaped (state_after_late_on w t (late_key p))
+    by_place : (p : Place) → place_at w t ≡ p → IsWellFormed (state_after_late_on w t (late_key p))
     by_place Idle e = s
     by_place (Mutex l (Lock entry retries at)) e = locks l entry retries at e
     by_place (Mutex l TryLock) e = s
@@ -544,17 +544,17 @@ lated_shaped w t s = by_place (place_at w t) refl
     by_place (Mutex l (HandOff bumps at)) e = s
     by_place (RwLock l a at) e = by_line (call_profile a at).late_line
       where
-        by_line : (m : Option Line) → IsShaped (state_after_late_on w t (key_in (Some l) m))
+        by_line : (m : Option Line) → IsWellFormed (state_after_late_on w t (key_in (Some l) m))
         by_line None = s
         by_line (Some m) = befallen_shaped (state_with_sections w (One (key_of l m)) (Some t)) t Late (filled_shaped w (One (key_of l m)) (Some t) s) (rw e tt)
     by_place (Once l at) e = by_line (once_profile at).late_line
       where
-        by_line : (m : Option Line) → IsShaped (state_after_late_on w t (key_in (Some l) m))
+        by_line : (m : Option Line) → IsWellFormed (state_after_late_on w t (key_in (Some l) m))
         by_line None = s
         by_line (Some m) = befallen_shaped (state_with_sections w (One (key_of l m)) (Some t)) t Late (filled_shaped w (One (key_of l m)) (Some t) s) (rw e tt)
     by_place (Semaphore l at) e = by_line (semaphore_profile at).late_line
       where
-        by_line : (m : Option Line) → IsShaped (state_after_late_on w t (key_in (Some l) m))
+        by_line : (m : Option Line) → IsWellFormed (state_after_late_on w t (key_in (Some l) m))
         by_line None = s
         by_line (Some m) = befallen_shaped (state_with_sections w (One (key_of l m)) (Some t)) t Late (filled_shaped w (One (key_of l m)) (Some t) s) (rw e tt)
     by_place (Condvar l at) e = waits l at e
@@ -580,12 +580,12 @@ closed_told {v} same t succeeded q told lt runs is e = subst (λ (w : State). to
     (rw (closing_can v t succeeded runs) (subst (λ p. told ≡ go_outcome (put v t p) t) is
     (e ∙ ap (λ b. if b then go_outcome (put v t q) t else outcome.TheVariants.NotNow) (goes_closed v t succeeded q lt runs is))))
 
-closed_shaped : (w : State) (t : ℕ) (succeeded : Bool) → IsShaped w → t < length w.places → IsShaped (state_after_close w t succeeded)
+closed_shaped : (w : State) (t : ℕ) (succeeded : Bool) → IsWellFormed w → t < length w.places → IsWellFormed (state_after_close w t succeeded)
 closed_shaped w t succeeded s lt =
     let q = closed_place w t succeeded in
     gone_shaped (put w t q) t (put_shaped w t q s (closed_fits w t succeeded s)) (rw (length-set w.places t q) lt)
 
-turned_shaped : (w : State) (t : ℕ) (x : Turn) → IsShaped w → t < length w.places → can_turn w t x ≡ true → IsShaped (state_after_turn w t x)
+turned_shaped : (w : State) (t : ℕ) (x : Turn) → IsWellFormed w → t < length w.places → can_turn w t x ≡ true → IsWellFormed (state_after_turn w t x)
 turned_shaped w t (turn.TheVariants.Begin c) s lt can = begun_shaped w t c s can
 turned_shaped w t turn.TheVariants.Go s lt can = gone_shaped w t s lt
 turned_shaped w t turn.TheVariants.Spin s lt can = spun_shaped w t s lt
@@ -594,16 +594,16 @@ turned_shaped w t turn.TheVariants.Ok s lt can = closed_shaped w t true s lt
 turned_shaped w t turn.TheVariants.Err s lt can = closed_shaped w t false s lt
 
 -- a step keeps the shape
-pub after_shaped : (w : State) (s : Step) → IsShaped w → IsShaped (after w s)
+pub after_shaped : (w : State) (s : Step) → IsWellFormed w → IsWellFormed (after w s)
 after_shaped w step s = either (is_possible w step) refl
   where
-    either : (b : Bool) → is_possible w step ≡ b → IsShaped (if b then state_after_turn w step.thread step.turn else w)
+    either : (b : Bool) → is_possible w step ≡ b → IsWellFormed (if b then state_after_turn w step.thread step.turn else w)
     either false e = s
     either true e = let parts = both (nat_lt step.thread (length w.places)) (can_turn w step.thread step.turn) e in
         turned_shaped w step.thread step.turn s (ltb-true step.thread (length w.places) parts.0) parts.1
 
 -- the opening state has the shape
-pub opening_shaped : (kinds : List Kind) (threads : ℕ) → length kinds ≤ 256 → IsShaped (opening kinds threads)
+pub opening_shaped : (kinds : List Kind) (threads : ℕ) → length kinds ≤ 256 → IsWellFormed (opening kinds threads)
 opening_shaped kinds threads few = record {
   few = rw (length-map kinds unlocked) few;
   sections = rw (length-replicate {A = Option ℕ} (2 * length kinds) None, length-map kinds unlocked) refl;

@@ -31,7 +31,7 @@ use Rattle.lot_steps.specs.declared.places.Place.TheVariants.{Idle, Mutex, RwLoc
 use Rattle.lot_steps.specs.Steps.{act_of}
 use Rattle.lot_machine.specs.declared.locks.Lock.{Lock}
 use Rattle.lot_machine.specs.Machine.{State, kind_at, queue_at, queues_with_last, queues_without_first, state_after_act, state_after_hand_over_by, state_after_taking, unlocked, word_at}
-use Rattle.lot_machine.specs.Fits.{IsShaped, Shows, is_once, is_rwlock, is_semaphore}
+use Rattle.lot_machine.specs.Fits.{IsWellFormed, Shows, is_once, is_rwlock, is_semaphore}
 use Rattle.lot_machine.proofs.Closures.{IsOwn, call_own, course_own, mutex_own, semaphore_own}
 use Rattle.lot_machine.proofs.KindsStay.{set_all}
 use Rattle.lot_machine.proofs.Suits.{Suits}
@@ -101,7 +101,7 @@ once_on l (once.GiveUp again give_up.Remove) = tt
 once_on l (once.GiveUp again give_up.Clear) = refl
 once_on l (once.GiveUp again give_up.Leave) = tt
 
--- who works on no condition variable
+-- a thread that works on no condition variable
 away : (w : State) (l : ℕ) (a : Act) → IsOn l a → is_condvar (kind_at w l) ≡ false → Writes w a
 away w l (Word k f) on other = λ of. absurd (let x : is_condvar (kind_at w l) ≡ true = subst (λ j. is_condvar (kind_at w j) ≡ true) on of in let y : false ≡ true = sym other ∙ x in cc)
 away w l (HandOver k f) on other = λ of. absurd (let x : is_condvar (kind_at w l) ≡ true = subst (λ j. is_condvar (kind_at w j) ≡ true) on of in let y : false ≡ true = sym other ∙ x in cc)
@@ -157,7 +157,7 @@ module _ (w : State) (shown : AreShown w) (c : ℕ) (of : is_condvar (kind_at w 
   condvar_writes (Notify all m (notify.MarkMoved number)) h = away w m (act_of (Condvar c (Notify all m (notify.MarkMoved number)))) refl (plain_is_other (kind_at w m) h.1.1)
   condvar_writes (Notify all m at) h = tt
 
-pub writes : (w : State) (p : Place) → IsShaped w → Suits (length w.locks) (kind_at w) p → Writes w (act_of p)
+pub writes : (w : State) (p : Place) → IsWellFormed w → Suits (length w.locks) (kind_at w) p → Writes w (act_of p)
 writes w Idle s h = tt
 writes w (Mutex l at) s h = away w l (mutex_act l at) (on_own l (mutex_act l at) (mutex_own l at)) (of_mutexes (kind_at w l) h.1)
 writes w (RwLock l a at) s h = away w l (call_act l a at) (on_own l (call_act l a at) (call_own l a at)) (of_rwlocks (kind_at w l) h.1)

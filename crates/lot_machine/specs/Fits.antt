@@ -115,7 +115,7 @@ abbrev pub AllBelow : ℕ → List Waiter → Type 0
 AllBelow n [] = Unit {0}
 AllBelow n (x ∷ xs) = (x.thread < n) × AllBelow n xs
 
-pub record IsShaped (w : State) : Type 0 where
+pub record IsWellFormed (w : State) : Type 0 where
   pub few : length w.locks ≤ 256
   pub sections : length w.sections ≡ 2 * length w.locks
   pub queues : length w.queues ≡ length w.sections

@@ -198,14 +198,14 @@ state_after_park w t l key check want =
 abbrev pub state_after_reply : State → ℕ → Reply → State
 state_after_reply w t reply = put w t (next_place (place_at w t) reply)
 
--- whom t has in hand is told something, and nobody else
+-- a thread that t has in hand is told something, and no other
 abbrev pub place_after_telling : ℕ → Reply → Place → Place
 place_after_telling t reply p = if is_thread t (taker p) then next_place p reply else p
 
 abbrev pub state_after_telling : State → ℕ → Reply → State
 state_after_telling w t reply = record w { places = map (place_after_telling t reply) w.places }
 
--- what is told to threads asleep, one after another
+-- the news of threads asleep, told one after another
 abbrev pub places_told : Reply → List ℕ → List Place → List Place
 places_told reply [] ps = ps
 places_told reply (u ∷ us) ps =
@@ -228,7 +228,7 @@ shares_in_hand t (Some h) = (h.by == t) && wants_shared h.want
 abbrev pub sharers : ℕ → List Place → ℕ
 sharers t ps = length (filter (λ (p : Place). shares_in_hand t (held p)) ps)
 
--- what it wants, where t has it in hand and it wants more than to share
+-- its want, where t has it in hand and it wants more than to share
 abbrev pub wants_more_in_hand : ℕ → Option Taken → Option Want
 wants_more_in_hand t None = None
 wants_more_in_hand t (Some h) =
@@ -275,7 +275,7 @@ owners_of_successor readers (Some s) owners = elim s.want [
   | CallOnce ↦ owners
 ]
 
--- who shares the lock when t has handed it over
+-- the sharers of the lock when t has handed it over
 abbrev pub shares_handed_over : State → ℕ → ℕ → List ℕ
 shares_handed_over w t l = shares_given t w.places (shares_at w l)
 
@@ -331,16 +331,16 @@ state_after_take w t key (whom.TheVariants.Picked start recursive) =
 state_after_take w t key whom.TheVariants.All =
     state_after_takes w t key (threads_of (queue_at w key)) []
 
--- who is left in a line behind a requeue
+-- the waiters left in a line after a requeue
 abbrev pub left_behind : Requeue → List Waiter → List Waiter
 left_behind requeue.TheVariants.One q = drop 1 q
 left_behind how q = []
 
--- who is moved stands behind the last of the other line, and wants to own alone
+-- a waiter that is moved stands behind the last of the other line, and wants to own alone
 abbrev pub moved_under : ℕ → List Waiter → List Waiter
 moved_under key q = map (λ (x : Waiter). waiter key x.thread Exclusive) q
 
--- whom it moves, by the threads of the line
+-- the waiters that it moves, by the threads of the line
 abbrev pub moved_threads : Requeue → List ℕ → List ℕ
 moved_threads requeue.TheVariants.One us = take 1 us
 moved_threads requeue.TheVariants.All us = us
@@ -379,7 +379,7 @@ can_do w (Closure state) = false
 can_do w (End answer) = false
 can_do w act = true
 
--- what it does
+-- its effect
 abbrev pub state_after_act : State → ℕ → Place → Act → State
 state_after_act w t p (Word l op) = state_after_operation w t p l op
 state_after_act w t p (HandOver l op) =
@@ -393,7 +393,7 @@ state_after_act w t p (Remove key) = record w { queues = queues_without w.queues
 state_after_act w t p (Leave keys wakes) = state_after_leave w t keys wakes
 state_after_act w t p act = w
 
--- what a take comes to
+-- the outcome of a take
 abbrev pub reply_to_take : State → ℕ → ℕ → Whom → Reply
 reply_to_take w t key whom.TheVariants.First =
     Took (is_there (first_of (queue_at w key))) (length (drop 1 (queue_at w key)) == 0)
@@ -555,7 +555,7 @@ is_possible w s = nat_lt s.thread (length w.places) && can_turn w s.thread s.tur
 abbrev pub after : State → Step → State
 after w s = if is_possible w s then state_after_turn w s.thread s.turn else w
 
--- what a step answers
+-- the outcome of a step
 abbrev pub step_outcome : State → Step → Outcome
 step_outcome w s = if is_possible w s then turn_outcome w s.thread s.turn
     else outcome.TheVariants.NotNow
@@ -579,7 +579,7 @@ pub record Alone : Type 0 where
   pub state : State
   pub outcome : Outcome
 
--- what one more step came to: none was possible, the thread goes on, or it rests
+-- the outcome of one more step: none was possible, the thread goes on, or it rests
 abbrev pub alone_after : Outcome → State → State → Outcome → Alone → Alone
 alone_after outcome.TheVariants.NotNow w v last more = record { state = w; outcome = last }
 alone_after outcome.TheVariants.Step w v last more = more

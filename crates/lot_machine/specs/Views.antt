@@ -27,7 +27,7 @@ owners_listed o =
     ++ (pending_of o.pending
     ++ (owner_of Upgradable o.upgradable ++ owner_of Running (runner o.phase)))
 
--- who shares a lock, once for each right, by the numbers of rights of threads from this one on
+-- the sharers of a lock, once for each right, by the numbers of rights of threads from this one on
 abbrev pub sharers_listed : ℕ → List ℕ → List (Owner × ℕ)
 sharers_listed t [] = []
 sharers_listed t (n ∷ ns) = replicate n (Shared, t) ++ sharers_listed (t + 1) ns
@@ -56,6 +56,6 @@ debtors debt l t (p ∷ ps) =
     if has_debt p debt l then (debt, t) ∷ debtors debt l (t + 1) ps
     else debtors debt l (t + 1) ps
 
--- who owes a wake on a lock, then who tries again
+-- the threads that owe a wake on a lock, then those that try again
 abbrev pub debts_of : State → ℕ → List (Debt × ℕ)
 debts_of w l = debtors Owes l 0 w.places ++ debtors Retries l 0 w.places

@@ -9,15 +9,15 @@ use Rattle.lot_text.specs.Grammar.{meaning}
 use Rattle.lot_text.specs.declared.grammar.Command.{Command}
 use Rattle.lot_text.specs.declared.grammar.Command as command
 use Rattle.lot_replay.specs.declared.actions.Action.{Action}
-use Rattle.lot_drain.specs.Drainable.{is_drainable}
-use Rattle.lot_drain.specs.Schedules.{schedule_of}
+use Rattle.lot_world.specs.Drainable.{is_drainable}
+use Rattle.lot_world.specs.Schedules.{schedule_of}
 use Rattle.lot_replay.specs.Drains.{drain_lines}
 use Rattle.lot_text.specs.Steps.{drain_refused_line}
 use Rattle.lot_replay.specs.Stages.{Stage, nothing, declaring, running, done_by, action_of, acted, played, may_declare, obeyed, after_line}
 use Rattle.lot_replay.specs.Answers.{MayTakeMemory}
 use Rattle.lot_replay.specs.Replay.{Declares, MayLackMemory, is_declaration}
 
--- what the lines so far are at a stage
+-- tells what the lines so far are at a stage
 abbrev pub StillDeclares : Stage → List (List ℕ) → Type 0
 StillDeclares nothing done = done ≡ []
 StillDeclares (declaring threads names kinds) done = All Declares done × (1 ≤ length done)

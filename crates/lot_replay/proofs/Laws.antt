@@ -35,7 +35,7 @@ none_some s t e = cc
 some_pair : (s u : Stage) (t v : List ℕ) → ◌≡◌ {A = Option (Stage × List ℕ)} (Some (s, t)) (Some (u, v)) → (s ≡ u) × (t ≡ v)
 some_pair s u t v e = let p : ◌≡◌ {A = Stage × List ℕ} (s, t) (u, v) = cc in (ap (λ (x : Stage × List ℕ). x.0) p, ap (λ (x : Stage × List ℕ). x.1) p)
 
--- what follows of two replays of the same first lines
+-- tells what follows of two replays of the same first lines
 next_begins : (k : ℕ) (s : Stage) (lines more : List (List ℕ)) (t u : List ℕ) (st su : ℕ) → IsReplay k s lines t st → IsReplay k s (lines ++ more) u su → IsBeginning t u
 next_begins k s [] more t u st su h g = (u, ap (λ l. l ++ u) h.0)
 next_begins k s (line ∷ lines) more t u st su (inl h) (inl g) = ([], append-nil t ∙ h.1 ∙ sym g.1)

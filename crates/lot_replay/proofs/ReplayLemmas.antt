@@ -138,7 +138,7 @@ known_memory (Some x) (Some y) None d text k s line next t r q e m = absurd q
 known_memory (Some x) (Some y) (Some z) d text k s line next t r q e m =
     may_memory x d (text ++ no_memory_line k) (memory_at x text k s line (lines_of z) next t (subst (Reached x text k s) q r) e m)
 
--- what an answer says
+-- tells what an answer says
 pub record Answered (w : Option (Stage × List ℕ)) (new : Stage) (a c : Option (List ℕ)) (p q : Held) : Type 0 where
   pub text : List ℕ
   pub wanted : w ≡ Some (new, text)
@@ -204,7 +204,7 @@ begins_more text left line rest lines h e one = λ more.
     ∙ ap (λ ls. lines ++ ls) (ap (λ l. lines_of (l ++ more)) e ∙ ap lines_of (append_assoc line (10 ∷ rest) more) ∙ lines_feed line (rest ++ more) one)
     ∙ sym (append_assoc lines (line ∷ []) (lines_of (rest ++ more)))
 
--- what the reader still has, where the front of what it showed was taken
+-- tells what the reader still has, where the front of what it showed was taken
 still_left : (x y shown : List ℕ) (n : ℕ) → StartsWith x shown → x ≡ take n shown ++ y → drop n shown ++ drop (length shown) x ≡ y
 still_left x y shown n front taken =
     append_cancel_left (take n shown) _ _
@@ -229,7 +229,7 @@ known_read_refused None b c d refusal text told k n s next r q h = tt
 known_read_refused (Some x) None c d refusal text told k n s next r q h = absurd r
 known_read_refused (Some x) (Some y) c d refusal text told k n s next r q h = known_refused (after_line next h.0) refusal next (λ t. t ≡ []) (Some x) c h.1 d told n next h.0 refl h.3 q h.2
 
--- of a line that is refused nothing is told
+-- nothing is told of a line that is refused
 pub refused_first : (said : Option Command) (w : Option (Stage × List ℕ)) (refusal : Refusal) (old new : Stage) (Wrote : List ℕ → Type 0) → AnswersTo said w (Err refusal) old new Wrote → (new ≡ old) × Wrote [] × AnswersTo said w (Err refusal) old old (λ t. t ≡ [])
 refused_first said None Malformed old new Wrote h = (h.0, h.1, (refl, refl))
 refused_first said None NoMemory old new Wrote h = absurd h

@@ -15,7 +15,7 @@ pub group_step : {X : Type 0} (mark : List ℕ) (text : X → List ℕ) (x : X) 
 group_step mark text x [] = refl
 group_step mark text x (y ∷ ys) = refl
 
--- what is left to print of waiters, where each queue has its next mark
+-- tells what is left to print of waiters, where each queue has its next mark
 abbrev pub waiters_left : ℕ → List ℕ → List ℕ → List Waiter → List ℕ
 waiters_left key main aside [] = []
 waiters_left key main aside (x ∷ xs) =
@@ -44,7 +44,7 @@ waiters_both key main aside (x ∷ xs) ys h k =
 pub waiters_all : (l : ℕ) (xs ys : List Waiter) → StandUnder (2 * l) xs → StandUnder (2 * l + 1) ys → waiters_left (2 * l) (codes " queue=") (codes " aside=") (xs ++ ys) ≡ waiters_text xs ys
 waiters_all l xs ys h k = waiters_both (2 * l) (codes " queue=") (codes " aside=") xs ys h (λ i d b e. let other = k i d b in omega arith)
 
--- what is left to print of those that owe and those that try again
+-- tells what is left to print of those that owe and those that try again
 abbrev pub debts_left : List ℕ → List ℕ → List (Debt × ℕ) → List ℕ
 debts_left owe retry [] = []
 debts_left owe retry ((Owes, t) ∷ ds) = owe ++ (decimal t ++ debts_left (codes ",") retry ds)

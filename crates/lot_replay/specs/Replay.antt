@@ -103,7 +103,7 @@ BeginningsBegin = (front back text longer : List ℕ) (status ending : ℕ)
     → IsText (front ++ 10 ∷ []) text status
     → IsText (front ++ 10 ∷ back) longer ending → IsBeginning text longer
 
--- what was answered before memory or a device failed begins the text of the whole input
+-- the answers given before memory or a device failed begin the text of the whole input
 abbrev pub EarlyTextsBegin : Type 0
 EarlyTextsBegin = (input whole : List ℕ) (status : ℕ) → IsText input whole status
     → ((left text : List ℕ) → StopsEarly input left text → IsBeginning text whole)

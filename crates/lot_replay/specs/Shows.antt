@@ -45,12 +45,12 @@ group heading text (x ∷ xs) = heading ++ join_by text (codes ",") (x ∷ xs)
 abbrev pub owners_text : List (Owner × ℕ) → List ℕ
 owners_text owners = group (codes " own=") owner_text owners
 
--- who waits in the main queue, and who waits aside
+-- the waiters in the main queue, and those aside
 abbrev pub waiters_text : List Waiter → List Waiter → List ℕ
 waiters_text main aside = group (codes " queue=") waiter_text main
     ++ group (codes " aside=") aside_text aside
 
--- who owes a wake, and who tries again
+-- the threads that owe a wake, and those that try again
 abbrev pub debtors_text : List (Debt × ℕ) → List (Debt × ℕ) → List ℕ
 debtors_text owing retrying = group (codes " owe=") debtor_text owing
     ++ group (codes " retry=") debtor_text retrying

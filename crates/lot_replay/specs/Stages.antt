@@ -15,8 +15,8 @@ use Rattle.spec_locks.specs.declared.calls.OnceCall.{OnceCall}
 use Rattle.spec_locks.specs.declared.calls.OnceCall.TheVariants.{CallOnce, Wait, WaitTimed}
 use Rattle.spec_locks.specs.Kinds.{fits, is_condvar}
 use Rattle.lot_machine.specs.Machine.{State, kind_at, opening, is_possible, after, after_steps, step_outcome, solo}
-use Rattle.lot_drain.specs.Drainable.{is_drainable}
-use Rattle.lot_drain.specs.Schedules.{schedule_of}
+use Rattle.lot_world.specs.Drainable.{is_drainable}
+use Rattle.lot_world.specs.Schedules.{schedule_of}
 use Rattle.lot_text.specs.declared.grammar.Command.{Command}
 use Rattle.lot_text.specs.declared.grammar.Command as command
 use Rattle.lot_text.specs.declared.grammar.NamedTurn.{NamedTurn}
@@ -115,8 +115,7 @@ drained names w =
     then (running names (after_steps w (schedule_of w)), drain_lines names (schedule_of w))
     else (running names w, drain_refused_line)
 
--- what a turn, a `show` or a `drain` leads to in a world, or none where it names no lock or is none
--- of these
+-- the effect of a turn, a `show` or a `drain` in a world, or none where it names no lock or is none of these
 abbrev pub played : List (List ℕ) → State → Command → Option (Stage × List ℕ)
 played names w (command.TheVariants.Turn t turn) =
     option_map (acted names w t) (action_of names w turn)

@@ -78,7 +78,7 @@ is_lock lock (Some own) = own == lock
 abbrev pub calls : Place → ℕ → Bool
 calls p lock = is_lock lock (lock_of p)
 
--- what a place says of its thread at the lock that it calls
+-- the row of a place at the lock that it calls
 abbrev pub profile : Place → Profile
 profile Idle = blank
 profile (Mutex lock at) = bringing_nobody (mutex_profile at)
@@ -124,7 +124,7 @@ HasKeys (Once lock at) = lock < 2 ^ 63
 HasKeys (Condvar lock at) = (lock < 2 ^ 63) × HasMutexKey at
 HasKeys (Semaphore lock at) = lock < 2 ^ 63
 
--- what a thread does next
+-- the next act of a thread
 abbrev pub act_of : Place → Act
 act_of Idle = act.TheVariants.Rest
 act_of (Mutex lock at) = mutex_act lock at
@@ -200,7 +200,7 @@ ShowsKeys (Once lock at) reply = Unit {0}
 ShowsKeys (Condvar lock at) reply = HasKeys (next_place (Condvar lock at) reply)
 ShowsKeys (Semaphore lock at) reply = Unit {0}
 
--- who owns the lock after an operation on its word that saw this value; permits are shared rights
+-- the owners of the lock after an operation on its word that saw this value; permits are shared rights
 abbrev pub owners_after : Place → ℕ → ℕ → Owners → Owners
 owners_after Idle t seen owners = owners
 owners_after (Mutex lock at) t seen owners = mutex_owners at t seen owners
@@ -219,7 +219,7 @@ shares_after (Once lock at) seen shares = None
 shares_after (Condvar lock at) seen shares = None
 shares_after (Semaphore lock at) seen shares = semaphore_shares at seen shares
 
--- what a thread wants, where it waits
+-- the want of a thread, where it waits
 abbrev pub wants : Place → Option Want
 wants p = or_else (profile_beside p).wants (profile p).wants
 

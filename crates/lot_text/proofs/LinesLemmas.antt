@@ -24,7 +24,7 @@ lines_last b (c ∷ part) h =
     ap (λ t. cond t ([] ∷ lines_of (c ∷ part)) (onto_first b (lines_of (c ∷ part)))) (ne_eqb b 10 (All-head (λ y. y ≢ 10) b (c ∷ part) h))
     ∙ ap (onto_first b) (lines_last c part (All-tail (λ y. y ≢ 10) b (c ∷ part) h))
 
--- what begins the first line, which isn't empty
+-- tells what begins the first line, which isn't empty
 pub record FirstLine (xs part : List ℕ) : Type 0 where
   pub more : List ℕ
   pub lines : List (List ℕ)
@@ -71,7 +71,7 @@ too_long (Some x) (Some y) (d ∷ line) p h long =
     let r = lines_begin d line y h in
     ((d ∷ line) ++ r.more, r.lines, omega (arith, length-append (d ∷ line) r.more), ap lines_of p ∙ r.is)
 
--- what the reader showed could be consumed
+-- the bytes that the reader showed could be consumed
 pub shown_front : (a : Option (List ℕ)) (shown : List ℕ) (n : ℕ) → n ≤ length shown → IfSome a (λ xs. StartsWith xs shown) → (rest : Option (List ℕ)) × Consumes a rest (take n shown)
 shown_front None shown n within front = (None, tt)
 shown_front (Some x) shown n within front =
@@ -88,7 +88,7 @@ may_consume None k shown n within h = tt
 may_consume (Some x) None shown n within h = tt
 may_consume (Some x) (Some m) shown n within h = omega arith
 
--- what the reader showed up to a line feed is consumed with it
+-- the bytes that the reader showed up to a line feed are consumed with it
 pub shown_line : (a b c : Option (List ℕ)) (shown : List ℕ) (n : ℕ) (P : Type 0) → n < length shown → slice_index shown n ≡ 10 → IfSome a (λ xs. StartsWith xs shown) → Keeps a b
     → IfSome a (λ _. P) → IfSome b (λ xs. P → c ≡ Some (drop (n + 1) xs)) → Consumes a c (take n shown ++ 10 ∷ [])
 shown_line None b c shown n P within feed front kept may consumed = tt

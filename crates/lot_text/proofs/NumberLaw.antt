@@ -37,7 +37,7 @@ reads : (cs : List ℕ) (m n : ℕ) → digits_after m cs ≡ Some n → AreDigi
 reads [] m n e = (tt, some_same m n e)
 reads (c ∷ cs) m n e = reads_digit (is_digit c) c cs m n refl e (reads cs (m * 10 + (c - 48)) n)
 
--- what the form says
+-- tells what the form says
 pub record Form (word : List ℕ) : Type 0 where
   some : 0 < length word
   few : length word ≤ 19
@@ -50,7 +50,7 @@ number_form : (b : Bool) (word : List ℕ) (n : ℕ) → has_form word ≡ b →
 number_form true word n d e = (d, sym (ap (λ t. cond t (digits_after 0 word) None) d) ∙ e)
 number_form false word n d e = absurd (none_some n (sym (ap (λ t. cond t (digits_after 0 word) None) d) ∙ e))
 
--- what a number's word is
+-- tells what a number's word is
 pub record IsNumber (word : List ℕ) : Type 0 where
   pub digits : AreDigits word
   pub few : length word ≤ 19

@@ -52,7 +52,7 @@ less_unless_same a b e within = elim (eqb_tells a b) [
   ]
 ]
 
--- what is kept was appended to before
+-- the text that is kept was appended to before
 pub appends_kept : (a b c : Option (List ℕ)) (xs : List ℕ) → Appends a b xs → Keeps b c → Appends a c xs
 appends_kept None b c xs p q = tt
 appends_kept (Some x) None c xs p q = absurd p
@@ -115,7 +115,7 @@ on_err T E P (Err x) e h = h
 pub number_one : (n : ℕ) (a c : Option (List ℕ)) (p q : Held) → n < 10 → Puts a c p q ((48 + n) ∷ []) → Puts a c p q (decimal n)
 number_one n a c p q small h = subst (Puts a c p q) (sym (decimal_digit n small)) h
 
--- what was put so far, with what is left, is the whole
+-- the text put so far, with the rest, is the whole
 pub record Left (a c : Option (List ℕ)) (p q : Held) (left whole : List ℕ) : Type 0 where
   pub text : List ℕ
   pub puts : Puts a c p q text

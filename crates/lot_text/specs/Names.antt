@@ -9,7 +9,7 @@ is_letter c = nat_le 97 c && nat_le c 122
 abbrev pub is_digit : ℕ → Bool
 is_digit c = nat_le 48 c && nat_le c 57
 
--- of lower-case letters and digits
+-- a text of lower-case letters and digits
 abbrev pub are_name_bytes : List ℕ → Bool
 are_name_bytes word = list_all (λ b. is_letter b || is_digit b) word
 

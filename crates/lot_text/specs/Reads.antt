@@ -27,15 +27,14 @@ StartsTooLong (Some xs) = (line : List ℕ) × (lines : List (List ℕ)) × (lin
 abbrev pub TakesPart : Option (List ℕ) → Option (List ℕ) → Type 0
 TakesPart old new = (part : List ℕ) × IsOneLine part × Consumes old new part
 
--- what `read_line` does to the known bytes, where `line` is what it read
+-- the effect of `read_line` on the known bytes, where `line` is what it read
 abbrev pub ReadsLine : Option (List ℕ) → Option (List ℕ) → Reading → List ℕ → Type 0
 ReadsLine old new Line line = TakesLine old new line × (length line ≤ line_len)
 ReadsLine old new TooLong line = StartsTooLong old
 ReadsLine old new End line = IsAtEnd old
 ReadsLine old new Failed line = TakesPart old new
 
--- what one look at the reader's bytes does, where the line read so far grows from `before` to
--- `after`
+-- the effect of one look at the reader's bytes, where the line read so far grows from `before` to `after`
 abbrev pub TakesPiece : Option (List ℕ) → Option (List ℕ) → Piece → List ℕ → List ℕ → Type 0
 TakesPiece old new More before after = (part : List ℕ) × IsOneLine part × Consumes old new part
     × (after ≡ before ++ part) × (length after ≤ line_len)

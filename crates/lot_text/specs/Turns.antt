@@ -37,7 +37,7 @@ BeginsWithTurn text thread turn len = (line : List ℕ) × (rest : List ℕ) × 
     × (len ≡ length line + 1)
     × IsOneLine line × IsTurn line thread turn
 
--- what a line says
+-- the meaning of a line
 abbrev pub Says : Line → List ℕ → Type 0
 Says (lines.Turn thread turn) line = IsTurn line thread turn
 Says lines.Text line = ⊤

@@ -1,8 +1,18 @@
-//! Any number of threads over locks, by a list of steps.
+//! Any number of threads over locks, by a list of steps; and the schedule that drains a world of one
+//! lock, with the laws that it does: a thread in a call ends it, and an owner gives its right up.
 #![tactic(auto)]
 
+pub mod course_laws;
+pub mod drainable;
+pub mod draining;
+mod gains;
+pub mod ground_laws;
+pub mod laws;
+pub mod waiting_laws;
 pub mod world;
 
+pub use drainable::is_drainable;
+pub use draining::schedule;
 pub use lot_machine::{Debt, DebtBook, Debts, Lock, OwnersOf, QueueOf};
 pub use lot_steps::{
     Act, Check, Entry, Fallback, HandOffAt, LockAt, MutexPlace, Next, Op, Owner, Owners, Pending,

@@ -14,14 +14,14 @@ ghost use Rattle.lot_laws.specs.Promises.{IsKept};
 ghost use Rattle.lot_laws.specs.Fair.{IsFair};
 ghost use Rattle.lot_laws.specs.Owing.{OwesSince};
 ghost use Rattle.lot_laws.specs.WorldRuns.{IsWorldRun, Tells, SleepersStay, TouchesOnlyByGoing, TriesAtOnce};
-ghost use Rattle.lot_laws.specs.Solo.{IsUnderWay, HasItsWay, HasWhatItReads, IsBarred, OnlyTries, Rests, EndsAlone, IsSoloRun};
+ghost use Rattle.lot_laws.specs.Solo.{IsUnderWay, IsUnobstructed, HasWhatItReads, IsBarred, OnlyTries, Rests, EndsAlone, IsSoloRun};
 ghost use Rattle.lot_machine.specs.Views.{StandUnder, owners_of, queue_of, debts_of};
-ghost use Rattle.lot_drain.specs.Drains.{IsDrainable, IsDrain};
-ghost use Rattle.lot_drain.specs.Drainable.{is_drainable};
-ghost use Rattle.lot_drain.specs.Schedules.{schedule_of};
+ghost use Rattle.lot_world.specs.Drains.{IsDrainable, IsDrain};
+ghost use Rattle.lot_world.specs.Drainable.{is_drainable};
+ghost use Rattle.lot_world.specs.Schedules.{schedule_of};
 
+use crate::{is_drainable, schedule};
 use core_base::{Fault, Queues, main_key, second_key};
-use lot_drain::{is_drainable, schedule};
 use lot_machine::{DebtBook, Debts, Machine, OwnersOf, QueueOf};
 use lot_steps::{Call, Kind, Outcome, Place, Step, Turn};
 use std::alloc::Global;
@@ -151,14 +151,14 @@ impl<Q: Queues + Drop> World<Q> {
         ensures run { IsSoloRun self.old thread result self.new }
 
         // A call under way ends or sleeps, where nobody else is inside the section that it enters.
-        ensures rests { IsUnderWay self.old thread → HasItsWay self.old thread → Rests result }
+        ensures rests { IsUnderWay self.old thread → IsUnobstructed self.old thread → Rests result }
 
         // And from its beginning: it enters where it may, else sleeps as the last of the queue, or
         // aside where it waits for readers; a try ends; a release ends without its right, and a
         // downgrade with the lesser one.
         ensures ends { (call : Call)
             → place_at self.old thread ≡ first_place (kind_at self.old (lock_in call)) call
-            → HasItsWay self.old thread
+            → IsUnobstructed self.old thread
             → EndsAlone self.old thread (purpose_at (locks_of self.old) call) result self.new }
 
         // A call under way ends, sleeps or is barred, whoever else is inside sections. It is barred

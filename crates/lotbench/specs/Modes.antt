@@ -1,7 +1,7 @@
 -- The names of the modes.
 use Rattle.std.specs.Prelude.{◌≡◌, ◌≢◌, ℕ, List, codes, Option, MatchOption}
 use Rattle.lotbench.specs.declared.plans.Mode.{Mode}
-use Rattle.lotbench.specs.declared.plans.Mode.TheVariants.{RawMutex, RawMutexTry, Mutex, MutexTry, Fair, Many, ManyFair, Remutex, Remutex2, RawRead, RawWrite, Read, Write, RwMix, ReadRecursive, Upgradable, Upgrade, Downgrade, Once, Semaphore, Semaphore2, Notify, NotifyAll, PingPong, Queue}
+use Rattle.lotbench.specs.declared.plans.Mode.TheVariants.{RawMutex, RawMutexTry, Mutex, MutexTry, Fair, Many, ManyFair, Remutex, Remutex2, RawRead, RawWrite, Read, Write, RwMix, ReadRecursive, Upgradable, Upgrade, Downgrade, Once, Semaphore, Semaphore2, Notify, NotifyAll, PingPong, ManyTurns, Queue}
 
 abbrev pub name_of : Mode → List ℕ
 name_of RawMutex = codes "raw_mutex"
@@ -28,6 +28,7 @@ name_of Semaphore2 = codes "semaphore2"
 name_of Notify = codes "notify"
 name_of NotifyAll = codes "notify_all"
 name_of PingPong = codes "pingpong"
+name_of ManyTurns = codes "many_turns"
 name_of Queue = codes "queue"
 
 -- the mode of a name, and none where no mode has it

@@ -35,6 +35,7 @@ pub const MODES: &[Mode] = &[
     Mode::Notify,
     Mode::NotifyAll,
     Mode::PingPong,
+    Mode::ManyTurns,
     Mode::Queue,
 ];
 
@@ -89,6 +90,8 @@ pub enum Mode {
     NotifyAll,
     /// Threads take turns: each waits for its own, and notifies the next.
     PingPong,
+    /// The same by pairs of threads, each pair by a mutex and a condition variable of its own.
+    ManyTurns,
     /// An item goes through a bounded queue, from a half of the threads to the others.
     Queue,
 }
@@ -123,6 +126,7 @@ impl Mode {
             "notify" => Some(Mode::Notify),
             "notify_all" => Some(Mode::NotifyAll),
             "pingpong" => Some(Mode::PingPong),
+            "many_turns" => Some(Mode::ManyTurns),
             "queue" => Some(Mode::Queue),
             _ => None,
         }
@@ -156,6 +160,7 @@ impl Mode {
             Mode::Notify => "notify",
             Mode::NotifyAll => "notify_all",
             Mode::PingPong => "pingpong",
+            Mode::ManyTurns => "many_turns",
             Mode::Queue => "queue",
         }
     }

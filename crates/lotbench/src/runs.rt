@@ -6,10 +6,13 @@ ghost use Rattle.std.specs.Prelude.{◌≡◌, ◌≤◌, IfOk, IfSome, All};
 ghost use Rattle.std.proofs.Props.{props};
 ghost use Rattle.std.specs.Arc.{arc_value};
 ghost use Rattle.crossbeam_utils.specs.Padded.{padded_value};
+ghost use Rattle.lotbench.specs.Desks.{desk_lot};
 ghost use Rattle.parking_lot.specs.Names.{lot_of, lot_of_condvar, lot_of_once, lot_of_rwlock, lot_of_semaphore};
 ghost use Rattle.parking_lot_core.specs.Tokens.{IsTicketOf, IsTokenOf};
 
-use crate::condvars::{DESK, Desk, Way, desk_for, done_at, notify_nobody, work_at};
+use crate::condvars::{
+    DESK, DESKS, Desk, Desks, Way, desk_for, desks_of, done_at, notify_nobody, pair_of, work_at,
+};
 use crate::made::{both, boxed};
 use crate::mutexes::{
     MUTEXES, Mutexes, lock_again, lock_once, lock_raw, lock_value, mutexes_of, try_raw, try_value,
@@ -43,7 +46,7 @@ pub struct Figures {
     pub high: u64,
 }
 
-// Mutexes, rows of them, reader-writer locks, a `Once` that is done, semaphores, and a desk, of one
+// Mutexes, rows of them, reader-writer locks, a `Once` that is done, semaphores, and desks, of one
 // lot.
 #[derive(Drop)]
 struct Bench {
@@ -53,10 +56,12 @@ struct Bench {
     done: Box<Once>,
     semaphores: Box<Semaphores>,
     desk: Box<Desk>,
+    desks: Desks,
     ghost together: { (lot_of_rwlock rwlocks.value.raw ≡ lot_of mutexes.value.raw)
         × (lot_of_once done.value ≡ lot_of mutexes.value.raw)
         × (lot_of_semaphore semaphores.value.one ≡ lot_of mutexes.value.raw)
         × (lot_of_condvar desk.value.filled ≡ lot_of mutexes.value.raw)
+        × All (λ padded. desk_lot (padded_value padded) ≡ lot_of mutexes.value.raw) desks.items
         × All (λ padded. lot_of (padded_value padded) ≡ lot_of mutexes.value.raw) rows.value.plain.items
         × All (λ padded. lot_of (padded_value padded) ≡ lot_of mutexes.value.raw) rows.value.fair.items } by { Prim.hlevel props },
 }
@@ -66,7 +71,7 @@ fn bench_of(
     alloc: Global,
     lot: &Arc<ParkingLot>,
     token: &mut Token,
-    operations: u64,
+    plan: Plan,
 ) -> Result<Bench, Fault>
     requires { IsTokenOf (arc_value lot.now) token.old }
     ensures token { IsTokenOf (arc_value lot.now) token.new }
@@ -77,9 +82,11 @@ fn bench_of(
     let rwlocks = boxed(alloc, rwlocks_of(lot, token));
     let done = boxed(alloc, Once::new_completed(lot, token));
     let semaphores = boxed(alloc, semaphores_of(lot, token));
-    let desk = boxed(alloc, desk_for(lot, token, operations));
+    let desk = boxed(alloc, desk_for(lot, token, plan.operations));
+    let desks = desks_of(alloc, lot, token, plan);
     let locks = both(both(mutexes, rwlocks), both(rows, semaphores));
-    let (((mutexes, rwlocks), (rows, semaphores)), (done, desk)) = both(locks, both(done, desk))?;
+    let others = both(done, both(desk, desks));
+    let (((mutexes, rwlocks), (rows, semaphores)), (done, (desk, desks))) = both(locks, others)?;
     Ok(Bench {
         mutexes,
         rows,
@@ -87,6 +94,7 @@ fn bench_of(
         done,
         semaphores,
         desk,
+        desks,
     })
 }
 
@@ -95,14 +103,14 @@ fn bench_by(
     alloc: Global,
     lot: &Arc<ParkingLot>,
     ticket: Ticket,
-    operations: u64,
+    plan: Plan,
 ) -> (Result<Bench, Fault>, Ticket)
     requires { IsTicketOf (arc_value lot.now) ticket }
     ensures { IfOk result.0 (λ bench. lot_of bench.mutexes.value.raw ≡ arc_value lot.now)
         × IsTicketOf (arc_value lot.now) result.1 }
 {
     let mut token = ticket.enter();
-    let bench = bench_of(alloc, lot, &mut token, operations);
+    let bench = bench_of(alloc, lot, &mut token, plan);
     (bench, token.leave())
 }
 
@@ -115,22 +123,17 @@ fn one_of(lot: &ParkingLot, tickets: &mut Vec<Ticket>) -> Option<Ticket>
 }
 
 // Locks of a lot, who made them, and the tickets of so many other threads.
-fn bench_for(
-    alloc: Global,
-    threads: usize,
-    operations: u64,
-) -> Result<(Bench, Ticket, Vec<Ticket>), Fault>
-    requires { threads ≤ 64 }
+fn bench_for(alloc: Global, plan: Plan) -> Result<(Bench, Ticket, Vec<Ticket>), Fault>
     ensures { IfOk result
         (λ made. IsTicketOf (lot_of made.0.mutexes.value.raw) made.1
         × All (IsTicketOf (lot_of made.0.mutexes.value.raw)) made.2.items) }
 {
-    let words = MUTEXES + ROWS + RWLOCKS + 1 + SEMAPHORES + DESK;
-    let (lot, mut tickets) = ParkingLot::new(alloc, words, threads + 1)?;
+    let words = MUTEXES + ROWS + RWLOCKS + 1 + SEMAPHORES + DESK + DESKS;
+    let (lot, mut tickets) = ParkingLot::new(alloc, words, plan.threads + 1)?;
     let Some(maker) = one_of(&lot, &mut tickets) else {
         return Err(Fault::NoMemory);
     };
-    let (bench, maker) = bench_by(alloc, &lot, maker, operations);
+    let (bench, maker) = bench_by(alloc, &lot, maker, plan);
     Ok((bench?, maker, tickets))
 }
 
@@ -178,7 +181,7 @@ fn operate<R: Wait>(rt: &R, mode: Mode, bench: &Bench, token: &mut Token, times:
         Mode::Semaphore2 => hold_permit(rt, &bench.semaphores.two, token, times),
         Mode::Notify => notify_nobody(rt, &bench.desk.filled, token, times),
         // These share no operations in batches.
-        Mode::NotifyAll | Mode::PingPong | Mode::Queue => (),
+        Mode::NotifyAll | Mode::PingPong | Mode::ManyTurns | Mode::Queue => (),
     }
 }
 
@@ -186,9 +189,20 @@ fn operate<R: Wait>(rt: &R, mode: Mode, bench: &Bench, token: &mut Token, times:
 fn way_of(mode: Mode) -> Option<Way> {
     match mode {
         Mode::NotifyAll => Some(Way::Meet),
-        Mode::PingPong => Some(Way::TakeTurns),
+        Mode::PingPong | Mode::ManyTurns => Some(Way::TakeTurns),
         Mode::Queue => Some(Way::Queue),
         _ => None,
+    }
+}
+
+// Returns the desk at which a thread works, and how many work there.
+fn desk_of(plan: Plan, bench: &Bench, number: usize) -> (&Desk, u64)
+    ensures { lot_of_condvar result.0.now.filled ≡ lot_of bench.now.mutexes.value.raw }
+{
+    let (pair, threads) = pair_of(plan, number);
+    match bench.desks.get(pair) {
+        Some(desk) if plan.mode == Mode::ManyTurns => (desk, threads),
+        _ => (&bench.desk, plan.threads as u64),
     }
 }
 
@@ -199,7 +213,8 @@ fn work<R: Wait>(rt: &R, plan: Plan, bench: &Bench, ticket: Ticket, shares: &Sha
     let mode = plan.mode;
     let mut token = ticket.enter();
     if let Some(way) = way_of(mode) {
-        let done = work_at(rt, &bench.desk, &mut token, way, plan.threads as u64);
+        let (desk, threads) = desk_of(plan, bench, token.number());
+        let done = work_at(rt, desk, &mut token, way, threads);
         drop(token.leave());
         return done;
     }
@@ -242,6 +257,7 @@ fn total_of<R: Wait>(rt: &R, mode: Mode, bench: &Bench, maker: Ticket, counts: &
         | Mode::Once
         | Mode::Semaphore
         | Mode::Semaphore2
+        | Mode::ManyTurns
         | Mode::Notify => counts
             .iter()
             .fold(0u64, |all, count| all.saturating_add(*count)),
@@ -287,15 +303,10 @@ pub fn carry_out<R: Threads + Wait + Sync + Clock>(
     alloc: Global,
     plan: Plan,
 ) -> Result<io::Result<Figures>, Fault> {
-    let Plan {
-        mode,
-        threads,
-        operations,
-    } = plan;
-    let (bench, maker, tickets) = bench_for(alloc, threads, operations)?;
+    let (bench, maker, tickets) = bench_for(alloc, plan)?;
     match time_work(rt, plan, &bench, tickets)? {
         Ok((nanos, counts)) => {
-            let answer = total_of(rt, mode, &bench, maker, counts.as_slice());
+            let answer = total_of(rt, plan.mode, &bench, maker, counts.as_slice());
             Ok(Ok(figures_of(nanos, answer, counts.as_slice())))
         }
         Err(e) => Ok(Err(e)),

@@ -22,7 +22,7 @@ pub(crate) const NO_MEMORY: u8 = 3;
 pub(crate) const BROKEN: u8 = 4;
 
 const USAGE: &str =
-    "usage: lotbench raw_mutex|raw_mutex_try|mutex|mutex_try|fair|many|many_fair|remutex|remutex2|raw_read|raw_write|read|write|rw_mix|read_recursive|upgradable|upgrade|downgrade|once|semaphore|semaphore2|notify|notify_all|pingpong|queue THREADS N, lotbench each, lotbench lot SEATS, or lotbench least look|take|hold|hold_told N";
+    "usage: lotbench raw_mutex|raw_mutex_try|mutex|mutex_try|fair|many|many_fair|remutex|remutex2|raw_read|raw_write|read|write|rw_mix|read_recursive|upgradable|upgrade|downgrade|once|semaphore|semaphore2|notify|notify_all|pingpong|many_turns|queue THREADS N, lotbench each, lotbench lot SEATS, or lotbench least look|take|hold|hold_told N";
 
 /// Does what the arguments ask for, and gives the status of the process.
 pub(crate) fn start<R: Threads + Wait + Sync + Clock + Print + Eprint>(

@@ -3,10 +3,10 @@
 
 pub use core_base::{ListQueues, LockPicker, Pick, Picker, Queues, Waiter};
 pub use core_queues::BucketQueues;
-pub use core_team::Team;
 pub use lock_api;
 pub use lock_api::{GetThreadId, WaitTimeoutResult, advance_count};
 pub use lock_api_rw;
+pub use lock_monitor::Team;
 pub use lock_values::{LockName, Mapped, Project, Shown, Then, ThenError};
 pub use lot_world;
 pub use parking_lot_core::{
@@ -19,8 +19,7 @@ pub use raw_mutexes::{
 pub use raw_rwlocks::{
     RawExclusiveGuard, RawRwLock, RawRwLockRecursive, RawSharedGuard, RawUpgradableGuard,
 };
-pub use run_once::{Once, OnceCell, OnceFault, OnceShown, OnceState};
-pub use run_semaphore::{Permit, Semaphore};
+pub use run_signals::{Once, OnceCell, OnceFault, OnceShown, OnceState, Permit, Semaphore};
 pub use spec_locks::{
     Access, Answer, Call, CondvarCall, Downgrade, Kind, MutexCall, OnceCall, Patience, RwLockCall,
     SemaphoreCall,

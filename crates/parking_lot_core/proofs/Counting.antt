@@ -18,7 +18,7 @@ has_first x xs = ap (λ b. b || has x xs) (is_itself x)
 without_first : (x : Ownership) (xs : List Ownership) → without x (x ∷ xs) ≡ xs
 without_first x xs = ap (λ b. cond b xs (x ∷ without x xs)) (is_itself x)
 
--- who takes an ownership in has it
+-- a thread that takes an ownership in has it
 pub taken_in : (x : Ownership) (v w : View) → w ≡ takes_in v (piece x) → has x w.owns ≡ true
 taken_in x v w is = subst (λ (u : View). has x u.owns ≡ true) (sym is) (has_first x v.owns)
 
@@ -33,7 +33,7 @@ module _ (m n said next : ℕ) (behind : n ≡ m + 1) (other : said ≢ next) wh
       ∙ ap (λ os. x next ∷ os) (without_first (x said) owns))
 
   module _ (v w u : View) (joined : w ≡ takes_in v (piece (x said))) (stepped : u ≡ after_step Count (word_index n Count) (Store next) said w) where
-    -- behind the store the thread says the new count
+    -- after the store the thread says the new count
     said_behind : u ≡ view (listed v (word_index n Count) (Store next) said) (x next ∷ v.owns) v.drawn v.saw
     said_behind = stepped ∙ (ap (λ (y : View). after_step Count (word_index n Count) (Store next) said y) joined
         ∙ ap (λ os. view (listed v (word_index n Count) (Store next) said) os v.drawn v.saw) (says v.owns))
@@ -46,7 +46,7 @@ module _ (m n said next : ℕ) (behind : n ≡ m + 1) (other : said ≢ next) wh
     splits_next = ap (λ (y : View). left_over (x next) y) said_behind
         ∙ ap (λ os. view (listed v (word_index n Count) (Store next) said) os v.drawn v.saw) (without_first (x next) v.owns)
 
--- behind a look at the count the thread says what it said
+-- after a look at the count the thread says what it said
 module _ (m n said : ℕ) (v w u : View) (joined : w ≡ takes_in v (piece (owning_with (word_index m Mutex) said))) (stepped : u ≡ after_step Count (word_index n Count) Load said w) where
   abbrev kept : Ownership
   kept = owning_with (word_index m Mutex) said

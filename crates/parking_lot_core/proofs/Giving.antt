@@ -18,7 +18,7 @@ less [] xs = xs
 less (t ∷ ts) xs = less ts (filter (λ x. not (x == t)) xs)
 
 module _ (p q : ℕ → Bool) where
-  -- of a first element and the rest, by whether each test passes it
+  -- for a first element and the rest, by whether each test passes it
   passes : Bool → Bool → ℕ → List ℕ → List ℕ
   passes a b x xs = cond a (cond b (x ∷ xs) xs) xs
 

@@ -16,7 +16,7 @@ abbrev pub owner_at : Word → ℕ → List Want → ℕ → Owner
 owner_at word left wanted place =
     owner_given word.kind left (slice_index_or wanted place wants.Exclusive)
 
--- what is owned has a right for each of them
+-- the ownership has a right for each of them
 abbrev pub HasEach : Word → ℕ → List Want → List Ownership → Type 0
 HasEach word left wanted owns =
     HasAll (word_index word.number word.kind) (owners_given word.kind left wanted) owns

@@ -24,7 +24,7 @@ waiting_in section = both (first_in section) (others_in section)
 abbrev pub taken_in : Section → List ℕ
 taken_in section = (mutex_guard_value section.first).taken.items
 
--- what each of them wants
+-- the want of each of them
 abbrev pub wants_in : Section → List Want
 wants_in section = (mutex_guard_value section.first).wants.items
 

@@ -10,13 +10,13 @@ use Rattle.parking_lot_core.specs.declared.lot.ParkingLot.{ParkingLot}
 use Rattle.parking_lot_core.specs.declared.sleep.Slept.{Slept}
 use Rattle.parking_lot_core.specs.declared.sleep.Slept.TheVariants.{Woken, Handed, Late}
 
--- what was handed over is a right of the lot, for the word and the want
+-- the thing handed over is a right of the lot, for the word and the want
 abbrev pub IsWoken : ParkingLot → Word → Want → Slept → Type 0
 IsWoken _ _ _ Woken = Unit {0}
 IsWoken lot word wanted (Handed right) = IsRightOf lot.words right × IsFor word wanted right
 IsWoken _ _ _ (Late _ _) = ⊥
 
--- who gave up is inside the section of the key where it stands
+-- a thread that gave up is inside the section of the key where it stands
 abbrev pub IsLate : ParkingLot → ℕ → Slept → Type 0
 IsLate _ _ Woken = ⊥
 IsLate _ _ (Handed _) = ⊥

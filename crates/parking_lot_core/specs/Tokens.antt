@@ -15,7 +15,7 @@ IsTicketOf lot ticket = IsSeatOf lot.words ticket.seat × (ticket.number < lot.r
 abbrev pub IsTokenOf : ParkingLot → Token → Type 0
 IsTokenOf lot token = IsSeatOf lot.words token.seat × (token.number < lot.records.count)
 
--- what a thread has done, and what it owns
+-- the steps that a thread has taken, and its ownership
 unfoldable pub view_of : Token → View
 view_of token = shown token.seat.me.0
 
@@ -24,7 +24,7 @@ view_of token = shown token.seat.me.0
 abbrev pub out_of : Token → List ℕ
 out_of token = token.seat.me.0.out
 
--- what it did in the section that it left last, if it has taken no step since
+-- the record of the section that it left last, if it has taken no step since
 abbrev pub last_of : Token → Option SectionRecord
 last_of token = if token.expected.unlocked == 0 then None else Some token.record
 

@@ -47,7 +47,7 @@ module _ {G : Type 0} (guard : G) where
       by_time true e = subst (λ (a : Answer). IsLate (ended a guard) passed) (sym e) (λ yes. late e)
       by_time false e = subst (λ (a : Answer). IsLate (ended a guard) passed) (sym e) (λ yes. absurd (let no : false ≡ true = yes in cc))
 
--- who tells that its time was up says so of its clock
+-- a thread that tells that its time was up says so of its clock
 pub late_of : (up : Type 0) (timed late : Bool) (answer : Answer) → answer ≡ waited timed late → LateIf up timed late → answer ≡ TimedOut → up
 late_of up timed true answer told late e = late.1
 late_of up true false answer told late e = absurd (let k : waited true false ≡ TimedOut = sym told ∙ e in cc)
@@ -66,7 +66,7 @@ module _ (up : Type 0) (m : ℕ) (timed : Bool) (base : List Ownership) (answer 
     | inr told ↦ late_of up timed told.0 answer told.1 told.2 e
   ]
 
--- what a notification moved, from its first look on
+-- tells what a notification moved, from its first look on
 module _ (words c first : ℕ) (before old new : Token) (looked : HasLooked words c first before old) where
   saw_else : LookedElse c first (steps_of old) new → SawNobody c before new
   saw_else other = inr (first, subst (λ (steps : List WordStep). LookedElse c first steps new) looked.0 other)

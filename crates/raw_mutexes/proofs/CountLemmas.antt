@@ -13,7 +13,7 @@ use Rattle.raw_mutexes.specs.Counting.{looks}
 pub times_of : (t g said : ℕ) → said ≡ (t + 1) * 4294967296 + g → g < 4294967296 → said % 4294967296 ≡ g
 times_of t g said is few = omega (arith, is, few)
 
--- what says this many shares of the mutex that is kept there is kept for as many
+-- an ownership that says this many shares of the mutex kept there is kept for as many
 kept_at : (words key : LotWords) (m n at : ℕ) (new : Kept) (t g : ℕ) → key ≡ words → at ≡ n → n ≡ m → IsCountedOf words m new.said new.counted → g < 4294967296
     → new.said ≡ (t + 1) * 4294967296 + g → IsKept key at new g
 kept_at words key m n at new t g same here number counted few said =
@@ -43,7 +43,7 @@ less_kept words key m n at kept new g same here number some is several counted =
     let left = counted.1 in let two : 1 < g = omega (arith, some, several, times) in
     (omega (arith, two), kept_at words key m n at new t (g - 1) same here number counted.0 (omega (arith, few)) (omega (arith, said, left, two)))
 
--- who counts once more, or once less, is named as before
+-- a thread that counts once more, or once less, is named as before
 pub more_named : (said seen next new found : ℕ) → said ≡ seen → next ≡ seen + 1 → times_in seen < 4294967295 → new ≡ next → said / 4294967296 ≡ found → new / 4294967296 ≡ found
 more_named said seen next new found saw more below left is = omega (arith, saw, more, below, left, is)
 

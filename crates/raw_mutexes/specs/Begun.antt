@@ -10,7 +10,7 @@ use Rattle.core_words.specs.declared.owners.Ownership.{Ownership}
 use Rattle.run_locks.specs.MutexCourses.{locked_and_parked}
 use Rattle.parking_lot_core.specs.declared.tokens.Token.{Token}
 
--- what the thread owns between, of who owned these beside the guard that it spends: who is to hand
+-- the ownership between, of a thread that owned these beside the guard that it spends: one that is to hand
 -- the mutex over has it still
 abbrev pub owns_between : ℕ → MutexCall → List Ownership → List Ownership
 owns_between n UnlockFair owns = held n ∷ owns

@@ -20,7 +20,7 @@ use crate::raw_mutex::RawMutex;
 use core_base::main_key;
 use parking_lot_core::{Clock, Fault, Key, ParkingLot, Token, Word, WordKind, to_deadline};
 use run_base::driver::NO_LIMIT;
-use run_locks::condvar_calls::{begin_notify, notify_behind, wait};
+use run_locks::condvar_calls::{notify_fast, notify_slow, wait};
 use spec_locks::Answer;
 use std::sync::{Arc, Wait};
 use std::time::Duration;
@@ -118,7 +118,7 @@ impl RawCondvar {
             → Notifies (word_of self.now).number all result (steps_of before) (steps_of token.new) }
         ensures record { TellsMoved (word_of self.now).number all seen result token.old token.new }
     {
-        notify_behind(rt, &self.lot, token, self.word, all, seen)
+        notify_slow(rt, &self.lot, token, self.word, all, seen)
     }
 }
 
@@ -160,16 +160,16 @@ impl lock_raw::RawCondvar for RawCondvar {
     }
 
     #[inline]
-    fn begin_notify(&self, token: &mut Token) -> u64 {
-        begin_notify(&self.lot, token, self.word)
+    fn notify_fast(&self, token: &mut Token) -> u64 {
+        notify_fast(&self.lot, token, self.word)
     }
 
-    fn notify_one_behind<R: Wait>(&self, rt: &R, token: &mut Token, seen: u64) -> bool {
+    fn notify_one_slow<R: Wait>(&self, rt: &R, token: &mut Token, seen: u64) -> bool {
         let answer = self.notify_rest(rt, token, false, seen);
         matches!(answer, Answer::Yes)
     }
 
-    fn notify_all_behind<R: Wait>(&self, rt: &R, token: &mut Token, seen: u64) -> usize {
+    fn notify_all_slow<R: Wait>(&self, rt: &R, token: &mut Token, seen: u64) -> usize {
         match self.notify_rest(rt, token, true, seen) {
             Answer::Number(number) => number,
             // A notification of all answers a number.

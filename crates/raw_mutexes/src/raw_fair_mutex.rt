@@ -129,12 +129,12 @@ impl lock_raw::RawMutex for RawFairMutex {
     }
 
     #[inline]
-    fn begin_lock(&self, token: &mut Token) -> Result<RawGuard, u64> {
-        lock_raw::RawMutex::begin_lock(&self.raw, token)
+    fn lock_fast(&self, token: &mut Token) -> Result<RawGuard, u64> {
+        lock_raw::RawMutex::lock_fast(&self.raw, token)
     }
 
-    fn lock_behind<R: Wait>(&self, rt: &R, token: &mut Token, seen: u64) -> RawGuard {
-        lock_raw::RawMutex::lock_behind(&self.raw, rt, token, seen)
+    fn lock_slow<R: Wait>(&self, rt: &R, token: &mut Token, seen: u64) -> RawGuard {
+        lock_raw::RawMutex::lock_slow(&self.raw, rt, token, seen)
     }
 
     #[inline]
@@ -143,11 +143,11 @@ impl lock_raw::RawMutex for RawFairMutex {
     }
 
     #[inline]
-    fn begin_unlock(&self, lot: &ParkingLot, token: &mut Token, guard: RawGuard) -> Option<u64> {
-        self.raw.begin_unlock_fair(lot, token, guard)
+    fn unlock_fast(&self, lot: &ParkingLot, token: &mut Token, guard: RawGuard) -> Option<u64> {
+        self.raw.unlock_fair_fast(lot, token, guard)
     }
 
-    fn unlock_behind<R: Wait>(&self, rt: &R, token: &mut Token, seen: u64) {
+    fn unlock_slow<R: Wait>(&self, rt: &R, token: &mut Token, seen: u64) {
         self.raw.unlock_fair_behind(rt, token, seen);
     }
 

@@ -27,8 +27,8 @@ use core_base::main_key;
 use parking_lot_core::{
     Clock, Fault, Key, Op, ParkingLot, Permit, Token, Word, WordKind, to_deadline,
 };
-use run_base::driver::{NO_LIMIT, behind, step};
-use run_locks::unlocks::unlock_behind;
+use run_base::driver::{NO_LIMIT, call_slow, step};
+use run_locks::unlocks::unlock_slow;
 use spec_locks::{Answer, MutexCall};
 use std::sync::{Arc, Wait};
 use std::time::Duration;
@@ -86,7 +86,7 @@ impl RawMutex {
     // Takes the first step of a fair release, and returns the value seen where the thread still
     // owns the mutex.
     #[inline]
-    pub(crate) fn begin_unlock_fair(
+    pub(crate) fn unlock_fair_fast(
         &self,
         lot: &ParkingLot,
         token: &mut Token,
@@ -142,13 +142,13 @@ impl RawMutex {
             (purpose_in call) result
             (stage_of token.new None) }
     {
-        behind(rt, &self.lot, token, self.word, NO_LIMIT, call, seen)
+        call_slow(rt, &self.lot, token, self.word, NO_LIMIT, call, seen)
     }
 
     // The rest of a bump, whose first step saw a waiter. The thread owns the mutex.
     #[cold]
     #[inline(never)]
-    fn bump_behind<R: Wait>(&self, rt: &R, token: &mut Token, seen: u64) -> RawGuard
+    fn bump_slow<R: Wait>(&self, rt: &R, token: &mut Token, seen: u64) -> RawGuard
         requires token { IsTokenOf (lot_of self.now) token.old }
         requires begun { (before : Token)
             × HasBegun (word_of self.now).number Bump seen before token.old }
@@ -175,7 +175,7 @@ impl RawMutex {
         ensures over { IsMutexOver ⊥ (word_of self.now).number (owns_of token.old) releases ok
             (stage_of token.new None) }
     {
-        unlock_behind(rt, &self.lot, token, self.word);
+        unlock_slow(rt, &self.lot, token, self.word);
     }
 
     #[inline]
@@ -224,7 +224,7 @@ impl RawMutex {
         ensures late { IfNone result (IsUp C.tells limit.entry) }
     {
         let lot: &ParkingLot = &self.lot;
-        let answer = behind(rt, lot, token, self.word, limit, MutexCall::LockTimed, seen);
+        let answer = call_slow(rt, lot, token, self.word, limit, MutexCall::LockTimed, seen);
         if matches!(answer, Answer::No) {
             return None;
         }
@@ -288,9 +288,9 @@ impl lock_raw::RawMutex for RawMutex {
 
     #[inline]
     fn lock<R: Wait>(&self, rt: &R, token: &mut Token) -> RawGuard {
-        match self.begin_lock(token) {
+        match self.lock_fast(token) {
             Ok(guard) => guard,
-            Err(seen) => self.lock_behind(rt, token, seen),
+            Err(seen) => self.lock_slow(rt, token, seen),
         }
     }
 
@@ -305,8 +305,8 @@ impl lock_raw::RawMutex for RawMutex {
 
     #[inline]
     fn unlock<R: Wait>(&self, rt: &R, token: &mut Token, guard: RawGuard) {
-        if let Some(seen) = self.begin_unlock(&self.lot, token, guard) {
-            self.unlock_behind(rt, token, seen);
+        if let Some(seen) = self.unlock_fast(&self.lot, token, guard) {
+            self.unlock_slow(rt, token, seen);
         }
     }
 
@@ -328,7 +328,7 @@ impl lock_raw::RawMutex for RawMutex {
     }
 
     #[inline]
-    fn begin_lock(&self, token: &mut Token) -> Result<RawGuard, u64> {
+    fn lock_fast(&self, token: &mut Token) -> Result<RawGuard, u64> {
         match self.lot.enter_open(token, self.word) {
             Ok((opened, permit)) => Ok(RawGuard { opened, permit }),
             Err(seen) => Err(seen),
@@ -337,7 +337,7 @@ impl lock_raw::RawMutex for RawMutex {
 
     #[cold]
     #[inline(never)]
-    fn lock_behind<R: Wait>(&self, rt: &R, token: &mut Token, seen: u64) -> RawGuard {
+    fn lock_slow<R: Wait>(&self, rt: &R, token: &mut Token, seen: u64) -> RawGuard {
         self.go_on(rt, token, MutexCall::Lock, seen);
         self.split(&self.lot, token)
     }
@@ -348,7 +348,7 @@ impl lock_raw::RawMutex for RawMutex {
     }
 
     #[inline]
-    fn begin_unlock(&self, lot: &ParkingLot, token: &mut Token, guard: RawGuard) -> Option<u64> {
+    fn unlock_fast(&self, lot: &ParkingLot, token: &mut Token, guard: RawGuard) -> Option<u64> {
         let RawGuard { opened, permit } = guard;
         // An owner finds one of two values. The flags of the subtraction tell them apart, so the
         // value isn't asked for.
@@ -358,7 +358,7 @@ impl lock_raw::RawMutex for RawMutex {
         Some(LOCKED | PARKED)
     }
 
-    fn unlock_behind<R: Wait>(&self, rt: &R, token: &mut Token, _seen: u64) {
+    fn unlock_slow<R: Wait>(&self, rt: &R, token: &mut Token, _seen: u64) {
         self.wake_first(rt, token);
     }
 
@@ -375,7 +375,7 @@ impl lock_raw::RawMutex for RawMutex {
 impl lock_raw::RawMutexFair for RawMutex {
     #[inline]
     fn unlock_fair<R: Wait>(&self, rt: &R, token: &mut Token, guard: RawGuard) {
-        if let Some(seen) = self.begin_unlock_fair(&self.lot, token, guard) {
+        if let Some(seen) = self.unlock_fair_fast(&self.lot, token, guard) {
             self.unlock_fair_behind(rt, token, seen);
         }
     }
@@ -387,7 +387,7 @@ impl lock_raw::RawMutexFair for RawMutex {
             return guard;
         }
         self.join(&self.lot, token, guard);
-        self.bump_behind(rt, token, seen)
+        self.bump_slow(rt, token, seen)
     }
 }
 

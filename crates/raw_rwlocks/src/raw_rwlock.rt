@@ -153,10 +153,10 @@ impl<const RECURSIVE: bool> lock_raw::RawRwLock for RawRwLock<RECURSIVE> {
 
     #[inline(always)]
     fn lock_shared<R: Wait>(&self, rt: &R, token: &mut Token) -> Result<RawSharedGuard, Fault> {
-        match self.begin_lock_shared(token) {
+        match self.lock_shared_fast(token) {
             Ok(Ok(guard)) => Ok(guard),
             Ok(Err(fault)) => Err(fault),
-            Err(rest) => self.lock_shared_behind(rt, token, rest),
+            Err(rest) => self.lock_shared_slow(rt, token, rest),
         }
     }
 
@@ -178,16 +178,16 @@ impl<const RECURSIVE: bool> lock_raw::RawRwLock for RawRwLock<RECURSIVE> {
 
     #[inline]
     fn unlock_shared<R: Wait>(&self, rt: &R, token: &mut Token, guard: RawSharedGuard) {
-        if let Some(rest) = self.begin_unlock_shared(token, guard) {
-            self.unlock_behind(rt, token, Access::Shared, rest);
+        if let Some(rest) = self.unlock_shared_fast(token, guard) {
+            self.unlock_slow(rt, token, Access::Shared, rest);
         }
     }
 
     #[inline]
     fn lock_exclusive<R: Wait>(&self, rt: &R, token: &mut Token) -> RawExclusiveGuard {
-        match self.begin_lock_exclusive(token) {
+        match self.lock_exclusive_fast(token) {
             Ok(guard) => guard,
-            Err(rest) => self.lock_exclusive_behind(rt, token, rest),
+            Err(rest) => self.lock_exclusive_slow(rt, token, rest),
         }
     }
 
@@ -199,13 +199,13 @@ impl<const RECURSIVE: bool> lock_raw::RawRwLock for RawRwLock<RECURSIVE> {
 
     #[inline]
     fn unlock_exclusive<R: Wait>(&self, rt: &R, token: &mut Token, guard: RawExclusiveGuard) {
-        if let Some(rest) = self.begin_unlock_exclusive(token, guard) {
-            self.unlock_behind(rt, token, Access::Exclusive, rest);
+        if let Some(rest) = self.unlock_exclusive_fast(token, guard) {
+            self.unlock_slow(rt, token, Access::Exclusive, rest);
         }
     }
 
     #[inline(always)]
-    fn begin_lock_shared(&self, token: &mut Token) -> Result<Result<RawSharedGuard, Fault>, Rest> {
+    fn lock_shared_fast(&self, token: &mut Token) -> Result<Result<RawSharedGuard, Fault>, Rest> {
         match self
             .lock
             .enter_fast(token, FOR_EVER, Access::Shared, Patience::Patient)
@@ -218,7 +218,7 @@ impl<const RECURSIVE: bool> lock_raw::RawRwLock for RawRwLock<RECURSIVE> {
     }
 
     #[inline(always)]
-    fn lock_shared_behind<R: Wait>(
+    fn lock_shared_slow<R: Wait>(
         &self,
         rt: &R,
         token: &mut Token,
@@ -236,7 +236,7 @@ impl<const RECURSIVE: bool> lock_raw::RawRwLock for RawRwLock<RECURSIVE> {
     }
 
     #[inline(always)]
-    fn begin_lock_exclusive(&self, token: &mut Token) -> Result<RawExclusiveGuard, Rest> {
+    fn lock_exclusive_fast(&self, token: &mut Token) -> Result<RawExclusiveGuard, Rest> {
         match self
             .lock
             .enter_fast(token, FOR_EVER, Access::Exclusive, Patience::Patient)
@@ -248,7 +248,7 @@ impl<const RECURSIVE: bool> lock_raw::RawRwLock for RawRwLock<RECURSIVE> {
     }
 
     #[inline(always)]
-    fn lock_exclusive_behind<R: Wait>(
+    fn lock_exclusive_slow<R: Wait>(
         &self,
         rt: &R,
         token: &mut Token,
@@ -265,19 +265,19 @@ impl<const RECURSIVE: bool> lock_raw::RawRwLock for RawRwLock<RECURSIVE> {
     }
 
     #[inline(always)]
-    fn begin_unlock_shared(&self, token: &mut Token, guard: RawSharedGuard) -> Option<Rest> {
+    fn unlock_shared_fast(&self, token: &mut Token, guard: RawSharedGuard) -> Option<Rest> {
         let RawSharedGuard { right } = guard;
         self.lock.release_fast(token, Access::Shared, right)
     }
 
     #[inline(always)]
-    fn begin_unlock_exclusive(&self, token: &mut Token, guard: RawExclusiveGuard) -> Option<Rest> {
+    fn unlock_exclusive_fast(&self, token: &mut Token, guard: RawExclusiveGuard) -> Option<Rest> {
         let RawExclusiveGuard { right } = guard;
         self.lock.release_fast(token, Access::Exclusive, right)
     }
 
     #[inline(always)]
-    fn unlock_behind<R: Wait>(&self, rt: &R, token: &mut Token, access: Access, rest: Rest) {
+    fn unlock_slow<R: Wait>(&self, rt: &R, token: &mut Token, access: Access, rest: Rest) {
         self.lock.release_slow(rt, token, access, rest);
     }
 
@@ -375,10 +375,10 @@ impl<const RECURSIVE: bool> lock_raw::RawRwLockUpgrade for RawRwLock<RECURSIVE> 
         rt: &R,
         token: &mut Token,
     ) -> Result<RawUpgradableGuard, Fault> {
-        match self.begin_lock_upgradable(token) {
+        match self.lock_upgradable_fast(token) {
             Ok(Ok(guard)) => Ok(guard),
             Ok(Err(fault)) => Err(fault),
-            Err(rest) => self.lock_upgradable_behind(rt, token, rest),
+            Err(rest) => self.lock_upgradable_slow(rt, token, rest),
         }
     }
 
@@ -400,13 +400,13 @@ impl<const RECURSIVE: bool> lock_raw::RawRwLockUpgrade for RawRwLock<RECURSIVE> 
 
     #[inline]
     fn unlock_upgradable<R: Wait>(&self, rt: &R, token: &mut Token, guard: RawUpgradableGuard) {
-        if let Some(rest) = self.begin_unlock_upgradable(token, guard) {
+        if let Some(rest) = self.unlock_upgradable_fast(token, guard) {
             self.lock.release_slow(rt, token, Access::Upgradable, rest);
         }
     }
 
     #[inline(always)]
-    fn begin_lock_upgradable(
+    fn lock_upgradable_fast(
         &self,
         token: &mut Token,
     ) -> Result<Result<RawUpgradableGuard, Fault>, Rest> {
@@ -422,7 +422,7 @@ impl<const RECURSIVE: bool> lock_raw::RawRwLockUpgrade for RawRwLock<RECURSIVE> 
     }
 
     #[inline(always)]
-    fn lock_upgradable_behind<R: Wait>(
+    fn lock_upgradable_slow<R: Wait>(
         &self,
         rt: &R,
         token: &mut Token,
@@ -440,11 +440,7 @@ impl<const RECURSIVE: bool> lock_raw::RawRwLockUpgrade for RawRwLock<RECURSIVE> 
     }
 
     #[inline(always)]
-    fn begin_unlock_upgradable(
-        &self,
-        token: &mut Token,
-        guard: RawUpgradableGuard,
-    ) -> Option<Rest> {
+    fn unlock_upgradable_fast(&self, token: &mut Token, guard: RawUpgradableGuard) -> Option<Rest> {
         let RawUpgradableGuard { right } = guard;
         self.lock.release_fast(token, Access::Upgradable, right)
     }

@@ -32,7 +32,7 @@ use core_base::{main_key, second_key};
 use core_words::LotWords;
 use parking_lot_core::{Clock, Fault, Held, Key, Op, ParkingLot, Token, Want, Word, WordKind};
 use run_base::driver::FOR_EVER;
-use run_locks::rwlock_calls::{Rest, behind, call, call_fast, missed};
+use run_locks::rwlock_calls::{Rest, call, call_fast, call_slow, missed};
 use run_locks::rwlock_courses::{Settings, greater, lesser};
 use run_locks::rwlock_fair_calls::{bump, release_exclusive, release_upgradable};
 use spec_locks::{Access, Answer, Downgrade, Patience};
@@ -233,7 +233,7 @@ impl LotRwLock {
         let purpose = RwLockPurpose::Enter { access, patience };
         match rest {
             Rest::GoesOn(seen) => {
-                let answer = behind(rt, lot, token, word, admission, limit, purpose, seen);
+                let answer = call_slow(rt, lot, token, word, admission, limit, purpose, seen);
                 self.entered(lot, token, limit, access, patience, answer)
             }
             Rest::Missed { seen, found } => {
@@ -349,7 +349,7 @@ impl LotRwLock {
         let purpose = RwLockPurpose::Release(access);
         match rest {
             Rest::GoesOn(seen) => {
-                behind(rt, lot, token, word, admission, FOR_EVER, purpose, seen);
+                call_slow(rt, lot, token, word, admission, FOR_EVER, purpose, seen);
             }
             Rest::Missed { seen, found } => {
                 missed(

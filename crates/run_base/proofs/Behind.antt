@@ -26,7 +26,7 @@ use Rattle.core_words.specs.declared.words.Word.{Word}
 use Rattle.core_words.specs.declared.words.WordKind as kinds
 use Rattle.parking_lot_core.specs.declared.tokens.SectionRecord.{SectionRecord}
 use Rattle.run_base.specs.Calls.{beginning, first_op, purpose_in, saw_waiter, IsUnfinished, Releases, TookIfParked}
-use Rattle.run_base.specs.Fitting.{of_mutex, aim_of, AreWordsFor, Fits, IsOver, IsStopped}
+use Rattle.run_base.specs.Fitting.{of_mutex, call_purpose, AreWordsFor, Fits, IsOver, IsStopped}
 use Rattle.run_base.specs.declared.driver.Stop.TheVariants.{Paused}
 use Rattle.run_base.proofs.Ending.{never_paused}
 use Rattle.spec_locks.specs.declared.outcomes.OnceState.{OnceState}
@@ -76,7 +76,7 @@ module _ (n : ℕ) where
   fits_there up call.UnlockFair seen owns last steps g = (g.1, (refl, refl))
   fits_there up call.Bump seen owns last steps g = (g.1, (refl, refl))
 
-  same_aim : (c : MutexCall) → aim_of (Mutex n (rest c)) ≡ of_mutex n (purpose_in c)
+  same_aim : (c : MutexCall) → call_purpose (Mutex n (rest c)) ≡ of_mutex n (purpose_in c)
   same_aim call.Lock = refl
   same_aim call.LockTimed = refl
   same_aim call.TryLock = refl
@@ -119,11 +119,11 @@ module _ (n : ℕ) where
   pub fits_behind : (up : Type 0) (c : MutexCall) (seen : ℕ) (owns : List Ownership) (last : Option SectionRecord) (steps : List WordStep) → IsUnfinished n c seen owns → Fits up owns (next_place (beginning n c) (Value seen)) (stage owns None last steps)
   fits_behind up c seen owns last steps g = subst (λ (p : Place). Fits up owns p (stage owns None last steps)) (sym (goes_to c seen owns g)) (fits_there up c seen owns last steps g)
 
-  pub over_behind : (up : Type 0) (c : MutexCall) (seen : ℕ) (owns : List Ownership) (answer : Answer) (new : Stage) → IsUnfinished n c seen owns → IsOver up owns (aim_of (next_place (beginning n c) (Value seen))) answer new → IsMutexOver up n owns (purpose_in c) answer new
-  over_behind up c seen owns answer new g over = subst (λ aim. IsOver up owns aim answer new) (ap aim_of (goes_to c seen owns g) ∙ same_aim c) over
+  pub over_behind : (up : Type 0) (c : MutexCall) (seen : ℕ) (owns : List Ownership) (answer : Answer) (new : Stage) → IsUnfinished n c seen owns → IsOver up owns (call_purpose (next_place (beginning n c) (Value seen))) answer new → IsMutexOver up n owns (purpose_in c) answer new
+  over_behind up c seen owns answer new g over = subst (λ aim. IsOver up owns aim answer new) (ap call_purpose (goes_to c seen owns g) ∙ same_aim c) over
 
-  pub never_pauses : (up : Type 0) (c : MutexCall) (seen : ℕ) (owns : List Ownership) (place : Place) (state : OnceState) (new : Stage) → IsUnfinished n c seen owns → IsStopped up owns (aim_of (next_place (beginning n c) (Value seen))) (Paused place state) new → ⊥
-  never_pauses up c seen owns place state new g stopped = never_paused up owns n (purpose_in c) place state new (subst (λ aim. IsStopped up owns aim (Paused place state) new) (ap aim_of (goes_to c seen owns g) ∙ same_aim c) stopped)
+  pub never_pauses : (up : Type 0) (c : MutexCall) (seen : ℕ) (owns : List Ownership) (place : Place) (state : OnceState) (new : Stage) → IsUnfinished n c seen owns → IsStopped up owns (call_purpose (next_place (beginning n c) (Value seen))) (Paused place state) new → ⊥
+  never_pauses up c seen owns place state new g stopped = never_paused up owns n (purpose_in c) place state new (subst (λ aim. IsStopped up owns aim (Paused place state) new) (ap call_purpose (goes_to c seen owns g) ∙ same_aim c) stopped)
 
   pub path_behind : (c : MutexCall) (seen : ℕ) (old mid new : List WordStep) (answer : Answer) → Walks (at_mutex n) (next_place (beginning n c) (Value seen)) mid new answer → mid ≡ old ++ step (mutex_at n) (first_op c) seen → Walks (at_mutex n) (beginning n c) old new answer
   path_behind c seen old mid new answer rest saw = goes_on (at_mutex n) (beginning n c) n (first_op c) seen old mid new answer (begins_with c) saw rest

@@ -54,13 +54,13 @@ use Rattle.core_words.proofs.MutexSteps.{each_code, mutex_steps}
 use Rattle.core_words.proofs.TiedSteps.{condvar_steps}
 use Rattle.core_words.proofs.Trades.{owned_some}
 use Rattle.run_base.specs.CondvarFitting.{Between, FitsCondvar, FitsNotify, FitsWait, HasMoved, IsNotifyOver, LateIf, OwnsIt, SawElse, TellsNumber, apart, move_did}
-use Rattle.run_base.specs.Fitting.{AreWordsBeside, Fits, Looks, Reached, ReachedBy, aim_of, answer_of, of_mutex, of_notify, of_wait, sleeper_at}
+use Rattle.run_base.specs.Fitting.{AreWordsBeside, Fits, Looks, Reached, ReachedBy, call_purpose, answer_of, of_mutex, of_notify, of_wait, sleeper_at}
 use Rattle.run_base.specs.MutexFitting.{FitsMutex, Outside, Within, enters, held, releases}
 use Rattle.run_base.specs.Paths.{at_mutex, condvar_at, mutex_at, mutexes, step}
 use Rattle.run_base.specs.Stages.{ActNeeds, Awoke, Became, HasKey, Inside, IsLeft, IsFresh, MayLeave, Stage, Stepped, entered_now, having_taken, listed, moving, note_of, stage, took_as}
 use Rattle.run_base.specs.declared.sleepers.Sleeper.{Sleeper}
 
--- what is known of a mutex's places
+-- tells what is known of a mutex's places
 abbrev pub MutexPlacesLead : Type 0 → Type 0
 MutexPlacesLead up = (n : ℕ) (base : List Ownership) (at : MutexPlace) (st : Stage) → FitsMutex up n base at st →
     ActNeeds mutexes (at_mutex n) st (mutex_act n at) × Looks up base (Mutex n at) st
@@ -362,8 +362,8 @@ module _ (up : Type 0) (c m : ℕ) (kinds : ℕ → WordKind) (at : ℕ → ℕ)
       wait_looks : (w : WaitAt) → FitsWait up c m timed base w st → Looks up base (place w) st
       wait_looks (wait.Lock timed_out (Lock entry.Lock retries (lock.Decide expected))) f q is = by_mark _ is
         where
-          by_mark : (b : Bool) → in_condvar c (condvar_steps_of.in_lock m timed timed_out (if b then Some (Lock entry.Lock retries lock.Load) else None)) ≡ Some q → Fits up base q st × (aim_of q ≡ of_wait c m timed)
-          by_mark true is = let there : place (wait.Lock timed_out (Lock entry.Lock retries lock.Load)) ≡ q = cc in subst (λ r. Fits up base r st × (aim_of r ≡ of_wait c m timed)) there ((f.0, f.1.1), refl)
+          by_mark : (b : Bool) → in_condvar c (condvar_steps_of.in_lock m timed timed_out (if b then Some (Lock entry.Lock retries lock.Load) else None)) ≡ Some q → Fits up base q st × (call_purpose q ≡ of_wait c m timed)
+          by_mark true is = let there : place (wait.Lock timed_out (Lock entry.Lock retries lock.Load)) ≡ q = cc in subst (λ r. Fits up base r st × (call_purpose r ≡ of_wait c m timed)) there ((f.0, f.1.1), refl)
           by_mark false is = absurd cc
       wait_looks (wait.Lock timed_out (Lock entry.LockTimed retries l)) f q is = absurd f.1
       wait_looks (wait.Lock timed_out (Lock entry.Bump retries l)) f q is = absurd f.1

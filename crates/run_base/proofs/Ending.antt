@@ -32,7 +32,7 @@ use Rattle.steps_rwlock.specs.declared.purposes.RwLockPurpose.TheVariants as pur
 use Rattle.run_base.specs.RwLockFitting.{Answers}
 use Rattle.run_base.proofs.RwLockLeading.{rwlock_no_closure}
 use Rattle.core_words.specs.declared.views.WordStep.{WordStep}
-use Rattle.run_base.specs.Fitting.{Aim, nothing, of_fair, of_mutex, of_notify, of_once, of_run, of_rwlock, of_semaphore, of_wait, AreWordsFor, aim_of, answer_of, Fits, IsOver, IsStopped}
+use Rattle.run_base.specs.Fitting.{CallPurpose, nothing, of_fair, of_mutex, of_notify, of_once, of_run, of_rwlock, of_semaphore, of_wait, AreWordsFor, call_purpose, answer_of, Fits, IsOver, IsStopped}
 use Rattle.run_base.specs.CondvarFitting.{IsWaitOver}
 use Rattle.run_base.specs.MutexFitting.{Purpose, enters, releases, hands_over, FitsMutex, IsMutexOver}
 use Rattle.run_base.specs.Paths.{closure_of}
@@ -46,16 +46,16 @@ pub end_of : (a : Act) (answer : Answer) → answer_of a ≡ Some answer → a �
 end_of (act.TheVariants.End x) answer e = cc
 end_of a answer e = absurd cc
 
--- what a closure needs
+-- tells what a closure needs
 closure_act : (a : Act) (state : OnceState) → closure_of a ≡ Some state → a ≡ act.TheVariants.Closure state
 closure_act (act.TheVariants.Closure s) state e = cc
 closure_act a state e = absurd cc
 
--- who comes to a closure is outside all sections, and stops there
+-- a thread that comes to a closure is outside all sections, and stops there
 pub closes_outside : (kinds : ℕ → WordKind) (at : ℕ → ℕ) (st : Stage) (a : Act) (state : OnceState) → closure_of a ≡ Some state → ActNeeds kinds at st a → st.inside ≡ None
 closes_outside kinds at st a state e needs = subst (ActNeeds kinds at st) (closure_act a state e) needs
 
-pub closed : (up : Type 0) (base owns : List Ownership) (aim : Aim) (p : Place) (state : OnceState) (inside : Option Inside) (last : Option SectionRecord) (steps : List WordStep) → closure_of (act_of p) ≡ Some state → inside ≡ None → Fits up base p (stage owns inside last steps) → aim_of p ≡ aim → IsStopped up base aim (Paused p state) (stage owns None last steps)
+pub closed : (up : Type 0) (base owns : List Ownership) (aim : CallPurpose) (p : Place) (state : OnceState) (inside : Option Inside) (last : Option SectionRecord) (steps : List WordStep) → closure_of (act_of p) ≡ Some state → inside ≡ None → Fits up base p (stage owns inside last steps) → call_purpose p ≡ aim → IsStopped up base aim (Paused p state) (stage owns None last steps)
 closed up base owns aim p state inside last steps e none fits same = (subst (λ (i : Option Inside). Fits up base p (stage owns i last steps)) none fits, same, closure_act (act_of p) state e)
 
 module _ (up : Type 0) (base owns : List Ownership) where
@@ -102,7 +102,7 @@ module _ (up : Type 0) (base owns : List Ownership) where
   semaphore_ended l semaphore.releases answer inside last steps h = ((h.0, (h.1.0, refl), h.2), h.1.1)
 
   -- where a call ended, its thread is outside all sections
-  pub ended : (aim : Aim) (answer : Answer) (inside : Option Inside) (last : Option SectionRecord) (steps : List WordStep) → IsOver up base aim answer (stage owns inside last steps) → IsOver up base aim answer (stage owns None last steps)
+  pub ended : (aim : CallPurpose) (answer : Answer) (inside : Option Inside) (last : Option SectionRecord) (steps : List WordStep) → IsOver up base aim answer (stage owns inside last steps) → IsOver up base aim answer (stage owns None last steps)
   ended nothing answer inside last steps h = absurd h
   ended (of_mutex n purpose) answer inside last steps h = mutex_ended n purpose answer inside last steps h
   ended (of_rwlock l a purpose) answer inside last steps h = (refl, rwlock_ended l a purpose answer inside last steps h.1)
@@ -113,7 +113,7 @@ module _ (up : Type 0) (base owns : List Ownership) where
   ended (of_notify l m all) answer inside last steps h = ((h.0.0, refl), h.1)
   ended (of_semaphore l purpose) answer inside last steps h = (semaphore_ended l purpose answer inside last steps h).0
 
-  pub outside : (aim : Aim) (answer : Answer) (inside : Option Inside) (last : Option SectionRecord) (steps : List WordStep) → IsOver up base aim answer (stage owns inside last steps) → inside ≡ None
+  pub outside : (aim : CallPurpose) (answer : Answer) (inside : Option Inside) (last : Option SectionRecord) (steps : List WordStep) → IsOver up base aim answer (stage owns inside last steps) → inside ≡ None
   outside nothing answer inside last steps h = absurd h
   outside (of_mutex n purpose) answer inside last steps h = mutex_outside n purpose answer inside last steps h
   outside (of_rwlock l a purpose) answer inside last steps h = h.0
@@ -134,7 +134,7 @@ no_closure n state up base (at_mutex_place.HandOff bumps (hand_off.TheVariants.S
 no_closure n state up base at st f is = cc
 
 -- a call that runs its closure is of a `Once`
-once_runs : (l n : ℕ) (purpose : Purpose) (at : OncePlace) → aim_of (Once l at) ≡ of_mutex n purpose → ⊥
+once_runs : (l n : ℕ) (purpose : Purpose) (at : OncePlace) → call_purpose (Once l at) ≡ of_mutex n purpose → ⊥
 once_runs l n purpose (Look c retries at) e = let aim : of_once l c ≡ of_mutex n purpose = e in cc
 once_runs l n purpose (Run forced (run.Closure poisoned)) e = let aim : of_once l (CallOnce forced) ≡ of_mutex n purpose = e in cc
 once_runs l n purpose (Run forced (run.Close succeeded)) e = let aim : of_run l succeeded ≡ of_mutex n purpose = e in cc
@@ -144,7 +144,7 @@ once_runs l n purpose (Run forced (run.Leave succeeded any)) e = let aim : of_ru
 once_runs l n purpose (GiveUp retries at) e = let aim : of_once l WaitTimed ≡ of_mutex n purpose = e in cc
 
 -- and of a condition variable neither
-condvar_pauses : (l n : ℕ) (purpose : Purpose) (at : CondvarPlace) → aim_of (Condvar l at) ≡ of_mutex n purpose → ⊥
+condvar_pauses : (l n : ℕ) (purpose : Purpose) (at : CondvarPlace) → call_purpose (Condvar l at) ≡ of_mutex n purpose → ⊥
 condvar_pauses l n purpose (waiting.Wait m timed at) e = let aim : of_wait l m timed ≡ of_mutex n purpose = e in cc
 condvar_pauses l n purpose (waiting.Look all) e = let aim : nothing ≡ of_mutex n purpose = e in cc
 condvar_pauses l n purpose (waiting.Notify all m at) e = let aim : of_notify l m all ≡ of_mutex n purpose = e in cc
@@ -159,7 +159,7 @@ never_paused up base n purpose (Semaphore l at) state st s = semaphore_no_closur
 
 -- no call comes to a closure that steps on a word of another kind than a `Once`'s or a condition
 -- variable's
-pub never_closes : (up : Type 0) (base : List Ownership) (aim : Aim) (p : Place) (state : OnceState) (st : Stage) (word : Word) → word.kind ≢ kinds.TheVariants.Once → word.kind ≢ kinds.TheVariants.Condvar → AreWordsFor p (kind_in (alone word)) (at_in (alone word)) → IsStopped up base aim (Paused p state) st → ⊥
+pub never_closes : (up : Type 0) (base : List Ownership) (aim : CallPurpose) (p : Place) (state : OnceState) (st : Stage) (word : Word) → word.kind ≢ kinds.TheVariants.Once → word.kind ≢ kinds.TheVariants.Condvar → AreWordsFor p (kind_in (alone word)) (at_in (alone word)) → IsStopped up base aim (Paused p state) st → ⊥
 never_closes up base aim Idle state st word no_once no_condvar words s = s.0
 never_closes up base aim (Condvar l (waiting.Wait m timed at)) state st word no_once no_condvar words s = no_condvar words.1.1
 never_closes up base aim (Condvar l (waiting.Look all)) state st word no_once no_condvar words s = s.0

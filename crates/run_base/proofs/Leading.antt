@@ -37,7 +37,7 @@ use Rattle.core_words.specs.declared.words.WordKind.{WordKind}
 use Rattle.core_words.specs.declared.words.WordKind as kinds
 use Rattle.core_words.proofs.MutexSteps.{mutex_steps, each_code}
 use Rattle.parking_lot_core.specs.declared.tokens.Did.TheVariants.{TakeFirst}
-use Rattle.run_base.specs.Fitting.{AreWordsFor, Fits, PlacesLead, Looks, Reached, aim_of, sleeper_at}
+use Rattle.run_base.specs.Fitting.{AreWordsFor, Fits, PlacesLead, Looks, Reached, call_purpose, sleeper_at}
 use Rattle.run_base.specs.MutexFitting.{FitsLock, FitsUnlock, FitsMutex, Within, Outside, beside, held}
 use Rattle.run_base.specs.Paths.{GoesFrom, mutex_at, mutexes, at_mutex, rwlocks, at_rwlock, onces, at_once, semaphores, at_semaphore}
 use Rattle.run_base.specs.declared.sleepers.Sleeper.{Sleeper}
@@ -101,7 +101,7 @@ module _ (up : Type 0) (n : ℕ) (base : List Ownership) (st : Stage) where
   unlock_needs (unlock.TheVariants.Leave false) f = subst (MayLeave Normal) (sym f.2.1) refl
   unlock_needs (unlock.TheVariants.Leave true) f = subst (MayLeave Normal) (sym f.2.1) refl
 
-  -- what the place's act needs is there
+  -- the needs of the place's act are there
   pub needs : (at : MutexPlace) → FitsMutex up n base at st → Can (mutex_act n at)
   needs (at_mutex_place.Lock e retries at) f = lock_needs e at f
   needs (at_mutex_place.Unlock at) f = unlock_needs at f
@@ -223,8 +223,8 @@ module _ (up : Type 0) (n : ℕ) (base : List Ownership) (st : Stage) where
   looks : (at : MutexPlace) → FitsMutex up n base at st → Looks up base (Mutex n at) st
   looks (at_mutex_place.Lock e retries (lock.TheVariants.Decide expected)) f q is = by_mark _ is
     where
-      by_mark : (b : Bool) → in_mutex n (if b then Some (at_mutex_place.Lock e retries lock.TheVariants.Load) else None) ≡ Some q → Fits up base q st × (aim_of q ≡ aim_of (Mutex n (at_mutex_place.Lock e retries (lock.TheVariants.Decide expected))))
-      by_mark true is = let there : Mutex n (at_mutex_place.Lock e retries lock.TheVariants.Load) ≡ q = cc in subst (λ r. Fits up base r st × (aim_of r ≡ aim_of (Mutex n (at_mutex_place.Lock e retries (lock.TheVariants.Decide expected))))) there (f.1, refl)
+      by_mark : (b : Bool) → in_mutex n (if b then Some (at_mutex_place.Lock e retries lock.TheVariants.Load) else None) ≡ Some q → Fits up base q st × (call_purpose q ≡ call_purpose (Mutex n (at_mutex_place.Lock e retries (lock.TheVariants.Decide expected))))
+      by_mark true is = let there : Mutex n (at_mutex_place.Lock e retries lock.TheVariants.Load) ≡ q = cc in subst (λ r. Fits up base r st × (call_purpose r ≡ call_purpose (Mutex n (at_mutex_place.Lock e retries (lock.TheVariants.Decide expected))))) there (f.1, refl)
       by_mark false is = absurd cc
   looks at f q is = absurd cc
 
@@ -258,8 +258,8 @@ places_lead up kinds at base (Semaphore n p) st words f =
 places_lead up kinds at base (Condvar n p) st words f = condvar_place_leads up (mutex_place_leads up) n kinds at base p st words.1 f
 
 -- where a call goes on from, it has what it had
-pub fits_from : (up : Type 0) (kinds : ℕ → WordKind) (at : ℕ → ℕ) (base : List Ownership) (p q : Place) (st : Stage) → GoesFrom p q → AreWordsFor p kinds at → Fits up base p st → Fits up base q st × (aim_of q ≡ aim_of p)
-fits_from up kinds at base p q st (inl same) words fits = subst (λ r. Fits up base r st × (aim_of r ≡ aim_of p)) (sym same) (fits, refl)
+pub fits_from : (up : Type 0) (kinds : ℕ → WordKind) (at : ℕ → ℕ) (base : List Ownership) (p q : Place) (st : Stage) → GoesFrom p q → AreWordsFor p kinds at → Fits up base p st → Fits up base q st × (call_purpose q ≡ call_purpose p)
+fits_from up kinds at base p q st (inl same) words fits = subst (λ r. Fits up base r st × (call_purpose r ≡ call_purpose p)) (sym same) (fits, refl)
 fits_from up kinds at base p q st (inr is) words fits = (places_lead up kinds at base p st words fits).1 q is
 
 pub words_from : (kinds : ℕ → WordKind) (at : ℕ → ℕ) (p q : Place) → GoesFrom p q → AreWordsFor p kinds at → AreWordsFor q kinds at

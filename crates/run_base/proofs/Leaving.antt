@@ -4,6 +4,6 @@ use Rattle.parking_lot_core.specs.Keys.{first_key}
 use Rattle.parking_lot_core.specs.declared.tokens.SectionRecord.{SectionRecord}
 use Rattle.run_base.specs.Stages.{HasDone, Inside, IsLeft}
 
--- what was done there
+-- tells what was done there
 pub has_done : (was : Option Inside) (inside : Inside) (last : Option SectionRecord) → was ≡ Some inside → IsLeft was last → HasDone (first_key inside.keys) inside.did last
 has_done was inside last e left = (length inside.taken + inside.moved, subst (λ (i : Option Inside). IsLeft i last) e left)

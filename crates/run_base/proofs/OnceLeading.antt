@@ -33,7 +33,7 @@ use Rattle.core_words.specs.declared.owners.Ownership.{Ownership}
 use Rattle.core_words.specs.declared.words.WordKind as kinds
 use Rattle.core_words.proofs.OnceSteps.{each_once_code, once_steps}
 use Rattle.parking_lot_core.specs.declared.tokens.Did.TheVariants.{TakeAll}
-use Rattle.run_base.specs.Fitting.{Fits, Looks, Reached, ReachedBy, aim_of, answer_of, of_once, sleeper_at}
+use Rattle.run_base.specs.Fitting.{Fits, Looks, Reached, ReachedBy, call_purpose, answer_of, of_once, sleeper_at}
 use Rattle.run_base.specs.OnceFitting.{FitsLook, FitsOnce, FitsRun, OwnsBehind, StandsOutside, StandsWithin, goes_on, knowing}
 use Rattle.run_base.specs.Paths.{once_at, onces, at_once, step}
 use Rattle.core_words.specs.declared.views.WordStep.{WordStep}
@@ -85,7 +85,7 @@ module _ (l : ℕ) (base : List Ownership) (st : Stage) where
   give_up_needs up give_up.Clear f = (once_steps (once_at l) st.owns).clear_parked
   give_up_needs up give_up.Leave f = subst (MayLeave Normal) (sym f.1.1) refl
 
-  -- what the place's act needs is there
+  -- the needs of the place's act are there
   needs : (up : Type 0) (at : OncePlace) → FitsOnce up l base at st → Can (once_act l at)
   needs up (Look c retries at) f = look_needs c at f
   needs up (Run forced at) f = run_needs at f
@@ -248,8 +248,8 @@ module _ (l : ℕ) (base : List Ownership) (st : Stage) where
   looks : (up : Type 0) (at : OncePlace) → FitsOnce up l base at st → Looks up base (Once l at) st
   looks up (Look c r (look.Decide seen)) f q is = by_mark _ is
     where
-      by_mark : (b : Bool) → in_once l (if b then Some (Look c r look.Load) else None) ≡ Some q → Fits up base q st × (aim_of q ≡ of_once l c)
-      by_mark true is = let there : Once l (Look c r look.Load) ≡ q = cc in subst (λ p. Fits up base p st × (aim_of p ≡ of_once l c)) there (f.2, refl)
+      by_mark : (b : Bool) → in_once l (if b then Some (Look c r look.Load) else None) ≡ Some q → Fits up base q st × (call_purpose q ≡ of_once l c)
+      by_mark true is = let there : Once l (Look c r look.Load) ≡ q = cc in subst (λ p. Fits up base p st × (call_purpose p ≡ of_once l c)) there (f.2, refl)
       by_mark false is = absurd cc
   looks up at f q is = absurd cc
 

@@ -25,7 +25,7 @@ use Rattle.steps_rwlock.proofs.RwLockOpenings.{rwlock_calls_open}
 use Rattle.steps_rwlock.proofs.RwLockStands.{rwlock_calls_stand}
 use Rattle.steps_rwlock.specs.RwLockBegins.{rwlock_first}
 use Rattle.steps_rwlock.specs.RwLockCalls.{MayBeTold, MayStandNext}
-use Rattle.steps_rwlock.specs.RwLockDeeds.{kept_claim, rwlock_doing}
+use Rattle.steps_rwlock.specs.RwLockDeeds.{kept_claim, rwlock_role}
 use Rattle.steps_rwlock.specs.RwLockProfiles.{is_late, late_at, rwlock_profile}
 use Rattle.steps_rwlock.specs.RwLockSteps.{wanted, from_of, to_of, start_of, entered, give_op, goes, wakes, wakes_or_ends, released, rwlock_next}
 use Rattle.steps_rwlock.specs.declared.places.Admission.{Admission}
@@ -59,7 +59,7 @@ begins_with l a (purpose.Upgrade Try) = refl
 begins_with l a (purpose.Upgrade Patient) = refl
 begins_with l a (purpose.Upgrade Timed) = refl
 
--- who has the right that its call needs may take the first step
+-- a thread that has the right that its call needs may take the first step
 pub may_begin : (l : ℕ) (c : RwLockPurpose) (base owns : List Ownership) → BeginsWith l c base owns → MayStep kinds.RwLock (rwlock_at l) (first_op c) owns
 may_begin l (purpose.Enter access.Shared how) base owns b = (rwlock_steps (rwlock_at l) owns).load
 may_begin l (purpose.Enter access.Upgradable how) base owns b = (rwlock_steps (rwlock_at l) owns).load
@@ -74,7 +74,7 @@ may_begin l (purpose.Upgrade Try) base owns b = (rwlock_steps (rwlock_at l) owns
 may_begin l (purpose.Upgrade Patient) base owns b = (rwlock_steps (rwlock_at l) owns).upgrade (has_right l owners.Upgradable base owns b)
 may_begin l (purpose.Upgrade Timed) base owns b = (rwlock_steps (rwlock_at l) owns).upgrade (has_right l owners.Upgradable base owns b)
 
--- what the first step came to
+-- tells what the first step came to
 abbrev pub ComesBegun : Type 0 → ℕ → List Ownership → Admission → RwLockPurpose → Next RwLockPlace → Stage → Type 0
 ComesBegun up l base a q (At p) st = Kept up l base a p st × (p.purpose ≡ q)
 ComesBegun up l base a q (End answer) st = (st.inside ≡ None) × AnswersCall up l base a q answer st
@@ -136,7 +136,7 @@ module _ (up : Type 0) (l : ℕ) (a : Admission) (base : List Ownership) (st new
 
   module _ (room : a.limit < 2 ^ 60 - 1) where
     -- a call that enters, or tries to upgrade, begins at a place that fits
-    fits_first : (c : RwLockPurpose) → HasGivenWay (rwlock_first c).at → HasSeen (rwlock_first c).at → HasStood l (rwlock_first c).at st.steps → (rwlock_doing (rwlock_first c)).inside ≡ None → ((rwlock_profile a (rwlock_first c)).late ≡ true → up) → BeginsWith l c base st.owns → FitsRwLock up l base a (rwlock_first c) st
+    fits_first : (c : RwLockPurpose) → HasGivenWay (rwlock_first c).at → HasSeen (rwlock_first c).at → HasStood l (rwlock_first c).at st.steps → (rwlock_role (rwlock_first c)).inside ≡ None → ((rwlock_profile a (rwlock_first c)).late ≡ true → up) → BeginsWith l c base st.owns → FitsRwLock up l base a (rwlock_first c) st
     fits_first c begun seen stood inside late owns = record {
       stands = (rwlock_calls_open a c).stands;
       room = room;
@@ -144,7 +144,7 @@ module _ (up : Type 0) (l : ℕ) (a : Admission) (base : List Ownership) (st new
       seen = seen;
       stood = stood;
       owns = owns;
-      within = subst (λ (o : Option Line). IsWithin l a c o (rwlock_doing (rwlock_first c)).carries st.inside) (sym inside) outside;
+      within = subst (λ (o : Option Line). IsWithin l a c o (rwlock_role (rwlock_first c)).carries st.inside) (sym inside) outside;
       late = late;
     }
 

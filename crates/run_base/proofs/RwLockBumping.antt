@@ -37,7 +37,7 @@ use Rattle.steps_rwlock_fair.specs.declared.places.RwLockCallPlace.{RwLockCallPl
 use Rattle.steps_rwlock_fair.specs.FairProfiles.{in_call}
 use Rattle.steps_rwlock_fair.specs.FairSteps.{call_act, call_next, given, unless_given}
 use Rattle.core_words.specs.declared.owners.Ownership.{Ownership}
-use Rattle.run_base.specs.Fitting.{Fits, Looks, Reached, ReachedBy, aim_of, answer_of, of_rwlock, sleeper_at}
+use Rattle.run_base.specs.Fitting.{Fits, Looks, Reached, ReachedBy, call_purpose, answer_of, of_rwlock, sleeper_at}
 use Rattle.run_base.specs.Paths.{rwlock_at, rwlocks, at_rwlock}
 use Rattle.run_base.specs.RwLockFitting.{IsBeside, FitsCall, FitsRwLock, HasGivenWay}
 use Rattle.run_base.specs.Stages.{Stage, ActNeeds, Became}
@@ -73,13 +73,13 @@ module _ (up : Type 0) (l : ℕ) (a : Admission) (base : List Ownership) where
     looks_on : Looks up base (RwLock l a (Bump p)) st
     looks_on r is = by_place (rwlock_looking a p) refl is
       where
-        there : (p2 : RwLockPlace) → rwlock_looking a p ≡ Some p2 → Fits up base (RwLock l a (Bump p2)) st × (aim_of (RwLock l a (Bump p2)) ≡ aim_of (RwLock l a (Bump p)))
+        there : (p2 : RwLockPlace) → rwlock_looking a p ≡ Some p2 → Fits up base (RwLock l a (Bump p2)) st × (call_purpose (RwLock l a (Bump p2)) ≡ call_purpose (RwLock l a (Bump p)))
         there p2 e = let place = looks_from l a p.purpose p.retries p.at p2 e in
             (bump_fits p2 st (subst (IsOfBump p2.purpose) place.1 (subst (λ (q : RwLockPurpose). IsOfBump q p.retries) place.0 of)) (looks_fit up l a base p st f p2 e), ap (λ (q : RwLockPurpose). of_rwlock l a (purpose.Enter (access_of q) Patient)) (sym place.0))
 
-        by_place : (o : Option RwLockPlace) → rwlock_looking a p ≡ o → in_rwlock l a (in_call true o) ≡ Some r → Fits up base r st × (aim_of r ≡ aim_of (RwLock l a (Bump p)))
+        by_place : (o : Option RwLockPlace) → rwlock_looking a p ≡ o → in_rwlock l a (in_call true o) ≡ Some r → Fits up base r st × (call_purpose r ≡ call_purpose (RwLock l a (Bump p)))
         by_place None e is = absurd cc
-        by_place (Some p2) e is = let same : RwLock l a (Bump p2) ≡ r = cc in subst (λ (x : Place). Fits up base x st × (aim_of x ≡ aim_of (RwLock l a (Bump p)))) same (there p2 e)
+        by_place (Some p2) e is = let same : RwLock l a (Bump p2) ≡ r = cc in subst (λ (x : Place). Fits up base x st × (call_purpose x ≡ call_purpose (RwLock l a (Bump p)))) same (there p2 e)
 
     -- by what the plain call came to
     comes : (new : Stage) (q : RwLockPurpose) → IsOfBump q p.retries → (n : Next RwLockPlace) → CallStandsNext a (bump_next q n) → Comes up l base a q n new → Goes new q n

@@ -34,7 +34,7 @@ refuses_no : (b : Bool) (answer : Answer) → waits b ≡ decisions.Refuse answe
 refuses_no true answer e = cc
 refuses_no false answer e = cc
 
--- whoever comes while the lock is blocked is refused only as it tries
+-- each thread that comes while the lock is blocked is refused only as it tries
 blocked_tries : (how : Patience) (v : ℕ) (answer : Answer) → decision_blocked how v ≡ decisions.Refuse answer → (answer ≡ No) × (how ≡ Try)
 blocked_tries Try v answer e = (cc, refl)
 blocked_tries Patient v answer e = absurd (refuses_no (has_parked v) answer e)

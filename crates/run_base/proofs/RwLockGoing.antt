@@ -7,9 +7,9 @@ use Rattle.spec_locks.specs.Codes.{has_aside}
 use Rattle.steps_base.specs.declared.acts.Act.{Act}
 use Rattle.steps_base.specs.declared.acts.Act.TheVariants as act
 use Rattle.steps_rwlock.specs.RwLockCalls.{IsDecided, IsNoRefusal, MayStand}
-use Rattle.spec_locks.specs.Sites.{Doing}
+use Rattle.spec_locks.specs.Sites.{Role}
 use Rattle.steps_base.specs.Profiles.{Profile}
-use Rattle.steps_rwlock.specs.RwLockDeeds.{rwlock_doing}
+use Rattle.steps_rwlock.specs.RwLockDeeds.{rwlock_role}
 use Rattle.steps_rwlock.specs.RwLockProfiles.{gone_to, is_mark, rwlock_looking}
 use Rattle.steps_rwlock.specs.RwLockSteps.{act_at, decided_act, decided_for, exchange, park_act, plus, rwlock_act, wake_act, want_at}
 use Rattle.steps_rwlock.specs.declared.enter.Decision.{Decision}
@@ -95,13 +95,13 @@ module _ (up : Type 0) (l : ℕ) (a : Admission) (base : List Ownership) (p : Rw
   -- it has there what it had
   pub looks_fit : (p2 : RwLockPlace) → rwlock_looking a p ≡ Some p2 → FitsRwLock up l base a p2 st
   looks_fit p2 e = let row = (rwlock_looks_stand a p p2 e).0 in let place = looks_from l a p.purpose p.retries p.at p2 e in
-      let doing : rwlock_doing p2 ≡ rwlock_doing p = ap (λ (r : Profile). r.doing) row in record {
+      let role : rwlock_role p2 ≡ rwlock_role p = ap (λ (r : Profile). r.role) row in record {
         stands = (rwlock_looks_stand a p p2 e).1 f.stands;
         room = f.room;
         begun = place.2;
         seen = place.3;
         stood = place.4 st.steps;
-        owns = subst (λ (d : Doing). OwnsBeside l d.claims base st.owns) (sym doing) f.owns;
-        within = subst (λ (r : RwLockPurpose). IsWithin l a r (rwlock_doing p2).inside (rwlock_doing p2).carries st.inside) place.0 (subst (λ (d : Doing). IsWithin l a p.purpose d.inside d.carries st.inside) (sym doing) f.within);
+        owns = subst (λ (d : Role). OwnsBeside l d.claims base st.owns) (sym role) f.owns;
+        within = subst (λ (r : RwLockPurpose). IsWithin l a r (rwlock_role p2).inside (rwlock_role p2).carries st.inside) place.0 (subst (λ (d : Role). IsWithin l a p.purpose d.inside d.carries st.inside) (sym role) f.within);
         late = λ h. f.late (sym (ap (λ (r : Profile). r.late) row) ∙ h);
       }

@@ -125,7 +125,7 @@ module _ (l : ℕ) (a : Admission) (base : List Ownership) (st : Stage) (room : 
 -- ---------------------------------------------------------------- where its replies lead
 
 module _ (up : Type 0) (l : ℕ) (a : Admission) (base : List Ownership) (room : a.limit < 2 ^ 60 - 1) (bumps : Bool) (st new : Stage) where
-  -- who bumps enters again
+  -- a thread that bumps enters again
   pub enters_fit : (x : Access) → IsBeside l base new.owns → new.inside ≡ None → FitsRwLock up l base a (rwlock_first (purpose.Enter x Patient)) new
   enters_fit access.Shared beside none = record { stands = (rwlock_calls_open a (purpose.Enter access.Shared Patient)).stands; room = room; begun = tt; seen = tt; owns = beside; within = none; stood = tt; late = λ e. absurd cc }
   enters_fit access.Upgradable beside none = record { stands = (rwlock_calls_open a (purpose.Enter access.Upgradable Patient)).stands; room = room; begun = tt; seen = tt; owns = beside; within = none; stood = tt; late = λ e. absurd cc }
@@ -159,12 +159,12 @@ module _ (up : Type 0) (l : ℕ) (a : Admission) (base : List Ownership) (room :
   keeps_right : (w : Want) → new.owns ≡ st.owns → OwnsRight l w base st.owns → OwnsRight l w base new.owns
   keeps_right w e = subst (OwnsRight l w base) (sym e)
 
-  -- whom it took
+  -- a thread that it took
   took_these : (x : Access) (n : ℕ) (y : Option Want) (none_left : Bool) (waiters : List Waiter) → AreTaken (wants_of waiters) (record { sharers = n; successor = y; none_left = none_left }) → st.inside ≡ entered_now (One (2 * l)) → new.inside ≡ took_as (did.TakePicked (2 * l) None a.recursive) waiters st.inside
       → HasInHand l a (record { sharers = n; successor = y; none_left = none_left }) new.inside
   took_these x n y none_left waiters taken was e = (waiters, taken, e ∙ ap (took_as (did.TakePicked (2 * l) None a.recursive) waiters) was)
 
-  -- behind the section
+  -- after the section
   left_section : (x : Access) (any given : Bool) → HandsOver x (handing.Leave any given) → FitsHandOver l base a x (handing.Leave any given) st → new.owns ≡ st.owns → new.inside ≡ None → IsLeft st.inside new.last → Reach x (released x bumps)
   left_section x any given h f same none left = gave_up x none (subst (IsBeside l base) (sym same) f.0) (by_access x h (has_done _ _ _ f.1.2 left))
     where

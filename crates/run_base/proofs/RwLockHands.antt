@@ -52,7 +52,7 @@ module _ (at : ℕ) where
     ap (without_all at (owners_given RwLock m ws)) (first_goes at (owner_given RwLock m x) owns) ∙ h.1,
   )
 
-  -- of who wants more, behind those who share
+  -- for the one that wants more, after those that share
   hands_there : (m : ℕ) (x : Want) (ws : List Want) (o : Owner) (owns rest left : List Ownership) → owner_given RwLock m x ≡ o → has (owning at o) owns ≡ true → without (owning at o) owns ≡ left → Hands m ws left rest → Hands m (x ∷ ws) owns rest
   hands_there m x ws o owns rest left e there_is goes h =
       let mine : has (owning at (owner_given RwLock m x)) owns ≡ true = ap (λ (y : Owner). has (owning at y) owns) e ∙ there_is in
@@ -145,7 +145,7 @@ upgradable_stands part left s op e =
 abbrev writer_left : ℕ → Owner
 writer_left m = cond (eqb (m / 16) 0) Exclusive Pending
 
--- who wants neither to share nor to upgrade is handed the lock as a writer
+-- a thread that wants neither to share nor to upgrade is handed the lock as a writer
 abbrev IsWriter : Want → Type 0
 IsWriter wants.Shared = ⊥
 IsWriter wants.Upgradable = ⊥
@@ -163,7 +163,7 @@ more_left m = either (eqb (m / 16) 0)
     either true = tt
     either false = tt
 
--- what is so of the successor is so of whoever it is
+-- a fact of the successor is one of the thread that it is
 of_successor : (P : Want → Type 0) (ws : List Want) (y x : Want) → successor_in ws ≡ Some y → successor_in ws ≡ Some x → P y → P x
 of_successor P ws y x is e h = let same : ◌≡◌ {A = Option Want} (Some y) (Some x) = sym is ∙ e in let f : y ≡ x = cc in subst P f h
 
@@ -186,7 +186,7 @@ some_more (wants.Exclusive ∷ ws) x e = omega arith
 some_more (wants.Upgradable ∷ ws) x e = omega arith
 some_more (y ∷ ws) x e = omega arith
 
--- whoever wants no more shares
+-- each thread that wants no more shares
 all_counted : (ws : List Want) → sharers_in ws + more_in ws ≡ length ws
 all_counted [] = refl
 all_counted (wants.Shared ∷ ws) = let rest = all_counted ws in omega arith
@@ -285,7 +285,7 @@ module _ (at seen m : ℕ) (owns : List Ownership) (code : CodesWith RwLock at s
         (traded (4 * sharers_in ws + 2) (writer_left m ∷ so_many_shared (sharers_in ws)) word (λ z. omega arith) (λ z. omega arith) (λ z. omega arith) (λ z. omega arith) (writer_stands (4 * sharers_in ws + 2) m (sharers_in ws) (Exchange seen m) refl))
         (writer_first at m ws kept one y w is)
 
-    -- whose successor's right is the one that it has
+    -- a thread whose successor's right is the one that it has
     keeps_own : more_in ws ≡ 1 → successor_in ws ≡ Some wants.Upgradable → (n : ℕ) → sharers_in ws ≡ n → owns_after_step RwLock at (Exchange seen m) seen owns ≡ shared at n owns → Hand
     keeps_own one is n few e = by_owns (shared at n owns) e
         (subst (λ (k : ℕ). Hands at m ws (shared at k owns) kept) few (one_more at m Upgradable tt ws owns one (λ x f. of_successor (λ (z : Want). owner_given RwLock m z ≡ Upgradable) ws wants.Upgradable x is f refl) mine))
@@ -419,7 +419,7 @@ pub record ExchangeHands (at seen m : ℕ) (owns : List Ownership) (ws : List Wa
   pub may : MayStep RwLock at (Exchange seen m) owns
   pub hands : CodesWith RwLock at seen owns → Hands at m ws (owns_after_step RwLock at (Exchange seen m) seen owns) (without (owning at Upgradable) owns)
 
--- what an upgradable owner sees tells of it
+-- the word that an upgradable owner sees tells of it
 pub sees_own : (at seen : ℕ) (owns : List Ownership) → CodesWith RwLock at seen owns → has (owning at Upgradable) owns ≡ true → IsUpgradableWord seen
 sees_own at seen owns code mine = let some = some_upgradable at seen 0 owns code mine in let c₀ = code.1.0 in let c₁ = code.1.1 in (fits at seen owns code, omega arith, omega arith)
 

@@ -32,7 +32,7 @@ marked_same from by small = rw (eq-eqb from from refl) (omega (arith, small))
 pub marked_looks : (from to : ℕ) → is_look (Exchange from to) from ≡ false
 marked_looks from to = rw (eq-eqb from from refl) refl
 
--- who owns alone waits for nobody
+-- a thread that owns alone waits for nobody
 pub alone_pends : (l : ℕ) (base owns : List Ownership) (b : Bool) → OwnsRight l wants.Exclusive base owns → OwnsBeside l (Some (Pends b)) base owns
 alone_pends l base owns b c = (c.0, c.1, inl c.2, c.3, c.4)
 

@@ -38,7 +38,7 @@ use Rattle.steps_rwlock_fair.specs.declared.places.RwLockCallPlace.TheVariants.{
 use Rattle.steps_rwlock_fair.specs.FairProfiles.{in_call}
 use Rattle.steps_rwlock_fair.specs.FairSteps.{call_act, call_next, given, plain_next, unless_given}
 use Rattle.core_words.specs.declared.owners.Ownership.{Ownership}
-use Rattle.run_base.specs.Fitting.{Fits, Looks, Reached, ReachedBy, aim_of, answer_of, of_rwlock, sleeper_at}
+use Rattle.run_base.specs.Fitting.{Fits, Looks, Reached, ReachedBy, call_purpose, answer_of, of_rwlock, sleeper_at}
 use Rattle.run_base.specs.Paths.{rwlocks, at_rwlock, closure_of}
 use Rattle.run_base.specs.RwLockFitting.{FitsCall, FitsRwLock}
 use Rattle.run_base.specs.Stages.{Stage, ActNeeds, Became}
@@ -51,9 +51,9 @@ module _ (up : Type 0) (l : ℕ) (a : Admission) (base : List Ownership) (p : Rw
   pub rwlock_looks : Looks up base (RwLock l a (Plain p)) st
   rwlock_looks r is = by_place (rwlock_looking a p) refl is
     where
-      by_place : (o : Option RwLockPlace) → rwlock_looking a p ≡ o → in_rwlock l a (in_call false o) ≡ Some r → Fits up base r st × (aim_of r ≡ of_rwlock l a p.purpose)
+      by_place : (o : Option RwLockPlace) → rwlock_looking a p ≡ o → in_rwlock l a (in_call false o) ≡ Some r → Fits up base r st × (call_purpose r ≡ of_rwlock l a p.purpose)
       by_place None e is = absurd cc
-      by_place (Some p2) e is = let there : RwLock l a (Plain p2) ≡ r = cc in subst (λ (x : Place). Fits up base x st × (aim_of x ≡ of_rwlock l a p.purpose)) there
+      by_place (Some p2) e is = let there : RwLock l a (Plain p2) ≡ r = cc in subst (λ (x : Place). Fits up base x st × (call_purpose x ≡ of_rwlock l a p.purpose)) there
           (looks_fit up l a base p st f p2 e, ap (of_rwlock l a) (sym (looks_from l a p.purpose p.retries p.at p2 e).0))
 
   -- where a reply led, by what was kept

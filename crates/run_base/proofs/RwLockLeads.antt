@@ -32,7 +32,7 @@ use Rattle.lot_steps.specs.Steps.{key_in}
 use Rattle.steps_rwlock_fair.specs.declared.places.RwLockCallPlace.TheVariants as calls
 use Rattle.lot_steps.specs.declared.places.Place.TheVariants as place
 use Rattle.steps_rwlock.specs.RwLockCalls.{StandsAt, MayBeTold, HasDeadline}
-use Rattle.steps_rwlock.specs.RwLockDeeds.{claimed, pends, rwlock_doing, kept_claim, falls_back}
+use Rattle.steps_rwlock.specs.RwLockDeeds.{claimed, pends, rwlock_role, kept_claim, falls_back}
 use Rattle.steps_rwlock.specs.RwLockProfiles.{enters_late, is_late, is_timed, late_at, rwlock_profile}
 use Rattle.steps_rwlock.specs.RwLockSteps.{is_counted, wanted, access_of, patience_of, decided_for, decided_act, plus, word_taken, exchange, rollback_op, unparked, start_of, want_at, ends_with, first_next, entered, stays, looked_by, looked, missed, came_in, exchanged_next, counted, wakes, rolled_back, took, clears, act_at, next_at, park_act, wake_act, park_next, wake_next}
 use Rattle.steps_rwlock.specs.declared.enter.Decision.{Decision}
@@ -82,16 +82,16 @@ clears_looks Second seen = refl
 abbrev pub unhanded : ℕ → Admission → RwLockPlace → Sleeper
 unhanded l a p = record (sleeper_at (place.RwLock l a (calls.Plain p))) { takes_over = false }
 
--- what a place keeps, beside that its call may stand there
+-- tells what a place keeps, beside that its call may stand there
 pub record Kept (up : Type 0) (l : ℕ) (base : List Ownership) (a : Admission) (p : RwLockPlace) (st : Stage) : Type 0 where
   pub begun : HasGivenWay p.at
   pub seen : HasSeen p.at
-  pub owns : OwnsBeside l (rwlock_doing p).claims base st.owns
-  pub within : IsWithin l a p.purpose (rwlock_doing p).inside (rwlock_doing p).carries st.inside
+  pub owns : OwnsBeside l (rwlock_role p).claims base st.owns
+  pub within : IsWithin l a p.purpose (rwlock_role p).inside (rwlock_role p).carries st.inside
   pub stood : HasStood l p.at st.steps
   pub late : (rwlock_profile a p).late ≡ true → up
 
--- what a call came to
+-- tells what a call came to
 abbrev pub Comes : Type 0 → ℕ → List Ownership → Admission → RwLockPurpose → Next RwLockPlace → Stage → Type 0
 Comes up l base a q (At p) st = Kept up l base a p st × (p.purpose ≡ q)
 Comes up l base a q (End answer) st = IsRwLockOver up l base a q answer st
@@ -144,12 +144,12 @@ module _ (up : Type 0) (l : ℕ) (a : Admission) (base : List Ownership) (q : Rw
     small : (op : Op) (seen : ℕ) → Step op seen → seen < 2 ^ 64
     small op seen b = fits (rwlock_at l) seen st.owns b.0
 
-    -- what is claimed behind a step
+    -- tells what is claimed behind a step
     claims_now : (op : Op) (seen : ℕ) (c : Option Claim) → Step op seen → OwnsBeside l c base (owns_after_step kinds.RwLock (rwlock_at l) op seen st.owns) → OwnsBeside l c base new.owns
     claims_now op seen c b = subst (OwnsBeside l c base) (sym (owns_now op seen b))
 
     -- at a place outside all sections, where nothing is late
-    rests : (to : RwLockAt) (r : Bool) (c : Option Claim) → HasGivenWay to → HasSeen to → HasStood l to new.steps → (rwlock_doing (record { purpose = q; retries = r; at = to })).claims ≡ c → (rwlock_doing (record { purpose = q; retries = r; at = to })).inside ≡ None → enters_late is_late to ≡ false
+    rests : (to : RwLockAt) (r : Bool) (c : Option Claim) → HasGivenWay to → HasSeen to → HasStood l to new.steps → (rwlock_role (record { purpose = q; retries = r; at = to })).claims ≡ c → (rwlock_role (record { purpose = q; retries = r; at = to })).inside ≡ None → enters_late is_late to ≡ false
         → OwnsBeside l c base new.owns → new.inside ≡ None → Reach (At (record { purpose = q; retries = r; at = to }))
     rests to r c begun seen stood claims outside quiet owns none = (
       record {
@@ -157,7 +157,7 @@ module _ (up : Type 0) (l : ℕ) (a : Admission) (base : List Ownership) (q : Rw
         seen = seen;
         stood = stood;
         owns = subst (λ (x : Option Claim). OwnsBeside l x base new.owns) (sym claims) owns;
-        within = subst (λ (x : Option Line). IsWithin l a q x (rwlock_doing (record { purpose = q; retries = r; at = to })).carries new.inside) (sym outside) none;
+        within = subst (λ (x : Option Line). IsWithin l a q x (rwlock_role (record { purpose = q; retries = r; at = to })).carries new.inside) (sym outside) none;
         late = not_late to quiet;
       },
       refl,
@@ -471,7 +471,7 @@ module _ (up : Type 0) (l : ℕ) (a : Admission) (base : List Ownership) (q : Rw
     -- ---------------------------------------------------------------- in and out of queues
 
     -- at a place inside the section of a line, where nobody is carried
-    inside_of : (to : RwLockAt) (r : Bool) (m : Line) (c : Option Claim) → HasGivenWay to → HasSeen to → HasStood l to new.steps → (rwlock_doing (record { purpose = q; retries = r; at = to })).claims ≡ c → (rwlock_doing (record { purpose = q; retries = r; at = to })).inside ≡ Some m → (rwlock_doing (record { purpose = q; retries = r; at = to })).carries ≡ false
+    inside_of : (to : RwLockAt) (r : Bool) (m : Line) (c : Option Claim) → HasGivenWay to → HasSeen to → HasStood l to new.steps → (rwlock_role (record { purpose = q; retries = r; at = to })).claims ≡ c → (rwlock_role (record { purpose = q; retries = r; at = to })).inside ≡ Some m → (rwlock_role (record { purpose = q; retries = r; at = to })).carries ≡ false
         → (late_at is_late q to ≡ true → up) → OwnsBeside l c base new.owns → new.inside ≡ entered_now (One (key_of l m)) → Reach (At (record { purpose = q; retries = r; at = to }))
     inside_of to r m c begun seen stood claims inside carries late owns within = (
       record {
@@ -479,13 +479,13 @@ module _ (up : Type 0) (l : ℕ) (a : Admission) (base : List Ownership) (q : Rw
         seen = seen;
         stood = stood;
         owns = subst (λ (x : Option Claim). OwnsBeside l x base new.owns) (sym claims) owns;
-        within = subst (λ (x : Option Line). IsWithin l a q x (rwlock_doing (record { purpose = q; retries = r; at = to })).carries new.inside) (sym inside) (subst (λ (b : Bool). IsWithin l a q (Some m) b new.inside) (sym carries) within);
+        within = subst (λ (x : Option Line). IsWithin l a q x (rwlock_role (record { purpose = q; retries = r; at = to })).carries new.inside) (sym inside) (subst (λ (b : Bool). IsWithin l a q (Some m) b new.inside) (sym carries) within);
         late = late;
       },
       refl,
     )
 
-    -- whoever stands in the main queue enters
+    -- each thread that stands in the main queue enters
     claims_none : (to : ParkAt) → StandsAt q again (at.Park to) → claimed q ≡ None
     claims_none to stands = by_purpose q stands
       where
@@ -522,7 +522,7 @@ module _ (up : Type 0) (l : ℕ) (a : Admission) (base : List Ownership) (q : Rw
     becomes_late : (m : Line) (to : ParkAt) (key : ℕ) → key ≡ key_of l m → new ≡ stage st.owns (entered_now (One key)) st.last st.steps → new.inside ≡ entered_now (One (key_of l m))
     becomes_late m to key k e = ap (λ (s : Stage). s.inside) e ∙ ap (λ (n : ℕ). entered_now (One n)) k
 
-    -- who gives up in the main queue
+    -- a thread that gives up in the main queue
     gives_up_main : Fits (at.Park parking.GiveUp) → new.owns ≡ st.owns → new.inside ≡ None → IsLeft st.inside new.last → new.steps ≡ st.steps → Reach (End No)
     gives_up_main f same none left steps = (none, by_purpose q f.stands.place f.late)
       where
@@ -605,7 +605,7 @@ module _ (up : Type 0) (l : ℕ) (a : Admission) (base : List Ownership) (q : Rw
 
     -- ---------------------------------------------------------------- giving up, and waking others
 
-    -- behind a roll-back the right that it falls back to is kept, and those who wait are woken
+    -- after a roll-back the right that it falls back to is kept, and those who wait are woken
     wakes_behind : (seen : ℕ) (c : Option Claim) → Fits at.RollBack → kept_claim (start_of q) ≡ c → OwnsBeside l c base new.owns → new.inside ≡ None → (has_parked seen ≡ false → Answers up l base a q No new) → Reach (if has_parked seen then stays (of at.RollBack) (wakes Main) else End No)
     wakes_behind seen c f claims owns none over = either (has_parked seen) refl
       where
@@ -652,8 +652,8 @@ module _ (up : Type 0) (l : ℕ) (a : Admission) (base : List Ownership) (q : Rw
         by_purpose (purpose.Release access.Exclusive) is stands owns late b = absurd stands
         by_purpose (purpose.Downgrade d) is stands owns late b = absurd stands
 
-    -- whom it took is in its hand until it leaves
-    carries_on : (m : Line) (to : WakeAt) → (rwlock_doing (of (at.Wake m to))).inside ≡ Some m → (rwlock_doing (of (at.Wake m to))).carries ≡ true → (rwlock_doing (of (at.Wake m to))).claims ≡ kept_claim (start_of q) → (late_at is_late q (at.Wake m to) ≡ true → up)
+    -- a thread that it took is in its hand until it leaves
+    carries_on : (m : Line) (to : WakeAt) → (rwlock_role (of (at.Wake m to))).inside ≡ Some m → (rwlock_role (of (at.Wake m to))).carries ≡ true → (rwlock_role (of (at.Wake m to))).claims ≡ kept_claim (start_of q) → (late_at is_late q (at.Wake m to) ≡ true → up)
         → OwnsBeside l (kept_claim (start_of q)) base new.owns → IsWithin l a q (Some m) true new.inside → Reach (stays (of (at.Wake m to)) (at.Wake m to))
     carries_on m to inside carries claims late owns within = (
       record {
@@ -661,7 +661,7 @@ module _ (up : Type 0) (l : ℕ) (a : Admission) (base : List Ownership) (q : Rw
         seen = tt;
         stood = tt;
         owns = subst (λ (x : Option Claim). OwnsBeside l x base new.owns) (sym claims) owns;
-        within = subst (λ (x : Option Line). IsWithin l a q x (rwlock_doing (of (at.Wake m to))).carries new.inside) (sym inside) (subst (λ (b : Bool). IsWithin l a q (Some m) b new.inside) (sym carries) within);
+        within = subst (λ (x : Option Line). IsWithin l a q x (rwlock_role (of (at.Wake m to))).carries new.inside) (sym inside) (subst (λ (b : Bool). IsWithin l a q (Some m) b new.inside) (sym carries) within);
         late = late;
       },
       refl,

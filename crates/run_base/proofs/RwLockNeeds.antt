@@ -51,7 +51,7 @@ has_owned l o rest owns e = subst (λ (x : List Ownership). has (owning (rwlock_
 pub has_right : (l : ℕ) (o : Owner) (base owns : List Ownership) → (owner : Owner) × (rest : List Ownership) × (owner ≡ o) × IsBeside l base rest × (owns ≡ owning (rwlock_at l) owner ∷ rest) → has (owning (rwlock_at l) o) owns ≡ true
 has_right l o base owns c = has_owned l o c.1 owns (c.4 ∙ ap (λ (w : Owner). owning (rwlock_at l) w ∷ c.1) c.2)
 
--- what is left beside a right, once that is split off
+-- tells what is left beside a right, once that is split off
 pub left_beside : (l : ℕ) (o : Owner) (base owns : List Ownership) → (owner : Owner) × (rest : List Ownership) × (owner ≡ o) × IsBeside l base rest × (owns ≡ owning (rwlock_at l) owner ∷ rest) → IsBeside l base (without (owning (rwlock_at l) o) owns)
 left_beside l o base owns c = λ settled. ap (without (owning (rwlock_at l) o)) (c.4 ∙ ap (λ (w : Owner). owning (rwlock_at l) w ∷ c.1) c.2) ∙ first_goes (rwlock_at l) o c.1 ∙ c.3 settled
 
@@ -165,7 +165,7 @@ module _ (up : Type 0) (l : ℕ) (a : Admission) (base : List Ownership) (q : Rw
   wakes_needs m (waking.Leave true) f = subst (MayLeave Normal) (sym f.within.1) refl
   wakes_needs m (waking.Leave false) f = subst (MayLeave Normal) (sym f.within.1) refl
 
-  -- what the place's act needs is there
+  -- the needs of the place's act are there
   pub rwlock_needs : (to : RwLockAt) → Fits to → Can (act_at l a (of to) to)
   rwlock_needs at.First f = (rwlock_steps (rwlock_at l) st.owns).write_alone
   rwlock_needs at.Load f = (rwlock_steps (rwlock_at l) st.owns).load

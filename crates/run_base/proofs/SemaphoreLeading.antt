@@ -37,7 +37,7 @@ use Rattle.core_words.specs.declared.views.WordStep.{WordStep}
 use Rattle.core_words.specs.declared.words.WordKind as kinds
 use Rattle.core_words.proofs.SemaphoreSteps.{semaphore_steps, semaphore_trades}
 use Rattle.parking_lot_core.specs.declared.tokens.Did.TheVariants.{TakeFirst}
-use Rattle.run_base.specs.Fitting.{Aim, Fits, Looks, Reached, ReachedBy, aim_of, answer_of, of_semaphore, sleeper_at}
+use Rattle.run_base.specs.Fitting.{CallPurpose, Fits, Looks, Reached, ReachedBy, call_purpose, answer_of, of_semaphore, sleeper_at}
 use Rattle.run_base.specs.MutexFitting.{Outside, Within}
 use Rattle.run_base.specs.SemaphoreFitting.{AcquireAnswer, acquires, tries_once, FitsAcquire, FitsRelease, FitsSemaphore, FitsTry, permit}
 use Rattle.run_base.specs.Paths.{at_semaphore, semaphore_at, semaphores, step}
@@ -89,7 +89,7 @@ module _ (permits l : ℕ) (base : List Ownership) (st : Stage) where
   release_needs (release.Leave true) f = subst (MayLeave Normal) (sym f.2.1) refl
   release_needs (release.Leave false) f = subst (MayLeave Normal) (sym f.2.1) refl
 
-  -- what the place's act needs is there
+  -- the needs of the place's act are there
   needs : (up : Type 0) (at : SemaphorePlace) → FitsSemaphore up l base at st → Can (semaphore_act l at)
   needs up (Acquire timed retries at) f = acquire_needs up timed at f
   needs up (Try at) f = try_needs at f
@@ -125,7 +125,7 @@ module _ (permits l : ℕ) (base : List Ownership) (st : Stage) where
   clears seen few = unchanged (And 18446744073709551614) seen
       (omega (arith, few, and-not 64 (2 ^ 0) seen (omega arith) (omega (arith, few)), and_comm seen (2 ^ 64 - 1 - 2 ^ 0), and_comm seen (2 ^ 0), and_pow seen 0))
 
-  -- what a thread does that has looked ends no call
+  -- a thread that has looked ends no call
   decides_on : (seen : ℕ) → answer_of (decided l seen) ≡ None
   decides_on seen = by_look (is_free seen) (seen == 0)
     where
@@ -166,7 +166,7 @@ module _ (permits l : ℕ) (base : List Ownership) (st : Stage) where
       abbrev place : Bool → AcquireAt → Place
       place r at = Semaphore l (Acquire timed r at)
 
-      abbrev aim : Aim
+      abbrev aim : CallPurpose
       aim = of_semaphore l (acquires timed)
 
       goes_on : (r : Bool) (seen : ℕ) → Outside base new → ReachedBy up base aim (place r (acquire.Decide seen)) (answer_of (decided l seen)) new
@@ -302,8 +302,8 @@ module _ (permits l : ℕ) (base : List Ownership) (st : Stage) where
   looks : (up : Type 0) (at : SemaphorePlace) → FitsSemaphore up l base at st → Looks up base (Semaphore l at) st
   looks up (Acquire timed r (acquire.Decide seen)) f q is = by_mark (seen == 0) is
     where
-      by_mark : (b : Bool) → in_semaphore l (if b then Some (Acquire timed r acquire.Load) else None) ≡ Some q → Fits up base q st × (aim_of q ≡ of_semaphore l (acquires timed))
-      by_mark true is = let there : Semaphore l (Acquire timed r acquire.Load) ≡ q = cc in subst (λ p. Fits up base p st × (aim_of p ≡ of_semaphore l (acquires timed))) there (f, refl)
+      by_mark : (b : Bool) → in_semaphore l (if b then Some (Acquire timed r acquire.Load) else None) ≡ Some q → Fits up base q st × (call_purpose q ≡ of_semaphore l (acquires timed))
+      by_mark true is = let there : Semaphore l (Acquire timed r acquire.Load) ≡ q = cc in subst (λ p. Fits up base p st × (call_purpose p ≡ of_semaphore l (acquires timed))) there (f, refl)
       by_mark false is = absurd cc
   looks up at f q is = absurd cc
 

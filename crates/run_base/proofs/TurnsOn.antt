@@ -17,7 +17,7 @@ use Rattle.parking_lot_core.specs.Tokens.{IsSameThread, last_of, view_of}
 use Rattle.parking_lot_core.specs.declared.lot.ParkingLot.{ParkingLot}
 use Rattle.parking_lot_core.specs.declared.sections.Section.{Section}
 use Rattle.parking_lot_core.specs.declared.tokens.Token.{Token}
-use Rattle.run_base.specs.Fitting.{Aim, AreWordsFor, Fits, IsOver, ReachedBy, aim_of, answer_of, sleeper_at}
+use Rattle.run_base.specs.Fitting.{CallPurpose, AreWordsFor, Fits, IsOver, ReachedBy, call_purpose, answer_of, sleeper_at}
 use Rattle.run_base.specs.Paths.{closure_of}
 use Rattle.run_base.specs.Stages.{ActNeeds, Adds, Became, IsIn, inside_of, stage_of}
 use Rattle.run_base.specs.Telling.{steps_of}
@@ -29,7 +29,7 @@ use Rattle.run_base.proofs.Paths.{comes_here, comes_on, comes_to_end, walks_on}
 use Rattle.run_base.proofs.Leading.{places_lead}
 use Rattle.run_base.proofs.Turning.{by_stage, told, words_on}
 
--- what the act of a place needs
+-- tells what the act of a place needs
 pub needs_by : (up : Type 0) (lot : ParkingLot) (words : Words) (p : Place) (a : Act) (token : Token) (section : Option Section) → IsAt up lot words p token section → act_of p ≡ a → ActNeeds (kind_in words) (at_in words) (stage_of token section) a
 needs_by up lot words p a token section at is = subst (ActNeeds (kind_in words) (at_in words) (stage_of token section)) is (places_lead up (kind_in words) (at_in words) at.4.0 p (stage_of token section) at.3 at.4.1).0
 
@@ -54,12 +54,12 @@ word_turned up lot words p old new section lock op seen w e is at same stepped l
     (by_stage (word_in words lock) op seen old section new then last code) (ap (λ (v : View). v.steps) then)
 
 module _ (up : Type 0) (lot : ParkingLot) (words : Words) (p : Place) (reply : Reply) (old new : Token) (section now : Option Section) (turned : HasTurned up lot words p reply old section new now) where
-  -- what a turn brings that ends no call
-  fits_on : (q : Place) → next_place p reply ≡ q → answer_of (next_act p reply) ≡ None → (base : List Ownership) → Fits up base p (stage_of old section) → Fits up base q (stage_of new now) × (aim_of q ≡ aim_of p)
+  -- tells what a turn brings that ends no call
+  fits_on : (q : Place) → next_place p reply ≡ q → answer_of (next_act p reply) ≡ None → (base : List Ownership) → Fits up base p (stage_of old section) → Fits up base q (stage_of new now) × (call_purpose q ≡ call_purpose p)
   fits_on q is none base fits =
-      let reached : ReachedBy up base (aim_of p) (next_place p reply) None (stage_of new now)
-      = subst (λ (o : Option Answer). ReachedBy up base (aim_of p) (next_place p reply) o (stage_of new now)) none (turned.3 base fits) in
-      subst (λ (r : Place). Fits up base r (stage_of new now) × (aim_of r ≡ aim_of p)) is reached
+      let reached : ReachedBy up base (call_purpose p) (next_place p reply) None (stage_of new now)
+      = subst (λ (o : Option Answer). ReachedBy up base (call_purpose p) (next_place p reply) o (stage_of new now)) none (turned.3 base fits) in
+      subst (λ (r : Place). Fits up base r (stage_of new now) × (call_purpose r ≡ call_purpose p)) is reached
 
   pub turn_leads : IsAt up lot words p old section → (q : Place) → next_place p reply ≡ q → answer_of (next_act p reply) ≡ None → IsAt up lot words q new now
   turn_leads at q is none = (
@@ -70,13 +70,13 @@ module _ (up : Type 0) (lot : ParkingLot) (words : Words) (p : Place) (reply : R
     (at.4.0, (fits_on q is none at.4.0 at.4.1).0),
   )
 
-  -- what follows on a turn that ends no call
+  -- tells what follows on a turn that ends no call
   pub turn_then : (q : Place) → next_place p reply ≡ q → answer_of (next_act p reply) ≡ None → (answer : Answer) (last : Token) → HasEnded up lot words q answer new now last → HasEnded up lot words p answer old section last
   turn_then q is none answer last rest = (
     (rest.0.0, rest.0.1 ∙ turned.0.1),
     walks_on (at_in words) p q (steps_of old) (steps_of new) (steps_of last) answer
         (comes_on (at_in words) p p q (steps_of old) (steps_of old) (steps_of new) reply turned.2.0 (comes_here (at_in words) p (steps_of old)) turned.2.1 turned.2.2 (sym is)) rest.1,
-    λ base fits. let on = fits_on q is none base fits in subst (λ (aim : Aim). IsOver up base aim answer (stage_of last None)) on.1 (rest.2 base on.0),
+    λ base fits. let on = fits_on q is none base fits in subst (λ (aim : CallPurpose). IsOver up base aim answer (stage_of last None)) on.1 (rest.2 base on.0),
   )
 
   -- a turn that ends its call
@@ -84,6 +84,6 @@ module _ (up : Type 0) (lot : ParkingLot) (words : Words) (p : Place) (reply : R
   turn_ends answer some = (
     turned.0,
     comes_to_end (at_in words) p p (steps_of old) (steps_of old) (steps_of new) reply turned.2.0 answer (comes_here (at_in words) p (steps_of old)) turned.2.1 turned.2.2 (end_of (next_act p reply) answer some),
-    λ base fits. let over = subst (λ (o : Option Answer). ReachedBy up base (aim_of p) (next_place p reply) o (stage_of new now)) some (turned.3 base fits) in
-        ended up base (stage_of new now).owns (aim_of p) answer (inside_of now) (stage_of new now).last (stage_of new now).steps over,
+    λ base fits. let over = subst (λ (o : Option Answer). ReachedBy up base (call_purpose p) (next_place p reply) o (stage_of new now)) some (turned.3 base fits) in
+        ended up base (stage_of new now).owns (call_purpose p) answer (inside_of now) (stage_of new now).last (stage_of new now).steps over,
   )

@@ -40,7 +40,7 @@ first_op call.Unlock = Sub 1
 first_op call.UnlockFair = Exchange 1 0
 first_op call.Bump = Load
 
--- what it is for behind that
+-- its aim after that
 abbrev pub purpose_in : MutexCall → Purpose
 purpose_in call.Lock = enters entry.TheVariants.Lock
 purpose_in call.LockTimed = enters entry.TheVariants.LockTimed
@@ -57,8 +57,8 @@ IsUnfinished n call.Unlock seen owns = is_parked seen ≡ true
 IsUnfinished n call.UnlockFair seen owns = (seen ≢ 1) × (has (held n) owns ≡ true)
 IsUnfinished n call.Bump seen owns = (is_parked seen ≡ true) × (has (held n) owns ≡ true)
 
--- who saw a waiter left the section in which it took the first of the queue; who saw none took no
--- further step
+-- a thread that saw a waiter left the section in which it took the first of the queue; one that saw none took
+-- no further step
 abbrev pub TookIfParked : ℕ → Bool → List WordStep → Option SectionRecord → Type 0
 TookIfParked n true more last = TookAt n last
 TookIfParked n false more last = (more ≡ []) × (last ≡ None)

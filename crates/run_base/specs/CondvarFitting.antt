@@ -30,11 +30,11 @@ use Rattle.run_base.specs.MutexFitting.{FitsLock, FitsUnlock, Outside, Within, h
 use Rattle.run_base.specs.Paths.{condvar_at, step}
 use Rattle.run_base.specs.Stages.{HasLeft, Stage, TookNobodyAt, entered_now, having_taken}
 
--- who waits owned its mutex as the call began
+-- a waiting thread owned its mutex as the call began
 abbrev pub OwnsIt : ℕ → List Ownership → Type 0
 OwnsIt m base = has (held m) base ≡ true
 
--- what it owns while it waits
+-- its ownership while it waits
 abbrev pub apart : ℕ → List Ownership → List Ownership
 apart m base = without (held m) base
 
@@ -48,14 +48,14 @@ abbrev pub SawElse : ℕ → ℕ → List WordStep → Type 0
 SawElse c m steps = (before : List WordStep) × (seen : ℕ) × (is_shown seen m ≡ false)
     × (steps ≡ before ++ step (condvar_at c) Load seen)
 
--- what a notification does there, by whether somebody owned the mutex
+-- the effect of a notification there, by whether the mutex was owned
 abbrev pub move_did : Bool → Bool → ℕ → ℕ → Did
 move_did true locked c m =
     did.Requeue (2 * c) (2 * m) (if locked then requeue.All else requeue.TakeOneMoveRest)
 move_did false true c m = did.Requeue (2 * c) (2 * m) requeue.One
 move_did false false c m = did.TakeFirst (2 * c)
 
--- who notifies all tells how many it took and moved
+-- a notification of all tells how many it took and moved
 abbrev pub TellsNumber : Bool → ℕ → ℕ → Type 0
 TellsNumber true number counted = number ≡ counted
 TellsNumber false number counted = number ≡ 1
@@ -82,9 +82,8 @@ FitsNotify c m all base (notify.MarkMoved number) st = HasMoved c m all number b
 FitsNotify c m all base (notify.Leave any number) st =
     ((number ≡ 0) × Between c m base st × SawElse c m st.steps) ⊎ HasMoved c m all number base st
 
--- what a notification answers from its second look on, by the section that it left: it saw another
--- mutex shown, or none, and did nothing; or it moved waiters, and who notifies all tells the
--- record's number
+-- the answer of a notification from its second look on, by the section that it left: it saw another mutex
+-- shown, or none, and did nothing; or it moved waiters, and one that notifies all tells the record's number
 abbrev pub AnswersBy : ℕ → ℕ → Bool → Answer → Option SectionRecord → List WordStep → Type 0
 AnswersBy c m all answer last steps =
     ((answer ≡ notified all 0) × TookNobodyAt c last × SawElse c m steps)
@@ -144,15 +143,15 @@ module _ (up : Type 0) where
   FitsWait c m timed base (wait.Lock timed_out at) st =
       LateIf timed timed_out × FitsRelock m base at st
 
-  -- what a thread has in a call of a condition variable, which owned so much as it began. The first
+  -- the ownership of a thread in a call of a condition variable, which owned so much as it began. The first
   -- step of a notification is taken before
   abbrev pub FitsCondvar : ℕ → List Ownership → CondvarPlace → Stage → Type 0
   FitsCondvar c base (Wait m timed at) st = FitsWait c m timed base at st
   FitsCondvar c base (Look all) st = ⊥
   FitsCondvar c base (Notify all m at) st = FitsNotify c m all base at st
 
-  -- what an answer says at the end of a wait: another mutex was shown, and it never released its
-  -- own, or it has it again
+  -- the answer at the end of a wait is true: another mutex was shown, and it never released its own, or it
+  -- has it again
   abbrev pub IsWaitOver : ℕ → Bool → List Ownership → Answer → Stage → Type 0
   IsWaitOver m timed base answer st =
       ((answer ≡ answers.TwoMutexes) × OwnsIt m base × Outside base st)

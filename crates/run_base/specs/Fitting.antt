@@ -48,55 +48,55 @@ abbrev pub answer_of : Act → Option Answer
 answer_of (act.TheVariants.End answer) = Some answer
 answer_of _ = None
 
--- what a call is for, and of which lock
-pub data Aim : Type 0 where
-  nothing : Aim
-  of_mutex : ℕ → Purpose → Aim
-  of_rwlock : ℕ → Admission → RwLockPurpose → Aim
-  of_fair : ℕ → Admission → Access → Aim
-  of_once : ℕ → OnceCall → Aim
+-- the goal of a call, and its lock
+pub data CallPurpose : Type 0 where
+  nothing : CallPurpose
+  of_mutex : ℕ → Purpose → CallPurpose
+  of_rwlock : ℕ → Admission → RwLockPurpose → CallPurpose
+  of_fair : ℕ → Admission → Access → CallPurpose
+  of_once : ℕ → OnceCall → CallPurpose
   -- to end a run, by whether it succeeded
-  of_run : ℕ → Bool → Aim
+  of_run : ℕ → Bool → CallPurpose
   -- to wait, with this mutex, up to a deadline or without one
-  of_wait : ℕ → ℕ → Bool → Aim
+  of_wait : ℕ → ℕ → Bool → CallPurpose
   -- to notify the first or all who wait with this mutex
-  of_notify : ℕ → ℕ → Bool → Aim
-  of_semaphore : ℕ → semaphore.Purpose → Aim
+  of_notify : ℕ → ℕ → Bool → CallPurpose
+  of_semaphore : ℕ → semaphore.Purpose → CallPurpose
 
--- who hands the lock over releases it fairly, or bumps
-abbrev pub handing_aim : ℕ → Admission → Access → Bool → Aim
+-- a thread that hands the lock over releases it fairly, or bumps
+abbrev pub handing_aim : ℕ → Admission → Access → Bool → CallPurpose
 handing_aim l a x true = of_rwlock l a (purpose.Enter x Patient)
 handing_aim l a x false = of_fair l a x
 
-abbrev pub call_aim : ℕ → Admission → RwLockCallPlace → Aim
+abbrev pub call_aim : ℕ → Admission → RwLockCallPlace → CallPurpose
 call_aim l a (places.HandOver x b to) = handing_aim l a x b
 call_aim l a c = of_rwlock l a (purpose_in c)
 
--- who begins a run goes on to its closure, and behind that ends the run
-abbrev pub run_aim : ℕ → Bool → RunAt → Aim
+-- a thread that begins a run goes on to its closure, and then ends the run
+abbrev pub run_aim : ℕ → Bool → RunAt → CallPurpose
 run_aim l forced (run.Closure poisoned) = of_once l (CallOnce forced)
 run_aim l forced (run.Close succeeded) = of_run l succeeded
 run_aim l forced (run.Enter succeeded) = of_run l succeeded
 run_aim l forced (run.Take succeeded) = of_run l succeeded
 run_aim l forced (run.Leave succeeded any) = of_run l succeeded
 
-abbrev pub once_aim : ℕ → OncePlace → Aim
+abbrev pub once_aim : ℕ → OncePlace → CallPurpose
 once_aim l (Look c retries at) = of_once l c
 once_aim l (Run forced at) = run_aim l forced at
 once_aim l (GiveUp retries at) = of_once l WaitTimed
 
-abbrev pub condvar_aim : ℕ → CondvarPlace → Aim
+abbrev pub condvar_aim : ℕ → CondvarPlace → CallPurpose
 condvar_aim l (condvars.Wait m timed at) = of_wait l m timed
 condvar_aim l (condvars.Look all) = nothing
 condvar_aim l (condvars.Notify all m at) = of_notify l m all
 
-abbrev pub aim_of : Place → Aim
-aim_of Idle = nothing
-aim_of (Mutex l at) = of_mutex l (purpose_at at)
-aim_of (RwLock l a c) = call_aim l a c
-aim_of (Once l at) = once_aim l at
-aim_of (Condvar l at) = condvar_aim l at
-aim_of (Semaphore l at) = of_semaphore l (semaphore.purpose_at at)
+abbrev pub call_purpose : Place → CallPurpose
+call_purpose Idle = nothing
+call_purpose (Mutex l at) = of_mutex l (purpose_at at)
+call_purpose (RwLock l a c) = call_aim l a c
+call_purpose (Once l at) = once_aim l at
+call_purpose (Condvar l at) = condvar_aim l at
+call_purpose (Semaphore l at) = of_semaphore l (semaphore.purpose_at at)
 
 -- for what a thread sleeps in a call, the keys under which it may be late, and whether it goes on
 -- where it is handed the lock. Nobody is moved from the queue of a lock
@@ -163,8 +163,8 @@ AreWordsAfter (Paused place state) kinds at = AreWordsFor place kinds at
 
 -- `up` says that the time of the call is up
 module _ (up : Type 0) where
-  -- what a thread has at a place, which owned so much as it began to run, or beside what a
-  -- reader-writer place claims
+  -- the stage of a thread at a place, which owned so much as it began to run, or beside what a reader-writer
+  -- place claims
   abbrev pub Fits : List Ownership → Place → Stage → Type 0
   Fits base Idle st = ⊥
   Fits base (Mutex l at) st = FitsMutex up l base at st
@@ -173,8 +173,8 @@ module _ (up : Type 0) where
   Fits base (Condvar l at) st = FitsCondvar up l base at st
   Fits base (Semaphore l at) st = FitsSemaphore up l base at st
 
-  -- what an answer says at the end of a call
-  abbrev pub IsOver : List Ownership → Aim → Answer → Stage → Type 0
+  -- the answer at the end of a call is true
+  abbrev pub IsOver : List Ownership → CallPurpose → Answer → Stage → Type 0
   IsOver base nothing answer st = ⊥
   IsOver base (of_mutex l purpose) answer st = IsMutexOver up l base purpose answer st
   IsOver base (of_rwlock l a purpose) answer st = IsRwLockOver up l base a purpose answer st
@@ -185,24 +185,24 @@ module _ (up : Type 0) where
   IsOver base (of_notify l m all) answer st = IsNotifyOver l m all base answer st
   IsOver base (of_semaphore l purpose) answer st = IsSemaphoreOver up l base purpose answer st
 
-  -- what a run came to: the end of its call, or a closure, which is outside all sections
-  abbrev pub IsStopped : List Ownership → Aim → Stop → Stage → Type 0
+  -- the end of a run: the end of its call, or a closure, which is outside all sections
+  abbrev pub IsStopped : List Ownership → CallPurpose → Stop → Stage → Type 0
   IsStopped base aim (Ended answer) st = IsOver base aim answer st
   IsStopped base aim (Paused place state) st = Fits base place st
-      × (aim_of place ≡ aim) × (act_of place ≡ act.TheVariants.Closure state)
+      × (call_purpose place ≡ aim) × (act_of place ≡ act.TheVariants.Closure state)
 
-  abbrev pub ReachedBy : List Ownership → Aim → Place → Option Answer → Stage → Type 0
-  ReachedBy base aim p None st = Fits base p st × (aim_of p ≡ aim)
+  abbrev pub ReachedBy : List Ownership → CallPurpose → Place → Option Answer → Stage → Type 0
+  ReachedBy base aim p None st = Fits base p st × (call_purpose p ≡ aim)
   ReachedBy base aim p (Some answer) st = IsOver base aim answer st
 
   -- where a reply leads
   abbrev pub Reached : List Ownership → Place → Reply → Stage → Type 0
   Reached base p reply st =
-      ReachedBy base (aim_of p) (next_place p reply) (answer_of (next_act p reply)) st
+      ReachedBy base (call_purpose p) (next_place p reply) (answer_of (next_act p reply)) st
 
   -- from where it looks at the word once more, it goes on too
   abbrev pub Looks : List Ownership → Place → Stage → Type 0
-  Looks base p st = (q : Place) → looking p ≡ Some q → Fits base q st × (aim_of q ≡ aim_of p)
+  Looks base p st = (q : Place) → looking p ≡ Some q → Fits base q st × (call_purpose q ≡ call_purpose p)
 
   -- each place's act is one that the thread may take, and each reply leads to a place that fits
   abbrev pub PlacesLead : Type 0

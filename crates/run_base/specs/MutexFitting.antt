@@ -25,14 +25,13 @@ use Rattle.parking_lot_core.specs.declared.tokens.SectionRecord.{SectionRecord}
 use Rattle.run_base.specs.Paths.{mutex_at}
 use Rattle.run_base.specs.Stages.{HasDone, Stage, TookNobodyAt, entered_now, having_taken, is_there, listed}
 
--- what a call of a mutex is for: to enter, to end a release that has given the lock up, or to hand
--- it over
+-- the goal of a call of a mutex: to enter, to end a release that has given the lock up, or to hand it over
 pub data Purpose : Type 0 where
   enters : Entry → Purpose
   releases : Purpose
   hands_over : Purpose
 
--- who bumps enters again
+-- a bump enters again
 abbrev pub hands_for : Bool → Purpose
 hands_for true = enters entry.TheVariants.Bump
 hands_for false = hands_over
@@ -48,7 +47,7 @@ purpose_at _ = releases
 abbrev pub held : ℕ → Ownership
 held n = owning (mutex_at n) Exclusive
 
--- what a thread that enters owns beside the mutex: who bumps had it as the call began
+-- the ownership of an entering thread beside the mutex: one that bumps had it as the call began
 abbrev pub beside : ℕ → Entry → List Ownership → List Ownership
 beside n entry.TheVariants.Bump base = without (held n) base
 beside n _ base = base
@@ -95,7 +94,7 @@ FitsHandOff n base (hand_off.TheVariants.Leave any) st =
 
 -- `up` says that the time of the call is up
 module _ (up : Type 0) where
-  -- who gives up is in a timed call
+  -- a thread that gives up is in a timed call
   abbrev pub GaveUp : Entry → Type 0
   GaveUp e = (is_timed e ≡ true) × up
 
@@ -113,15 +112,15 @@ module _ (up : Type 0) where
   FitsLock n e owns lock.TheVariants.GiveUp st = GaveUp e × Within n owns st
   FitsLock n e owns _ st = ⊥
 
-  -- what a thread has in a call of a mutex, which owned so much as it began to run. The first step
-  -- of a release or a bump is taken before
+  -- the ownership of a thread in a call of a mutex, which owned so much as it began to run. The first step of
+  -- a release or a bump is taken before
   abbrev pub FitsMutex : ℕ → List Ownership → MutexPlace → Stage → Type 0
   FitsMutex n base (Lock e retries at) st = FitsLock n e (beside n e base) at st
   FitsMutex n base (Unlock at) st = FitsUnlock n base at st
   FitsMutex n base (HandOff bumps at) st = FitsHandOff n base at st
   FitsMutex n base _ st = ⊥
 
-  -- what an answer says at the end of it
+  -- the answer at its end is true
   abbrev pub IsMutexOver : ℕ → List Ownership → Purpose → Answer → Stage → Type 0
   IsMutexOver n base (enters e) answer st =
       ((answer ≡ entered e) × Outside (held n ∷ beside n e base) st)

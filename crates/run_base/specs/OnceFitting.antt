@@ -24,7 +24,7 @@ use Rattle.parking_lot_core.specs.declared.tokens.SectionRecord.{SectionRecord}
 use Rattle.run_base.specs.Paths.{once_at}
 use Rattle.run_base.specs.Stages.{HasDone, Inside, Stage, TookNobodyAt, entered_now, having_taken}
 
--- what is owned by who has found a `Once` done so often, beside the rest
+-- the ownership of a thread that has found a `Once` done so often, beside the rest
 abbrev pub knowing : ℕ → ℕ → List Ownership → List Ownership
 knowing l zero base = base
 knowing l (suc times) base = owning (once_at l) Witness ∷ knowing l times base
@@ -61,7 +61,7 @@ FitsLook l c base (look.Leave parked) st = StandsWithin l base st
 FitsLook l c base look.Asleep st = StandsOutside l base st
 FitsLook l c base (look.Taken by) st = ⊥
 
--- who is in its closure owns its run
+-- a thread in its closure owns its run
 abbrev pub OwnsRun : ℕ → List Ownership → List Ownership → Type 0
 OwnsRun l base owns = (rest : List Ownership) × OwnsKnowing l base rest
     × (owns ≡ owning (once_at l) Runner ∷ rest)
@@ -81,8 +81,8 @@ FitsRun l base (run.Take succeeded) st =
 FitsRun l base (run.Leave succeeded any) st = OwnsBehind l succeeded base st.owns
     × (waiters : List Waiter) × (any ≡ not (length waiters == 0)) × TookEach l waiters st.inside
 
--- what a thread has in a call of a `Once`, beside what it owned as it began; `up` says that the
--- time of the call is up, as it is of a thread that gives up
+-- the ownership of a thread in a call of a `Once`, beside what it owned as it began; `up` says that the time
+-- of the call is up, as it is of a thread that gives up
 abbrev pub FitsOnce : Type 0 → ℕ → List Ownership → OncePlace → Stage → Type 0
 FitsOnce up l base (Look c retries at) st = FitsLook l c base at st
 FitsOnce up l base (Run forced at) st = FitsRun l base at st

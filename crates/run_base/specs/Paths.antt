@@ -155,8 +155,7 @@ pub record Ending (at : ℕ → ℕ) (p : Place) (steps : List WordStep) (answer
 abbrev pub Walks : (ℕ → ℕ) → Place → List WordStep → List WordStep → Answer → Type 0
 Walks at p old new answer = (more : List WordStep) × (new ≡ old ++ more) × Ending at p more answer
 
--- behind a reply that ended its call there are no further steps, and else they go on from where it
--- led
+-- after a reply that ended its call there are no further steps, and else they go on from where it led
 abbrev pub Rests : (ℕ → ℕ) → Place → Reply → List WordStep → List WordStep → Answer → Type 0
 Rests at p reply old new answer = ((new ≡ old) × (next_act p reply ≡ act.TheVariants.End answer))
     ⊎ Walks at (next_place p reply) old new answer

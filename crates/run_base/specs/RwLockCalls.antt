@@ -18,7 +18,7 @@ use Rattle.steps_base.specs.declared.acts.Next.TheVariants.{At, End}
 use Rattle.steps_base.specs.declared.acts.Reply.TheVariants.{Value}
 use Rattle.steps_rwlock.specs.RwLockBegins.{first_at, rwlock_first}
 use Rattle.steps_rwlock_fair.specs.FairBegins.{call_first, plain_first}
-use Rattle.steps_rwlock.specs.RwLockDeeds.{rwlock_doing}
+use Rattle.steps_rwlock.specs.RwLockDeeds.{rwlock_role}
 use Rattle.steps_rwlock.specs.RwLockSteps.{wanted, to_of, entered, give_op, rwlock_next}
 use Rattle.steps_rwlock.specs.declared.places.Admission.{Admission}
 use Rattle.steps_rwlock.specs.declared.places.RwLockAt.{RwLockAt}
@@ -66,9 +66,9 @@ first_op q = op_at q (first_at q)
 
 -- the thread has the right that the call needs, beside these
 abbrev pub BeginsWith : ℕ → RwLockPurpose → List Ownership → List Ownership → Type 0
-BeginsWith l c base owns = OwnsBeside l (rwlock_doing (rwlock_first c)).claims base owns
+BeginsWith l c base owns = OwnsBeside l (rwlock_role (rwlock_first c)).claims base owns
 
--- what an answer says of the rights at the end of a call, whether its first step ended it or not
+-- the answer tells of the rights at the end of a call, whether its first step ended it or not
 abbrev pub AnswersCall : Type 0 → ℕ → List Ownership → Admission → RwLockPurpose → Answer → Stage
     → Type 0
 AnswersCall up l base a (purpose.Release x) answer st =
@@ -144,9 +144,9 @@ Exclude one other = ⊥
 
 -- ---------------------------------------------------------------- fair releases
 
--- who shares releases as ever, and an upgradable owner takes those to whom it hands the lock, or
+-- a sharer releases as ever, and an upgradable owner takes those to which it hands the lock, or
 -- frees a word that tells of nobody. An exclusive owner tries first the word that tells of nobody
--- else: it takes those to whom it hands the lock where it finds another, and else there is no
+-- else: it takes those to which it hands the lock where it finds another, and else there is no
 -- further step
 abbrev pub TookUnlessFree : ℕ → Admission → Bool → List WordStep → Option SectionRecord → Type 0
 TookUnlessFree l a true more last = (more ≡ []) × (last ≡ None)
@@ -193,12 +193,12 @@ SeesBy told l answer old new = (seen : ℕ)
     × ((view_of new).steps ≡ (view_of old).steps ++ step (rwlock_at l) Load seen)
     × (told seen ≡ answer)
 
--- what a call answers that turns the upgradable right into the exclusive one, by what it gives
+-- the answer of a call that turns the upgradable right into the exclusive one, by what it gives
 abbrev pub turn_answer : {A B : Type 0} → Patience → Result A B → Answer
 turn_answer how (Ok right) = entered how
 turn_answer how (Err right) = No
 
--- what a call that enters answers, by what it gives
+-- the answer of a call that enters, by what it gives
 abbrev pub entry_answer : {A E : Type 0} → Patience → Result (Option A) E → Answer
 entry_answer how (Ok (Some right)) = entered how
 entry_answer how (Ok None) = No

@@ -22,7 +22,7 @@ use Rattle.spec_locks.specs.Sites.{Claim, Has, Pends}
 use Rattle.steps_base.specs.declared.acts.Whom.{Whom}
 use Rattle.steps_base.specs.declared.acts.Whom.TheVariants as whom_taken
 use Rattle.steps_rwlock.specs.RwLockCalls.{MayStand}
-use Rattle.steps_rwlock.specs.RwLockDeeds.{rwlock_doing}
+use Rattle.steps_rwlock.specs.RwLockDeeds.{rwlock_role}
 use Rattle.steps_rwlock.specs.RwLockProfiles.{rwlock_profile}
 use Rattle.steps_rwlock.specs.RwLockSteps.{access_of, wanted, to_of, start_of, entered, rollback_op, unparked, whom}
 use Rattle.steps_rwlock.specs.declared.park.ParkAt.{ParkAt}
@@ -96,7 +96,7 @@ did_take key whom_taken.First = did.TakeFirst key
 did_take key (whom_taken.Picked start recursive) = did.TakePicked key start recursive
 did_take key whom_taken.All = did.TakeAll key
 
--- what is done in the section of a line by who takes of it
+-- the effect of a taker in the section of a line
 abbrev pub did_wake : ℕ → Admission → RwLockPurpose → Line → Did
 did_wake l a q m = did_take (key_of l m) (whom a (start_of q) m)
 
@@ -185,7 +185,7 @@ LeftBy l a (purpose.Upgrade how) last steps =
 LeftBy l a (purpose.Release x) last steps = ⊥
 LeftBy l a (purpose.Downgrade d) last steps = ⊥
 
--- whoever reads is counted, and may find the lock full of readers
+-- each reader is counted, and may find the lock full of readers
 abbrev pub IsCounted : Access → Type 0
 IsCounted access.Exclusive = ⊥
 IsCounted x = Unit {0}
@@ -196,8 +196,7 @@ IsCounted x = Unit {0}
 abbrev pub IsUpgradableWord : ℕ → Type 0
 IsUpgradableWord seen = (seen < 2 ^ 64) × (seen / 4 % 4 ≡ 1) × (0 < seen / 16)
 
--- what a place says of those whom its thread took is so: as many want to share, and one at most
--- wants more
+-- a place tells the truth of those that its thread took: as many want to share, and one at most wants more
 pub record AreTaken (ws : List Want) (k : Taken) : Type 0 where
   pub sharers : k.sharers ≡ sharers_in ws
   pub successor : k.successor ≡ successor_in ws
@@ -274,13 +273,13 @@ IsFairlyOver l base a x answer st =
 
 -- ---------------------------------------------------------------- who was handed it, and bumps
 
--- who was handed the lock has its right; a writer looks for readers first
+-- a thread that was handed the lock has its right; a writer looks for readers first
 abbrev pub FitsHanded : ℕ → List Ownership → Access → HandedAt → Stage → Type 0
 FitsHanded l base access.Exclusive to st = ⊥
 FitsHanded l base x handed.Accept st = OwnsRight l (wanted x) base st.owns × (st.inside ≡ None)
 FitsHanded l base x to st = ⊥
 
--- who bumps enters again, and who was handed the lock came to enter
+-- a bump enters again, and a thread that was handed the lock came to enter
 abbrev pub purpose_in : RwLockCallPlace → RwLockPurpose
 purpose_in (places.Plain p) = p.purpose
 purpose_in (places.Bump p) = purpose.Enter (access_of p.purpose) Patient
@@ -307,8 +306,8 @@ module _ (up : Type 0) where
     pub room : a.limit < 2 ^ 60 - 1
     pub begun : HasGivenWay p.at
     pub seen : HasSeen p.at
-    pub owns : OwnsBeside l (rwlock_doing p).claims base st.owns
-    pub within : IsWithin l a p.purpose (rwlock_doing p).inside (rwlock_doing p).carries st.inside
+    pub owns : OwnsBeside l (rwlock_role p).claims base st.owns
+    pub within : IsWithin l a p.purpose (rwlock_role p).inside (rwlock_role p).carries st.inside
     pub stood : HasStood l p.at st.steps
     pub late : (rwlock_profile a p).late ≡ true → up
 
@@ -328,13 +327,13 @@ module _ (up : Type 0) where
       HandsOver x to × (a.limit < 2 ^ 60 - 1) × FitsHandOver l base a x to st
   FitsCall l base a (places.Handed x how b to) st = FitsHanded l base x to st
 
-  -- who may give up: a try at once, and a timed call once its time is up
+  -- the calls that may give up: a try at once, and a timed call once its time is up
   abbrev pub MayGiveUp : Patience → Type 0
   MayGiveUp Patient = ⊥
   MayGiveUp Timed = up
   MayGiveUp Try = Unit {0}
 
-  -- what an answer says at the end of a call
+  -- the answer at the end of a call is true
   abbrev pub Answers : ℕ → List Ownership → Admission → RwLockPurpose → Answer → Stage → Type 0
   Answers l base a (purpose.Enter x how) answer st =
       ((answer ≡ entered how) × OwnsRight l (wanted x) base st.owns)

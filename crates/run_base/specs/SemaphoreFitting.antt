@@ -20,8 +20,8 @@ use Rattle.run_base.specs.MutexFitting.{HasTook, Outside, TookAt, Within}
 use Rattle.run_base.specs.Paths.{semaphore_at, step}
 use Rattle.run_base.specs.Stages.{Stage, TookNobodyAt}
 
--- what a call of a semaphore is for: to acquire a permit, up to a deadline or without one, to try
--- to, or to end a release that has given its permit back
+-- the goal of a call of a semaphore: to acquire a permit, up to a deadline or without one, to try to, or to
+-- end a release that has given its permit back
 pub data Purpose : Type 0 where
   acquires : (timed : Bool) → Purpose
   tries_once : Purpose
@@ -53,7 +53,7 @@ FitsRelease l base release.Take st = Within l base st
 FitsRelease l base (release.Clear any) st = HasTook l any base st
 FitsRelease l base (release.Leave any) st = HasTook l any base st
 
--- what the answer of a try says
+-- the answer of a try is true
 abbrev pub TryAnswer : ℕ → List Ownership → Answer → Stage → Type 0
 TryAnswer l base answers.Yes st = Outside (permit l ∷ base) st
 TryAnswer l base answers.No st = Outside base st × SawNoneFree l st.steps
@@ -76,13 +76,13 @@ module _ (up : Type 0) where
   FitsAcquire l timed base acquire.Clear st = GaveUp timed × Within l base st
   FitsAcquire l timed base acquire.GiveUp st = GaveUp timed × Within l base st
 
-  -- what a thread has in a call of a semaphore, which owned so much as it began to run
+  -- the ownership of a thread in a call of a semaphore, which owned so much as it began to run
   abbrev pub FitsSemaphore : ℕ → List Ownership → SemaphorePlace → Stage → Type 0
   FitsSemaphore l base (Acquire timed retries at) st = FitsAcquire l timed base at st
   FitsSemaphore l base (Try at) st = FitsTry base at st
   FitsSemaphore l base (Release at) st = FitsRelease l base at st
 
-  -- what the answer of a call says that acquires
+  -- the answer of a call that acquires is true
   abbrev pub AcquireAnswer : ℕ → Bool → List Ownership → Answer → Stage → Type 0
   AcquireAnswer l timed base answers.Ok st =
       (timed ≡ false) × Outside (permit l ∷ base) st

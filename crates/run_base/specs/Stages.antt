@@ -77,17 +77,17 @@ inside_of (Some section) = Some (record {
   moved = moved_in section;
 })
 
--- who stands in the queues of a section
+-- the waiters in the queues of a section
 abbrev pub waiting_of : Option Section → List Waiter
 waiting_of None = []
 waiting_of (Some section) = waiting_in section
 
--- what those want whom it took
+-- the wants of those that it took
 abbrev pub wants_taken : Option Section → List Want
 wants_taken None = []
 wants_taken (Some section) = wants_in section
 
--- whom it took
+-- the waiters that it took
 abbrev pub threads_taken : Option Section → List ℕ
 threads_taken None = []
 threads_taken (Some section) = taken_in section
@@ -110,7 +110,7 @@ abbrev pub first_in : List Waiter → Option Waiter
 first_in [] = None
 first_in (waiter ∷ waiters) = Some waiter
 
--- whom a requeue takes of a line
+-- the waiters that a requeue takes of a line
 abbrev pub taken_of : Requeue → List Waiter → Option Waiter
 taken_of TakeOneMoveRest line = first_in line
 taken_of _ line = None
@@ -169,7 +169,7 @@ abbrev pub IsUngiven : Option Inside → Type 0
 IsUngiven None = ⊥
 IsUngiven (Some inside) = inside.rightless ≡ inside.taken
 
--- what those want whom it took there
+-- the wants of those that it took there
 abbrev pub wanted_in : Option Inside → List Want
 wanted_in None = []
 wanted_in (Some inside) = inside.wants
@@ -186,7 +186,7 @@ HandsEach kind at op owns wants = (seen : ℕ) → CodesWith kind at seen owns
     → takes_effect op seen ≡ true
     → HasAll at (owners_given kind (apply op seen) wants) (owns_after_step kind at op seen owns)
 
--- what an act needs of the stage, by the kind of each lock's word and where it stands
+-- the needs of an act, of the stage, by the kind of each lock's word and where it stands
 abbrev pub ActNeeds : (ℕ → WordKind) → (ℕ → ℕ) → Stage → Act → Type 0
 ActNeeds kinds at st (act.TheVariants.Word lock op) = MayStep (kinds lock) (at lock) op st.owns
 ActNeeds kinds at st (act.TheVariants.HandOver lock op) =
@@ -211,7 +211,7 @@ abbrev pub stepped : WordKind → ℕ → Op → ℕ → Stage → Stage
 stepped kind at op seen st =
     stage (owns_after_step kind at op seen st.owns) st.inside None (st.steps ++ step at op seen)
 
--- what it owns after one with which each of those who were taken is given the right that it wants
+-- its ownership after one with which each of those that were taken is given the right that it wants
 abbrev pub owns_when_handed : WordKind → ℕ → Op → ℕ → List Want → List Ownership → List Ownership
 owns_when_handed kind at op seen wants owns =
     without_all at (owners_given kind (apply op seen) wants) (owns_after_step kind at op seen owns)
@@ -236,15 +236,14 @@ HasDone key did last = (number : ℕ) × HasLeft key did number last
 abbrev pub TookNobodyAt : ℕ → Option SectionRecord → Type 0
 TookNobodyAt lock last = HasLeft (key_of lock Main) Nothing 0 last
 
--- what a section that is left leaves behind: a record of what was done there, which counts whom it
--- took and moved
+-- a section that is left leaves a record of what was done there, which counts those that it took and moved
 abbrev pub IsLeft : Option Inside → Option SectionRecord → Type 0
 IsLeft None last = ⊥
 IsLeft (Some inside) last =
     HasLeft (first_key inside.keys) inside.did (length inside.taken + inside.moved) last
 
--- whom a take took, by its reply; of those who were picked one at most wants more than to share,
--- and a list holds them
+-- the waiters that a take took, by its reply; among those that were picked one at most wants more than to
+-- share, and a list holds them
 abbrev pub TookBy : ℕ → Whom → Reply → Option Inside → Option Inside → Type 0
 TookBy key whom.TheVariants.First (Took any none_left) old new =
     (first : Option Waiter) × (any ≡ is_there first)
@@ -259,9 +258,9 @@ TookBy key (whom.TheVariants.Picked start recursive) (Picked sharers successor n
     × (more_in (wants_of waiters) ≤ 1) × (length waiters < 2 ^ 60)
 TookBy key _ _ old new = ⊥
 
--- what the end of its time made of a sleeper that stands under a key: it is inside the section of
--- the key under which it may be late, it is told of the key to which it may be moved, and under any
--- other key it has left the queue
+-- the stage after the time of a sleeper ended that stands under a key: it is inside the section of the key
+-- under which it may be late, it is told of the key to which it may be moved, and under any other key it has
+-- left the queue
 abbrev pub AwokeLate : ℕ → Sleeper → Stage → Reply → Stage → Type 0
 AwokeLate key sleeper st Late new =
     (sleeper.late ≡ Some key) × (new ≡ stage st.owns (entered_now (One key)) st.last st.steps)
@@ -272,7 +271,7 @@ AwokeLate key sleeper st (Woken Normal) new =
     × (new.inside ≡ None)
 AwokeLate key sleeper st _ new = ⊥
 
--- what a sleep made of the stage, by its end
+-- the stage after a sleep, by its end
 abbrev pub Awoke : Type 0 → WordKind → ℕ → Sleeper → Stage → Reply → Stage → Type 0
 Awoke up kind at sleeper st (Woken Normal) new = (new.owns ≡ st.owns) × (new.inside ≡ None)
 Awoke up kind at sleeper st (Woken HandOff) new =
@@ -288,7 +287,7 @@ Awoke up kind at sleeper st _ new = ⊥
 abbrev pub Stepped : WordKind → ℕ → Op → ℕ → Stage → Stage → Type 0
 Stepped kind at op seen st new = CodesWith kind at seen st.owns × (new ≡ stepped kind at op seen st)
 
--- what an act made of the stage, by its reply
+-- the stage after an act, by its reply
 abbrev pub Became : Type 0 → (ℕ → WordKind) → (ℕ → ℕ) → Sleeper → Stage → Act → Reply → Stage
     → Type 0
 Became up kinds at sleeper st (act.TheVariants.Word lock op) (Value seen) new =

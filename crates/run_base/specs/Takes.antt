@@ -12,7 +12,7 @@ shares _ = false
 abbrev pub sharers_in : List Want → ℕ
 sharers_in wants = length (filter shares wants)
 
--- what the first of them wants that wants more
+-- the want of the first of them that wants more
 abbrev pub successor_in : List Want → Option Want
 successor_in [] = None
 successor_in (want ∷ wants) = cond (shares want) (successor_in wants) (Some want)

@@ -28,7 +28,7 @@ use Rattle.core_queues.specs.Wants.{wants_of}
 use Rattle.run_base.specs.Stages.{HasKey, IsFresh, IsIn, entered_now, first_in, inside_of, is_there, listed, taken_of, took_as, waiting_of}
 use Rattle.run_base.specs.Takes.{sharers_in, successor_in}
 
--- what a thread owns, and the steps that it took
+-- the ownership of a thread, and the steps that it took
 abbrev pub owns_of : Token → List Ownership
 owns_of token = (view_of token).owns
 
@@ -52,7 +52,7 @@ abbrev pub HasStepped : Word → Op → ℕ → Token → Token → Type 0
 HasStepped word op seen old new =
     view_of new ≡ after_step word.kind (index_of word) op seen (view_of old)
 
--- who stands under a key, and whether nobody does
+-- the waiters under a key, and whether there is none
 abbrev pub line_in : ℕ → Option Section → List Waiter
 line_in key section = line key (waiting_of section)
 
@@ -78,7 +78,7 @@ abbrev pub HasTaken : ParkingLot → Did → List Waiter → Option Section → 
 HasTaken lot did waiters old new =
     IsIn lot new × (inside_of new ≡ took_as did waiters (inside_of old))
 
--- what a take tells of the line under its key, and what it leaves of it
+-- a take tells of the line under its key, and of what it leaves of it
 abbrev pub TellsTake : ℕ → Whom → Reply → Option Section → Option Section → Type 0
 TellsTake key whom.TheVariants.First (Took any none_left) old new =
     (any ≡ is_there (first_in (line_in key old)))
@@ -94,7 +94,7 @@ TellsTake key (whom.TheVariants.Picked start recursive)
     × (none_left ≡ is_empty_at key new)
 TellsTake key whom reply old new = ⊥
 
--- what a requeue does
+-- the effect of a requeue
 abbrev pub TellsRequeue : ℕ → ℕ → Requeue → ℕ → Bool → Option Section → Option Section → Type 0
 TellsRequeue from to how number none_left old new =
     (number ≡ length (listed (taken_of how (line_in from old))) + length
@@ -107,7 +107,7 @@ abbrev pub StandsWhereLate : ℕ → Option Section → Type 0
 StandsWhereLate thread section = (key : ℕ) × (inside_of section ≡ entered_now (One key))
     × (queued_under thread (waiting_of section) ≡ Some key)
 
--- what an act of this thread tells of the queues is so, and it leaves them as it says
+-- an act of this thread tells the truth of the queues, and leaves them as it says
 abbrev pub TellsQueues : Act → Reply → ℕ → Option Section → Option Section → Type 0
 TellsQueues (act.TheVariants.Park lock key check want) (Parked parked) me old new =
     MatchBool parked (StandsLast key me want old new) (waiting_of new ≡ waiting_of old)

@@ -11,7 +11,7 @@ use Rattle.parking_lot_core.specs.Tokens.{IsSameThread, IsTokenOf}
 use Rattle.parking_lot_core.specs.declared.lot.ParkingLot.{ParkingLot}
 use Rattle.parking_lot_core.specs.declared.sections.Section.{Section}
 use Rattle.parking_lot_core.specs.declared.tokens.Token.{Token}
-use Rattle.run_base.specs.Fitting.{AreWordsFor, Fits, IsOver, Reached, aim_of}
+use Rattle.run_base.specs.Fitting.{AreWordsFor, Fits, IsOver, Reached, call_purpose}
 use Rattle.run_base.specs.Paths.{Told, Walks}
 use Rattle.run_base.specs.Stages.{IsIn, stage_of}
 use Rattle.run_base.specs.Telling.{steps_of}
@@ -51,4 +51,4 @@ abbrev pub HasEnded : Type 0 → ParkingLot → Words → Place → Answer → T
 HasEnded up lot words p answer old section new = IsSameThread lot old new
     × Walks (at_in words) p (steps_of old) (steps_of new) answer
     × ((base : List Ownership) → Fits up base p (stage_of old section)
-    → IsOver up base (aim_of p) answer (stage_of new None))
+    → IsOver up base (call_purpose p) answer (stage_of new None))

@@ -9,7 +9,7 @@ ghost use Rattle.core_words.specs.declared.views.WordStep.{WordStep};
 ghost use Rattle.core_words.specs.declared.words.WordKind.TheVariants.{Mutex};
 ghost use Rattle.parking_lot_core.specs.Tokens.{IsTokenOf, IsSameThread, view_of, last_of};
 ghost use Rattle.run_base.specs.Calls.{MeetAt, beginning, purpose_in, IsUnfinished, WalksBehind};
-ghost use Rattle.run_base.specs.Fitting.{PlacesLead, AreWordsFor, AreWordsAfter, Fits, IsStopped, Reached, answer_of, aim_of};
+ghost use Rattle.run_base.specs.Fitting.{PlacesLead, AreWordsFor, AreWordsAfter, Fits, IsStopped, Reached, answer_of, call_purpose};
 ghost use Rattle.run_base.specs.MutexFitting.{IsMutexOver};
 ghost use Rattle.run_base.specs.Paths.{closure_of, mutex_at, GoesFrom, Runs, Told};
 ghost use Rattle.run_base.specs.Words.{AreWordsOf, kind_in, at_in};
@@ -181,7 +181,7 @@ pub fn run_from<'a, R: Wait, C: Clock>(
     ensures path { Runs (at_in words) start (steps_of token.old) (steps_of token.new) result }
     ensures stopped { (base : List Ownership)
         → Fits (IsUp C.tells limit.entry) base start (stage_of token.old inside.entry)
-        → IsStopped (IsUp C.tells limit.entry) base (aim_of start) result
+        → IsStopped (IsUp C.tells limit.entry) base (call_purpose start) result
         (stage_of token.new None) }
     ensures words { AreWordsAfter result (kind_in words) (at_in words) }
 {
@@ -224,7 +224,7 @@ pub fn run<R: Wait, C: Clock>(
     ensures path { Runs (at_in words) start (steps_of token.old) (steps_of token.new) result }
     ensures stopped { (base : List Ownership)
         → Fits (IsUp C.tells limit.entry) base start (stage_of token.old None)
-        → IsStopped (IsUp C.tells limit.entry) base (aim_of start) result
+        → IsStopped (IsUp C.tells limit.entry) base (call_purpose start) result
         (stage_of token.new None) }
     ensures words { AreWordsAfter result (kind_in words) (at_in words) }
 {
@@ -245,7 +245,7 @@ fn place_behind(word: Word, call: MutexCall, seen: u64) -> Place
 /// The rest of a call whose first step saw this.
 #[cold]
 #[inline(never)]
-pub fn behind<R: Wait, C: Clock>(
+pub fn call_slow<R: Wait, C: Clock>(
     rt: &R,
     lot: &ParkingLot,
     token: &mut Token,

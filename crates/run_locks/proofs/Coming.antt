@@ -33,7 +33,7 @@ module _ {up : Type 0} {lot : ParkingLot} {words : Words} {p : Place} {old : Tok
   pub named : {r : Place} → q ≡ r → HasCome up lot words p old section r mid there
   named e = subst (λ (r : Place). HasCome up lot words p old section r mid there) e came
 
-  -- what it may do there
+  -- tells what it may do there
   pub may_do : {a : Act} → act_of q ≡ a → MayDo up lot words a mid there
   may_do is = (q, came.at, is)
 

@@ -21,7 +21,7 @@ use Rattle.core_words.specs.declared.owners.Ownership.{Ownership}
 use Rattle.parking_lot_core.specs.declared.lot.ParkingLot.{ParkingLot}
 use Rattle.parking_lot_core.specs.declared.sections.Section.{Section}
 use Rattle.parking_lot_core.specs.declared.tokens.Token.{Token}
-use Rattle.run_base.specs.Fitting.{IsStopped, ReachedBy, aim_of, answer_of}
+use Rattle.run_base.specs.Fitting.{IsStopped, ReachedBy, call_purpose, answer_of}
 use Rattle.run_base.specs.Stages.{Stage, inside_of, stage_of}
 use Rattle.run_base.specs.Turns.{HasTurned, IsAt}
 use Rattle.run_base.specs.declared.driver.Stop.TheVariants.{Paused}
@@ -32,7 +32,7 @@ use Rattle.run_locks.specs.MutexCourses.{taken_on}
 use Rattle.run_locks.proofs.CondvarCalling.{notify_never_pauses, wait_never_pauses}
 
 -- no call of a condition variable runs a closure
-pub never_pauses : (up : Type 0) (base : List Ownership) (p q : Place) (state : OnceState) (st : Stage) → IsOfCondvar p → IsStopped up base (aim_of p) (Paused q state) st → ⊥
+pub never_pauses : (up : Type 0) (base : List Ownership) (p q : Place) (state : OnceState) (st : Stage) → IsOfCondvar p → IsStopped up base (call_purpose p) (Paused q state) st → ⊥
 never_pauses up base Idle q state st of s = of
 never_pauses up base (Mutex l at) q state st of s = of
 never_pauses up base (RwLock l a at) q state st of s = of
@@ -46,18 +46,18 @@ never_pauses up base (Condvar c (Notify all m at)) q state st of s = notify_neve
 pub keyed : (n : ℕ) → n < 2 ^ 63 → 2 * n + 1 < 2 ^ 64
 keyed n small = omega arith
 
--- who ended a call is outside all sections
+-- a thread that ended a call is outside all sections
 pub turn_outside : (up : Type 0) (lot : ParkingLot) (words : Words) (p : Place) (reply : Reply) (old new : Token) (section now : Option Section) (answer : Answer) → IsAt up lot words p old section → HasTurned up lot words p reply old section new now → answer_of (next_act p reply) ≡ Some answer → inside_of now ≡ None
 turn_outside up lot words p reply old new section now answer at turned some =
-    let over = subst (λ (o : Option Answer). ReachedBy up at.4.0 (aim_of p) (next_place p reply) o (stage_of new now)) some (turned.3 at.4.0 at.4.1) in
-    outside up at.4.0 (stage_of new now).owns (aim_of p) answer (inside_of now) (stage_of new now).last (stage_of new now).steps over
+    let over = subst (λ (o : Option Answer). ReachedBy up at.4.0 (call_purpose p) (next_place p reply) o (stage_of new now)) some (turned.3 at.4.0 at.4.1) in
+    outside up at.4.0 (stage_of new now).owns (call_purpose p) answer (inside_of now) (stage_of new now).last (stage_of new now).steps over
 
 module _ (c m : ℕ) where
   -- the mutex isn't free
   pub locks_on : (timed : Bool) (seen : ℕ) → seen ≢ 0 → (next_place (wait_at c m timed (locks_at lock.First)) (Value seen) ≡ wait_at c m timed (locks_at lock.Load)) × (answer_of (next_act (wait_at c m timed (locks_at lock.First)) (Value seen)) ≡ None)
   locks_on timed seen ne = (rw (ne_eqb seen 0 ne) refl, rw (ne_eqb seen 0 ne) refl)
 
-  -- who looks at it decides by what it saw
+  -- a thread that looks at it decides by what it saw
   pub decides_on : (timed : Bool) (seen : ℕ) (b : Bool) → is_locked seen ≡ b → answer_of (next_act (wait_at c m timed (locks_at lock.Load)) (Value seen)) ≡ None
   decides_on timed seen false e = rw e refl
   decides_on timed seen true e = by_owner (seen == 1) refl
@@ -83,7 +83,7 @@ module _ (c m : ℕ) where
   took_on timed any true = (refl, refl)
   took_on timed any false = (refl, refl)
 
-  -- whatever wakes a sleeper ends no wait
+  -- no wake of a sleeper ends a wait
   pub sleeps_on : (timed : Bool) (reply : Reply) → answer_of (next_act (wait_at c m timed (wait.Asleep Listed)) reply) ≡ None
   sleeps_on timed Done = refl
   sleeps_on timed (Value seen) = refl
@@ -134,7 +134,7 @@ module _ (c m : ℕ) where
   marks_on false seen true e = (rw e refl, rw e refl)
   marks_on false seen false e = (rw e refl, rw e refl)
 
-  -- who marks the mutex goes on to move, unless the word has changed
+  -- a thread that marks the mutex goes on to move, unless the word has changed
   pub set_on : (all : Bool) (expected found : ℕ) → found ≡ expected → (next_place (notify_at c m all (notify.Set expected)) (Value found) ≡ notify_at c m all (notify.Move true)) × (answer_of (next_act (notify_at c m all (notify.Set expected)) (Value found)) ≡ None)
   set_on true expected found e = (rw (eq-eqb found expected e) refl, rw (eq-eqb found expected e) refl)
   set_on false expected found e = (rw (eq-eqb found expected e) refl, rw (eq-eqb found expected e) refl)
@@ -145,7 +145,7 @@ module _ (c m : ℕ) where
   set_again false expected found true ne e = rw (ne_eqb found expected ne, e) refl
   set_again false expected found false ne e = rw (ne_eqb found expected ne, e) refl
 
-  -- behind the move of the first it goes on by whether it was the last
+  -- after the move of the first it goes on by whether it was the last
   pub one_taken : (any none_left : Bool) → answer_of (next_act (notify_at c m false (notify.Move false)) (Took any none_left)) ≡ None
   one_taken any true = refl
   one_taken any false = refl

@@ -19,7 +19,7 @@ use Rattle.run_base.specs.CondvarFitting.{AnswersBy}
 use Rattle.run_base.specs.Paths.{Walks, condvar_at, mutex_at, step}
 use Rattle.run_base.specs.Telling.{steps_of}
 use Rattle.run_base.proofs.Paths.{ends_at_once, goes_on}
-use Rattle.run_locks.specs.CondvarCalls.{HasNotified, Notifies, TellsMoved, at_condvar, notify_begin, notify_behind}
+use Rattle.run_locks.specs.CondvarCalls.{HasNotified, Notifies, TellsMoved, at_condvar, notify_begin, notify_slow}
 
 -- beside another mutex the word of the condition variable stands at its own place
 own_word : (n m : ℕ) → m ≢ n → at_condvar n m n ≡ condvar_at n
@@ -37,7 +37,7 @@ module _ (n : ℕ) (all : Bool) (seen : ℕ) (answer : Answer) (old mid : List W
         (subst (λ v. next_act (notify_begin n all) (Value v) ≡ End answer) (sym zero) (ap End (sym told))),
   )
 
-  leads : (m : ℕ) → seen ≡ m + 1 → next_place (notify_begin n all) (Value seen) ≡ notify_behind n m all
+  leads : (m : ℕ) → seen ≡ m + 1 → next_place (notify_begin n all) (Value seen) ≡ notify_slow n m all
   leads m e =
       let some : (seen == 0) ≡ false = ne_eqb seen 0 (λ none. omega arith) in
       let back : seen - 1 ≡ m = omega arith in
@@ -60,7 +60,7 @@ shows_else m first seen shown other same =
     let back : (seen - 1 == m) ≡ true = eq-eqb (seen - 1) m (omega arith) in
     false≢true (sym other ∙ ap (λ (b : Bool). not b && (seen - 1 == m)) some ∙ back)
 
--- what its sections tell of a notification that goes on behind its first look
+-- tells what its sections tell of a notification that goes on behind its first look
 pub tells_moved : (n m : ℕ) (all : Bool) (first : ℕ) (answer : Answer) (old new : Token) → first ≡ m + 1 → (more : List WordStep) × (steps_of new ≡ steps_of old ++ more) → AnswersBy n m all answer (last_of new) (steps_of new) → TellsMoved n all first answer old new
 tells_moved n m all first answer old new shown more (inl none) = inl (none.0, (more, (none.2.0, none.2.1, none.2.3, shows_else m first none.2.1 shown none.2.2, none.1)))
 tells_moved n m all first answer old new shown more (inr moved) = inr (m, moved.0, moved.1, shown, moved.2, moved.3, more)

@@ -30,7 +30,7 @@ use Rattle.core_words.specs.declared.words.WordKind.{WordKind}
 use Rattle.core_words.specs.declared.words.WordKind.TheVariants as kinds
 use Rattle.parking_lot_core.specs.Tokens.{view_of, last_of}
 use Rattle.parking_lot_core.specs.declared.tokens.Token.{Token}
-use Rattle.run_base.specs.Fitting.{Aim, AreWordsFor, Fits, IsOver, aim_of, answer_of, of_rwlock}
+use Rattle.run_base.specs.Fitting.{CallPurpose, AreWordsFor, Fits, IsOver, call_purpose, answer_of, of_rwlock}
 use Rattle.run_base.specs.Paths.{Walks, at_rwlock, rwlock_at, rwlocks, step}
 use Rattle.run_base.specs.RwLockCalls.{AnswersCall, BeginsWith, TookUnlessEnded, Wakes, WakesBy, first_op, rwlock_begin}
 use Rattle.run_base.specs.RwLockFitting.{Answers, IsBeside, IsCounted, IsRwLockOver, LeftBy, MayGiveUp, OwnsRight, TookWoken}
@@ -52,7 +52,7 @@ module _ (word : Word) (is : word.kind ≡ kinds.RwLock) where
   pub words_after : (a : Admission) (c : RwLockPurpose) (seen : ℕ) → word.number < 9223372036854775808 → AreWordsFor (next_place (rwlock_begin word.number a c) (Value seen)) (kind_in (alone word)) (at_in (alone word))
   words_after a c seen small = words_on (rwlock_begin word.number a c) (Value seen) (kind_in (alone word)) (at_in (alone word)) (small, rwlock_kinds, rwlock_alone)
 
-  -- who has the right that its call needs takes its first step
+  -- a thread that has the right that its call needs takes its first step
   pub may_start : (c : RwLockPurpose) (op : Op) (base owns : List Ownership) → op ≡ first_op c → BeginsWith word.number c base owns → MayStep word.kind (word_index word.number word.kind) op owns
   may_start c op base owns e b = subst (λ (k : WordKind). MayStep k (word_index word.number k) op owns) (sym is) (subst (λ (o : Op). MayStep kinds.RwLock (rwlock_at word.number) o owns) (sym e) (may_begin word.number c base owns b))
 
@@ -76,10 +76,10 @@ module _ (up : Type 0) (l : ℕ) (a : Admission) (base : List Ownership) (c : Rw
   begun_here b s = begun up l a base st new seen outside room c b s
 
   -- where it goes on it fits, and what it is for stays
-  pub fits_on : BeginsWith l c base st.owns → Stepped kinds.RwLock (rwlock_at l) (first_op c) seen st new → answer_of (next_act (rwlock_begin l a c) (Value seen)) ≡ None → Fits up base (next_place (rwlock_begin l a c) (Value seen)) new × (aim_of (next_place (rwlock_begin l a c) (Value seen)) ≡ of_rwlock l a c)
+  pub fits_on : BeginsWith l c base st.owns → Stepped kinds.RwLock (rwlock_at l) (first_op c) seen st new → answer_of (next_act (rwlock_begin l a c) (Value seen)) ≡ None → Fits up base (next_place (rwlock_begin l a c) (Value seen)) new × (call_purpose (next_place (rwlock_begin l a c) (Value seen)) ≡ of_rwlock l a c)
   fits_on b s none = by_next (rwlock_next a (rwlock_first c) (Value seen)) (begun_here b s) none
     where
-      by_next : (n : Next RwLockPlace) → Begun up l a base st new seen outside room c n → answer_of (rwlock_does l a (plain_next n)) ≡ None → Fits up base (rwlock_goes l a (plain_next n)) new × (aim_of (rwlock_goes l a (plain_next n)) ≡ of_rwlock l a c)
+      by_next : (n : Next RwLockPlace) → Begun up l a base st new seen outside room c n → answer_of (rwlock_does l a (plain_next n)) ≡ None → Fits up base (rwlock_goes l a (plain_next n)) new × (call_purpose (rwlock_goes l a (plain_next n)) ≡ of_rwlock l a c)
       by_next (At p) k none = (k.0, ap (of_rwlock l a) k.1)
       by_next (End answer) k none = some_none none
 
@@ -99,7 +99,7 @@ module _ (up : Type 0) (l : ℕ) (a : Admission) (base : List Ownership) (c : Rw
       by_next (At p) e k some = some_none (sym some ∙ (leading.goes_on l a p k.0.stands).0)
       by_next (End x) e k some = let same : x ≡ answer = cc in (subst (λ (y : Answer). AnswersCall up l base a c y new) same k.1, e ∙ ap (λ (y : Answer). End y) same)
 
--- what an answer says at the end of a call, it says of the rights
+-- an answer at the end of a call tells of the rights
 pub over_call : (up : Type 0) (l : ℕ) (base : List Ownership) (a : Admission) (q : RwLockPurpose) (answer : Answer) (st : Stage) → IsRwLockOver up l base a q answer st → AnswersCall up l base a q answer st
 over_call up l base a (purpose.Release x) answer st h = (h.1.0, h.1.1)
 over_call up l base a (purpose.Downgrade d) answer st h = (h.1.0, h.1.1)
@@ -143,7 +143,7 @@ path_ended l a c seen answer old new saw some = ends_at_once (at_rwlock l) (rwlo
 pub path_later : (l : ℕ) (a : Admission) (c : RwLockPurpose) (seen : ℕ) (answer : Answer) (old mid new : List WordStep) → mid ≡ old ++ step (rwlock_at l) (first_op c) seen → Walks (at_rwlock l) (next_place (rwlock_begin l a c) (Value seen)) mid new answer → Walks (at_rwlock l) (rwlock_begin l a c) old new answer
 path_later l a c seen answer old mid new saw rest = goes_on (at_rwlock l) (rwlock_begin l a c) l (first_op c) seen old mid new answer (begins_with l a c) saw rest
 
--- whoever enters begins with what it owns
+-- each thread that enters begins with what it owns
 pub begins_entering : (l : ℕ) (x : Access) (how : Patience) (owns : List Ownership) → BeginsWith l (purpose.Enter x how) owns owns
 begins_entering l access.Shared how owns = λ settled. refl
 begins_entering l access.Upgradable how owns = λ settled. refl
@@ -203,16 +203,16 @@ module _ (up : Type 0) (word : Word) (is : word.kind ≡ kinds.RwLock) (a : Admi
   none : (base : List Ownership) → BeginsWith word.number c base (view_of old).owns → answer_of (next_act (rwlock_begin word.number a c) (Value seen)) ≡ None
   none base b = unfinished up word.number a base c (stage_of old None) (stage_of mid None) seen refl room b start goes
 
-  pub rest_fits : (base : List Ownership) → BeginsWith word.number c base (view_of old).owns → Fits up base next (stage_of mid None) × (aim_of next ≡ of_rwlock word.number a c)
+  pub rest_fits : (base : List Ownership) → BeginsWith word.number c base (view_of old).owns → Fits up base next (stage_of mid None) × (call_purpose next ≡ of_rwlock word.number a c)
   rest_fits base b = fits_on up word.number a base c (stage_of old None) (stage_of mid None) seen refl room b start (none base b)
 
   module _ (answer : Answer) (new : Token) where
     pub rest_path : Walks (at_rwlock word.number) next (view_of mid).steps (view_of new).steps answer → Walks (at_rwlock word.number) (rwlock_begin word.number a c) (view_of old).steps (view_of new).steps answer
     rest_path w = path_later word.number a c seen answer (view_of old).steps (view_of mid).steps (view_of new).steps steps_saw w
 
-    module _ (base : List Ownership) (b : BeginsWith word.number c base (view_of old).owns) (over : Fits up base next (stage_of mid None) → IsOver up base (aim_of next) answer (stage_of new None)) where
+    module _ (base : List Ownership) (b : BeginsWith word.number c base (view_of old).owns) (over : Fits up base next (stage_of mid None) → IsOver up base (call_purpose next) answer (stage_of new None)) where
       is_over : IsRwLockOver up word.number base a c answer (stage_of new None)
-      is_over = subst (λ (aim : Aim). IsOver up base aim answer (stage_of new None)) (rest_fits base b).1 (over (rest_fits base b).0)
+      is_over = subst (λ (aim : CallPurpose). IsOver up base aim answer (stage_of new None)) (rest_fits base b).1 (over (rest_fits base b).0)
 
       pub rest_over : AnswersCall up word.number base a c answer (stage_of new None)
       rest_over = over_call up word.number base a c answer (stage_of new None) is_over

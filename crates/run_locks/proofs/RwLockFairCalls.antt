@@ -40,7 +40,7 @@ use Rattle.core_words.specs.declared.words.WordKind.TheVariants as kinds
 use Rattle.parking_lot_core.specs.Tokens.{last_of, view_of}
 use Rattle.parking_lot_core.specs.declared.tokens.SectionRecord.{SectionRecord}
 use Rattle.parking_lot_core.specs.declared.tokens.Token.{Token}
-use Rattle.run_base.specs.Fitting.{Fits, aim_of, of_rwlock}
+use Rattle.run_base.specs.Fitting.{Fits, call_purpose, of_rwlock}
 use Rattle.run_base.specs.Paths.{Walks, at_rwlock, rwlock_at, step}
 use Rattle.run_base.specs.RwLockCalls.{LeftFairly, TookUnlessFree}
 use Rattle.run_base.specs.RwLockFitting.{Answers, IsBeside, IsCounted, OwnsRight, TookWoken}
@@ -78,10 +78,10 @@ module _ (l : ℕ) (a : Admission) (x : Access) (base : List Ownership) (st new 
 
   -- where it gives its right up, or is over
   abbrev pub Glanced : Next RwLockCallPlace → Type 0
-  Glanced (At c) = Fits ⊥ base (RwLock l a c) new × (aim_of (RwLock l a c) ≡ of_rwlock l a (purpose.Enter x Patient))
+  Glanced (At c) = Fits ⊥ base (RwLock l a c) new × (call_purpose (RwLock l a c) ≡ of_rwlock l a (purpose.Enter x Patient))
   Glanced (End answer) = (answer ≡ Ok) × OwnsRight l (wanted x) base new.owns
 
-  gives : (x : Access) → OwnsRight l (wanted x) base new.owns → Fits ⊥ base (RwLock l a (gives_up_at x)) new × (aim_of (RwLock l a (gives_up_at x)) ≡ of_rwlock l a (purpose.Enter x Patient))
+  gives : (x : Access) → OwnsRight l (wanted x) base new.owns → Fits ⊥ base (RwLock l a (gives_up_at x)) new × (call_purpose (RwLock l a (gives_up_at x)) ≡ of_rwlock l a (purpose.Enter x Patient))
   gives access.Shared right = ((refl, (refl, room, none_now, right)), refl)
   gives access.Upgradable right = ((tt, room, (right, none_now)), refl)
   gives access.Exclusive right = ((tt, room, (right, none_now)), refl)

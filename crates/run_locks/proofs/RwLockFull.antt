@@ -416,7 +416,7 @@ value_seen l p _ _ (hands _ lock op s e) seen is = let same : s ≡ seen = cc in
 value_seen l p _ _ (parks _ lock key check _ s e) seen is = absurd cc
 value_seen l p _ _ (other _ told e none may) seen is = let told_none : is_valueless (reply.Value seen) ≡ true = subst (λ (r : Reply). is_valueless r ≡ true) is none in absurd cc
 
--- who is told so is kept out by nobody, and sees as many readers as there may be
+-- a thread that is told so is kept out by nobody, and sees as many readers as there may be
 module _ (a : Admission) (how : Patience) (seen : ℕ) where
   no_wait : (y : Patience) → decision_blocked y seen ≡ decisions.Refuse ReadersFull → ⊥
   no_wait Try e = cc
@@ -506,7 +506,7 @@ module _ (a : Admission) (x : Access) (how : Patience) (Is : RwLockCallPlace →
     ended_by : (at : ℕ → ℕ) (p last : Place) (xs : List WordStep) (told : Reply) → Path at p xs last → IsIn p → next_act last told ≡ act.End ReadersFull → ToldFull a enters told
     ended_by at p last xs told path w ends = subst (EndsActBy told) ends (place_keeps last told (path_keeps at p last xs path w)).1
 
-    -- who finds the lock full by them saw so by its last step
+    -- a thread that finds the lock full by them saw so by its last step
     pub walked_full : (l : ℕ) (start : Place) (old new : Token) → IsIn start → Walks (at_rwlock l) start (view_of old).steps (view_of new).steps ReadersFull → SawFull l a x old new
     walked_full l start old new begins w =
         let told = ended_by (at_rwlock l) start w.2.last w.2.before w.2.reply w.2.path begins w.2.ends in

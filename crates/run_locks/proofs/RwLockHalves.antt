@@ -4,7 +4,7 @@ use Rattle.steps_base.specs.declared.acts.Next.TheVariants.{At}
 use Rattle.steps_base.specs.declared.acts.Reply.TheVariants.{Value}
 use Rattle.core_base.specs.declared.ops.Op.TheVariants.{Exchange}
 use Rattle.spec_locks.specs.declared.outcomes.Answer.{Answer}
-use Rattle.run_base.specs.Fitting.{Fits, IsOver, Reached, aim_of, of_rwlock}
+use Rattle.run_base.specs.Fitting.{Fits, IsOver, Reached, call_purpose, of_rwlock}
 use Rattle.run_base.specs.Paths.{Rests, Walks, at_rwlock}
 use Rattle.run_base.specs.RwLockCalls.{BeginsWith, first_op, rwlock_begin, rwlock_deciding}
 use Rattle.run_base.specs.Stages.{stage_of}
@@ -32,7 +32,7 @@ module _ (up : Type 0) (word : Word) (is : word.kind ≡ kinds.RwLock) (a : Admi
   abbrev came : Type 0
   came = (p : RwLockPlace) × (rwlock_next a (rwlock_first c) (Value seen) ≡ At p)
 
-  -- what the rest of a call does from where its first step has led it
+  -- tells what the rest of a call does from where its first step has led it
   module _ (old mid : Token) (stepped : HasStepped word (first_op c) seen old mid) (goes : came) where
     pub fits_behind : (base : List Ownership) → begins old base → Fits up base (next_place (rwlock_begin word.number a c) (Value seen)) (stage_of mid None)
     fits_behind base b = (rest_fits up word is a room c (first_op c) seen old mid refl stepped.1 stepped.2 stepped.3 goes base b).0
@@ -40,7 +40,7 @@ module _ (up : Type 0) (word : Word) (is : word.kind ≡ kinds.RwLock) (a : Admi
     pub ended_behind : (answer : Answer) (new : Token) → new.number ≡ old.number → (base : List Ownership) → begins old base
         → Walks (at_rwlock word.number) (next_place (rwlock_begin word.number a c) (Value seen)) (view_of mid).steps (view_of new).steps answer
         → ((more : List Ownership) → Fits up more (next_place (rwlock_begin word.number a c) (Value seen)) (stage_of mid None)
-        → IsOver up more (aim_of (next_place (rwlock_begin word.number a c) (Value seen))) answer (stage_of new None))
+        → IsOver up more (call_purpose (next_place (rwlock_begin word.number a c) (Value seen))) answer (stage_of new None))
         → HasEnded up word a c answer old new
     ended_behind answer new same base b walks over = (
       same,
@@ -55,7 +55,7 @@ module _ (up : Type 0) (word : Word) (is : word.kind ≡ kinds.RwLock) (a : Admi
   pub ended_on_going : (old mid new : Token) (answer : Answer) → HasBegun word a c (GoesOn seen) old mid → new.number ≡ mid.number → (base : List Ownership) → begins old base
       → Walks (at_rwlock word.number) (next_place (rwlock_begin word.number a c) (Value seen)) (view_of mid).steps (view_of new).steps answer
       → ((more : List Ownership) → Fits up more (next_place (rwlock_begin word.number a c) (Value seen)) (stage_of mid None)
-      → IsOver up more (aim_of (next_place (rwlock_begin word.number a c) (Value seen))) answer (stage_of new None))
+      → IsOver up more (call_purpose (next_place (rwlock_begin word.number a c) (Value seen))) answer (stage_of new None))
       → HasEnded up word a c answer old new
   ended_on_going old mid new answer begun same = ended_behind old mid begun.0 (waits_at word.number a c seen begun.1) answer new (subst (λ (n : ℕ). new.number ≡ n) begun.0.0 same)
 

@@ -20,7 +20,7 @@ use Rattle.parking_lot_core.specs.Tokens.{view_of, last_of}
 use Rattle.parking_lot_core.specs.declared.tokens.Token.{Token}
 use Rattle.run_locks.specs.Courses.{course_of}
 use Rattle.run_locks.specs.declared.rwlock_courses.Course.TheVariants.{Takes}
-use Rattle.run_base.specs.Fitting.{Fits, IsOver, Reached, ReachedBy, aim_of, answer_of, of_rwlock}
+use Rattle.run_base.specs.Fitting.{Fits, IsOver, Reached, ReachedBy, call_purpose, answer_of, of_rwlock}
 use Rattle.run_base.specs.Paths.{Rests, Walks, at_rwlock, rwlock_at, step}
 use Rattle.run_base.specs.RwLockCalls.{rwlock_begin, rwlock_deciding}
 use Rattle.run_base.specs.Stages.{Stepped, stage_of}
@@ -64,8 +64,8 @@ module _ (word : Word) (is : word.kind ≡ kinds.RwLock) (a : Admission) (c : Rw
     path_taken e = subst (λ (p : Place). Walks (at_rwlock word.number) p (view_of old).steps (view_of new).steps (entered (patience_of c))) (sym same)
         (ends_at_once (at_rwlock word.number) here word.number (Exchange seen (word_taken c seen)) found (view_of old).steps (view_of new).steps (entered (patience_of c)) (takes_by word.number a c seen takes) saw (takes_all word.number a c seen takes found e))
 
-    pub over_taken : found ≡ seen → (up : Type 0) (base : List Ownership) → Fits up base came (stage_of old None) → IsOver up base (aim_of came) (entered (patience_of c)) (stage_of new None)
-    over_taken e up base fits = subst (λ (p : Place). IsOver up base (aim_of p) (entered (patience_of c)) (stage_of new None)) (sym same)
+    pub over_taken : found ≡ seen → (up : Type 0) (base : List Ownership) → Fits up base came (stage_of old None) → IsOver up base (call_purpose came) (entered (patience_of c)) (stage_of new None)
+    over_taken e up base fits = subst (λ (p : Place). IsOver up base (call_purpose p) (entered (patience_of c)) (stage_of new None)) (sym same)
         (subst (λ (o : Option Answer). ReachedBy up base (of_rwlock word.number a c) (next_place here (Value found)) o (stage_of new None)) (ap answer_of (takes_all word.number a c seen takes found e)) (word_takes_on up base fits))
 
     module _ (answer : Answer) (last_token : Token) where
@@ -73,5 +73,5 @@ module _ (word : Word) (is : word.kind ≡ kinds.RwLock) (a : Admission) (c : Rw
       path_missed r = subst (λ (p : Place). Walks (at_rwlock word.number) p (view_of old).steps (view_of last_token).steps answer) (sym same)
           (rests (at_rwlock word.number) here word.number (Exchange seen (word_taken c seen)) found (view_of old).steps (view_of new).steps (view_of last_token).steps answer (takes_by word.number a c seen takes) saw r)
 
-      pub over_missed : (up : Type 0) (base : List Ownership) → Fits up base came (stage_of old None) → (Reached up base here (Value found) (stage_of new None) → IsOver up base (of_rwlock word.number a c) answer (stage_of last_token None)) → IsOver up base (aim_of came) answer (stage_of last_token None)
-      over_missed up base fits over = subst (λ (p : Place). IsOver up base (aim_of p) answer (stage_of last_token None)) (sym same) (over (word_takes_on up base fits))
+      pub over_missed : (up : Type 0) (base : List Ownership) → Fits up base came (stage_of old None) → (Reached up base here (Value found) (stage_of new None) → IsOver up base (of_rwlock word.number a c) answer (stage_of last_token None)) → IsOver up base (call_purpose came) answer (stage_of last_token None)
+      over_missed up base fits over = subst (λ (p : Place). IsOver up base (call_purpose p) answer (stage_of last_token None)) (sym same) (over (word_takes_on up base fits))

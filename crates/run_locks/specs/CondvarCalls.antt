@@ -47,11 +47,11 @@ abbrev pub HasWaited : ℕ → ℕ → Bool → Answer → List WordStep → Lis
 HasWaited c m timed answer old new = Walks (at_condvar c m) (wait_begin c m timed) old new answer
 
 -- and where a notification goes on that has seen a mutex
-abbrev pub notify_behind : ℕ → ℕ → Bool → Place
-notify_behind c m all = Condvar c (Notify all m notify.Enter)
+abbrev pub notify_slow : ℕ → ℕ → Bool → Place
+notify_slow c m all = Condvar c (Notify all m notify.Enter)
 
 abbrev pub HasNotified : ℕ → ℕ → Bool → Answer → List WordStep → List WordStep → Type 0
-HasNotified c m all answer old new = Walks (at_condvar c m) (notify_behind c m all) old new answer
+HasNotified c m all answer old new = Walks (at_condvar c m) (notify_slow c m all) old new answer
 
 -- a thread of the lot, and a condition variable of it whose keys are numbers
 abbrev pub MeetsCondvar : ParkingLot → Token → Word → Type 0
@@ -102,7 +102,7 @@ WaitsBy c m timed answer old new =
 abbrev pub AnswersWait : Bool → Answer → Type 0
 AnswersWait timed answer = (answer ≡ TwoMutexes) ⊎ ((late : Bool) × (answer ≡ waited timed late))
 
--- what it gives with its answer
+-- the record that it gives with its answer
 abbrev pub given_back : {G : Type 0} → Answer → G → Result G (Fault × G)
 given_back TwoMutexes guard = Err (faults.TwoMutexes, guard)
 given_back answer guard = Ok guard
@@ -112,7 +112,7 @@ ended TwoMutexes guard = Err (faults.TwoMutexes, guard)
 ended TimedOut guard = Ok (guard, true)
 ended answer guard = Ok (guard, false)
 
--- of who notifies all the number, of who notifies the first whether it is some
+-- the number for one that notifies all, and whether it is some for one that notifies the first
 abbrev pub IsNumber : Bool → ℕ → ℕ → Type 0
 IsNumber true n number = n ≡ number
 IsNumber false n number = n ≡ 1

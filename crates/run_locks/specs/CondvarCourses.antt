@@ -19,11 +19,11 @@ wait_at c m timed at = Condvar c (Wait m timed at)
 abbrev pub notify_at : ℕ → ℕ → Bool → NotifyAt → Place
 notify_at c m all at = Condvar c (Notify all m at)
 
--- who stands in the queue of the condition variable releases the mutex
+-- a thread in the queue of the condition variable releases the mutex
 abbrev pub releases_at : UnlockAt → WaitAt
 releases_at at = wait.Release Listed (mutex.Unlock at)
 
--- who was woken locks it again
+-- a thread that was woken locks it again
 abbrev pub locks_at : LockAt → WaitAt
 locks_at at = wait.Lock false (mutex.Lock entry.Lock true at)
 

@@ -13,7 +13,7 @@ use Rattle.steps_rwlock.specs.declared.purposes.RwLockPurpose.TheVariants as pur
 use Rattle.run_locks.specs.declared.rwlock_courses.Course.{Course}
 use Rattle.run_locks.specs.declared.rwlock_courses.Course.TheVariants.{Ends, Takes, GoesOn}
 
--- who may not come in goes on to wait, but for one that only tries
+-- a thread that may not come in goes on to wait, but for one that only tries
 abbrev pub kept_out : Patience → Course
 kept_out Try = Ends answers.No
 kept_out how = GoesOn
@@ -34,7 +34,7 @@ abbrev pub upgrading : Patience → ℕ → Course
 upgrading Try seen = if count_in seen == 1 then Takes else Ends answers.No
 upgrading how seen = if count_in seen == 1 then Ends (entered how) else GoesOn
 
--- who gives a right up goes on to wake others, where there may be some
+-- a thread that gives a right up goes on to wake others, where there may be some
 abbrev pub leaving : Bool → Course
 leaving waited_for = if waited_for then GoesOn else Ends answers.Ok
 

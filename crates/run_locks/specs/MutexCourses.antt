@@ -6,7 +6,7 @@ use Rattle.steps_mutex.specs.declared.unlock.UnlockAt.TheVariants as unlock
 use Rattle.lot_steps.specs.declared.places.Place.{Place}
 use Rattle.lot_steps.specs.declared.places.Place.TheVariants.{Mutex}
 
--- what an owner finds of a mutex on which somebody may wait
+-- the finding of an owner at a mutex on which some thread may wait
 abbrev pub locked_and_parked : ℕ
 locked_and_parked = 3
 

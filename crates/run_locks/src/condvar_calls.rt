@@ -80,7 +80,7 @@ fn notify_shown<R: Wait>(
 /// The step with which each notification begins, as all callers make it themselves. It answers what
 /// it sees of the condition variable: where that is 0 nobody waits, and the notification is over.
 #[inline]
-pub fn begin_notify(lot: &ParkingLot, token: &mut Token, condvar: Word) -> u64
+pub fn notify_fast(lot: &ParkingLot, token: &mut Token, condvar: Word) -> u64
     requires own { MeetsCondvar lot.now token.old condvar }
     ensures own { IsSameThread lot.now token.old token.new }
     ensures looked { HasLooked lot.now.words.count condvar.number result token.old token.new }
@@ -95,7 +95,7 @@ pub fn begin_notify(lot: &ParkingLot, token: &mut Token, condvar: Word) -> u64
 /// where nobody owns it. It answers how many it took and moved, of the first whether there was one.
 #[cold]
 #[inline(never)]
-pub fn notify_behind<R: Wait>(
+pub fn notify_slow<R: Wait>(
     rt: &R,
     lot: &ParkingLot,
     token: &mut Token,

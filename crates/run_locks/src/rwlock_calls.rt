@@ -11,7 +11,7 @@ ghost use Rattle.parking_lot_core.specs.Tokens.{IsTokenOf, IsSameThread};
 ghost use Rattle.parking_lot_core.specs.declared.tokens.Token.{Token};
 ghost use Rattle.run_locks.specs.Halves.{HasBegun, HasEnded};
 ghost use Rattle.run_locks.specs.declared.rwlock_calls.Rest.TheVariants.{GoesOn, Missed};
-ghost use Rattle.run_base.specs.Fitting.{AreWordsFor, Fits, IsOver, Reached, aim_of, of_rwlock};
+ghost use Rattle.run_base.specs.Fitting.{AreWordsFor, Fits, IsOver, Reached, call_purpose, of_rwlock};
 ghost use Rattle.run_base.specs.Paths.{Rests, Walks, at_rwlock};
 ghost use Rattle.run_base.specs.RwLockCalls.{AnswersCall, BeginsWith, HasWalkedRwLock, MeetsAt, WakesBy, rwlock_begin, rwlock_deciding};
 ghost use Rattle.run_base.specs.Stages.{stage_of};
@@ -58,7 +58,7 @@ pub(crate) fn run_out<R: Wait, C: Clock>(
         (steps_of token.new) result }
     ensures over { (base : List Ownership)
         → Fits (IsUp C.tells limit.entry) base start (stage_of token.old None)
-        → IsOver (IsUp C.tells limit.entry) base (aim_of start) result (stage_of token.new None) }
+        → IsOver (IsUp C.tells limit.entry) base (call_purpose start) result (stage_of token.new None) }
 {
     match run(rt, lot, token, Words::alone(word), limit, start) {
         Stop::Ended(answer) => answer,
@@ -166,7 +166,7 @@ fn lasting(purpose: RwLockPurpose) -> &'static RwLockPurpose
 // every call would set to zero.
 #[cold]
 #[inline(never)]
-fn rest_behind<R: Wait, C: Clock>(
+fn rest_slow<R: Wait, C: Clock>(
     rt: &R,
     lot: &ParkingLot,
     token: &mut Token,
@@ -186,7 +186,7 @@ fn rest_behind<R: Wait, C: Clock>(
     ensures over { (base : List Ownership) → Fits (IsUp C.tells limit.now) base
         (next_place (rwlock_begin word.now.number admission.now purpose.now) (Value seen)) (stage_of token.old None)
         → IsOver (IsUp C.tells limit.now) base
-        (aim_of (next_place (rwlock_begin word.now.number admission.now purpose.now) (Value seen))) result (stage_of token.new None) }
+        (call_purpose (next_place (rwlock_begin word.now.number admission.now purpose.now) (Value seen))) result (stage_of token.new None) }
 {
     let start = place_behind(word.number(), *admission, *purpose, seen);
     run_out(rt, lot, token, *word, *limit, start)
@@ -194,7 +194,7 @@ fn rest_behind<R: Wait, C: Clock>(
 
 /// The slow half of a call whose first step saw this, and that goes on.
 #[inline(always)]
-pub fn behind<R: Wait, C: Clock>(
+pub fn call_slow<R: Wait, C: Clock>(
     rt: &R,
     lot: &ParkingLot,
     token: &mut Token,
@@ -214,7 +214,7 @@ pub fn behind<R: Wait, C: Clock>(
         → HasBegun word.now admission.now purpose (GoesOn seen) before token.old
         → HasEnded (IsUp C.tells limit.now) word.now admission.now purpose result before token.new }
 {
-    rest_behind(
+    rest_slow(
         rt,
         lot,
         token,
@@ -364,7 +364,7 @@ pub fn call<R: Wait, C: Clock>(
     match call_fast(lot, token, word, settings, limit, purpose) {
         Ok(answer) => answer,
         Err(Rest::GoesOn(seen)) => {
-            behind(
+            call_slow(
                 rt,
                 lot,
                 token,

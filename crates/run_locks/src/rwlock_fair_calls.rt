@@ -10,7 +10,7 @@ ghost use Rattle.steps_rwlock.specs.declared.purposes.RwLockPurpose.TheVariants.
 ghost use Rattle.lot_steps.specs.declared.places.Place.TheVariants.{RwLock};
 ghost use Rattle.core_words.specs.declared.owners.Ownership.{Ownership};
 ghost use Rattle.parking_lot_core.specs.Tokens.{IsSameThread};
-ghost use Rattle.run_base.specs.Fitting.{Fits, IsOver, aim_of};
+ghost use Rattle.run_base.specs.Fitting.{Fits, IsOver, call_purpose};
 ghost use Rattle.run_base.specs.Paths.{Walks, at_rwlock};
 ghost use Rattle.run_base.specs.RwLockCalls.{HasWalkedCall, MeetsAt, ReleasesFairly};
 ghost use Rattle.run_base.specs.RwLockFitting.{Answers, IsBeside, OwnsRight};
@@ -59,7 +59,7 @@ fn rest<R: Wait>(
         (steps_of token.old) (steps_of token.new) result }
     ensures over { (base : List Ownership)
         → Fits ⊥ base (RwLock word.now.number admission.now at.now) (stage_of token.old None)
-        → IsOver ⊥ base (aim_of (RwLock word.now.number admission.now at.now)) result
+        → IsOver ⊥ base (call_purpose (RwLock word.now.number admission.now at.now)) result
         (stage_of token.new None) }
 {
     let start = Place::RwLock {

@@ -87,7 +87,7 @@ fn unlock_through<R: Wait>(rt: &R, lot: &ParkingLot, token: &mut Token, words: W
 }
 
 /// The rest of an unlock whose first step saw a waiter.
-pub fn unlock_behind<R: Wait>(rt: &R, lot: &ParkingLot, token: &mut Token, word: Word)
+pub fn unlock_slow<R: Wait>(rt: &R, lot: &ParkingLot, token: &mut Token, word: Word)
     requires own { MeetAt lot.now token.old word }
     ensures own { IsSameThread lot.now token.old token.new }
     ensures path { WalksBehind word.number Unlock locked_and_parked token.old token.new ok }

@@ -44,14 +44,14 @@ put_other f t u x ne = grind (arith, nat_tests)
 -- ---------------------------------------------------------------- inside the section
 
 module _ (c : CondvarSite) (t : ℕ) (h : IsCondvar c) where
-  -- what t knows by its stage
+  -- tells what t knows by its stage
   known : (stage : Stage) → IsInsideAt c t stage → IsAt c t stage
   known stage e = subst (λ (i : Option Inside). IsAsInside c i) e h.inside
 
   settled_at : (o : Option ℕ) → c.shown ≡ o → IsSettled c → IsSettledAt o c
   settled_at o e k = subst (λ (o : Option ℕ). IsSettledAt o c) e k
 
-  -- who is inside does not matter to it
+  -- it doesn't matter to it which thread is inside
   settled_now : (i : Option Inside) → IsSettled c → IsSettled (record c { inside = i })
   settled_now i k = by_shown c.shown k
     where

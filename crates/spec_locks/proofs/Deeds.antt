@@ -6,7 +6,7 @@ use Rattle.spec_locks.specs.Sites.{Site, Main, Second, Deed, Begin, End, In, Out
 use Rattle.spec_locks.specs.Runs.{Nothing}
 use Rattle.spec_locks.specs.Deeds.{after_all, AllNeeded, KeepLock, AreOneCase, event_of, EventNeeds, after_event}
 
--- who has nobody in hand lets nobody go
+-- a thread that has nobody in hand lets nobody go
 pub lets_nobody_go : (s : LockState) (t : ℕ) → HasTakenNobody s t → record s { taken = let_go t s.taken } ≡ s
 lets_nobody_go s t none = λ i. record s { taken = λ u. kept (s.taken u) (none u) i }
   where
@@ -38,11 +38,11 @@ module _ (r : Rules) (t : ℕ) where
   kept (LeaveLine ∷ ds) s k = absurd k
 
   module _ (l : ℕ) (hand : Option Bool) where
-    -- who wakes nobody has nobody in hand
+    -- a thread that wakes nobody has nobody in hand
     abbrev pub WakesHand : LockState → Type 0
     WakesHand s = hand ≢ Some false → HasTakenNobody s t
 
-    -- behind one that keeps the lock there is none
+    -- after one that keeps the lock there is none
     no_event : (hand : Option Bool) (ds : List Deed) → KeepLock ds → event_of l hand ds ≡ Nothing
     no_event hand [] k = refl
     no_event hand (Begin claims ∷ ds) k = no_event hand ds k
@@ -83,7 +83,7 @@ module _ (r : Rules) (t : ℕ) where
     deeds_lead (Send all ∷ ds) s free one = absurd one
     deeds_lead (LeaveLine ∷ ds) s free one = kept ds (after_deed r LeaveLine s t) one
 
-    -- what they need
+    -- tells what they need
     pub deeds_need : (ds : List Deed) (s : Site) → AllNeeded r ds s t → AreOneCase ds → EventNeeds r (event_of l hand ds) s.lock t
     deeds_need [] s needed one = tt
     deeds_need (Case case ∷ ds) s needed one = needed.0.0

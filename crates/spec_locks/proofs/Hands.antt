@@ -10,12 +10,12 @@ use Rattle.spec_locks.specs.Locks.{LockState, sharing_handed, sharing_from, shar
 use Rattle.spec_locks.specs.Sites.{IsOpen, counts, counts_taken}
 use Rattle.spec_locks.proofs.LockKeeps.{times_append, times_filter}
 
--- who isn't among those who are taken stays as it was
+-- a thread that isn't among those who are taken stays as it was
 pub taking_others : (t u : ℕ) (xs : List Queued) (taken : ℕ → Option Taken) → times u xs ≡ 0 → taking t xs taken u ≡ taken u
 taking_others t u [] taken none = refl
 taking_others t u (x ∷ xs) taken none = grind (arith, nat_tests, taking_others t u xs)
 
--- who is taken is taken by t, or was before
+-- a thread that is taken is taken by t, or was before
 pub taking_by : (t u : ℕ) (xs : List Queued) (taken : ℕ → Option Taken) (h : Taken) → taking t xs taken u ≡ Some h → (h.by ≡ t) ⊎ (taken u ≡ Some h)
 taking_by t u [] taken h e = inr e
 taking_by t u (x ∷ xs) taken h e = grind (arith, nat_tests, taking_by t u xs)
@@ -42,7 +42,7 @@ times_picked sort start u q = times_part u (front_of start q) (stop_of sort star
 
 -- ---------------------------------------------------------------- the turn is passed on
 
--- whoever wants to share ahead of the others is picked
+-- each thread that wants to share ahead of the others is picked
 abbrev part : ℕ → ℕ → List Queued → List Queued
 part m n q = take m (take n q) ++ sharers (drop m (take n q))
 
@@ -88,7 +88,7 @@ passes_on sort start t (x ∷ q) taken none knows left once = either (wants_shar
         let gone : times x.thread first.rest ≡ 0 = (let a = once x.thread in let b = first.few x.thread in grind (arith, nat_tests)) in
         (x.thread, rw first.is (rw (taking_others t x.thread first.rest (putting taken x.thread (Some (record { by = t; want = x.want }))) gone) (grind (arith, nat_tests))))
 
--- whoever leaves the queue, the others stand as often
+-- each thread that leaves the queue, the others stand as often
 pub without_fewer : (u t : ℕ) (q : List Queued) → times u (without t q) ≤ times u q
 without_fewer u t q = times_filtered u (λ x. not (x.thread == t)) q
 
@@ -172,7 +172,7 @@ bars r u Upgradable now knows turn more c free = grind arith
 bars r u Shared now knows turn more c free = more refl
 bars r u w now knows turn more c free = grind arith
 
--- who passes the turn on doesn't want to share
+-- a thread that passes the turn on doesn't want to share
 pub counts_more : (sort : Sort) (w : Want) → Knows sort w → sort ≢ Semaphore → counts sort w ≡ true → w ≢ Shared
 counts_more Mutex Exclusive knows lock c e = cc
 counts_more Normal w knows lock c e = let g : counts Normal Shared ≡ true = rw e at c in cc

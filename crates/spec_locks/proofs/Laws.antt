@@ -12,7 +12,7 @@ use Rattle.spec_locks.proofs.Runs.{needs_of}
 use Rattle.spec_locks.specs.Runs.{LocksState, Event, Nothing, AtLock, Moves, MayDo, MayHappen, Does, Agrees, going_on, locks_after, rights_in, rules_at, no_rights}
 use Rattle.spec_locks.specs.Laws.{PossibleTurnsAreTaken, CallsTakeSteps, FairReleasesHandOver, OwnersExclude, FreeMutexIsGot, trying}
 
--- what is done is told, and never as a refusal
+-- a deed is told, and never as a refusal
 told_done : (w v : LocksState) (t : ℕ) (x : Turn) → Does w t x outcome.TheVariants.NotNow v → ⊥
 told_done w v t (turn.TheVariants.Begin c) d = let told = d.told in cc
 told_done w v t turn.TheVariants.Spin d = d.goes.agrees

@@ -15,7 +15,7 @@ use Rattle.spec_locks.specs.Runs.{AtLock, CallState, Does, Event, GoesOn, IsNoti
 use Rattle.spec_locks.specs.UserLaws.{OfEachStep}
 use Rattle.spec_locks.specs.CondvarLaws.{IsNotifier, NobodyWakesByItself}
 
--- whoever is woken was notified only where it was
+-- each thread that is woken was notified only where it was
 behind_wake_none : (r : Recall) → (IsNotified r → ⊥) → IsNotified (behind_wake r) → ⊥
 behind_wake_none Blank none h = h
 behind_wake_none (Saw m) none h = h
@@ -68,7 +68,7 @@ own_none (AtLock l case) c none = by_case case
     by_case (locks.SeeOwner owned) = λ h. h
     by_case case = none
 
--- whom a move concerns stood in the queue
+-- a thread that a move concerns stood in the queue
 among_stood : (u : ℕ) (all : Bool) (q : List Queued) → is_among u (moved_of all q) ≡ true → 1 ≤ times u q
 among_stood u true q h = leb-true 1 (times u q) h
 among_stood u false [] h = leb-true 1 (times u []) h

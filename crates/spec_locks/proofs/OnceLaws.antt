@@ -4,7 +4,7 @@ use Rattle.core_base.specs.declared.wants.Want.{Want}
 use Rattle.core_base.specs.declared.wants.Want.TheVariants.{Exclusive, Upgradable, Shared}
 use Rattle.spec_locks.specs.Onces.{Done, OnceCase, Start, Finish, Fail, Rest, TakeAll, MayStart}
 use Rattle.spec_locks.specs.Locks.{LockCase, LockState, Needs, Pending, Rules, after_case, Enter, Pend, Settle, Leave, Convert, Park, Aside, TakeFirst, TakeAside, TakePicked, Wake, HandOff, Late, Rollback, OfOnce, OnceNeeds, once_after, Sort, Once, with_owner, without_owner, converted, falling_back, pending_for, OfCondvar, SeeOwner, Look, Show, Hide}
-use Rattle.spec_locks.specs.Sites.{Main, Doing, IsOpen, IsDebtor}
+use Rattle.spec_locks.specs.Sites.{Main, Role, IsOpen, IsDebtor}
 use Rattle.spec_locks.specs.OnceLaws.{NothingLeavesDone, CallersAreLookedAfter}
 use Rattle.spec_locks.proofs.Hands.{is_handed}
 use Rattle.spec_locks.proofs.SiteFacts.{callers_stand}
@@ -75,8 +75,8 @@ done_stays r case s t n e = elim (phase_by r case s t) [
   | inr once ↦ subst (λ x. Needs r x s t → (after_case r x s t).phase ≡ Done) (sym once.1) (λ m. once_stays once.0 s t m.1 e) n
 ]
 
--- of a `Once` nobody who tries again passes a turn on
-debt_of : (sort : Sort) (d : Doing) → sort ≡ Once → IsDebtor sort d → (d.wakes ≡ Some Main) ⊎ (d.covers ≡ true)
+-- at a `Once` no thread that tries again passes a turn on
+debt_of : (sort : Sort) (d : Role) → sort ≡ Once → IsDebtor sort d → (d.wakes ≡ Some Main) ⊎ (d.covers ≡ true)
 debt_of sort d e (inl wakes) = inl wakes
 debt_of sort d e (inr (inl covers)) = inr covers
 debt_of sort d e (inr (inr again)) = absurd (grind (arith, e))
@@ -85,4 +85,4 @@ pub callers : CallersAreLookedAfter
 callers r s sort room h call free =
     let open_now : IsOpen r.sort s.lock = rw sort (call, free) in
     let one = h.main (inl (callers_stand s.lock.queue call)) open_now room in
-    (one.0, debt_of r.sort (s.doing one.0) sort one.1)
+    (one.0, debt_of r.sort (s.role one.0) sort one.1)

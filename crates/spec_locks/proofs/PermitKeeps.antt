@@ -7,7 +7,7 @@ use Rattle.std.proofs.lemmas.List.Sums.{sum_by-set}
 use Rattle.core_base.specs.declared.wants.Want.{Want}
 use Rattle.core_base.specs.declared.wants.Want.TheVariants.{Exclusive, Upgradable, Shared}
 use Rattle.spec_locks.specs.Locks.{Queued, Taken, Sort, Mutex, Normal, Recursive, Semaphore, Once, Rules, LockCase, OfOnce, Enter, Pend, Settle, Leave, Convert, Park, Aside, TakeFirst, TakeAside, TakePicked, Wake, HandOff, Late, Rollback, Knows, IsBlocked, readers, standing, times, is_thread, one_if_some, putting, OfCondvar, SeeOwner, Condvar}
-use Rattle.spec_locks.specs.Sites.{Line, Main, Second, Doing, Site, IsSite, Begin, End, In, Out, Mark, Clear, FindNobody, MarkOwned, MarkBrought, Send, LeaveLine, Bring, Case, Needed, after_deed, done, case_doing, idle, leaves, wakened, counts_taken}
+use Rattle.spec_locks.specs.Sites.{Line, Main, Second, Role, Site, IsSite, Begin, End, In, Out, Mark, Clear, FindNobody, MarkOwned, MarkBrought, Send, LeaveLine, Bring, Case, Needed, after_deed, done, case_role, idle, leaves, wakened, counts_taken}
 use Rattle.spec_locks.specs.Codes.{bit}
 use Rattle.spec_locks.specs.Permits.{total, debt, debts, HasPermits, EachDeedKeepsPermits, PermitsAreLookedAfter}
 use Rattle.spec_locks.specs.Locks as locks
@@ -57,17 +57,17 @@ some_of (suc n) f one = by_last (f n) refl (some_of n f)
 -- ---------------------------------------------------------------- one thread changes the lock, and what it does
 
 module _ (r : Rules) (s : Site) (t : ℕ) (lt : t < length s.lock.shared) (h : IsSite r s) (p : HasPermits r s) where
-  turns : (v : Site) (e : Doing) → Changed s.doing v.doing t e → length v.lock.shared ≡ length s.lock.shared
-      → (v.lock.queue ≢ [] → (r.limit ≤ readers v.lock) ⊎ ((s.lock.queue ≢ []) × (readers s.lock + debt (s.doing t) ≤ readers v.lock + debt e)))
+  turns : (v : Site) (e : Role) → Changed s.role v.role t e → length v.lock.shared ≡ length s.lock.shared
+      → (v.lock.queue ≢ [] → (r.limit ≤ readers v.lock) ⊎ ((s.lock.queue ≢ []) × (readers s.lock + debt (s.role t) ≤ readers v.lock + debt e)))
       → ((u : ℕ) → u ≢ t → 1 ≤ standing u v.lock → 1 ≤ standing u s.lock) → e.sets ≡ false → HasPermits r v
   turns v e changed same enough stood unset = record {
     enough = λ left. elim (enough left) [
       | inl k ↦ omega arith
       | inr k ↦
           let a = p.enough k.0 in
-          let b = total_changed (length s.lock.shared) (λ u. debt (s.doing u)) (λ u. debt (v.doing u)) t lt (λ u ne. ap debt (changed.other u ne)) in
-          let d : debt (v.doing t) ≡ debt e = ap debt changed.here in
-          let f : debts v ≡ total (length s.lock.shared) (λ u. debt (v.doing u)) = ap (λ (n : ℕ). total n (λ u. debt (v.doing u))) same in
+          let b = total_changed (length s.lock.shared) (λ u. debt (s.role u)) (λ u. debt (v.role u)) t lt (λ u ne. ap debt (changed.other u ne)) in
+          let d : debt (v.role t) ≡ debt e = ap debt changed.here in
+          let f : debts v ≡ total (length s.lock.shared) (λ u. debt (v.role u)) = ap (λ (n : ℕ). total n (λ u. debt (v.role u))) same in
           let l = k.1 in
           omega arith
     ];
@@ -93,15 +93,15 @@ module _ (r : Rules) (s : Site) (t : ℕ) (sort : r.sort ≡ Semaphore) (lt : t 
       (a, b.0, b.1, no_aside r s.lock h.state b.0)
 
   -- t does something else, and the lock stays
-  does : (e : Doing) (pk ap : Bool) → (s.lock.queue ≢ [] → debt (s.doing t) ≤ debt e) → e.sets ≡ false → HasPermits r (record s { parked = pk; aside_parked = ap; doing = putting s.doing t e })
-  does e pk ap more unset = turns r s t lt h p (record s { parked = pk; aside_parked = ap; doing = putting s.doing t e }) e (put_changed s.doing t e) refl (λ left. inr (left, let a = more left in omega arith)) (λ u ne one. one) unset
+  does : (e : Role) (pk ap : Bool) → (s.lock.queue ≢ [] → debt (s.role t) ≤ debt e) → e.sets ≡ false → HasPermits r (record s { parked = pk; aside_parked = ap; role = putting s.role t e })
+  does e pk ap more unset = turns r s t lt h p (record s { parked = pk; aside_parked = ap; role = putting s.role t e }) e (put_changed s.role t e) refl (λ left. inr (left, let a = more left in omega arith)) (λ u ne one. one) unset
 
   acts : (c : LockCase) → length (locks.after_case r c s.lock t).shared ≡ length s.lock.shared
-      → ((locks.after_case r c s.lock t).queue ≢ [] → (r.limit ≤ readers (locks.after_case r c s.lock t)) ⊎ ((s.lock.queue ≢ []) × (readers s.lock + debt (s.doing t) ≤ readers (locks.after_case r c s.lock t) + debt (case_doing r.sort s (locks.after_case r c s.lock t) c (s.doing t)))))
-      → ((u : ℕ) → u ≢ t → 1 ≤ standing u (locks.after_case r c s.lock t) → 1 ≤ standing u s.lock) → (case_doing r.sort s (locks.after_case r c s.lock t) c (s.doing t)).sets ≡ false → HasPermits r (after_deed r (Case c) s t)
-  acts c same enough stood unset = turns r s t lt h p (done r c s t (locks.after_case r c s.lock t)) _ (put_changed s.doing t _) same enough stood unset
+      → ((locks.after_case r c s.lock t).queue ≢ [] → (r.limit ≤ readers (locks.after_case r c s.lock t)) ⊎ ((s.lock.queue ≢ []) × (readers s.lock + debt (s.role t) ≤ readers (locks.after_case r c s.lock t) + debt (case_role r.sort s (locks.after_case r c s.lock t) c (s.role t)))))
+      → ((u : ℕ) → u ≢ t → 1 ≤ standing u (locks.after_case r c s.lock t) → 1 ≤ standing u s.lock) → (case_role r.sort s (locks.after_case r c s.lock t) c (s.role t)).sets ≡ false → HasPermits r (after_deed r (Case c) s t)
+  acts c same enough stood unset = turns r s t lt h p (done r c s t (locks.after_case r c s.lock t)) _ (put_changed s.role t _) same enough stood unset
 
-  no_debt : Needed r End s t → debt (s.doing t) ≡ 0
+  no_debt : Needed r End s t → debt (s.role t) ≡ 0
   no_debt n = grind (arith, sort, h.covered t)
 
   ends : Needed r End s t → HasPermits r (after_deed r End s t)
@@ -114,7 +114,7 @@ module _ (r : Rules) (s : Site) (t : ℕ) (sort : r.sort ≡ Semaphore) (lt : t 
   one_more : readers (locks.with_owner t Shared s.lock) ≡ readers s.lock + 1
   one_more = let e = sum_by-set (λ (n : ℕ). n) s.lock.shared t (slice_index s.lock.shared t + 1) 0 lt in omega arith
 
-  entered_debt : debt (s.doing t) ≤ 1 + debt (record (s.doing t) { retries = None; claims = None })
+  entered_debt : debt (s.role t) ≤ 1 + debt (record (s.role t) { retries = None; claims = None })
   entered_debt = grind arith
 
   seen : s.lock.queue ≢ [] → s.parked ≡ true
@@ -123,7 +123,7 @@ module _ (r : Rules) (s : Site) (t : ℕ) (sort : r.sort ≡ Semaphore) (lt : t 
     | inr one ↦ absurd (let e = p.unset one.0 in let f = one.1 in cc)
   ]
 
-  left_debt : (so : Sort) → so ≡ Semaphore → s.parked ≡ true → (s.doing t).wakes ≡ None → debt (case_doing so s (locks.without_owner t Shared s.lock) (Leave Shared) (s.doing t)) ≡ 1 + debt (s.doing t)
+  left_debt : (so : Sort) → so ≡ Semaphore → s.parked ≡ true → (s.role t).wakes ≡ None → debt (case_role so s (locks.without_owner t Shared s.lock) (Leave Shared) (s.role t)) ≡ 1 + debt (s.role t)
   left_debt Semaphore e parked none = grind arith
   left_debt Mutex e parked none = absurd cc
   left_debt Normal e parked none = absurd cc
@@ -137,7 +137,7 @@ module _ (r : Rules) (s : Site) (t : ℕ) (sort : r.sort ≡ Semaphore) (lt : t 
     | inr past ↦ past
   ]
 
-  unset_left : (so : Sort) → so ≡ Semaphore → (case_doing so s (locks.without_owner t Shared s.lock) (Leave Shared) (s.doing t)).sets ≡ false
+  unset_left : (so : Sort) → so ≡ Semaphore → (case_role so s (locks.without_owner t Shared s.lock) (Leave Shared) (s.role t)).sets ≡ false
   unset_left Semaphore e = p.unset t
   unset_left Mutex e = p.unset t
   unset_left Normal e = p.unset t
@@ -148,7 +148,7 @@ module _ (r : Rules) (s : Site) (t : ℕ) (sort : r.sort ≡ Semaphore) (lt : t 
   some_first : (x : Queued) → (rest : List Queued) → s.lock.queue ≡ x ∷ rest → s.lock.queue ≢ []
   some_first x rest e = λ f. cc
 
-  took : (x : Queued) → Needed r (Case (TakeFirst x)) s t → readers s.lock + debt (s.doing t) ≤ readers s.lock + debt (case_doing r.sort s (locks.after_case r (TakeFirst x) s.lock t) (TakeFirst x) (s.doing t))
+  took : (x : Queued) → Needed r (Case (TakeFirst x)) s t → readers s.lock + debt (s.role t) ≤ readers s.lock + debt (case_role r.sort s (locks.after_case r (TakeFirst x) s.lock t) (TakeFirst x) (s.role t))
   took x n = let w = n.1.2 in let f = n.1.1 in grind (arith, h.covered t)
 
   cases_keep : (c : LockCase) → Needed r (Case c) s t → HasPermits r (after_deed r (Case c) s t)
@@ -176,28 +176,28 @@ module _ (r : Rules) (s : Site) (t : ℕ) (sort : r.sort ≡ Semaphore) (lt : t 
   abbrev v : Site
   v = after_deed r Out s t
 
-  wakened_more : (o : Option Taken) (d : Doing) → debt d ≤ debt (wakened t o d)
+  wakened_more : (o : Option Taken) (d : Role) → debt d ≤ debt (wakened t o d)
   wakened_more None d = omega arith
   wakened_more (Some a) d = grind (arith, nat_tests)
 
-  wakened_one : (o : Option Taken) (d : Doing) → counts_taken r.sort t o ≡ true → d.retries ≡ None → debt (wakened t o d) ≡ debt d + 1
+  wakened_one : (o : Option Taken) (d : Role) → counts_taken r.sort t o ≡ true → d.retries ≡ None → debt (wakened t o d) ≡ debt d + 1
   wakened_one None d c e = absurd cc
   wakened_one (Some a) d c e = grind (arith, nat_tests)
 
-  left_few : (u : ℕ) → debt (s.doing u) ≤ debt (putting s.doing t (leaves (s.doing t)) u) + (if u == t then bit (s.doing t).covers else 0)
+  left_few : (u : ℕ) → debt (s.role u) ≤ debt (putting s.role t (leaves (s.role t)) u) + (if u == t then bit (s.role t).covers else 0)
   left_few u = grind (arith, nat_tests)
 
-  unset_out : (u : ℕ) → (v.doing u).sets ≡ false
+  unset_out : (u : ℕ) → (v.role u).sets ≡ false
   unset_out u = grind (arith, nat_tests, p.unset u)
 
   known_out : (u : ℕ) → 1 ≤ standing u v.lock → u < length s.lock.shared
   known_out u one = p.known u (let k = kept_few t (s.lock.taken u) in omega arith)
 
-  same_debts : (s.doing t).covers ≡ false → debts s ≤ debts v
-  same_debts e = total_less (length s.lock.shared) (λ u. debt (s.doing u)) (λ u. debt (v.doing u)) (λ u.
-      let a = wakened_more (s.lock.taken u) (putting s.doing t (leaves (s.doing t)) u) in
+  same_debts : (s.role t).covers ≡ false → debts s ≤ debts v
+  same_debts e = total_less (length s.lock.shared) (λ u. debt (s.role u)) (λ u. debt (v.role u)) (λ u.
+      let a = wakened_more (s.lock.taken u) (putting s.role t (leaves (s.role t)) u) in
       let b = left_few u in
-      let z : (if u == t then bit (s.doing t).covers else 0) ≡ 0 = grind (arith, e) in
+      let z : (if u == t then bit (s.role t).covers else 0) ≡ 0 = grind (arith, e) in
       omega arith)
 
   in_hand : (x : ℕ) → counts_taken r.sort t (s.lock.taken x) ≡ true → 1 ≤ standing x s.lock
@@ -208,33 +208,33 @@ module _ (r : Rules) (s : Site) (t : ℕ) (sort : r.sort ≡ Semaphore) (lt : t 
       by_hand (Some a) e = let g : standing x s.lock ≡ times x s.lock.queue + is_thread x s.lock.aside + 1 = ap (λ (o : Option Taken). times x s.lock.queue + is_thread x s.lock.aside + one_if_some o) e in omega arith
 
   moved_debts : (x : ℕ) → counts_taken r.sort t (s.lock.taken x) ≡ true → debts s ≤ debts v
-  moved_debts x c = total_moved (length s.lock.shared) (λ u. debt (s.doing u)) (λ u. debt (v.doing u)) t x lt (p.known x (in_hand x c)) (λ u. each u)
+  moved_debts x c = total_moved (length s.lock.shared) (λ u. debt (s.role u)) (λ u. debt (v.role u)) t x lt (p.known x (in_hand x c)) (λ u. each u)
     where
-      few : (u : ℕ) → (if u == t then bit (s.doing t).covers else 0) ≤ one_at t u
+      few : (u : ℕ) → (if u == t then bit (s.role t).covers else 0) ≤ one_at t u
       few u = grind arith
 
-      each : (u : ℕ) → debt (s.doing u) + one_at x u ≤ debt (v.doing u) + one_at t u
+      each : (u : ℕ) → debt (s.role u) + one_at x u ≤ debt (v.role u) + one_at t u
       each u = elim (cases_eq u x) [
         | inl e ↦
-            let a : debt (v.doing u) ≡ debt (putting s.doing t (leaves (s.doing t)) u) + 1 = wakened_one (s.lock.taken u) (putting s.doing t (leaves (s.doing t)) u) (rw e c) (let w = h.unwoken x (in_hand x c) in grind (arith, nat_tests)) in
+            let a : debt (v.role u) ≡ debt (putting s.role t (leaves (s.role t)) u) + 1 = wakened_one (s.lock.taken u) (putting s.role t (leaves (s.role t)) u) (rw e c) (let w = h.unwoken x (in_hand x c) in grind (arith, nat_tests)) in
             let b = left_few u in
             let d = few u in
             let one : one_at x u ≡ 1 = grind (arith, nat_tests) in
             omega arith
         | inr ne ↦
-            let a = wakened_more (s.lock.taken u) (putting s.doing t (leaves (s.doing t)) u) in
+            let a = wakened_more (s.lock.taken u) (putting s.role t (leaves (s.role t)) u) in
             let b = left_few u in
             let d = few u in
             let none : one_at x u ≡ 0 = grind (arith, nat_tests) in
             omega arith
       ]
 
-  out_debts : s.lock.queue ≢ [] → (b : Bool) → (s.doing t).covers ≡ b → debts s ≤ debts v
+  out_debts : s.lock.queue ≢ [] → (b : Bool) → (s.role t).covers ≡ b → debts s ≤ debts v
   out_debts left false e = same_debts e
   out_debts left true e = let one = (h.covered t e).2 left in moved_debts one.0 one.1
 
   outs : HasPermits r v
-  outs = record { enough = λ left. let a = p.enough left in let b = out_debts left (s.doing t).covers refl in omega arith; unset = unset_out; known = known_out }
+  outs = record { enough = λ left. let a = p.enough left in let b = out_debts left (s.role t).covers refl in omega arith; unset = unset_out; known = known_out }
 
 pub permits_kept : EachDeedKeepsPermits
 permits_kept r (Begin c) s t sort lt h p n = does r s t sort lt h p _ s.parked s.aside_parked (λ left. omega arith) (p.unset t)
@@ -256,8 +256,8 @@ permits_kept r (Case c) s t sort lt h p n = cases_keep r s t sort lt h p c n
 pub looked_after : PermitsAreLookedAfter
 looked_after r s p left free = by_debt one.0 one.1
   where
-    one : (t : ℕ) × (1 ≤ debt (s.doing t))
-    one = some_of (length s.lock.shared) (λ t. debt (s.doing t)) (let a = p.enough left in omega arith)
+    one : (t : ℕ) × (1 ≤ debt (s.role t))
+    one = some_of (length s.lock.shared) (λ t. debt (s.role t)) (let a = p.enough left in omega arith)
 
-    by_debt : (t : ℕ) → 1 ≤ debt (s.doing t) → (t : ℕ) × (((s.doing t).wakes ≡ Some Main) ⊎ (((s.doing t).covers ≡ true) ⊎ ((s.doing t).retries ≢ None)))
+    by_debt : (t : ℕ) → 1 ≤ debt (s.role t) → (t : ℕ) × (((s.role t).wakes ≡ Some Main) ⊎ (((s.role t).covers ≡ true) ⊎ ((s.role t).retries ≢ None)))
     by_debt t k = (t, grind arith)

@@ -38,7 +38,7 @@ keeper_picked sort start q more = grind (arith, take-length q, sharers_from q)
 keeper_unpicked : (sort : Sort) (start : Option Want) (q : List Queued) → keeps_more start ≡ true → locks.unpicked sort start q ≡ others q
 keeper_unpicked sort start q more = grind (arith, take-length q, drop-length q, others_from q, append-nil (others q))
 
--- whoever wants to share ahead of the others is picked
+-- each thread that wants to share ahead of the others is picked
 abbrev part : ℕ → ℕ → List Queued → List Queued
 part m n q = take m (take n q) ++ sharers (drop m (take n q))
 

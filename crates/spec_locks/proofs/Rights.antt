@@ -66,7 +66,7 @@ module _ (s : LockState) (t : ℕ) where
   replaced Upgradable Exclusive r state own may less there = absurd (less refl)
   replaced x y r state own may less there = absurd (grind arith)
 
-  -- who has a right has it again when it has given it up and got it
+  -- a thread that has a right has it again when it has given it up and got it
   pub regained : (x : Want) → Owns s t x → with_right x (without_right x (rights_of s t)) ≡ rights_of s t
   regained Exclusive own = rights_are _ _ _ _ _ _ _ _ (grind (arith, nat_tests)) refl refl refl
   regained Upgradable own = rights_are _ _ _ _ _ _ _ _ refl refl (grind (arith, nat_tests)) refl
@@ -83,7 +83,7 @@ module _ (s : LockState) (t : ℕ) where
   pub fell : (r : Rules) → IsLockState r s → s.pending ≡ Some (record { thread = t; falls_back = true }) → rights_of (with_owner t Upgradable (record s { pending = None })) t ≡ with_right Upgradable (less_pending (rights_of s t))
   fell r state own = let free : s.upgradable ≡ None = grind (arith, state.pending_alone) in rights_are _ _ _ _ _ _ _ _ refl (grind (arith, nat_tests)) (grind (arith, nat_tests)) refl
 
--- what is done to a `Once` changes no right
+-- a deed at a `Once` changes no right
 pub once_keeps : (case : OnceCase) (s : LockState) (t u : ℕ) → rights_of (once_after case s t) u ≡ rights_of s u
 once_keeps (Start forced) s t u = refl
 once_keeps Finish s t u = refl

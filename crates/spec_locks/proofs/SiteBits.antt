@@ -2,14 +2,14 @@
 -- between steps.
 use Rattle.std.proofs.Common.{ℕ, Bool, true, false, Option, inl, inr, refl, arith}
 use Rattle.spec_locks.specs.Locks.{Rules, putting}
-use Rattle.spec_locks.specs.Sites.{Line, Main, Second, Claim, Doing, Site, IsSite, Begin, End, In, Mark, Clear, FindNobody, MarkOwned, MarkBrought, Needed, after_deed, with_doing}
+use Rattle.spec_locks.specs.Sites.{Line, Main, Second, Claim, Role, Site, IsSite, Begin, End, In, Mark, Clear, FindNobody, MarkOwned, MarkBrought, Needed, after_deed, with_role}
 use Rattle.spec_locks.proofs.Turns.{Local, turn_keeps}
 use Rattle.spec_locks.proofs.SiteFacts.{put_changed}
 
 module _ (r : Rules) (s : Site) (t : ℕ) (h : IsSite r s) where
   -- t does something else, and the lock stays
-  does : (d2 : Doing) → Local r s (with_doing s t d2) t (s.doing t) d2 → IsSite r (with_doing s t d2)
-  does d2 local = turn_keeps r s (with_doing s t d2) t (s.doing t) d2 h refl (put_changed s.doing t d2) local
+  does : (d2 : Role) → Local r s (with_role s t d2) t (s.role t) d2 → IsSite r (with_role s t d2)
+  does d2 local = turn_keeps r s (with_role s t d2) t (s.role t) d2 h refl (put_changed s.role t d2) local
 
   pub begin_keeps : (c : Option Claim) → Needed r (Begin c) s t → IsSite r (after_deed r (Begin c) s t)
   begin_keeps c n = does _ (record {
@@ -47,21 +47,21 @@ module _ (r : Rules) (s : Site) (t : ℕ) (h : IsSite r s) where
   find_keeps Second n = does _ (grind (arith, h.unwoken t, h.covered t, h.brought t, h.setting t))
 
   -- a bit changes alone
-  changed_bits : (p a : Bool) → Local r s (record s { parked = p; aside_parked = a }) t (s.doing t) (s.doing t) → IsSite r (record s { parked = p; aside_parked = a })
-  changed_bits p a local = turn_keeps r s (record s { parked = p; aside_parked = a }) t (s.doing t) (s.doing t) h refl (record { here = refl; other = λ j ne. refl }) local
+  changed_bits : (p a : Bool) → Local r s (record s { parked = p; aside_parked = a }) t (s.role t) (s.role t) → IsSite r (record s { parked = p; aside_parked = a })
+  changed_bits p a local = turn_keeps r s (record s { parked = p; aside_parked = a }) t (s.role t) (s.role t) h refl (record { here = refl; other = λ j ne. refl }) local
 
   mark_second : IsSite r (after_deed r (Mark Second) s t)
   mark_second = changed_bits s.parked true (grind (arith, h.emptied t, h.covered t, h.unwoken t, h.brought t, h.setting t))
 
   -- a bit, and what t does
-  cleared : (p a : Bool) (d2 : Doing) → Local r s (record s { parked = p; aside_parked = a; doing = putting s.doing t d2 }) t (s.doing t) d2 → IsSite r (record s { parked = p; aside_parked = a; doing = putting s.doing t d2 })
-  cleared p a d2 local = turn_keeps r s (record s { parked = p; aside_parked = a; doing = putting s.doing t d2 }) t (s.doing t) d2 h refl (put_changed s.doing t d2) local
+  cleared : (p a : Bool) (d2 : Role) → Local r s (record s { parked = p; aside_parked = a; role = putting s.role t d2 }) t (s.role t) d2 → IsSite r (record s { parked = p; aside_parked = a; role = putting s.role t d2 })
+  cleared p a d2 local = turn_keeps r s (record s { parked = p; aside_parked = a; role = putting s.role t d2 }) t (s.role t) d2 h refl (put_changed s.role t d2) local
 
   pub mark_keeps : (m : Line) → IsSite r (after_deed r (Mark m) s t)
   mark_keeps Main = changed_bits true s.aside_parked (grind (arith, h.emptied t, h.covered t, h.unwoken t, h.brought t, h.setting t))
   mark_keeps Second = mark_second
 
-  -- who has brought waiters sets the bit
+  -- a thread that has brought waiters sets the bit
   pub brought_keeps : IsSite r (after_deed r MarkBrought s t)
   brought_keeps = cleared true s.aside_parked _ (grind (arith, h.emptied t, h.covered t, h.unwoken t, h.brought t))
 

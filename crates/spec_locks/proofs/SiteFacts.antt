@@ -7,7 +7,7 @@ use Rattle.std.proofs.lemmas.List.{get_or_past, set_past}
 use Rattle.std.proofs.lemmas.List.Sums.{sum_by-set}
 use Rattle.std.proofs.lemmas.Bool.Decides.{nat_tests}
 use Rattle.spec_locks.specs.Locks.{LockState, Queued, Sort, Rules, LockCase, has_caller, IsLockState, Mutex, Normal, Recursive, Semaphore, Once, putting, Condvar}
-use Rattle.spec_locks.specs.Sites.{Site, IsSite, Case, Needed, after_deed, done, case_doing, IsOpen}
+use Rattle.spec_locks.specs.Sites.{Site, IsSite, Case, Needed, after_deed, done, case_role, IsOpen}
 use Rattle.spec_locks.specs.Locks as locks
 use Rattle.spec_locks.proofs.LockKeeps.{case_keeps}
 use Rattle.spec_locks.proofs.Turns.{Local, Changed, turn_keeps}
@@ -15,7 +15,7 @@ use Rattle.spec_locks.proofs.Turns.{Local, Changed, turn_keeps}
 pub put_changed : {A : Type 0} (f : ℕ → A) (t : ℕ) (x : A) → Changed f (putting f t x) t x
 put_changed f t x = record { here = grind (arith, nat_tests); other = λ j ne. grind (arith, nat_tests) }
 
--- whoever shares a lock does so whatever another does
+-- each thread that shares a lock does so whatever another does
 pub share_other : (xs : List ℕ) (t u n : ℕ) → u ≢ t → slice_index (slice_set xs t n) u ≡ slice_index xs u
 share_other xs t u n ne = get_or-set_other xs t u n 0 ne
 
@@ -25,7 +25,7 @@ more_share xs t = elim (cases_lt t (length xs)) [
   | inr past ↦ rw (set_past xs t (slice_index xs t + 1) past) (omega arith)
 ]
 
--- whoever is there has a share that it is given
+-- each thread that is there has a share that it is given
 pub share_own : (xs : List ℕ) (t : ℕ) → t < length xs → 1 ≤ slice_index (slice_set xs t (slice_index xs t + 1)) t
 share_own xs t there = let e : slice_index (slice_set xs t (slice_index xs t + 1)) t ≡ slice_index xs t + 1 = get_or-set_same xs t (slice_index xs t + 1) 0 there in omega arith
 
@@ -44,7 +44,7 @@ same_open Semaphore a b e f g p q free = absurd free
 same_open Condvar a b e f g p q free = absurd free
 same_open Once a b e f g p q free = (q free.0, rw (← p) free.1)
 
--- who waits to run a `Once` among those who are left waited before
+-- a thread that waits to run a `Once` among those who are left waited before
 pub callers_filter : (p : Queued → Bool) (xs : List Queued) → has_caller (filter p xs) ≡ true → has_caller xs ≡ true
 callers_filter p [] e = e
 callers_filter p (x ∷ xs) e = grind (arith, callers_filter p xs)
@@ -67,8 +67,8 @@ alone_aside r s c stands = by_aside s.aside refl
 
 module _ (r : Rules) (s : Site) (t : ℕ) (h : IsSite r s) where
   -- a case of the lock
-  pub acts : (c : LockCase) → Local r s (done r c s t (locks.after_case r c s.lock t)) t (s.doing t) (case_doing r.sort s (locks.after_case r c s.lock t) c (s.doing t)) → IsSite r (after_deed r (Case c) s t)
-  acts c local = turn_keeps r s (done r c s t (locks.after_case r c s.lock t)) t (s.doing t) _ h refl (put_changed s.doing t _) local
+  pub acts : (c : LockCase) → Local r s (done r c s t (locks.after_case r c s.lock t)) t (s.role t) (case_role r.sort s (locks.after_case r c s.lock t) c (s.role t)) → IsSite r (after_deed r (Case c) s t)
+  acts c local = turn_keeps r s (done r c s t (locks.after_case r c s.lock t)) t (s.role t) _ h refl (put_changed s.role t _) local
 
   pub state : (c : LockCase) → Needed r (Case c) s t → IsLockState r (locks.after_case r c s.lock t)
   state c n = case_keeps r c s.lock t h.state n.0

@@ -5,7 +5,7 @@ use Rattle.std.proofs.lemmas.Bool.Decides.{nat_tests}
 use Rattle.core_base.specs.declared.wants.Want.{Want}
 use Rattle.core_base.specs.declared.wants.Want.TheVariants.{Exclusive, Upgradable, Shared}
 use Rattle.spec_locks.specs.Locks.{LockState, Queued, Taken, Rules, HandOff, Owns, IsSuccessor, times, standing, is_thread, one_if_some}
-use Rattle.spec_locks.specs.Sites.{Line, Main, Second, Claim, Site, IsSite, Case, Needed, done, case_doing, IsEmpty, IsOpen, Has, Pends, Runs, Ran, Holds, counts, counts_taken}
+use Rattle.spec_locks.specs.Sites.{Line, Main, Second, Claim, Site, IsSite, Case, Needed, done, case_role, IsEmpty, IsOpen, Has, Pends, Runs, Ran, Holds, counts, counts_taken}
 use Rattle.spec_locks.specs.Locks as locks
 use Rattle.spec_locks.proofs.LockKeeps.{no_aside}
 use Rattle.spec_locks.proofs.Hands.{is_handed, shares_on, counts_more, bars, kept_few, kept_counts, kept_by}
@@ -83,7 +83,7 @@ module _ (r : Rules) (s : Site) (t : ℕ) (h : IsSite r s) where
     still_left (inl k) = λ e. k ((is_handed t x successor s.lock).queue ∙ e)
     still_left (inr k) = absurd cc
 
-    pub hands_local : Local r s (done r (HandOff x successor) s t handed_lock) t (s.doing t) (case_doing r.sort s handed_lock (HandOff x successor) (s.doing t))
+    pub hands_local : Local r s (done r (HandOff x successor) s t handed_lock) t (s.role t) (case_role r.sort s handed_lock (HandOff x successor) (s.role t))
     hands_local =
         let e = is_handed t x successor s.lock in
         let alone_now = nobody_aside x n.0.0 n.0.1 in

@@ -3,7 +3,7 @@ use Rattle.std.proofs.Common.{ℕ, Bool, true, false, Option, Some, None, if◌t
 use Rattle.std.proofs.lemmas.Bool.Decides.{nat_tests}
 use Rattle.core_base.specs.declared.wants.Want.TheVariants.{Exclusive, Upgradable, Shared}
 use Rattle.spec_locks.specs.Locks.{LockState, Pending, Sort, Rules, LockCase, Enter, Pend, Settle, Leave, Convert, Park, Aside, TakeFirst, TakeAside, TakePicked, Wake, HandOff, Late, Rollback, OfOnce, IsLockState, Knows, Mutex, Normal, Recursive, Semaphore, Once, standing, readers, OfCondvar, SeeOwner, Look, Show, Hide, Condvar}
-use Rattle.spec_locks.specs.Sites.{Line, Main, Second, Claim, Doing, Site, IsSite, Begin, End, In, Out, Mark, Clear, FindNobody, MarkOwned, MarkBrought, Bring, Send, LeaveLine, Case, Needed, after_deed, done, case_doing, IsEmpty, IsOpen, IsDebtor, late_found, gives_way, shares_less, Has, Pends, Runs, Ran, Holds, EachDeedKeeps}
+use Rattle.spec_locks.specs.Sites.{Line, Main, Second, Claim, Role, Site, IsSite, Begin, End, In, Out, Mark, Clear, FindNobody, MarkOwned, MarkBrought, Bring, Send, LeaveLine, Case, Needed, after_deed, done, case_role, IsEmpty, IsOpen, IsDebtor, late_found, gives_way, shares_less, Has, Pends, Runs, Ran, Holds, EachDeedKeeps}
 use Rattle.spec_locks.specs.Locks as locks
 use Rattle.spec_locks.proofs.LockKeeps.{no_aside, times_append}
 use Rattle.spec_locks.proofs.Hands.{without_fewer}
@@ -20,8 +20,8 @@ module _ (r : Rules) (s : Site) (t : ℕ) (h : IsSite r s) where
   -- an upgrade owns where nobody shares, and is pending where somebody does
   upgrades : (n : Needed r (Case (Convert Upgradable Exclusive)) s t) (b : Bool) → (readers s.lock == 0) ≡ b
       → IsLockState r (if b then locks.with_owner t Exclusive (locks.without_owner t Upgradable s.lock) else locks.pending_for t true (locks.without_owner t Upgradable s.lock))
-      → Local r s (done r (Convert Upgradable Exclusive) s t (if b then locks.with_owner t Exclusive (locks.without_owner t Upgradable s.lock) else locks.pending_for t true (locks.without_owner t Upgradable s.lock))) t (s.doing t)
-      (case_doing r.sort s (if b then locks.with_owner t Exclusive (locks.without_owner t Upgradable s.lock) else locks.pending_for t true (locks.without_owner t Upgradable s.lock)) (Convert Upgradable Exclusive) (s.doing t))
+      → Local r s (done r (Convert Upgradable Exclusive) s t (if b then locks.with_owner t Exclusive (locks.without_owner t Upgradable s.lock) else locks.pending_for t true (locks.without_owner t Upgradable s.lock))) t (s.role t)
+      (case_role r.sort s (if b then locks.with_owner t Exclusive (locks.without_owner t Upgradable s.lock) else locks.pending_for t true (locks.without_owner t Upgradable s.lock)) (Convert Upgradable Exclusive) (s.role t))
   upgrades n true e now = grind (arith, nat_tests, h.emptied t, h.covered t, h.unwoken t, h.brought t, h.setting t)
   upgrades n false e now = grind (arith, nat_tests, h.emptied t, h.covered t, h.unwoken t, h.brought t, h.setting t)
 
@@ -30,20 +30,20 @@ module _ (r : Rules) (s : Site) (t : ℕ) (h : IsSite r s) where
   unpended = record s.lock { pending = None }
 
   rolls : (n : Needed r (Case Rollback) s t) (p : Pending) → s.lock.pending ≡ Some p → (b : Bool) → p.falls_back ≡ b → IsLockState r (if b then locks.with_owner t Upgradable unpended else unpended)
-      → Local r s (done r Rollback s t (if b then locks.with_owner t Upgradable unpended else unpended)) t (s.doing t) (case_doing r.sort s (if b then locks.with_owner t Upgradable unpended else unpended) Rollback (s.doing t))
+      → Local r s (done r Rollback s t (if b then locks.with_owner t Upgradable unpended else unpended)) t (s.role t) (case_role r.sort s (if b then locks.with_owner t Upgradable unpended else unpended) Rollback (s.role t))
   rolls n p e true f now = grind (arith, nat_tests, h.emptied t, h.covered t, h.unwoken t, h.brought t, h.setting t)
   rolls n p e false f now = grind (arith, nat_tests, h.emptied t, h.covered t, h.unwoken t, h.brought t, h.setting t)
 
   rolls_by : (n : Needed r (Case Rollback) s t) (p : Option Pending) → s.lock.pending ≡ p → IsLockState r (locks.falling_back t p unpended)
-      → Local r s (done r Rollback s t (locks.falling_back t p unpended)) t (s.doing t) (case_doing r.sort s (locks.falling_back t p unpended) Rollback (s.doing t))
+      → Local r s (done r Rollback s t (locks.falling_back t p unpended)) t (s.role t) (case_role r.sort s (locks.falling_back t p unpended) Rollback (s.role t))
   rolls_by n None e now = absurd (rw e at n.0.0)
   rolls_by n (Some p) e now = rolls n p e p.falls_back refl now
 
   -- one more shares
-  shares_debt : (d : Doing) → Knows r.sort Shared → (d.retries ≡ None) ⊎ (d.retries ≡ Some Shared) → IsOpen r.sort (locks.with_owner t Shared s.lock) → IsDebtor r.sort d → IsDebtor r.sort (record d { retries = None; claims = None })
+  shares_debt : (d : Role) → Knows r.sort Shared → (d.retries ≡ None) ⊎ (d.retries ≡ Some Shared) → IsOpen r.sort (locks.with_owner t Shared s.lock) → IsDebtor r.sort d → IsDebtor r.sort (record d { retries = None; claims = None })
   shares_debt d knows wanted free debt = grind arith
 
-  shares_local : (n : Needed r (Case (Enter Shared)) s t) → Local r s (done r (Enter Shared) s t (locks.with_owner t Shared s.lock)) t (s.doing t) (record (s.doing t) { retries = None; claims = None })
+  shares_local : (n : Needed r (Case (Enter Shared)) s t) → Local r s (done r (Enter Shared) s t (locks.with_owner t Shared s.lock)) t (s.role t) (record (s.role t) { retries = None; claims = None })
   shares_local n = record {
     state = state r s t h (Enter Shared) n;
     parked = λ e. grind arith;
@@ -63,13 +63,13 @@ module _ (r : Rules) (s : Site) (t : ℕ) (h : IsSite r s) where
     others_stand = λ u ne e. inl e;
     others_carry = λ x u ne e. e;
     taken_by = λ x a e. grind (arith, h.carried x);
-    main = λ e free room. inr (inl (e, same_open r.sort _ s.lock refl refl refl refl (λ k. k) free, shares_debt (s.doing t) n.0.0.0 n.1 free));
-    main_brought = λ e apart free room. inr (same_open r.sort _ s.lock refl refl refl refl (λ k. k) free, shares_debt (s.doing t) n.0.0.0 n.1 free);
+    main = λ e free room. inr (inl (e, same_open r.sort _ s.lock refl refl refl refl (λ k. k) free, shares_debt (s.role t) n.0.0.0 n.1 free));
+    main_brought = λ e apart free room. inr (same_open r.sort _ s.lock refl refl refl refl (λ k. k) free, shares_debt (s.role t) n.0.0.0 n.1 free);
     second = λ e none. grind (arith, more_share s.lock.shared t);
   }
 
   -- one shares less
-  shares_less_local : (n : Needed r (Case (Leave Shared)) s t) (sort : Sort) → r.sort ≡ sort → Local r s (done r (Leave Shared) s t (locks.without_owner t Shared s.lock)) t (s.doing t) (shares_less sort s (s.doing t))
+  shares_less_local : (n : Needed r (Case (Leave Shared)) s t) (sort : Sort) → r.sort ≡ sort → Local r s (done r (Leave Shared) s t (locks.without_owner t Shared s.lock)) t (s.role t) (shares_less sort s (s.role t))
   shares_less_local n Mutex e = grind (arith, state r s t h (Leave Shared) n, h.emptied t, h.covered t, h.unwoken t, h.brought t, h.setting t, share_other, fewer_share s.lock.shared t, alone_aside r s.lock h.state)
   shares_less_local n Normal e = grind (arith, state r s t h (Leave Shared) n, h.emptied t, h.covered t, h.unwoken t, h.brought t, h.setting t, share_other, fewer_share s.lock.shared t, alone_aside r s.lock h.state)
   shares_less_local n Recursive e = grind (arith, state r s t h (Leave Shared) n, h.emptied t, h.covered t, h.unwoken t, h.brought t, h.setting t, share_other, fewer_share s.lock.shared t, alone_aside r s.lock h.state)
@@ -77,18 +77,18 @@ module _ (r : Rules) (s : Site) (t : ℕ) (h : IsSite r s) where
   shares_less_local n Condvar e = absurd (let none = h.state.unshared (λ k. let g : Knows Condvar Shared = rw e at k in g) in let some = fewer_share s.lock.shared t n.0 in omega arith)
   shares_less_local n Semaphore e = grind (arith, state r s t h (Leave Shared) n, h.emptied t, h.covered t, h.unwoken t, h.brought t, h.setting t, share_other, fewer_share s.lock.shared t, no_aside r s.lock h.state (h.state.unpending (λ k. let g : Knows Semaphore Upgradable = rw e at k in g)).0)
 
-  -- who is to set the bit, and has seen no waiters, has taken some
-  covers_still : (s.doing t).wakes ≢ Some Main → (s.doing t).sets ≡ true → (s.doing t).covers ≡ true
+  -- a thread that is to set the bit, and has seen no waiters, has taken some
+  covers_still : (s.role t).wakes ≢ Some Main → (s.role t).sets ≡ true → (s.role t).covers ≡ true
   covers_still none e = elim (h.setting t e) [
     | inl covers ↦ covers
     | inr wakes ↦ absurd (none wakes.1)
   ]
 
-  -- who gives way sees the bit, or has the next in hand
-  way_debt : (claims : Option Claim) → (s.doing t).wakes ≡ None → (s.lock.queue ≢ []) ⊎ ((s.doing t).brings ≡ true) → IsDebtor r.sort (gives_way s (s.doing t) claims) ⊎ ((s.lock.queue ≢ []) × (s.parked ≡ false) × ((s.doing t).sets ≡ false))
+  -- a thread that gives way sees the bit, or has the next in hand
+  way_debt : (claims : Option Claim) → (s.role t).wakes ≡ None → (s.lock.queue ≢ []) ⊎ ((s.role t).brings ≡ true) → IsDebtor r.sort (gives_way s (s.role t) claims) ⊎ ((s.lock.queue ≢ []) × (s.parked ≡ false) × ((s.role t).sets ≡ false))
   way_debt claims none one = grind (arith, h.brought t, h.setting t)
 
-  shared_local : (n : Needed r (Case (Convert Exclusive Shared)) s t) → Local r s (done r (Convert Exclusive Shared) s t (locks.with_owner t Shared (locks.without_owner t Exclusive s.lock))) t (s.doing t) (gives_way s (s.doing t) (Some (Has Shared)))
+  shared_local : (n : Needed r (Case (Convert Exclusive Shared)) s t) → Local r s (done r (Convert Exclusive Shared) s t (locks.with_owner t Shared (locks.without_owner t Exclusive s.lock))) t (s.role t) (gives_way s (s.role t) (Some (Has Shared)))
   shared_local n = record {
     state = state r s t h (Convert Exclusive Shared) n;
     parked = λ e. grind arith;
@@ -123,7 +123,7 @@ module _ (r : Rules) (s : Site) (t : ℕ) (h : IsSite r s) where
   barred_aside u e Condvar f free = free
 
   aside_local : (u : ℕ) (n : Needed r (Case (TakeAside u)) s t)
-      → Local r s (done r (TakeAside u) s t (locks.after_case r (TakeAside u) s.lock t)) t (s.doing t) (record (s.doing t) { wakes = None; carries = true; empty = Some Second })
+      → Local r s (done r (TakeAside u) s t (locks.after_case r (TakeAside u) s.lock t)) t (s.role t) (record (s.role t) { wakes = None; carries = true; empty = Some Second })
   aside_local u n = record {
     state = state r s t h (TakeAside u) n;
     parked = λ e. grind arith;
@@ -148,17 +148,17 @@ module _ (r : Rules) (s : Site) (t : ℕ) (h : IsSite r s) where
     second = λ e none. absurd (e refl);
   }
 
-  -- who gives up leaves its line, from inside
+  -- a thread that gives up leaves its line, from inside
   abbrev late_lock : LockState
   late_lock = locks.after_case r Late s.lock t
 
   late_stood : (u : ℕ) → 1 ≤ standing u late_lock → 1 ≤ standing u s.lock
   late_stood u e = let a = without_fewer u t s.lock.queue in grind (arith, nat_tests)
 
-  late_found_so : (m : Line) → late_found late_lock (s.doing t).inside ≡ Some m → ((s.doing t).inside ≡ Some m) × IsEmpty late_lock m
+  late_found_so : (m : Line) → late_found late_lock (s.role t).inside ≡ Some m → ((s.role t).inside ≡ Some m) × IsEmpty late_lock m
   late_found_so m e = grind arith
 
-  late_local : (n : Needed r (Case Late) s t) → Local r s (done r Late s t late_lock) t (s.doing t) (record (s.doing t) { empty = late_found late_lock (s.doing t).inside })
+  late_local : (n : Needed r (Case Late) s t) → Local r s (done r Late s t late_lock) t (s.role t) (record (s.role t) { empty = late_found late_lock (s.role t).inside })
   late_local n = record {
     state = state r s t h Late n;
     parked = λ e. late_bit (λ k. e (rw k refl));
@@ -180,14 +180,14 @@ module _ (r : Rules) (s : Site) (t : ℕ) (h : IsSite r s) where
     taken_by = λ x a e. grind (arith, h.carried x a);
     main = λ e free room. inr (inl (late_awaited e, same_open r.sort _ s.lock refl refl refl refl (callers_filter _ s.lock.queue) free, λ debt. debt));
     main_brought = λ e apart free room. inr (same_open r.sort _ s.lock refl refl refl refl (callers_filter _ s.lock.queue) free, λ debt. debt);
-    second = λ e none. late_second (s.doing t).wakes (λ k. e (rw k refl)) none;
+    second = λ e none. late_second (s.role t).wakes (λ k. e (rw k refl)) none;
   }
     where
       late_fills : (m : Line) → IsEmpty s.lock m → IsEmpty late_lock m
       late_fills Main e = rw e refl
       late_fills Second e = rw e refl
 
-      late_awaited : (late_lock.queue ≢ []) ⊎ ((s.doing t).brings ≡ true) → (s.lock.queue ≢ []) ⊎ ((s.doing t).brings ≡ true)
+      late_awaited : (late_lock.queue ≢ []) ⊎ ((s.role t).brings ≡ true) → (s.lock.queue ≢ []) ⊎ ((s.role t).brings ≡ true)
       late_awaited (inl k) = inl (λ e. k (rw e refl))
       late_awaited (inr k) = inr k
 
@@ -196,10 +196,10 @@ module _ (r : Rules) (s : Site) (t : ℕ) (h : IsSite r s) where
       late_second (Some Main) e none = inr (e, none, λ k. cc)
       late_second (Some Second) e none = inl refl
 
-      late_bit : s.lock.queue ≢ [] → (s.parked ≡ true) ⊎ (((s.doing t).sets ≡ true) ⊎ ((s.lock.queue ≢ []) × (s.parked ≡ false) × ((s.doing t).sets ≡ false)))
+      late_bit : s.lock.queue ≢ [] → (s.parked ≡ true) ⊎ (((s.role t).sets ≡ true) ⊎ ((s.lock.queue ≢ []) × (s.parked ≡ false) × ((s.role t).sets ≡ false)))
       late_bit left = grind arith
 
-  -- what is shown is no matter of owners, waiters or hands
+  -- the mutex that is shown is no matter of owners, waiters or hands
   still_holds : (m : Option ℕ) (u : ℕ) (c : Claim) → Holds s.lock u c → Holds (record s.lock { shown = m }) u c
   still_holds m u (Has Exclusive) e = e
   still_holds m u (Has Upgradable) e = e

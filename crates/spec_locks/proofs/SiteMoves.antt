@@ -41,7 +41,7 @@ module _ (r : Rules) (s : Site) (t : ℕ) (h : IsSite r s) where
       known_taken = λ u a e. rw n.0 (known_taking Mutex t gone s.lock.taken known.0 (λ x b f. rw n.0 at (h.state.known_taken x b f)) u a e);
     }
 
-    -- who was in a hand isn't among those who come
+    -- a thread that was in a hand isn't among those who come
     hands_kept : (x u : ℕ) → u ≢ t → counts_taken r.sort u (s.lock.taken x) ≡ true → counts_taken r.sort u (taking t gone s.lock.taken x) ≡ true
     hands_kept x u ne c = by_hand (s.lock.taken x) refl
       where
@@ -64,19 +64,19 @@ module _ (r : Rules) (s : Site) (t : ℕ) (h : IsSite r s) where
         let gone_once : times x.thread xs ≡ 0 = (let l = a.0 in omega arith) in
         (x.thread, rw (n.0, taking_others t x.thread xs (putting s.lock.taken x.thread (Some (record { by = t; want = x.want }))) gone_once) (grind (arith, nat_tests)))
 
-    not_covers : (s.doing t).covers ≡ true → ⊥
+    not_covers : (s.role t).covers ≡ true → ⊥
     not_covers c = let g = (h.covered t c).1 in let f = n.2 in cc
 
-    not_sets : (s.doing t).sets ≡ true → ⊥
+    not_sets : (s.role t).sets ≡ true → ⊥
     not_sets k = elim (h.setting t k) [
       | inl covers ↦ not_covers covers
       | inr wakes ↦ let mutex = n.0 in let once = wakes.0 in cc
     ]
 
-    still_bit_there : s.lock.queue ≢ [] → (s.parked ≡ true) ⊎ (((bringing gone moved (s.doing t)).sets ≡ true) ⊎ ((s.lock.queue ≢ []) × (s.parked ≡ false) × ((s.doing t).sets ≡ false)))
+    still_bit_there : s.lock.queue ≢ [] → (s.parked ≡ true) ⊎ (((bringing gone moved (s.role t)).sets ≡ true) ⊎ ((s.lock.queue ≢ []) × (s.parked ≡ false) × ((s.role t).sets ≡ false)))
     still_bit_there left = grind (arith, not_sets)
 
-    brings_local : Local r s (after_deed r (Bring gone moved) s t) t (s.doing t) (bringing gone moved (s.doing t))
+    brings_local : Local r s (after_deed r (Bring gone moved) s t) t (s.role t) (bringing gone moved (s.role t))
     brings_local = record {
       state = brings_state;
       parked = λ e. bit_by gone refl moved refl e;
@@ -101,25 +101,25 @@ module _ (r : Rules) (s : Site) (t : ℕ) (h : IsSite r s) where
       second = λ e none. grind arith;
     }
       where
-        fills_by : (m : Line) → IsEmpty s.lock m → IsEmpty brings_now m ⊎ ((s.doing t).inside ≡ Some m)
+        fills_by : (m : Line) → IsEmpty s.lock m → IsEmpty brings_now m ⊎ ((s.role t).inside ≡ Some m)
         fills_by Main e = inr n.1
         fills_by Second e = inl e
 
-        bit_by : (xs : List Queued) → xs ≡ gone → (ys : List Queued) → ys ≡ moved → s.lock.queue ++ moved ≢ [] → (s.parked ≡ true) ⊎ (((bringing gone moved (s.doing t)).sets ≡ true) ⊎ ((s.lock.queue ≢ []) × (s.parked ≡ false) × ((s.doing t).sets ≡ false)))
+        bit_by : (xs : List Queued) → xs ≡ gone → (ys : List Queued) → ys ≡ moved → s.lock.queue ++ moved ≢ [] → (s.parked ≡ true) ⊎ (((bringing gone moved (s.role t)).sets ≡ true) ⊎ ((s.lock.queue ≢ []) × (s.parked ≡ false) × ((s.role t).sets ≡ false)))
         bit_by [] e ys f left = inl (h.brought t (n.7 (sym e))).1
         bit_by (x ∷ xs) e [] f left = still_bit_there (λ k. left (rw (k, ← f) refl))
         bit_by (x ∷ xs) e (y ∷ ys) f left = inr (inl (rw (← e, ← f) refl))
 
-        debt_by : IsOpen r.sort s.lock → (xs : List Queued) → xs ≡ gone → IsDebtor r.sort (bringing gone moved (s.doing t)) ⊎ ((((s.lock.queue ≢ []) ⊎ ((s.doing t).brings ≡ true)) × IsOpen r.sort s.lock × (IsDebtor r.sort (s.doing t) → IsDebtor r.sort (bringing gone moved (s.doing t)))) ⊎ ((s.lock.queue ≢ []) × (s.parked ≡ false) × ((s.doing t).sets ≡ false)))
+        debt_by : IsOpen r.sort s.lock → (xs : List Queued) → xs ≡ gone → IsDebtor r.sort (bringing gone moved (s.role t)) ⊎ ((((s.lock.queue ≢ []) ⊎ ((s.role t).brings ≡ true)) × IsOpen r.sort s.lock × (IsDebtor r.sort (s.role t) → IsDebtor r.sort (bringing gone moved (s.role t)))) ⊎ ((s.lock.queue ≢ []) × (s.parked ≡ false) × ((s.role t).sets ≡ false)))
         debt_by free [] e = inr (inl (inr (n.7 (sym e)), free, λ debt. absurd (grind (arith, not_covers))))
         debt_by free (x ∷ xs) e = inl (inr (inl (rw (← e) refl)))
 
     pub bring_keeps : IsSite r (after_deed r (Bring gone moved) s t)
-    bring_keeps = turn_keeps r s (after_deed r (Bring gone moved) s t) t (s.doing t) _ h refl (put_changed s.doing t _) brings_local
+    bring_keeps = turn_keeps r s (after_deed r (Bring gone moved) s t) t (s.role t) _ h refl (put_changed s.role t _) brings_local
 
   -- those whom a notification moves leave the condition variable, where no way is barred
   pub send_keeps : (all : Bool) → Needed r (Send all) s t → IsSite r (after_deed r (Send all) s t)
-  send_keeps all n = turn_keeps r s (after_deed r (Send all) s t) t (s.doing t) (s.doing t) h refl (record { here = refl; other = λ j ne. refl }) (record {
+  send_keeps all n = turn_keeps r s (after_deed r (Send all) s t) t (s.role t) (s.role t) h refl (record { here = refl; other = λ j ne. refl }) (record {
     state = left_keeps r all s.lock h.state;
     parked = λ e. still_parked (λ none. e (still_empty Main none));
     bit_stays = λ e. inl e;
@@ -147,7 +147,7 @@ module _ (r : Rules) (s : Site) (t : ℕ) (h : IsSite r s) where
       still_empty Main e = left_none all s.lock.queue e
       still_empty Second e = e
 
-      still_parked : s.lock.queue ≢ [] → (s.parked ≡ true) ⊎ (((s.doing t).sets ≡ true) ⊎ ((s.lock.queue ≢ []) × (s.parked ≡ false) × ((s.doing t).sets ≡ false)))
+      still_parked : s.lock.queue ≢ [] → (s.parked ≡ true) ⊎ (((s.role t).sets ≡ true) ⊎ ((s.lock.queue ≢ []) × (s.parked ≡ false) × ((s.role t).sets ≡ false)))
       still_parked some = grind arith
 
       stood : (u : ℕ) → 1 ≤ standing u (left_behind all s.lock) → 1 ≤ standing u s.lock
@@ -167,7 +167,7 @@ module _ (r : Rules) (s : Site) (t : ℕ) (h : IsSite r s) where
 
   -- and who leaves it because its time is up
   pub leave_keeps : Needed r LeaveLine s t → IsSite r (after_deed r LeaveLine s t)
-  leave_keeps n = turn_keeps r s (after_deed r LeaveLine s t) t (s.doing t) (s.doing t) h refl (record { here = refl; other = λ j ne. refl }) (record {
+  leave_keeps n = turn_keeps r s (after_deed r LeaveLine s t) t (s.role t) (s.role t) h refl (record { here = refl; other = λ j ne. refl }) (record {
     state = case_keeps r Late s.lock t h.state n.1;
     parked = λ e. still_parked (λ none. e (still_empty Main none));
     bit_stays = λ e. inl e;
@@ -188,14 +188,14 @@ module _ (r : Rules) (s : Site) (t : ℕ) (h : IsSite r s) where
     taken_by = λ x a e. grind (arith, h.carried x);
     main = λ e free room. absurd (let none : IsOpen Condvar late_lock = rw n.0 at free in none);
     main_brought = λ e apart free room. absurd (let none : IsOpen Condvar late_lock = rw n.0 at free in none);
-    second = λ e none. still_second (s.doing t).wakes (λ k. e (rw k refl)) none;
+    second = λ e none. still_second (s.role t).wakes (λ k. e (rw k refl)) none;
   })
     where
       still_empty : (m : Line) → IsEmpty s.lock m → IsEmpty late_lock m
       still_empty Main e = rw e refl
       still_empty Second e = rw e refl
 
-      still_parked : s.lock.queue ≢ [] → (s.parked ≡ true) ⊎ (((s.doing t).sets ≡ true) ⊎ ((s.lock.queue ≢ []) × (s.parked ≡ false) × ((s.doing t).sets ≡ false)))
+      still_parked : s.lock.queue ≢ [] → (s.parked ≡ true) ⊎ (((s.role t).sets ≡ true) ⊎ ((s.lock.queue ≢ []) × (s.parked ≡ false) × ((s.role t).sets ≡ false)))
       still_parked some = grind arith
 
       stood : (u : ℕ) → 1 ≤ standing u late_lock → 1 ≤ standing u s.lock

@@ -12,13 +12,14 @@ use Rattle.spec_locks.proofs.Turns.{Local}
 use Rattle.spec_locks.proofs.SiteFacts.{callers_append, callers_stand, acts, state}
 
 module _ (r : Rules) (s : Site) (t : ℕ) (h : IsSite r s) where
-  -- what a thread does to a `Once`: nobody has a right to it, and nobody brings waiters to it
+  -- the deed of a thread at a `Once`: nobody has a right to it, and nobody brings waiters to it
   all_taken : (u : ℕ) → standing u (once_after TakeAll s.lock t) ≤ standing u s.lock
   all_taken u = let a = times_taking u t s.lock.queue s.lock.taken in omega arith
 
-  -- who comes to wait stands behind the last: while nobody runs it, another waited to run it already
+  -- a thread that comes to wait stands behind the last: while nobody runs it, another waited to run it
+  -- already
   rests_local : (wanted : Want) (forced : Bool) (n : Needed r (Case (OfOnce (Rest wanted forced))) s t)
-      → Local r s (done r (OfOnce (Rest wanted forced)) s t (once_after (Rest wanted forced) s.lock t)) t (s.doing t) (record (s.doing t) { retries = None; empty = None })
+      → Local r s (done r (OfOnce (Rest wanted forced)) s t (once_after (Rest wanted forced) s.lock t)) t (s.role t) (record (s.role t) { retries = None; empty = None })
   rests_local wanted forced n = record {
     state = state r s t h (OfOnce (Rest wanted forced)) n;
     parked = λ e. inl n.1.1;
@@ -43,12 +44,12 @@ module _ (r : Rules) (s : Site) (t : ℕ) (h : IsSite r s) where
     second = λ e none. grind arith;
   }
     where
-      inr_main : (m : Line) → IsEmpty s.lock m → IsEmpty (once_after (Rest wanted forced) s.lock t) m ⊎ ((s.doing t).inside ≡ Some m)
+      inr_main : (m : Line) → IsEmpty s.lock m → IsEmpty (once_after (Rest wanted forced) s.lock t) m ⊎ ((s.role t).inside ≡ Some m)
       inr_main Main e = inr n.1.0
       inr_main Second e = inl e
 
-  -- who takes all leaves nobody
-  takes_all_local : (n : Needed r (Case (OfOnce TakeAll)) s t) → Local r s (done r (OfOnce TakeAll) s t (once_after TakeAll s.lock t)) t (s.doing t) (record (s.doing t) { wakes = None; sets = false; carries = true })
+  -- a thread that takes all leaves nobody
+  takes_all_local : (n : Needed r (Case (OfOnce TakeAll)) s t) → Local r s (done r (OfOnce TakeAll) s t (once_after TakeAll s.lock t)) t (s.role t) (record (s.role t) { wakes = None; sets = false; carries = true })
   takes_all_local n = record {
     state = state r s t h (OfOnce TakeAll) n;
     parked = λ e. absurd (e refl);
@@ -77,7 +78,7 @@ module _ (r : Rules) (s : Site) (t : ℕ) (h : IsSite r s) where
       none_left Main e = refl
       none_left Second e = e
 
-      fills_main : (m : Line) → IsEmpty s.lock m → IsEmpty (once_after TakeAll s.lock t) m ⊎ ((s.doing t).inside ≡ Some m)
+      fills_main : (m : Line) → IsEmpty s.lock m → IsEmpty (once_after TakeAll s.lock t) m ⊎ ((s.role t).inside ≡ Some m)
       fills_main m e = inl (none_left m e)
 
       free_call : IsOpen r.sort (once_after TakeAll s.lock t) → false ≡ true

@@ -14,7 +14,7 @@ use Rattle.spec_locks.proofs.SiteFacts.{put_changed, state}
 
 module _ (r : Rules) (s : Site) (t : ℕ) (h : IsSite r s) where
   -- t takes some of the main line
-  module _ (gone left : List Queued) (covers : Bool) (lock : r.sort ≢ Once) (n : (s.doing t).inside ≡ Some Main) (free : (s.doing t).carries ≡ false) (elsewhere : (s.doing t).wakes ≢ Some Second) (nobody : HasTakenNobody s.lock t)
+  module _ (gone left : List Queued) (covers : Bool) (lock : r.sort ≢ Once) (n : (s.role t).inside ≡ Some Main) (free : (s.role t).carries ≡ false) (elsewhere : (s.role t).wakes ≢ Some Second) (nobody : HasTakenNobody s.lock t)
       (state_now : IsLockState r (record s.lock { queue = left; taken = taking t gone s.lock.taken })) (part : (u : ℕ) → times u gone + times u left ≡ times u s.lock.queue) (none : s.lock.queue ≡ [] → left ≡ [])
       (barred : covers ≡ false → IsOpen r.sort s.lock → ⊥) (passes : covers ≡ true → left ≢ [] → (u : ℕ) × (counts_taken r.sort t (taking t gone s.lock.taken u) ≡ true)) where
     abbrev now : LockState
@@ -33,19 +33,19 @@ module _ (r : Rules) (s : Site) (t : ℕ) (h : IsSite r s) where
     stood : (u : ℕ) → 1 ≤ standing u now → 1 ≤ standing u s.lock
     stood u e = let a = times_taking u t gone s.lock.taken in let b = part u in omega arith
 
-    not_set : (s.doing t).sets ≡ true → ⊥
+    not_set : (s.role t).sets ≡ true → ⊥
     not_set k = elim (h.setting t k) [
       | inl covers ↦ let g = (h.covered t covers).1 in let f = free in cc
       | inr once ↦ lock once.0
     ]
 
-    still_bit : s.lock.queue ≢ [] → (s.parked ≡ true) ⊎ (((s.doing t).sets ≡ true) ⊎ ((s.lock.queue ≢ []) × (s.parked ≡ false) × ((s.doing t).sets ≡ false)))
+    still_bit : s.lock.queue ≢ [] → (s.parked ≡ true) ⊎ (((s.role t).sets ≡ true) ⊎ ((s.lock.queue ≢ []) × (s.parked ≡ false) × ((s.role t).sets ≡ false)))
     still_bit left = grind (arith, not_set)
 
     abbrev took : Site
-    took = record s { lock = now; filled = s.filled || is_full r now; doing = putting s.doing t (taking_main covers now (s.doing t)) }
+    took = record s { lock = now; filled = s.filled || is_full r now; role = putting s.role t (taking_main covers now (s.role t)) }
 
-    take_local : Local r s took t (s.doing t) (taking_main covers now (s.doing t))
+    take_local : Local r s took t (s.role t) (taking_main covers now (s.role t))
     take_local = record {
       state = state_now;
       parked = λ e. still_bit (λ k. e (none k));
@@ -71,7 +71,7 @@ module _ (r : Rules) (s : Site) (t : ℕ) (h : IsSite r s) where
     }
 
     take_keeps : IsSite r took
-    take_keeps = turn_keeps r s took t (s.doing t) _ h refl (put_changed s.doing t _) take_local
+    take_keeps = turn_keeps r s took t (s.role t) _ h refl (put_changed s.role t _) take_local
 
   once : (u : ℕ) → times u s.lock.queue ≤ 1
   once u = let a = h.state.once u in omega arith

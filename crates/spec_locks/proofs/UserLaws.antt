@@ -124,7 +124,7 @@ among_filter t p (x ∷ xs) = grind (arith, among_filter t p xs)
 among_take_drop : (t n : ℕ) (xs : List Queued) → among t (take n xs) + among t (drop n xs) ≡ among t xs
 among_take_drop t n xs = sym (among_append t (take n xs) (drop n xs)) ∙ ap (among t) (take-append-drop n xs)
 
--- who is left of a picking was there before
+-- a waiter left of a picking was there before
 among_unpicked : (t : ℕ) (r : Rules) (start : Option Want) (q : List Queued) → among t (locks.unpicked r.sort start q) ≤ among t q
 among_unpicked t r start q =
     let n = locks.stop_of r.sort start q in
@@ -166,7 +166,7 @@ rereaders_pass w v s o all step t l recursive shares = reread w t s.thread l all
 
 -- ---------------------------------------------------------------- conversions
 
--- what a thread's own conversion is made of
+-- tells what a thread's own conversion is made of
 made_of : (w : LocksState) (t l : ℕ) (case : LockCase) (x y : Want) (how : Patience) (o : Option Purpose) → MayDo w t l case o → o ≡ Some (Converts l x y how) → ConvertsBy x y how (w.calls t).gave_up case
 made_of w t l case x y how None may e = absurd may
 made_of w t l case x y how (Some p) may e = grind arith
@@ -221,7 +221,7 @@ owns_by_rights s s2 t Shared same own = let e : slice_index s2.shared t ≡ slic
 owns_by_rights s s2 t z same own = absurd own
 
 module _ (r : Rules) (s : LockState) (t u : ℕ) (c : IsLockState r s) (other : t ≢ u) where
-  -- what one thread hands over leaves each other owner what it has
+  -- a hand-over of one thread leaves each other owner what it has
   beside_hand_over : (x : Want) (y : Option Queued) → Needs r (HandOff x y) s u → (z : Want) → Owns s t z → Owns (after_case r (HandOff x y) s u) t z
   beside_hand_over Exclusive y n Exclusive own = absurd (grind arith)
   beside_hand_over Exclusive y n Upgradable own = absurd (grind (arith, c.exclusive_alone u))

@@ -45,7 +45,7 @@ code_of sort limit s = word_by sort limit s.lock s.aside_parked s.parked
 abbrev pub code : Rules → Site → ℕ
 code r s = code_of r.sort r.limit s
 
--- what a thread reads
+-- a thread reads these
 abbrev pub count_in : ℕ → ℕ
 count_in v = v / 16
 
@@ -101,8 +101,8 @@ abbrev pub is_blocked : Bool → Want → ℕ → Bool
 is_blocked recursive Shared v = has_writer v && (not recursive || (count_in v == 0))
 is_blocked recursive x v = has_writer v || has_upgradable v
 
--- what a thread finds inside its section that stands in the main line, and in the second: its way
--- is barred, readers are left
+-- findings of a thread inside its section that stands in the main line, and in the second: its way is barred,
+-- readers are left
 abbrev pub bars : Bool → Want → ℕ → Bool
 bars recursive x v = has_parked v && is_blocked recursive x v
 
@@ -115,7 +115,7 @@ leaves_unfinished forced v = is_marked v && (not (is_done v) && (forced || not (
 
 -- ---------------------------------------------------------------- the laws
 
--- what a reader-writer word says is so
+-- a reader-writer word says the truth
 pub record TellsTrue (r : Rules) (s : Site) : Type 0 where
   pub count : count_in (code r s) ≡ count s.lock
   pub parked : has_parked (code r s) ≡ s.parked
@@ -126,7 +126,7 @@ pub record TellsTrue (r : Rules) (s : Site) : Type 0 where
       → IsFree r s.lock x
   pub nobody : code r s ≡ 0 → NoWriter s.lock × (readers s.lock ≡ 0)
 
--- what a case adds to the word, and what it subtracts
+-- a case adds this to the word, and subtracts that
 abbrev pub gained : LockCase → ℕ
 gained (Enter Shared) = 16
 gained (Enter Upgradable) = 20

@@ -105,7 +105,7 @@ at c t stage = record c { inside = Some (record { thread = t; stage = stage }) }
 abbrev pub clears_if : List Queued → Stage
 clears_if left = if is_empty left then Clears else Rests
 
--- what was shown is to be taken
+-- the mutex that was shown is to be taken
 abbrev pub hidden : Option ℕ → Stage
 hidden None = Rests
 hidden (Some m) = Takes m
@@ -131,7 +131,7 @@ condvar_leads LeaveList c t =
     at (record c { waiters = without t c.waiters }) t (clears_if (without t c.waiters))
 condvar_leads Clear c t = at (record c { shown = None }) t Rests
 
--- who may leave: it has nothing left to do
+-- a thread may leave that has nothing left to do
 abbrev pub MayGo : Stage → Type 0
 MayGo Rests = Unit {0}
 MayGo (Refuses m) = Unit {0}
@@ -179,7 +179,7 @@ moved_of all q = if all then q else take 1 q
 abbrev pub in_line : Queued → Queued
 in_line x = record { thread = x.thread; want = Exclusive }
 
--- of a mutex that was locked none is taken, else the first
+-- no waiter is taken of a mutex that was locked, else the first
 abbrev pub taken_of : Bool → List Queued → List Queued
 taken_of locked moved = if locked then [] else take 1 (map in_line moved)
 
@@ -190,11 +190,11 @@ line_of locked moved = if locked then map in_line moved else drop 1 (map in_line
 abbrev pub moving : Bool → ℕ → Stage
 moving all m = if all then Takes m else Sees m
 
--- who waits stands nowhere at its mutex, and doesn't try it again
+-- a waiter stands nowhere at its mutex, and doesn't try it again
 abbrev pub WaitsAside : CondvarSite → Site → ℕ → Type 0
 WaitsAside c s m =
     (u : ℕ) → 1 ≤ times u c.waiters → c.waits_with u ≡ Some m
-    → (standing u s.lock ≡ 0) × ((s.doing u).retries ≡ None)
+    → (standing u s.lock ≡ 0) × ((s.role u).retries ≡ None)
 
 -- a notification moves somebody, each waits with the mutex that is shown, and that mutex may be
 -- brought them
@@ -210,6 +210,6 @@ EachMoveFits =
     (r : Rules) (all locked : Bool) (c : CondvarSite) (s : Site) (t m : ℕ) → r.sort ≡ Mutex
     → IsCondvar c
     → WaitsAside c s m → IsInsideAt c t (moving all m)
-    → (s.doing t).inside ≡ Some Main → (s.doing t).carries ≡ false → (s.doing t).wakes ≡ None
-    → (s.doing t).retries ≡ None → (locked ≡ true → (s.doing t).brings ≡ true)
+    → (s.role t).inside ≡ Some Main → (s.role t).carries ≡ false → (s.role t).wakes ≡ None
+    → (s.role t).retries ≡ None → (locked ≡ true → (s.role t).brings ≡ true)
     → MoveFits r all locked c s t m

@@ -50,7 +50,7 @@ event_by l (Some case) = AtLock l case
 abbrev pub event_of : ℕ → Option Bool → List Deed → Event
 event_of l hand ds = event_by l (case_of hand ds)
 
--- what an event of one lock needs of it, and where it leads it
+-- an event of one lock: its condition, and where it leads the lock
 abbrev pub EventNeeds : Rules → Event → LockState → ℕ → Type 0
 EventNeeds r Nothing s t = Unit {0}
 EventNeeds r (AtLock l case) s t = Needs r case s t

@@ -12,7 +12,7 @@ use Rattle.spec_locks.specs.declared.outcomes.Outcome.{Outcome}
 use Rattle.spec_locks.specs.Locks.{Sort, Semaphore, LockState, Rules, Taken, Owns, IsSomePending, readers, standing, times}
 use Rattle.spec_locks.specs.Purposes.{Purpose, Enters, Releases, Converts, Bumps, CallsOnce, Awaits, Waits, Notifies, Recall, Blank, Saw, SawOwner, HasMoved, WasMoved, WasNotified, MayWait}
 use Rattle.spec_locks.specs.Sites.{Line, Main, Second, IsOpen, counts_some, has_readers, is_full}
-use Rattle.spec_locks.specs.Runs.{LocksState, Stance, rules_at, IsOpening, IsStep}
+use Rattle.spec_locks.specs.Runs.{LocksState, Status, rules_at, IsOpening, IsStep}
 
 abbrev pub sort_in : LocksState → ℕ → Sort
 sort_in w l = (rules_at w l).sort
@@ -100,7 +100,7 @@ pub record IsHandedOver (w : LocksState) (t : ℕ) : Type 0 where
   pub inside : w.inside (key_of lock Main) ≡ Some by
 
 -- it is awake, runs no closure, and enters no section next: no other thread keeps it from going on
-abbrev pub GoesFreely : Stance → Type 0
+abbrev pub GoesFreely : Status → Type 0
 GoesFreely stance =
     (stance.asleep ≡ false) × (stance.in_closure ≡ false) × (stance.enters ≡ None)
 

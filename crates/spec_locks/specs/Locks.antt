@@ -100,7 +100,7 @@ abbrev pub times : ℕ → List Queued → ℕ
 times t [] = 0
 times t (x ∷ xs) = (if x.thread == t then 1 else 0) + times t xs
 
--- who stands first
+-- the first waiter of a line
 abbrev pub first_thread : List Queued → Option ℕ
 first_thread [] = None
 first_thread (x ∷ q) = Some x.thread
@@ -182,8 +182,7 @@ Knows Once CallOnce = Unit {0}
 Knows Condvar Wait = Unit {0}
 Knows sort x = ⊥
 
--- what the owners that are there must allow; the readers' limit is left out. Nobody enters a
--- condition variable
+-- the owners that are there must allow it; the readers' limit is left out. Nobody enters a condition variable
 abbrev pub IsFreeAt : Sort → ℕ → LockState → Want → Type 0
 IsFreeAt Mutex limit s x = s.exclusive ≡ None
 IsFreeAt Normal limit s Shared = (s.exclusive ≡ None) × (s.pending ≡ None)
@@ -200,7 +199,7 @@ IsFree r s x = Knows r.sort x × IsFreeAt r.sort r.limit s x
 abbrev pub IsBlocked : Rules → LockState → Want → Type 0
 IsBlocked r s x = Knows r.sort x × (IsFreeAt r.sort r.limit s x → ⊥)
 
--- who shares counts, and needs a count below the limit; a `Once` has no right to enter for
+-- a reader counts, and needs a count below the limit; a `Once` has no right to enter for
 abbrev pub HasRoom : Rules → LockState → Want → Type 0
 HasRoom r s Exclusive = Unit {0}
 HasRoom r s Wait = ⊥
@@ -212,13 +211,13 @@ MayEnter r s x = IsFree r s x × HasRoom r s x
 
 -- ---------------------------------------------------------------- who is picked
 
--- what the thread that wakes others keeps of its own: nothing, a shared right or more
+-- the right that a waking thread keeps: nothing, a shared right or more
 abbrev pub keeps_more : Option Want → Bool
 keeps_more (Some Exclusive) = true
 keeps_more (Some Upgradable) = true
 keeps_more start = false
 
--- who wants to share, and who wants more
+-- a waiter that wants to share, and one that wants more
 abbrev pub sharers : List Queued → List Queued
 sharers q = filter (λ (x : Queued). wants_shared x.want) q
 
@@ -276,8 +275,8 @@ unpicked sort start q = others (drop (front_of start q) (before_stop sort start 
 
 -- ---------------------------------------------------------------- the cases
 
--- what a thread does to a condition variable, in its section or as it looks from outside; that it
--- waits is `Park`, and that it gives up `Late`
+-- the deeds of a thread at a condition variable, in its section or as it looks from outside; that it waits is
+-- `Park`, and that it gives up `Late`
 pub data CondvarCase : Type 0 where
   -- it sees which mutex is shown
   Look : (seen : Option ℕ) → CondvarCase
@@ -286,7 +285,7 @@ pub data CondvarCase : Type 0 where
   -- it shows none: nobody is left, or all are to be taken
   Hide : CondvarCase
 
--- what a thread may do to a lock in one step
+-- the deeds that a thread may do to a lock in one step
 pub data LockCase : Type 0 where
   -- it comes in
   Enter : (want : Want) → LockCase
@@ -315,7 +314,7 @@ pub data LockCase : Type 0 where
   Late : LockCase
   -- the pending writer whose time is up has again what it had
   Rollback : LockCase
-  -- what a thread does to a `Once`
+  -- the deeds of a thread at a `Once`
   OfOnce : OnceCase → LockCase
   -- and to a condition variable
   OfCondvar : CondvarCase → LockCase
@@ -411,7 +410,7 @@ abbrev pub HandOffFits : Rules → Want → LockState → Type 0
 HandOffFits r Upgradable s = count s ≤ r.limit
 HandOffFits r right s = Unit {0}
 
--- whose first waiter is taken alone
+-- a lock whose first waiter is taken alone
 abbrev pub TakesFirst : Sort → Type 0
 TakesFirst Mutex = Unit {0}
 TakesFirst Semaphore = Unit {0}
@@ -420,7 +419,7 @@ TakesFirst Recursive = ⊥
 TakesFirst Once = ⊥
 TakesFirst Condvar = ⊥
 
--- what is done to a `Once` needs a phase, and a run is ended by its runner
+-- a deed at a `Once` needs a phase, and a run is ended by its runner
 abbrev pub OnceNeeds : OnceCase → LockState → ℕ → Type 0
 OnceNeeds (Start forced) s t = MayStart s.phase forced
 OnceNeeds Finish s t = s.phase ≡ InProgress t
@@ -453,7 +452,7 @@ abbrev pub IsSomePending : Option Pending → ℕ → Type 0
 IsSomePending None t = ⊥
 IsSomePending (Some p) t = p.thread ≡ t
 
--- what each case needs
+-- the condition of each case
 abbrev pub Needs : Rules → LockCase → LockState → ℕ → Type 0
 Needs r (Enter Exclusive) s t = MayEnter r s Exclusive × (readers s ≡ 0)
 Needs r (Enter x) s t = MayEnter r s x
@@ -519,18 +518,18 @@ pub record IsLockState (r : Rules) (s : LockState) : Type 0 where
       → (s.pending ≡ None) × (s.upgradable ≡ None) × (readers s ≡ 0)
   -- a pending one has no upgradable one beside it
   pub pending_alone : (p : Pending) → s.pending ≡ Some p → s.upgradable ≡ None
-  -- who sleeps aside is the pending owner
+  -- a sleeper aside is the pending owner
   pub aside_pending : (t : ℕ) → s.aside ≡ Some t → IsSomePending s.pending t
   -- each thread stands at most once
   pub once : (t : ℕ) → standing t s ≤ 1
-  -- who waits or is taken wants what the lock knows
+  -- a waiter, taken or not, wants what the lock knows
   pub known_queue : KnowsAll r.sort s.queue
   pub known_taken : (u : ℕ) (h : Taken) → s.taken u ≡ Some h → Knows r.sort h.want
   -- a mutex has one owner, and a semaphore none but sharing ones
   pub unshared : (Knows r.sort Shared → ⊥) → readers s ≡ 0
   pub unpending : (Knows r.sort Upgradable → ⊥) → (s.pending ≡ None) × (s.upgradable ≡ None)
   pub unwritten : (Knows r.sort Exclusive → ⊥) → s.exclusive ≡ None
-  -- of a semaphore no more share than there are permits
+  -- no more threads share a semaphore than there are permits
   pub within : r.sort ≡ Semaphore → readers s ≤ r.limit
 
 -- nobody owns, and nobody waits

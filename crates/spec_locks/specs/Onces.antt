@@ -27,8 +27,8 @@ MayStart New forced = Unit {0}
 MayStart Poisoned true = Unit {0}
 MayStart phase forced = ⊥
 
--- who wants to run waits while another runs; who only waits does so until it is done, or poisoned
--- unless forced
+-- a caller that wants to run waits while another runs; one that only waits does so until it is done, or
+-- poisoned unless forced
 abbrev pub MayRest : Want → Bool → Phase → Type 0
 MayRest CallOnce forced (InProgress runner) = Unit {0}
 MayRest Wait forced New = Unit {0}
@@ -46,14 +46,14 @@ phase_after Finish t phase = Done
 phase_after Fail t phase = Poisoned
 phase_after case t phase = phase
 
--- what it adds to the word
+-- the value that it adds to the word
 abbrev pub phase_code : Phase → ℕ
 phase_code New = 0
 phase_code Done = 1
 phase_code Poisoned = 2
 phase_code (InProgress runner) = 4
 
--- who waits to run it, and not for another's run to end
+-- a caller that waits to run it, and not for another's run to end
 abbrev pub wants_to_run : Want → Bool
 wants_to_run CallOnce = true
 wants_to_run wanted = false

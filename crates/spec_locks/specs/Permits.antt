@@ -1,7 +1,7 @@
 -- At a semaphore at least as many threads look after the line as permits are free.
 use Rattle.std.specs.Prelude.{ℕ, true, Option, Some, None, zero, suc, false, ◌+◌, ◌<◌, ◌≤◌, ◌≡◌, ◌≢◌, ◌⊎◌, [], length}
 use Rattle.spec_locks.specs.Locks.{Semaphore, Rules, readers, standing, one_if_some}
-use Rattle.spec_locks.specs.Sites.{Line, Main, Doing, Site, IsSite, Deed, Needed, after_deed}
+use Rattle.spec_locks.specs.Sites.{Line, Main, Role, Site, IsSite, Deed, Needed, after_deed}
 use Rattle.spec_locks.specs.Codes.{bit}
 
 -- the sum of the first n values
@@ -14,19 +14,19 @@ wakes_main (Some Main) = 1
 wakes_main line = 0
 
 -- it is to wake the next, has it in hand, or tries again
-abbrev pub debt : Doing → ℕ
+abbrev pub debt : Role → ℕ
 debt d = wakes_main d.wakes + bit d.covers + one_if_some d.retries
 
 abbrev pub debts : Site → ℕ
-debts s = total (length s.lock.shared) (λ t. debt (s.doing t))
+debts s = total (length s.lock.shared) (λ t. debt (s.role t))
 
 pub record HasPermits (r : Rules) (s : Site) : Type 0 where
   -- while somebody waits, those who hold a permit and those who look after the line are no fewer
   -- than the permits
   pub enough : s.lock.queue ≢ [] → r.limit ≤ readers s.lock + debts s
   -- nobody brings waiters from elsewhere
-  pub unset : (t : ℕ) → (s.doing t).sets ≡ false
-  -- whoever stands is a thread of the lot
+  pub unset : (t : ℕ) → (s.role t).sets ≡ false
+  -- each waiter is a thread of the lot
   pub known : (u : ℕ) → 1 ≤ standing u s.lock → u < length s.lock.shared
 
 abbrev pub EachDeedKeepsPermits : Type 0
@@ -39,5 +39,5 @@ EachDeedKeepsPermits =
 abbrev pub PermitsAreLookedAfter : Type 0
 PermitsAreLookedAfter = (r : Rules) (s : Site) → HasPermits r s → s.lock.queue ≢ []
     → readers s.lock < r.limit
-    → (t : ℕ) × (((s.doing t).wakes ≡ Some Main)
-    ⊎ (((s.doing t).covers ≡ true) ⊎ ((s.doing t).retries ≢ None)))
+    → (t : ℕ) × (((s.role t).wakes ≡ Some Main)
+    ⊎ (((s.role t).covers ≡ true) ⊎ ((s.role t).retries ≢ None)))

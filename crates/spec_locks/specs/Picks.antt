@@ -10,11 +10,11 @@ use Rattle.spec_locks.specs.Locks.{Sort, Queued, is_recursive, picked, unpicked}
 abbrev pub queued_of : Waiter → Queued
 queued_of x = record { thread = x.thread; want = x.want }
 
--- who stands under a key, as a lock's queue
+-- the waiters under a key, as a lock's queue
 abbrev pub queue_under : ℕ → List Waiter → List Queued
 queue_under key waiters = map queued_of (line key waiters)
 
--- what a thread that keeps a right of its own, or none, picks of the line of a key
+-- the waiters that a thread picks of the line of a key, by the right that it keeps, if any
 pub record PicksAsTheLockSays (sort : Sort) (start : Option Want) (key : ℕ)
     (waiters : List Waiter) : Type 0 where
   -- it takes just those whom the lock says, in order
@@ -27,7 +27,7 @@ pub record PicksAsTheLockSays (sort : Sort) (start : Option Want) (key : ℕ)
   pub elsewhere : (k : ℕ) → k ≢ key
       → line k (without_lock_picked start (is_recursive sort) key waiters) ≡ line k waiters
 
--- whatever it keeps, and whoever waits for whatever; a thread may stand there twice
+-- for every right that it keeps, and every waiter with any want; a thread may stand there twice
 abbrev pub PickersPickAsTheLocksSay : Type 0
 PickersPickAsTheLocksSay =
     (sort : Sort) (start : Option Want) (key : ℕ) (waiters : List Waiter)

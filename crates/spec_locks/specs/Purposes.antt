@@ -25,17 +25,17 @@ use Rattle.spec_locks.specs.declared.calls.SemaphoreCall.TheVariants as semaphor
 use Rattle.spec_locks.specs.Onces.{Start, Rest}
 use Rattle.spec_locks.specs.Locks.{Rules, Mutex, Normal, Recursive, Once, Condvar, Semaphore, LockCase, Enter, Pend, Settle, Leave, Convert, Park, Aside, TakeFirst, TakeAside, TakePicked, Wake, HandOff, Late, Rollback, OfOnce, Look, Show, Hide, OfCondvar, SeeOwner}
 
--- what a call of a lock is for
+-- the goal of a call of a lock
 pub data Purpose : Type 0 where
   Enters : (lock : ℕ) → (want : Want) → Patience → Purpose
   Releases : (lock : ℕ) → (right : Want) → (fair : Bool) → Purpose
   Converts : (lock : ℕ) → (right want : Want) → Patience → Purpose
   Bumps : (lock : ℕ) → (right : Want) → Purpose
-  -- of a `Once`: it runs a closure, or waits for another's run, up to a deadline or without one
+  -- a `Once`: it runs a closure, or waits for another's run, up to a deadline or without one
   CallsOnce : (lock : ℕ) → (forced : Bool) → Purpose
   Awaits : (lock : ℕ) → (forced timed : Bool) → Purpose
-  -- of a condition variable: it gives the mutex up until it is notified, up to a deadline or
-  -- without one; or it notifies the first, or all
+  -- a condition variable: it gives the mutex up until it is notified, up to a deadline or without one; or it
+  -- notifies the first, or all
   Waits : (lock mutex : ℕ) → (timed : Bool) → Purpose
   Notifies : (lock : ℕ) → (all : Bool) → Purpose
 
@@ -48,7 +48,7 @@ mutex_purpose fair l mutex_call.TheVariants.Unlock = Releases l Exclusive fair
 mutex_purpose fair l mutex_call.TheVariants.UnlockFair = Releases l Exclusive true
 mutex_purpose fair l mutex_call.TheVariants.Bump = Bumps l Exclusive
 
--- what a thread wants that is to have a right
+-- the want of a thread that is to have a right
 abbrev pub wanted : Access → Want
 wanted access.Shared = Shared
 wanted access.Upgradable = Upgradable
@@ -93,7 +93,7 @@ abbrev pub semaphore_purpose : ℕ → SemaphoreCall → Purpose
 semaphore_purpose l (semaphore_call.Acquire how) = Enters l Shared how
 semaphore_purpose l semaphore_call.Release = Releases l Shared false
 
--- what a call of a lock of this kind is for; nothing where the kind lacks the call
+-- the goal of a call of a lock of this kind; nothing where the kind lacks the call
 abbrev pub purpose_of : Kind → Call → Option Purpose
 purpose_of kind.TheVariants.Mutex (call.TheVariants.Mutex l c) = Some (mutex_purpose false l c)
 purpose_of kind.TheVariants.Fair (call.TheVariants.Mutex l c) = Some (mutex_purpose true l c)
@@ -133,8 +133,7 @@ purpose_of (kind.TheVariants.Semaphore permits) (call.TheVariants.RwLock l c) = 
 purpose_of (kind.TheVariants.Semaphore permits) (call.TheVariants.Once l c) = None
 purpose_of (kind.TheVariants.Semaphore permits) (call.TheVariants.Condvar l c) = None
 
--- what a call of a condition variable remembers of its own steps, and of what a notification did to
--- it
+-- a call of a condition variable remembers its own steps, and what a notification did to it
 pub data Recall : Type 0 where
   Blank : Recall
   -- a notification has seen this mutex shown
@@ -228,7 +227,7 @@ ConvertsBy x y p gave_up (TakePicked start) =
 ConvertsBy x y p gave_up Wake = (y ≢ Exclusive) ⊎ (gave_up ≢ None)
 ConvertsBy x y p gave_up case = ⊥
 
--- what a bump does before it enters again: it gives its right up once
+-- the deed of a bump before it enters again: it gives its right up once
 abbrev pub GivesWay : Want → Bool → LockCase → Type 0
 GivesWay x released (Leave y) = ReleasesBy x (is_fair_bump x) (Leave y) × (released ≡ false)
 GivesWay x released (HandOff y successor) =
@@ -249,8 +248,8 @@ AwaitsBy forced timed gave_up (OfOnce (Rest x by)) = (x ≡ Wait) × (by ≡ for
 AwaitsBy forced timed gave_up Late = (timed ≡ true) × (gave_up ≡ None)
 AwaitsBy forced timed gave_up case = ⊥
 
--- what a wait does to its condition variable: it gives up only where it has a deadline, and hides
--- only after it gave up
+-- the deeds of a wait at its condition variable: it gives up only where it has a deadline, and hides only
+-- after it gave up
 abbrev pub WaitsThere : ℕ → Bool → Option ℕ → Bool → LockCase → Type 0
 WaitsThere m timed gave_up released (OfCondvar (Show shown)) = (shown ≡ m) × (released ≡ false)
 WaitsThere m timed gave_up released (OfCondvar Hide) = gave_up ≢ None
@@ -270,8 +269,8 @@ WaitsBeside timed gave_up released recalls Late = (timed ≡ true) × (recalls �
 WaitsBeside timed gave_up released recalls case =
     ReleasesOnce released case ⊎ ((released ≡ true) × EntersBy Exclusive Patient gave_up case)
 
--- what a notification does to its condition variable, and to the mutex that it has seen; its move
--- is one event of both
+-- the deeds of a notification at its condition variable, and at the mutex that it has seen; its move is one
+-- event of both
 abbrev pub NotifiesThere : Recall → LockCase → Type 0
 NotifiesThere recalls (OfCondvar (Look seen)) = recalls ≡ Blank
 NotifiesThere recalls (OfCondvar Hide) = Unit {0}

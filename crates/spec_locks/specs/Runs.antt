@@ -24,11 +24,11 @@ use Rattle.spec_locks.specs.Condvars.{moved_of, taken_of, line_of}
 use Rattle.spec_locks.specs.Locks.{LockState, Queued, taking, Taken, LockCase, Enter, Pend, Settle, Leave, Park, Aside, Wake, HandOff, Late, OfOnce, Look, OfCondvar, SeeOwner, Condvar, Rules, Rights, Mutex, Needs, after_case, rights_of, with_right, without_right, Owns, IsFree, IsBlocked, count, readers, putting, standing, HasTakenNobody, IsLockState, left_behind, opening_lock, times}
 use Rattle.spec_locks.specs.Purposes.{Purpose, Enters, Releases, Converts, Bumps, CallsOnce, Awaits, Waits, Notifies, Recall, Blank, Saw, SawOwner, HasMoved, WasMoved, WasNotified, Patience, Patient, Timed, Try, lock_for, purpose_of, rules_of, IsMadeOf}
 
--- what is remembered of a call: what its answer needs of earlier steps, and whether it tries again
+-- the memory of a call: what its answer needs of earlier steps, and whether it tries again
 pub record CallState : Type 0 where
-  -- what the call is for; none between calls
+  -- its goal; none between calls
   pub purpose : Option Purpose
-  -- what the thread owned of each lock as the call began
+  -- the ownership of the thread at each lock as the call began
   pub former : ℕ → Rights
   -- the lock whose queue it left because its time was up
   pub gave_up : Option ℕ
@@ -40,11 +40,11 @@ pub record CallState : Type 0 where
   pub late : Bool
   -- whether its run of a `Once` failed
   pub failed : Bool
-  -- of a condition variable: what it has seen and moved, and what befell it
+  -- a condition variable: what it has seen and moved, and what befell it
   pub recalls : Recall
 
 -- how a thread stands between two steps
-pub record Stance : Type 0 where
+pub record Status : Type 0 where
   -- it sleeps until another thread wakes it
   pub asleep : Bool
   -- it runs the closure of its call
@@ -60,15 +60,15 @@ pub record LocksState : Type 0 where
   pub size : ℕ
   pub kinds : ℕ → Kind
   pub locks : ℕ → LockState
-  -- who is inside the section of each key
+  -- the thread inside the section of each key
   pub inside : ℕ → Option ℕ
   pub calls : ℕ → CallState
-  pub stances : ℕ → Stance
+  pub stances : ℕ → Status
 
 abbrev pub rules_at : LocksState → ℕ → Rules
 rules_at w l = rules_of (w.kinds l)
 
--- what a thread owns of each lock
+-- the ownership of a thread at each lock
 abbrev pub rights_in : LocksState → ℕ → ℕ → Rights
 rights_in w t l = rights_of (w.locks l) t
 
@@ -88,7 +88,7 @@ new_call purpose former =
 abbrev pub no_rights : Rights
 no_rights = record { exclusive = 0; pending = 0; upgradable = 0; shared = 0 }
 
--- what holds of owners and queues in every state, at each lock
+-- facts of owners and queues in every state, at each lock
 abbrev pub AreLockStates : LocksState → Type 0
 AreLockStates w = (l : ℕ) → IsLockState (rules_at w l) (w.locks l)
 
@@ -97,7 +97,7 @@ abbrev pub no_call : CallState
 no_call = new_call None (λ l. no_rights)
 
 -- and it is awake
-abbrev pub no_stance : Stance
+abbrev pub no_stance : Status
 no_stance = record { asleep = false; in_closure = false; enters = None; may_spin = false }
 
 -- nobody owns, nobody waits, nobody is in a call, and nobody is inside a section
@@ -138,8 +138,7 @@ abbrev pub gives_up : ℕ → Recall → CallState → CallState
 gives_up l WasMoved c = record c { recalls = WasNotified; late = false }
 gives_up l recalls c = record c { gave_up = Some l }
 
--- what the thread of the step remembers of it: an ownership, a run, or a place in a queue, ends its
--- retry
+-- the memory of the step's thread: an ownership, a run, or a place in a queue, ends its retry
 abbrev pub going_on : Event → CallState → CallState
 going_on (AtLock l Late) c = gives_up l c.recalls c
 going_on (AtLock l (Enter x)) c = record c { retries = None }
@@ -161,7 +160,7 @@ abbrev pub is_taken_by : ℕ → Option Taken → Bool
 is_taken_by t None = false
 is_taken_by t (Some h) = h.by == t
 
--- who was moved to the queue of its mutex, and is woken or handed it, was notified
+-- a waiter was notified that was moved to the queue of its mutex, and is woken or handed it
 abbrev pub behind_wake : Recall → Recall
 behind_wake WasMoved = WasNotified
 behind_wake recalls = recalls
@@ -169,7 +168,7 @@ behind_wake recalls = recalls
 abbrev pub is_among : ℕ → List Queued → Bool
 is_among u q = nat_le 1 (times u q)
 
--- what a notification makes of those whom it moves to their mutex, or takes
+-- the memory of those that a notification moves to their mutex, or takes
 abbrev pub if_moved : ℕ → List Queued → CallState → CallState
 if_moved u moved c = if is_among u moved then record c { recalls = WasMoved } else c
 
@@ -344,7 +343,7 @@ NotifiesAnswer w t c l true (answer.TheVariants.Number number) =
     ⊎ (HasMovedSome number c.recalls × Keeps w t c)
 NotifiesAnswer w t c l all a = ⊥
 
--- what an answer says of the state in which it is given
+-- an answer is true of the state in which it is given
 abbrev pub AnswerHolds : Option Purpose → LocksState → ℕ → CallState → Answer → Type 0
 AnswerHolds (Some (Enters l x how)) w t c a = EntersAnswer w t c l x how a
 AnswerHolds (Some (Releases l x fair)) w t c answer.TheVariants.Ok = Loses w t c l x
@@ -356,8 +355,7 @@ AnswerHolds (Some (Waits l m timed)) w t c a = WaitsAnswer w t c l m timed a
 AnswerHolds (Some (Notifies l all)) w t c a = NotifiesAnswer w t c l all a
 AnswerHolds purpose w t c a = ⊥
 
--- what a thread is told agrees with the state that its step led to; c is its call with this step in
--- it
+-- the outcome told agrees with the state that its step led to; c is its call with this step in it
 abbrev pub Agrees : ℕ → CallState → Outcome → LocksState → Type 0
 Agrees t c outcome.TheVariants.NotNow v = ⊥
 Agrees t c outcome.TheVariants.Step v = Unit {0}
@@ -489,8 +487,7 @@ pub record Looks (w : LocksState) (t : ℕ) (o : Outcome) (v : LocksState) : Typ
   pub goes : GoesOn w t o v
   pub stays : IsOfMutex w (w.calls t).purpose → Stays w t (w.calls t) o v
 
--- what a turn does: a call begins, goes on, looks once more, or is late, or its closure has
--- answered
+-- the effect of a turn: a call begins, goes on, looks once more, or is late, or its closure has answered
 abbrev pub Does : LocksState → ℕ → Turn → Outcome → LocksState → Type 0
 Does w t (turn.TheVariants.Begin c) o v = Stays w t (new_call (purpose_at w c) (rights_in w t)) o v
 Does w t turn.TheVariants.Spin o v = Looks w t o v

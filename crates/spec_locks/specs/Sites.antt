@@ -9,20 +9,20 @@ use Rattle.spec_locks.specs.Locks.{LockState, Taken, Queued, Pending, Sort, Mute
 use Rattle.spec_locks.specs.Onces.{InProgress, Done, IsRunning, OnceCase, Start, Finish, Fail, Rest, TakeAll}
 use Rattle.spec_locks.specs.Locks as locks
 
--- what a thread has by its place: a right, or a pending one with what it falls back to
+-- the right of a thread by its place, or a pending one with what it falls back to
 pub data Claim : Type 0 where
   Has : Want → Claim
   Pends : (falls_back : Bool) → Claim
-  -- of a `Once`: it runs the closure; its own run ended well
+  -- a `Once`: it runs the closure; its own run ended well
   Runs : Claim
   Ran : Claim
 
 -- The things that one thread does about the lock. A place is mapped to this, and nothing else of a
 -- place matters to what is kept.
-pub record Doing : Type 0 where
+pub record Role : Type 0 where
   -- inside whose section it is
   pub inside : Option Line
-  -- whose waiters it has seen, since it gave way, and hasn't taken yet
+  -- the line whose waiters it has seen, since it gave way, and hasn't taken yet
   pub wakes : Option Line
   -- it has taken in this section whom it was to take
   pub carries : Bool
@@ -30,9 +30,9 @@ pub record Doing : Type 0 where
   pub covers : Bool
   -- where it has seen nobody, inside that section
   pub empty : Option Line
-  -- what it wants, and was woken for
+  -- its want, for which it was woken
   pub retries : Option Want
-  -- what it has by its place
+  -- its right by its place
   pub claims : Option Claim
   -- inside the main section: it has set the parked bit of a mutex that somebody owned, and is to
   -- bring waiters
@@ -41,7 +41,7 @@ pub record Doing : Type 0 where
   -- the bit; or it has cleared the bit of a `Once` beside its waiters, and is yet to take them
   pub sets : Bool
 
-abbrev pub idle : Doing
+abbrev pub idle : Role
 idle = record {
   inside = None;
   wakes = None;
@@ -60,7 +60,7 @@ pub record Site : Type 0 where
   pub aside_parked : Bool
   -- the count was once at or above the limit
   pub filled : Bool
-  pub doing : ℕ → Doing
+  pub role : ℕ → Role
 
 abbrev pub opening_site : ℕ → Site
 opening_site threads =
@@ -69,7 +69,7 @@ opening_site threads =
       parked = false;
       aside_parked = false;
       filled = false;
-      doing = λ t. idle;
+      role = λ t. idle;
     }
 
 -- ---------------------------------------------------------------- words
@@ -136,12 +136,12 @@ StandsIn s t (Some Main) = s.aside ≢ Some t
 StandsIn s t (Some Second) = s.aside ≡ Some t
 
 -- t is to wake the next of the main line, or has it in hand, or is it
-abbrev pub IsDebtor : Sort → Doing → Type 0
+abbrev pub IsDebtor : Sort → Role → Type 0
 IsDebtor sort d = (d.wakes ≡ Some Main) ⊎ ((d.covers ≡ true) ⊎ (counts_some sort d.retries ≡ true))
 
--- who is yet to set the bit has one of those whom it has brought in hand, or is to take those of
--- whom it has seen it
-abbrev pub LooksAfter : Sort → Doing → Type 0
+-- a thread that is yet to set the bit has one of those that it has brought in hand, or is to take those of
+-- which it has seen the bit
+abbrev pub LooksAfter : Sort → Role → Type 0
 LooksAfter sort d = (d.covers ≡ true) ⊎ ((sort ≡ Once) × (d.wakes ≡ Some Main))
 
 -- ---------------------------------------------------------------- what holds between steps
@@ -149,35 +149,35 @@ LooksAfter sort d = (d.covers ≡ true) ⊎ ((sort ≡ Once) × (d.wakes ≡ Som
 pub record IsSite (r : Rules) (s : Site) : Type 0 where
   pub state : IsLockState r s.lock
   -- nobody is inside a section beside another
-  pub alone : (t u : ℕ) (m : Line) → (s.doing t).inside ≡ Some m → (s.doing u).inside ≡ Some m
+  pub alone : (t u : ℕ) (m : Line) → (s.role t).inside ≡ Some m → (s.role u).inside ≡ Some m
       → t ≡ u
   -- a waiter implies its bit, or somebody who is yet to set it, or to take the waiters
-  pub parked : s.lock.queue ≢ [] → (s.parked ≡ true) ⊎ ((t : ℕ) × ((s.doing t).sets ≡ true))
+  pub parked : s.lock.queue ≢ [] → (s.parked ≡ true) ⊎ ((t : ℕ) × ((s.role t).sets ≡ true))
   pub aside_parked : s.lock.aside ≢ None → s.aside_parked ≡ true
-  -- who has seen nobody is inside that section, and nobody has come
-  pub emptied : (t : ℕ) (m : Line) → (s.doing t).empty ≡ Some m
-      → ((s.doing t).inside ≡ Some m) × IsEmpty s.lock m
-  -- who took waiters of the main line has one in hand who passes the turn on, unless none is left
-  pub covered : (t : ℕ) → (s.doing t).covers ≡ true
-      → ((s.doing t).inside ≡ Some Main) × ((s.doing t).carries ≡ true)
+  -- a thread that has seen nobody is inside that section, and nobody has come
+  pub emptied : (t : ℕ) (m : Line) → (s.role t).empty ≡ Some m
+      → ((s.role t).inside ≡ Some m) × IsEmpty s.lock m
+  -- a thread that took waiters of the main line has one in hand that passes the turn on, unless none is left
+  pub covered : (t : ℕ) → (s.role t).covers ≡ true
+      → ((s.role t).inside ≡ Some Main) × ((s.role t).carries ≡ true)
       × ((s.lock.queue ≢ []) → (u : ℕ) × (counts_taken r.sort t (s.lock.taken u) ≡ true))
-  -- who holds others in hand has taken them in this section
-  pub carried : (u : ℕ) (h : Taken) → s.lock.taken u ≡ Some h → (s.doing h.by).carries ≡ true
-  -- who is to bring waiters does so to a mutex, is inside, and the bit stays
-  pub brought : (t : ℕ) → (s.doing t).brings ≡ true
-      → ((s.doing t).inside ≡ Some Main) × (s.parked ≡ true) × (r.sort ≡ Mutex)
-  pub setting : (t : ℕ) → (s.doing t).sets ≡ true → LooksAfter r.sort (s.doing t)
-  pub held : (t : ℕ) (c : Claim) → (s.doing t).claims ≡ Some c → Holds s.lock t c
-  -- who stands in a line, or is in hand, doesn't try again
-  pub unwoken : (t : ℕ) → 1 ≤ standing t s.lock → (s.doing t).retries ≡ None
+  -- a thread that holds others in hand has taken them in this section
+  pub carried : (u : ℕ) (h : Taken) → s.lock.taken u ≡ Some h → (s.role h.by).carries ≡ true
+  -- a thread that is to bring waiters does so to a mutex, is inside, and the bit stays
+  pub brought : (t : ℕ) → (s.role t).brings ≡ true
+      → ((s.role t).inside ≡ Some Main) × (s.parked ≡ true) × (r.sort ≡ Mutex)
+  pub setting : (t : ℕ) → (s.role t).sets ≡ true → LooksAfter r.sort (s.role t)
+  pub held : (t : ℕ) (c : Claim) → (s.role t).claims ≡ Some c → Holds s.lock t c
+  -- a thread that stands in a line, or is in hand, doesn't try again
+  pub unwoken : (t : ℕ) → 1 ≤ standing t s.lock → (s.role t).retries ≡ None
   -- once full, noted
   pub full : is_full r s.lock ≡ true → s.filled ≡ true
   -- nobody is forgotten, nor who is to be brought
-  pub main : (s.lock.queue ≢ []) ⊎ ((t : ℕ) × ((s.doing t).brings ≡ true)) → IsOpen r.sort s.lock
+  pub main : (s.lock.queue ≢ []) ⊎ ((t : ℕ) × ((s.role t).brings ≡ true)) → IsOpen r.sort s.lock
       → s.filled ≡ false
-      → (t : ℕ) × IsDebtor r.sort (s.doing t)
+      → (t : ℕ) × IsDebtor r.sort (s.role t)
   pub second : s.lock.aside ≢ None → readers s.lock ≡ 0
-      → (t : ℕ) × ((s.doing t).wakes ≡ Some Second)
+      → (t : ℕ) × ((s.role t).wakes ≡ Some Second)
 
 -- ---------------------------------------------------------------- what a thread does
 
@@ -200,14 +200,14 @@ pub data Deed : Type 0 where
   Bring : (taken moved : List Queued) → Deed
   -- and sets the bit for those whom it has brought to one that nobody owned
   MarkBrought : Deed
-  -- of the condition variable, which the first of its waiters leaves for the mutex, or all do
+  -- the condition variable, which the first of its waiters leaves for the mutex, or all do
   Send : (all : Bool) → Deed
   -- its time is up, and it leaves the list of a condition variable, whose word has no bit for it
   LeaveLine : Deed
   -- a case of the lock
   Case : LockCase → Deed
 
--- who gives way sees the bit
+-- a thread that gives way sees the bit
 abbrev pub seen_main : Bool → Option Line
 seen_main parked = if parked then Some Main else None
 
@@ -215,14 +215,14 @@ abbrev pub seen_second : Bool → Option Line
 seen_second parked = if parked then Some Second else None
 
 -- a thread that has the next ones in hand gives way without another look
-abbrev pub gives_way : Site → Doing → Option Claim → Doing
+abbrev pub gives_way : Site → Role → Option Claim → Role
 gives_way s d claims = record d
     { wakes = if d.covers then d.wakes else seen_main s.parked; claims = claims }
 
 abbrev pub found : Line → Bool → Option Line
 found m none_left = if none_left then Some m else None
 
-abbrev pub taking_main : Bool → LockState → Doing → Doing
+abbrev pub taking_main : Bool → LockState → Role → Role
 taking_main covers now d =
     record d {
       wakes = None;
@@ -238,12 +238,12 @@ abbrev pub fallen : Option Pending → Option Claim
 fallen None = None
 fallen (Some p) = if p.falls_back then Some (Has Upgradable) else None
 
--- what an upgrade has: it owns where nobody shares, and is pending where somebody does
+-- the right of an upgrade: it owns where nobody shares, and is pending where some thread does
 abbrev pub upgraded : LockState → Option Claim
 upgraded now = if readers now == 0 then None else Some (Pends true)
 
 -- the last reader sees the writer aside; who gives a permit back sees the line
-abbrev pub shares_less : Sort → Site → Doing → Doing
+abbrev pub shares_less : Sort → Site → Role → Role
 shares_less Semaphore s d = record d { wakes = seen_main s.parked; claims = None }
 shares_less sort s d = record d
     { wakes = seen_second (s.aside_parked && (count s.lock == 1)); claims = None }
@@ -254,36 +254,36 @@ once_parked Finish parked = false
 once_parked Fail parked = false
 once_parked case parked = parked
 
-abbrev pub once_doing : OnceCase → Site → Doing → Doing
-once_doing (Start forced) s d = record d { retries = None; claims = Some Runs }
-once_doing Finish s d = record d { wakes = seen_main s.parked; sets = s.parked; claims = Some Ran }
-once_doing Fail s d = record d { wakes = seen_main s.parked; sets = s.parked; claims = None }
-once_doing (Rest wanted forced) s d = record d { retries = None; empty = None }
-once_doing TakeAll s d = record d { wakes = None; sets = false; carries = true }
+abbrev pub once_role : OnceCase → Site → Role → Role
+once_role (Start forced) s d = record d { retries = None; claims = Some Runs }
+once_role Finish s d = record d { wakes = seen_main s.parked; sets = s.parked; claims = Some Ran }
+once_role Fail s d = record d { wakes = seen_main s.parked; sets = s.parked; claims = None }
+once_role (Rest wanted forced) s d = record d { retries = None; empty = None }
+once_role TakeAll s d = record d { wakes = None; sets = false; carries = true }
 
--- what the thread does after a case; now is the lock then
-abbrev pub case_doing : Sort → Site → LockState → LockCase → Doing → Doing
-case_doing sort s now (Enter x) d = record d { retries = None; claims = None }
-case_doing sort s now Pend d = record d { retries = None; claims = Some (Pends false) }
-case_doing sort s now Settle d = record d { retries = None; claims = None }
-case_doing sort s now (Leave Shared) d = shares_less sort s d
-case_doing sort s now (Leave x) d = gives_way s d None
-case_doing sort s now (Convert x Exclusive) d = record d { claims = upgraded now }
-case_doing sort s now (Convert x y) d = gives_way s d (Some (Has y))
-case_doing sort s now (Park x) d = record d { retries = None; empty = None }
-case_doing sort s now Aside d = record d { retries = None; empty = None }
-case_doing sort s now (TakeFirst x) d = taking_main true now d
-case_doing sort s now (TakePicked start) d = taking_main (not (keeps_more start)) now d
-case_doing sort s now (TakeAside u) d =
+-- the thread's doing after a case; now is the lock then
+abbrev pub case_role : Sort → Site → LockState → LockCase → Role → Role
+case_role sort s now (Enter x) d = record d { retries = None; claims = None }
+case_role sort s now Pend d = record d { retries = None; claims = Some (Pends false) }
+case_role sort s now Settle d = record d { retries = None; claims = None }
+case_role sort s now (Leave Shared) d = shares_less sort s d
+case_role sort s now (Leave x) d = gives_way s d None
+case_role sort s now (Convert x Exclusive) d = record d { claims = upgraded now }
+case_role sort s now (Convert x y) d = gives_way s d (Some (Has y))
+case_role sort s now (Park x) d = record d { retries = None; empty = None }
+case_role sort s now Aside d = record d { retries = None; empty = None }
+case_role sort s now (TakeFirst x) d = taking_main true now d
+case_role sort s now (TakePicked start) d = taking_main (not (keeps_more start)) now d
+case_role sort s now (TakeAside u) d =
     record d { wakes = None; carries = true; empty = Some Second }
-case_doing sort s now Wake d = d
-case_doing sort s now (HandOff x successor) d =
+case_role sort s now Wake d = d
+case_role sort s now (HandOff x successor) d =
     record d { covers = false; claims = None; brings = false; sets = false }
-case_doing sort s now Late d = record d { empty = late_found now d.inside }
-case_doing sort s now Rollback d = gives_way s d (fallen s.lock.pending)
-case_doing sort s now (OfOnce case) d = once_doing case s d
-case_doing sort s now (OfCondvar case) d = d
-case_doing sort s now (SeeOwner owned) d = d
+case_role sort s now Late d = record d { empty = late_found now d.inside }
+case_role sort s now Rollback d = gives_way s d (fallen s.lock.pending)
+case_role sort s now (OfOnce case) d = once_role case s d
+case_role sort s now (OfCondvar case) d = d
+case_role sort s now (SeeOwner owned) d = d
 
 -- a hand-over stores the word anew: the bit of the main line stands where somebody is left, and an
 -- exclusive owner leaves no other
@@ -302,11 +302,11 @@ done r case s t now = record {
   parked = case_parked s now case;
   aside_parked = case_aside_parked s case;
   filled = s.filled || is_full r now;
-  doing = putting s.doing t (case_doing r.sort s now case (s.doing t));
+  role = putting s.role t (case_role r.sort s now case (s.role t));
 }
 
--- whoever is let go tries again for what it wanted
-abbrev pub wakened : ℕ → Option Taken → Doing → Doing
+-- each waiter that is let go tries again for what it wanted
+abbrev pub wakened : ℕ → Option Taken → Role → Role
 wakened t None d = d
 wakened t (Some h) d = if h.by == t then record d { retries = Some h.want } else d
 
@@ -314,7 +314,7 @@ abbrev pub is_main : Line → Bool
 is_main Main = true
 is_main Second = false
 
-abbrev pub leaves : Doing → Doing
+abbrev pub leaves : Role → Role
 leaves d = record d {
   inside = None;
   carries = false;
@@ -324,8 +324,8 @@ leaves d = record d {
   sets = false;
 }
 
--- who takes one of those that it brings, and moves more, has the bit to set yet
-abbrev pub bringing : List Queued → List Queued → Doing → Doing
+-- a thread that takes one of those that it brings, and moves more, has the bit to set yet
+abbrev pub bringing : List Queued → List Queued → Role → Role
 bringing taken moved d = record d {
   carries = true;
   covers = not (is_empty taken);
@@ -334,39 +334,39 @@ bringing taken moved d = record d {
   sets = not (is_empty taken) && not (is_empty moved);
 }
 
-abbrev pub with_doing : Site → ℕ → Doing → Site
-with_doing s t d = record s { doing = putting s.doing t d }
+abbrev pub with_role : Site → ℕ → Role → Site
+with_role s t d = record s { role = putting s.role t d }
 
 abbrev pub after_deed : Rules → Deed → Site → ℕ → Site
-after_deed r (Begin claims) s t = with_doing s t (record (s.doing t) { claims = claims })
-after_deed r End s t = with_doing s t idle
-after_deed r (In m) s t = with_doing s t (record (s.doing t) { inside = Some m })
+after_deed r (Begin claims) s t = with_role s t (record (s.role t) { claims = claims })
+after_deed r End s t = with_role s t idle
+after_deed r (In m) s t = with_role s t (record (s.role t) { inside = Some m })
 after_deed r Out s t = record s {
   lock = record s.lock { taken = let_go t s.lock.taken };
-  doing = λ u. wakened t (s.lock.taken u) (putting s.doing t (leaves (s.doing t)) u);
+  role = λ u. wakened t (s.lock.taken u) (putting s.role t (leaves (s.role t)) u);
 }
 after_deed r (Mark Main) s t = record s { parked = true }
 after_deed r (Mark Second) s t = record s { aside_parked = true }
 after_deed r (Clear Main) s t =
     record s {
       parked = false;
-      doing = putting s.doing t (record (s.doing t) { empty = None; brings = false });
+      role = putting s.role t (record (s.role t) { empty = None; brings = false });
     }
 after_deed r (Clear Second) s t =
     record s {
       aside_parked = false;
-      doing = putting s.doing t (record (s.doing t) { empty = None; brings = false });
+      role = putting s.role t (record (s.role t) { empty = None; brings = false });
     }
 after_deed r (FindNobody m) s t =
-    with_doing s t (record
-    (s.doing t) { wakes = None; carries = true; covers = is_main m; empty = Some m })
+    with_role s t (record
+    (s.role t) { wakes = None; carries = true; covers = is_main m; empty = Some m })
 after_deed r MarkBrought s t =
-    record s { parked = true; doing = putting s.doing t (record (s.doing t) { sets = false }) }
+    record s { parked = true; role = putting s.role t (record (s.role t) { sets = false }) }
 after_deed r MarkOwned s t =
-    record s { parked = true; doing = putting s.doing t (record (s.doing t) { brings = true }) }
+    record s { parked = true; role = putting s.role t (record (s.role t) { brings = true }) }
 after_deed r (Bring taken moved) s t = record s {
   lock = record s.lock { queue = s.lock.queue ++ moved; taken = taking t taken s.lock.taken };
-  doing = putting s.doing t (bringing taken moved (s.doing t));
+  role = putting s.role t (bringing taken moved (s.role t));
 }
 after_deed r (Send all) s t = record s { lock = left_behind all s.lock }
 after_deed r LeaveLine s t = record s { lock = locks.after_case r Late s.lock t }
@@ -384,7 +384,7 @@ KeepsOwned s t None = Unit {0}
 KeepsOwned s t (Some Shared) = Unit {0}
 KeepsOwned s t (Some x) = Owns s t x
 
-abbrev pub OnceFits : OnceCase → Site → Doing → Type 0
+abbrev pub OnceFits : OnceCase → Site → Role → Type 0
 OnceFits (Start forced) s d = Unit {0}
 OnceFits Finish s d = (d.wakes ≡ None) × (d.sets ≡ false)
 OnceFits Fail s d = (d.wakes ≡ None) × (d.sets ≡ false)
@@ -392,7 +392,7 @@ OnceFits (Rest wanted forced) s d =
     (d.inside ≡ Some Main) × (s.parked ≡ true) × (d.wakes ≡ None) × (d.covers ≡ false)
 OnceFits TakeAll s d = (d.inside ≡ Some Main) × (d.carries ≡ false)
 
-abbrev pub CaseFits : Rules → Site → ℕ → LockCase → Doing → Type 0
+abbrev pub CaseFits : Rules → Site → ℕ → LockCase → Role → Type 0
 CaseFits r s t (Enter x) d = (d.retries ≡ None) ⊎ (d.retries ≡ Some x)
 CaseFits r s t Pend d = Unit {0}
 CaseFits r s t Settle d = Unit {0}
@@ -419,40 +419,40 @@ CaseFits r s t (SeeOwner owned) d = Unit {0}
 
 -- a call ends outside of the sections, and one that was woken has what it wanted, or another has,
 -- or the lock is full
-abbrev pub MayEnd : Rules → LockState → Doing → Type 0
+abbrev pub MayEnd : Rules → LockState → Role → Type 0
 MayEnd r s d =
     (d.inside ≡ None) × (d.wakes ≡ None) × (d.carries ≡ false)
     × ((counts_some r.sort d.retries ≡ true) → is_full r s ≡ true)
 
--- whoever is brought is brought once, stood nowhere and didn't try again
+-- each waiter that is brought is brought once, stood nowhere and didn't try again
 abbrev pub Apart : Site → List Queued → Type 0
 Apart s xs = (u : ℕ) → (times u xs ≤ 1)
-    × (1 ≤ times u xs → (standing u s.lock ≡ 0) × ((s.doing u).retries ≡ None))
+    × (1 ≤ times u xs → (standing u s.lock ≡ 0) × ((s.role u).retries ≡ None))
 
 abbrev pub Needed : Rules → Deed → Site → ℕ → Type 0
 Needed r (Begin claims) s t = HasClaim s.lock t claims
-Needed r End s t = MayEnd r s.lock (s.doing t)
-Needed r (In m) s t = ((u : ℕ) → (s.doing u).inside ≢ Some m) × ((s.doing t).inside ≡ None)
-    × ((s.doing t).empty ≡ None)
-Needed r Out s t = ((s.doing t).inside ≢ None) × ((s.doing t).wakes ≡ None)
-    × ((s.doing t).sets ≡ false)
+Needed r End s t = MayEnd r s.lock (s.role t)
+Needed r (In m) s t = ((u : ℕ) → (s.role u).inside ≢ Some m) × ((s.role t).inside ≡ None)
+    × ((s.role t).empty ≡ None)
+Needed r Out s t = ((s.role t).inside ≢ None) × ((s.role t).wakes ≡ None)
+    × ((s.role t).sets ≡ false)
 Needed r (Mark m) s t = Unit {0}
-Needed r (Clear m) s t = (s.doing t).empty ≡ Some m
+Needed r (Clear m) s t = (s.role t).empty ≡ Some m
 Needed r (FindNobody m) s t =
-    ((s.doing t).inside ≡ Some m) × ((s.doing t).carries ≡ false) × IsEmpty s.lock m
-    × ((s.doing t).wakes ≡ None ⊎ (s.doing t).wakes ≡ Some m)
+    ((s.role t).inside ≡ Some m) × ((s.role t).carries ≡ false) × IsEmpty s.lock m
+    × ((s.role t).wakes ≡ None ⊎ (s.role t).wakes ≡ Some m)
 Needed r MarkBrought s t = Unit {0}
 Needed r MarkOwned s t =
-    ((s.doing t).inside ≡ Some Main) × (IsOpen r.sort s.lock → ⊥) × (r.sort ≡ Mutex)
+    ((s.role t).inside ≡ Some Main) × (IsOpen r.sort s.lock → ⊥) × (r.sort ≡ Mutex)
 Needed r (Bring taken moved) s t =
-    (r.sort ≡ Mutex) × ((s.doing t).inside ≡ Some Main) × ((s.doing t).carries ≡ false)
-    × ((s.doing t).wakes ≡ None) × ((s.doing t).retries ≡ None)
+    (r.sort ≡ Mutex) × ((s.role t).inside ≡ Some Main) × ((s.role t).carries ≡ false)
+    × ((s.role t).wakes ≡ None) × ((s.role t).retries ≡ None)
     × Apart s (taken ++ moved) × KnowsAll Mutex (taken ++ moved)
-    × (taken ≡ [] → (s.doing t).brings ≡ true)
-Needed r (Send all) s t = (r.sort ≡ Condvar) × ((s.doing t).inside ≡ Some Main)
+    × (taken ≡ [] → (s.role t).brings ≡ true)
+Needed r (Send all) s t = (r.sort ≡ Condvar) × ((s.role t).inside ≡ Some Main)
 Needed r LeaveLine s t =
-    (r.sort ≡ Condvar) × Needs r Late s.lock t × CaseFits r s t Late (s.doing t)
-Needed r (Case case) s t = Needs r case s.lock t × CaseFits r s t case (s.doing t)
+    (r.sort ≡ Condvar) × Needs r Late s.lock t × CaseFits r s t Late (s.role t)
+Needed r (Case case) s t = Needs r case s.lock t × CaseFits r s t case (s.role t)
 
 -- ---------------------------------------------------------------- the law
 

@@ -18,7 +18,7 @@ ReadersStayOut w v =
 abbrev pub waits_to_share : ℕ → LockState → ℕ
 waits_to_share t s = times t (sharers s.queue)
 
--- who shares a recursive lock isn't queued to share it once more
+-- a thread that shares a recursive lock isn't queued to share it once more
 abbrev pub RereadersPass : LocksState → LocksState → Type 0
 RereadersPass w v =
     (t l : ℕ) → (rules_at w l).sort ≡ Recursive → Owns (w.locks l) t Shared
@@ -45,7 +45,7 @@ DowngradesOwn w v =
     → (w.calls t).purpose ≡ Some (Converts l x y how) → y ≢ Exclusive
     → Owns (w.locks l) t x ⊎ Owns (w.locks l) t y → Owns (v.locks l) t x ⊎ Owns (v.locks l) t y
 
--- of each step of the abstract locks
+-- each step of the abstract locks does so
 abbrev pub OfEachStep : (LocksState → LocksState → Type 0) → Type 0
 OfEachStep law = (w v : LocksState) (s : Step) (o : Outcome) → AreLockStates w → IsStep w s o v
     → law w v

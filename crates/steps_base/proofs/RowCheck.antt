@@ -15,13 +15,15 @@ use Rattle.steps_base.specs.Rows.{is_acting, taken_of, IsWaiting, HasClaimed, Wa
 use Rattle.spec_locks.specs.Headline.{WakesWaiters, want_of}
 use Rattle.spec_locks.specs.Locks.{Sort, Taken, Knows, wants_exclusive}
 use Rattle.spec_locks.specs.Locks as sorts
-use Rattle.spec_locks.specs.Purposes.{Purpose, Enters, Releases, Converts, Bumps, CallsOnce, Awaits, Waits, Notifies, MayWait, IsReleasing, lock_for, Patience, Try, Timed, Patient, Recall}
+use Rattle.spec_locks.specs.Purposes.{Purpose, Enters, Releases, Converts, Bumps, CallsOnce, Awaits, Waits, Notifies, MayWait, IsReleasing, lock_for, Recall}
+use Rattle.spec_locks.specs.declared.calls.Patience.{Patience}
+use Rattle.spec_locks.specs.declared.calls.Patience.TheVariants.{Try, Timed, Patient}
 use Rattle.spec_locks.specs.Runs.{IsTimed}
-use Rattle.spec_locks.specs.Sites.{Claim, Doing, Has, Pends, counts_some, has_readers}
+use Rattle.spec_locks.specs.Sites.{Claim, Role, Has, Pends, counts_some, has_readers}
 
 -- ---------------------------------------------------------------- the test of a row
 
--- what a thread does next, as far as its row must agree
+-- tells what a thread does next, as far as its row must agree
 pub data Going : Type 0 where
   Into : Line → Going
   HandsOver : Going
@@ -113,7 +115,7 @@ wakes_waiters sort (CallsOnce k forced) gave_up = true
 wakes_waiters sort q gave_up = false
 
 abbrev pub lets_in : Sort → Profile → Purpose → Bool
-lets_in sort row q = releases q row.released || (has_readers sort && (downgrades q || (row.gave_up && no_line row.doing.inside)))
+lets_in sort row q = releases q row.released || (has_readers sort && (downgrades q || (row.gave_up && no_line row.role.inside)))
 
 abbrev pub lets_in_at : Sort → Profile → Purpose → Line → Bool
 lets_in_at sort row q m = lets_in sort row q || wakes_aside q m
@@ -133,7 +135,7 @@ abbrev pub owns_alone : Option Claim → Bool
 owns_alone (Some (Has w.Exclusive)) = true
 owns_alone c = false
 
-abbrev pub is_debtor_in : Sort → Doing → Line → Bool
+abbrev pub is_debtor_in : Sort → Role → Line → Bool
 is_debtor_in sort d Main = is_line Main d.wakes || (d.covers || counts_some sort d.retries)
 is_debtor_in sort d Second = is_line Second d.wakes
 
@@ -164,19 +166,19 @@ has_claimed sort (Some (Pends b)) (Some y) = wants_exclusive y && has_readers so
 has_claimed sort c x = false
 
 abbrev pub was_handed : Sort → Profile → Purpose → Bool
-was_handed sort row q = is_handed row.hand && (may_wait q && has_claimed sort row.doing.claims (want_of (Some q)))
+was_handed sort row q = is_handed row.hand && (may_wait q && has_claimed sort row.role.claims (want_of (Some q)))
 
--- of one line
+-- for one line
 abbrev pub keeps_line : Sort → Profile → Purpose → Going → Line → Bool
 keeps_line sort row q g m =
-    implies (is_line m row.owes) (is_line m row.doing.inside || (goes_into m g && lets_in_at sort row q m))
-    && (implies (is_line m row.doing.inside) (is_line m row.owes)
+    implies (is_line m row.owes) (is_line m row.role.inside || (goes_into m g && lets_in_at sort row q m))
+    && (implies (is_line m row.role.inside) (is_line m row.owes)
     && (implies (goes_into m g && lets_in_at sort row q m) (is_line m row.owes)
-    && (implies (is_debtor_in sort row.doing m) (owns_alone row.doing.claims || looks_after sort row q g m)
+    && (implies (is_debtor_in sort row.role m) (owns_alone row.role.claims || looks_after sort row q g m)
     && (implies (is_line m row.late_line) (is_line m row.stands && (sleeps g && (has_deadline q && not (lets_in sort row q))))
     && implies (is_line m row.stands && (sleeps g && has_deadline q)) (is_line m row.late_line)))))
 
--- of one lock
+-- for one lock
 abbrev pub is_single : Purpose → Bool
 is_single (Waits l m timed) = false
 is_single (Notifies l all) = false
@@ -211,10 +213,10 @@ keeps_row sort row q g =
     is_single q && (knows sort q && (keeps_line sort row q g Main
     && (keeps_line sort row q g Second
     && (implies (is_waiting row) (may_wait q)
-    && (implies (is_line Second row.stands) (pends row.doing.claims)
+    && (implies (is_line Second row.stands) (pends row.role.claims)
     && (implies (is_line Second row.owes) (has_readers sort)
     && (implies (sleeps g) (is_waiting row || was_handed sort row q)
-    && implies (told row.carries) (hands_over g && is_line Main row.doing.inside))))))))
+    && implies (told row.carries) (hands_over g && is_line Main row.role.inside))))))))
 
 -- ---------------------------------------------------------------- it says so
 
@@ -482,12 +484,12 @@ module _ (sort : Sort) (l : ℕ) (row : Profile) (a : Act) (g : Going) (own : lo
   lets_so : lets_in sort row (row.purpose l) ≡ true → LetsIn sort l row
   lets_so h = elim (either (releases (row.purpose l) row.released) _ h) [
     | inl r ↦ inl (subst (λ k. IsReleasing (Some (row.purpose l)) row.released k) own (releases_so (row.purpose l) row.released r))
-    | inr s ↦ let p : (has_readers sort ≡ true) × ((downgrades (row.purpose l) || (row.gave_up && no_line row.doing.inside)) ≡ true) = both _ _ s in
+    | inr s ↦ let p : (has_readers sort ≡ true) × ((downgrades (row.purpose l) || (row.gave_up && no_line row.role.inside)) ≡ true) = both _ _ s in
         inr (
           p.0,
           elim (either (downgrades (row.purpose l)) _ p.1) [
             | inl d ↦ inl (subst (λ k. IsDowngrade (Some (row.purpose l)) k) own (downgrades_so (row.purpose l) d))
-            | inr u ↦ let v : (row.gave_up ≡ true) × (no_line row.doing.inside ≡ true) = both _ _ u in inr (v.0, none_is row.doing.inside v.1)
+            | inr u ↦ let v : (row.gave_up ≡ true) × (no_line row.role.inside ≡ true) = both _ _ u in inr (v.0, none_is row.role.inside v.1)
           ],
         )
   ]
@@ -496,7 +498,7 @@ module _ (sort : Sort) (l : ℕ) (row : Profile) (a : Act) (g : Going) (own : lo
   lets_is one (inl r) = or_l _ _ (releasing (row.purpose l) row.released l one r)
   lets_is one (inr s) = or_r _ _ (and_so _ _ s.0 (elim s.1 [
     | inl d ↦ or_l _ _ (downgrading (row.purpose l) l d)
-    | inr u ↦ or_r (downgrades (row.purpose l)) _ (and_so _ _ u.0 (is_none row.doing.inside u.1))
+    | inr u ↦ or_r (downgrades (row.purpose l)) _ (and_so _ _ u.0 (is_none row.role.inside u.1))
   ]))
 
   lets_at_so : (m : Line) → lets_in_at sort row (row.purpose l) m ≡ true → LetsInAt sort l row m
@@ -509,11 +511,11 @@ module _ (sort : Sort) (l : ℕ) (row : Profile) (a : Act) (g : Going) (own : lo
   lets_at_is one m (inl r) = or_l _ _ (lets_is one r)
   lets_at_is one m (inr s) = or_r (lets_in sort row (row.purpose l)) _ (aside_is (row.purpose l) l m s)
 
-  debtor_is : (m : Line) → IsDebtorIn sort row.doing m → is_debtor_in sort row.doing m ≡ true
-  debtor_is Main (inl e) = or_l _ _ (is_the_line Main row.doing.wakes e)
-  debtor_is Main (inr (inl e)) = or_r (is_line Main row.doing.wakes) _ (or_l _ _ e)
-  debtor_is Main (inr (inr e)) = or_r (is_line Main row.doing.wakes) _ (or_r row.doing.covers _ e)
-  debtor_is Second e = is_the_line Second row.doing.wakes e
+  debtor_is : (m : Line) → IsDebtorIn sort row.role m → is_debtor_in sort row.role m ≡ true
+  debtor_is Main (inl e) = or_l _ _ (is_the_line Main row.role.wakes e)
+  debtor_is Main (inr (inl e)) = or_r (is_line Main row.role.wakes) _ (or_l _ _ e)
+  debtor_is Main (inr (inr e)) = or_r (is_line Main row.role.wakes) _ (or_r row.role.covers _ e)
+  debtor_is Second e = is_the_line Second row.role.wakes e
 
   debt_so : (m : Line) → has_debt sort row (row.purpose l) m ≡ true → HasDebt sort l row m
   debt_so Main h = elim (either _ _ h) [
@@ -532,22 +534,22 @@ module _ (sort : Sort) (l : ℕ) (row : Profile) (a : Act) (g : Going) (own : lo
 
   handed_so : was_handed sort row (row.purpose l) ≡ true → WasHanded sort l row
   handed_so h =
-      let p : (is_handed row.hand ≡ true) × ((may_wait (row.purpose l) && has_claimed sort row.doing.claims (want_of (Some (row.purpose l)))) ≡ true) = both _ _ h in
-      let r : (may_wait (row.purpose l) ≡ true) × (has_claimed sort row.doing.claims (want_of (Some (row.purpose l))) ≡ true) = both _ _ p.1 in
+      let p : (is_handed row.hand ≡ true) × ((may_wait (row.purpose l) && has_claimed sort row.role.claims (want_of (Some (row.purpose l)))) ≡ true) = both _ _ h in
+      let r : (may_wait (row.purpose l) ≡ true) × (has_claimed sort row.role.claims (want_of (Some (row.purpose l))) ≡ true) = both _ _ p.1 in
       let b : (by : ℕ) × (row.hand ≡ hand by true) = handed_by row.hand p.0 in
-      let c : (x : Want) × (want_of (Some (row.purpose l)) ≡ Some x) × HasClaimed sort row.doing.claims x = claimed_so sort row.doing.claims (want_of (Some (row.purpose l))) r.1 in
+      let c : (x : Want) × (want_of (Some (row.purpose l)) ≡ Some x) × HasClaimed sort row.role.claims x = claimed_so sort row.role.claims (want_of (Some (row.purpose l))) r.1 in
       record { by = b.0; in_hand = b.1; waited = subst (λ k. MayWait (Some (row.purpose l)) k) own (may_wait_so (row.purpose l) r.0); want = c.0; wants = c.1; has = c.2 }
 
-  -- what the test says, part by part
+  -- tells what the test says, part by part
   record Tested : Type 0 where
     single : is_single (row.purpose l) ≡ true
     knows : knows sort (row.purpose l) ≡ true
     line : (m : Line) → keeps_line sort row (row.purpose l) g m ≡ true
     waits : implies (is_waiting row) (may_wait (row.purpose l)) ≡ true
-    aside : implies (is_line Second row.stands) (pends row.doing.claims) ≡ true
+    aside : implies (is_line Second row.stands) (pends row.role.claims) ≡ true
     second : implies (is_line Second row.owes) (has_readers sort) ≡ true
     asleep : implies (sleeps g) (is_waiting row || was_handed sort row (row.purpose l)) ≡ true
-    tells : implies (told row.carries) (hands_over g && is_line Main row.doing.inside) ≡ true
+    tells : implies (told row.carries) (hands_over g && is_line Main row.role.inside) ≡ true
 
   parts : keeps_row sort row (row.purpose l) g ≡ true → Tested
   parts h =
@@ -556,7 +558,7 @@ module _ (sort : Sort) (l : ℕ) (row : Profile) (a : Act) (g : Going) (own : lo
       let a3 = both (keeps_line sort row (row.purpose l) g Main) _ a2.1 in
       let a4 = both (keeps_line sort row (row.purpose l) g Second) _ a3.1 in
       let a5 = both (implies (is_waiting row) (may_wait (row.purpose l))) _ a4.1 in
-      let a6 = both (implies (is_line Second row.stands) (pends row.doing.claims)) _ a5.1 in
+      let a6 = both (implies (is_line Second row.stands) (pends row.role.claims)) _ a5.1 in
       let a7 = both (implies (is_line Second row.owes) (has_readers sort)) _ a6.1 in
       let a8 = both (implies (sleeps g) (is_waiting row || was_handed sort row (row.purpose l))) _ a7.1 in
       record { single = a1.0; knows = a2.0; line = lines a3.0 a4.0; waits = a5.0; aside = a6.0; second = a7.0; asleep = a8.0; tells = a8.1 }
@@ -567,19 +569,19 @@ module _ (sort : Sort) (l : ℕ) (row : Profile) (a : Act) (g : Going) (own : lo
       lines x y Second = y
 
   record LineTested (m : Line) : Type 0 where
-    owes : implies (is_line m row.owes) (is_line m row.doing.inside || (goes_into m g && lets_in_at sort row (row.purpose l) m)) ≡ true
-    inside : implies (is_line m row.doing.inside) (is_line m row.owes) ≡ true
+    owes : implies (is_line m row.owes) (is_line m row.role.inside || (goes_into m g && lets_in_at sort row (row.purpose l) m)) ≡ true
+    inside : implies (is_line m row.role.inside) (is_line m row.owes) ≡ true
     entering : implies (goes_into m g && lets_in_at sort row (row.purpose l) m) (is_line m row.owes) ≡ true
-    debtor : implies (is_debtor_in sort row.doing m) (owns_alone row.doing.claims || looks_after sort row (row.purpose l) g m) ≡ true
+    debtor : implies (is_debtor_in sort row.role m) (owns_alone row.role.claims || looks_after sort row (row.purpose l) g m) ≡ true
     late : implies (is_line m row.late_line) (is_line m row.stands && (sleeps g && (has_deadline (row.purpose l) && not (lets_in sort row (row.purpose l))))) ≡ true
     may_be_late : implies (is_line m row.stands && (sleeps g && has_deadline (row.purpose l))) (is_line m row.late_line) ≡ true
 
   line_parts : (m : Line) → keeps_line sort row (row.purpose l) g m ≡ true → LineTested m
   line_parts m h =
-      let b1 = both (implies (is_line m row.owes) (is_line m row.doing.inside || (goes_into m g && lets_in_at sort row (row.purpose l) m))) _ h in
-      let b2 = both (implies (is_line m row.doing.inside) (is_line m row.owes)) _ b1.1 in
+      let b1 = both (implies (is_line m row.owes) (is_line m row.role.inside || (goes_into m g && lets_in_at sort row (row.purpose l) m))) _ h in
+      let b2 = both (implies (is_line m row.role.inside) (is_line m row.owes)) _ b1.1 in
       let b3 = both (implies (goes_into m g && lets_in_at sort row (row.purpose l) m) (is_line m row.owes)) _ b2.1 in
-      let b4 = both (implies (is_debtor_in sort row.doing m) (owns_alone row.doing.claims || looks_after sort row (row.purpose l) g m)) _ b3.1 in
+      let b4 = both (implies (is_debtor_in sort row.role m) (owns_alone row.role.claims || looks_after sort row (row.purpose l) g m)) _ b3.1 in
       let b5 = both (implies (is_line m row.late_line) (is_line m row.stands && (sleeps g && (has_deadline (row.purpose l) && not (lets_in sort row (row.purpose l)))))) _ b4.1 in
       record { owes = b1.0; inside = b2.0; entering = b3.0; debtor = b4.0; late = b5.0; may_be_late = b5.1 }
 
@@ -589,16 +591,16 @@ module _ (sort : Sort) (l : ℕ) (row : Profile) (a : Act) (g : Going) (own : lo
     acts = acts_so l a g goes;
     waits = λ w. subst (λ k. MayWait (Some (row.purpose l)) k) own (may_wait_so (row.purpose l) (so _ _ t.waits (waiting_is w)));
     known = λ of e. knows_so sort (row.purpose l) of t.knows (ap of own ∙ e);
-    aside = λ e. pends_so row.doing.claims (so _ _ t.aside (is_the_line Second row.stands e));
+    aside = λ e. pends_so row.role.claims (so _ _ t.aside (is_the_line Second row.stands e));
     owing = record {
       owes = owed;
-      inside = λ m e. line_is m row.owes (so _ _ (of m).inside (is_the_line m row.doing.inside e));
+      inside = λ m e. line_is m row.owes (so _ _ (of m).inside (is_the_line m row.role.inside e));
       entering = λ m e lets. line_is m row.owes (so _ _ (of m).entering (and_so _ _ (into_is l a g m goes e) (lets_at_is t.single m lets)));
       second = λ e. so _ _ t.second (is_the_line Second row.owes e);
     };
     debtor = pays;
     asleep = λ e. elim (either (is_waiting row) _ (so _ _ t.asleep (asleep_is l a g goes e))) [ inl x ↦ inl (waiting_so x) | inr x ↦ inr (handed_so x) ];
-    tells = λ e. let k : (hands_over g ≡ true) × (is_line Main row.doing.inside ≡ true) = both _ _ (so _ _ t.tells (told_is row.carries e)) in (over_so l a g goes k.0, line_is Main row.doing.inside k.1);
+    tells = λ e. let k : (hands_over g ≡ true) × (is_line Main row.role.inside ≡ true) = both _ _ (so _ _ t.tells (told_is row.carries e)) in (over_so l a g goes k.0, line_is Main row.role.inside k.1);
     late = is_late;
     may_be_late = λ m e s timed. line_is m row.late_line (so _ _ (of m).may_be_late (and_so _ _ (is_the_line m row.stands e) (and_so _ _ (asleep_is l a g goes s) (has_a_deadline (row.purpose l) row.recalls l t.single timed))));
   }
@@ -609,9 +611,9 @@ module _ (sort : Sort) (l : ℕ) (row : Profile) (a : Act) (g : Going) (own : lo
       of : (m : Line) → LineTested m
       of m = line_parts m (t.line m)
 
-      owed : (m : Line) → row.owes ≡ Some m → (row.doing.inside ≡ Some m) ⊎ ((a ≡ Enter (One (key_of l m))) × LetsInAt sort l row m)
-      owed m e = elim (either (is_line m row.doing.inside) _ (so _ _ (of m).owes (is_the_line m row.owes e))) [
-        | inl i ↦ inl (line_is m row.doing.inside i)
+      owed : (m : Line) → row.owes ≡ Some m → (row.role.inside ≡ Some m) ⊎ ((a ≡ Enter (One (key_of l m))) × LetsInAt sort l row m)
+      owed m e = elim (either (is_line m row.role.inside) _ (so _ _ (of m).owes (is_the_line m row.owes e))) [
+        | inl i ↦ inl (line_is m row.role.inside i)
         | inr r ↦ let k : (goes_into m g ≡ true) × (lets_in_at sort row (row.purpose l) m ≡ true) = both _ _ r in inr (into_so l a g m goes k.0, lets_at_so m k.1)
       ]
 
@@ -622,9 +624,9 @@ module _ (sort : Sort) (l : ℕ) (row : Profile) (a : Act) (g : Going) (own : lo
           let s : (no_line row.stands ≡ true) × (not (is_taken (taken_of row)) ≡ true) = both _ _ r.1 in
           record { debt = debt_so m p.0; awake = λ e. no (sleeps g) r.0 (asleep_is l a g goes e); stands = none_is row.stands s.0; taken = not_taken (taken_of row) s.1 }
 
-      pays : (m : Line) → IsDebtorIn sort row.doing m → (row.doing.claims ≡ Some (Has w.Exclusive) → ⊥) → RowLooksAfter sort l row a m
-      pays m d free = elim (either (owns_alone row.doing.claims) _ (so _ _ (of m).debtor (debtor_is m d))) [
-        | inl x ↦ absurd (free (alone_so row.doing.claims x))
+      pays : (m : Line) → IsDebtorIn sort row.role m → (row.role.claims ≡ Some (Has w.Exclusive) → ⊥) → RowLooksAfter sort l row a m
+      pays m d free = elim (either (owns_alone row.role.claims) _ (so _ _ (of m).debtor (debtor_is m d))) [
+        | inl x ↦ absurd (free (alone_so row.role.claims x))
         | inr x ↦ looks m x
       ]
 

@@ -20,7 +20,7 @@ holds (Blocked want recursive) word = bars recursive want word
 holds ReadersLeft word = leaves_readers word
 holds (Unfinished forced) word = leaves_unfinished forced word
 
--- whoever was taken is woken
+-- each thread that was taken is woken
 abbrev pub wakes_taken : Bool → Note → Wakes
 wakes_taken any note = if any then wakes.TheVariants.All note else wakes.TheVariants.Nobody
 
@@ -38,7 +38,7 @@ abbrev pub takes_effect : Op → ℕ → Bool
 takes_effect (Exchange from to) seen = seen == from
 takes_effect op seen = true
 
--- what a thread is told that is about to do this
+-- the outcome told to a thread that is about to do this
 abbrev pub outcome_of : Act → Outcome
 outcome_of (End answer) = outcome.TheVariants.End answer
 outcome_of Sleep = outcome.TheVariants.Sleep

@@ -13,7 +13,7 @@ use Rattle.spec_locks.specs.Runs.{LocksState, CallState, Event, Nothing, AtLock,
 use Rattle.spec_locks.specs.Sites.{Deed}
 use Rattle.spec_locks.specs.Deeds.{AreOneCase, event_of, after_event}
 
--- what a call of the lock l has come to, by the row of its place, and by what its thread owns now
+-- the state of a call of the lock l, by the row of its place, and by what its thread owns now
 abbrev pub call_by : ℕ → Profile → (ℕ → Rights) → CallState
 call_by l row rights = record {
   purpose = Some (row.purpose l);
@@ -42,7 +42,7 @@ MayCome l row (AtLock k case) =
     × IsTimely row.late case
 MayCome l row (Moves c m all owned number) = ⊥
 
--- what the thread owns of each lock, where this one is so
+-- the ownership of the thread at each lock, where this one is so
 abbrev pub rights_where : ℕ → LockState → ℕ → (ℕ → Rights) → ℕ → Rights
 rights_where l s t rights = putting rights l (rights_of s t)
 
@@ -70,7 +70,7 @@ abbrev pub ComesTo : Rules → ℕ → Profile → Event → LockState → LockS
 ComesTo r l row event s s2 t (At next) = IsNextCall l row event s s2 t next
 ComesTo r l row event s s2 t (End answer) = IsTrueAnswer r l row event s s2 t answer
 
--- what happens to the lock in a step with these deeds
+-- the effect on the lock of a step with these deeds
 abbrev pub event_at : ℕ → Profile → List Deed → Event
 event_at l row ds = event_of l row.carries ds
 

@@ -19,7 +19,7 @@ use Rattle.steps_base.specs.declared.acts.Wakes.{Wakes}
 use Rattle.steps_base.specs.declared.acts.Whom as whom
 use Rattle.steps_base.specs.Acts.{holds, takes_effect, wakes_taken, any_picked}
 use Rattle.steps_base.specs.Profiles.{Profile, blank, hand, in_hand}
-use Rattle.steps_base.specs.Stations.{Station, station_by, nowhere}
+use Rattle.steps_base.specs.Locations.{Location, location_by, nowhere}
 use Rattle.spec_locks.specs.Locks.{Rules, Queued, Aside, HandOff, Late as GivesUp, Park, TakeAside, TakePicked, Wake, standing, times, unpicked, without}
 use Rattle.spec_locks.specs.Sites.{Site, Claim, Has, Pends, Deed, Line, Main, Second, End, In, Out, Mark, Clear, FindNobody, Case, is_empty}
 use Rattle.spec_locks.specs.Codes.{code}
@@ -36,25 +36,25 @@ pub record Move : Type 0 where
   pub next : Reply → Profile
   pub deeds : (whom : Option ℕ) → Reply → List Deed
 
-abbrev pub station_of : Move → Station
-station_of x = station_by x.row
+abbrev pub location_of : Move → Location
+location_of x = location_by x.row
 
-abbrev pub station_then : Move → Reply → Station
-station_then x told = station_by (x.next told)
+abbrev pub location_then : Move → Reply → Location
+location_then x told = location_by (x.next told)
 
 -- inside the section of a line, and nowhere else
-abbrev pub inside_of : Line → Station
+abbrev pub inside_of : Line → Location
 inside_of m = record nowhere { inside = Some m }
 
 -- ---------------------------------------------------------------- what a thread may be told
 
--- of a lock, and of whom it takes, if anybody
+-- the move of a lock's thread, and of the one that it takes, if any
 abbrev pub Hears : Type 1
 Hears = Rules → Site → ℕ → Option ℕ → Reply → Type 0
 
 -- nobody is inside a section
 abbrev pub IsFree : Site → Line → Type 0
-IsFree s m = (u : ℕ) → (s.doing u).inside ≢ Some m
+IsFree s m = (u : ℕ) → (s.role u).inside ≢ Some m
 
 -- it stands in a line, and whether nobody else does
 abbrev pub StandsAlone : Site → ℕ → Line → Bool → Type 0
@@ -62,14 +62,14 @@ StandsAlone s t Main alone =
     (1 ≤ times t s.lock.queue) × (alone ≡ is_empty (without t s.lock.queue))
 StandsAlone s t Second alone = s.lock.aside ≡ Some t
 
--- who is taken of the second queue, and whether somebody is left in the main one
+-- the waiter taken of the second queue, and whether one is left in the main one
 abbrev pub MayTake : Rules → Site → Option Want → Line → Option ℕ → Bool → Type 0
 MayTake r s start Main whom none_left = none_left ≡ is_empty (unpicked r.sort start s.lock.queue)
 MayTake r s start Second whom none_left = whom ≡ s.lock.aside
 
 -- ---------------------------------------------------------------- deeds
 
--- of a step on the word: nobody is woken by it, or handed the lock
+-- a step on the word: nobody is woken by it, or handed the lock
 abbrev pub AreOfWord : List Deed → Type 0
 AreOfWord [] = Unit {0}
 AreOfWord (End ∷ []) = Unit {0}
@@ -103,48 +103,48 @@ takes_aside (Some u) = Case (TakeAside u)
 
 -- it stays where it is, in no line and in nobody's hand
 pub record StaysPut (x : Move) : Type 0 where
-  pub out : (station_of x).stands ≡ None
-  pub free : (station_of x).hand ≡ None
+  pub out : (location_of x).stands ≡ None
+  pub free : (location_of x).hand ≡ None
   pub deeds : (seen : ℕ) → AreOfWord (x.deeds None (Value seen))
-  pub goes : (seen : ℕ) → station_then x (Value seen) ≡ station_of x
+  pub goes : (seen : ℕ) → location_then x (Value seen) ≡ location_of x
 
 -- it goes into the section of a line
 pub record GoesIn (x : Move) (hears : Hears) (m : Line) (told : Reply) : Type 0 where
-  pub out : (station_of x).inside ≡ None
-  pub free : (station_of x).hand ≡ None
+  pub out : (location_of x).inside ≡ None
+  pub free : (location_of x).hand ≡ None
   pub deeds : x.deeds None told ≡ In m ∷ []
-  pub goes : station_then x told ≡ record (station_of x) { inside = Some m }
+  pub goes : location_then x told ≡ record (location_of x) { inside = Some m }
   pub may : (r : Rules) (s : Site) (t : ℕ) → IsFree s m → hears r s t None told
 
 -- where the test holds, it stands behind the last
 pub record Parks (x : Move) (hears : Hears) (m : Line) (check : Check) (want : Want) : Type 0 where
-  pub was : station_of x ≡ inside_of m
+  pub was : location_of x ≡ inside_of m
   pub parks : x.deeds None (Parked true) ≡ parks_in m want ∷ []
-  pub parked : station_then x (Parked true)
+  pub parked : location_then x (Parked true)
       ≡ record (inside_of m) { stands = Some m; waits = Some want }
   pub turns : x.deeds None (Parked false) ≡ []
-  pub turned : station_then x (Parked false) ≡ inside_of m
+  pub turned : location_then x (Parked false) ≡ inside_of m
   pub may : (r : Rules) (s : Site) (t : ℕ) (b : Bool) → b ≡ holds check (code r s)
       → standing t s.lock ≡ 0 → hears r s t None (Parked b)
 
 -- it takes those of the main line whom the lock lets in beside what it keeps
 pub record Picks (x : Move) (hears : Hears) (start : Option Want) : Type 0 where
-  pub was : station_of x ≡ inside_of Main
+  pub was : location_of x ≡ inside_of Main
   pub deeds : (n : ℕ) (y : Option Want) (none_left : Bool)
       → x.deeds None (Picked n y none_left) ≡ Case (TakePicked start) ∷ []
   pub goes : (n : ℕ) (y : Option Want) (none_left : Bool)
-      → station_then x (Picked n y none_left)
+      → location_then x (Picked n y none_left)
       ≡ record (inside_of Main) { carries = in_hand (any_picked n y) false }
   pub may : (r : Rules) (s : Site) (t n : ℕ) (y : Option Want) (none_left : Bool)
       → MayTake r s start Main None none_left → hears r s t None (Picked n y none_left)
 
 -- it takes the writer aside
 pub record TakesAside (x : Move) (hears : Hears) : Type 0 where
-  pub was : station_of x ≡ inside_of Second
+  pub was : location_of x ≡ inside_of Second
   pub deeds : (u : Option ℕ) (any none_left : Bool)
       → x.deeds u (Took any none_left) ≡ takes_aside u ∷ []
   pub goes : (any none_left : Bool)
-      → station_then x (Took any none_left)
+      → location_then x (Took any none_left)
       ≡ record (inside_of Second) { carries = in_hand any false }
   pub may : (r : Rules) (s : Site) (t : ℕ) (any none_left : Bool)
       → hears r s t s.lock.aside (Took any none_left)
@@ -152,9 +152,9 @@ pub record TakesAside (x : Move) (hears : Hears) : Type 0 where
 -- its time is up, and it leaves the line in which it stands
 pub record LeavesLine (x : Move) (hears : Hears) (m : Line) : Type 0 where
   pub want : Want
-  pub was : station_of x ≡ record (inside_of m) { stands = Some m; waits = Some want }
+  pub was : location_of x ≡ record (inside_of m) { stands = Some m; waits = Some want }
   pub deeds : (none_left : Bool) → x.deeds None (Removed none_left) ≡ Case GivesUp ∷ []
-  pub goes : (none_left : Bool) → station_then x (Removed none_left) ≡ inside_of m
+  pub goes : (none_left : Bool) → location_then x (Removed none_left) ≡ inside_of m
   pub may : (r : Rules) (s : Site) (t : ℕ) (none_left : Bool) → StandsAlone s t m none_left
       → hears r s t None (Removed none_left)
 
@@ -162,22 +162,22 @@ pub record LeavesLine (x : Move) (hears : Hears) (m : Line) : Type 0 where
 pub record GoesOut (x : Move) (hears : Hears) (m : Line) (wakes : Wakes) : Type 0 where
   pub any : Bool
   pub notes : wakes ≡ wakes_taken any Normal
-  pub inside : (station_of x).inside ≡ Some m
-  pub carries : (station_of x).carries ≡ in_hand any false
-  pub free : (station_of x).hand ≡ None
+  pub inside : (location_of x).inside ≡ Some m
+  pub carries : (location_of x).carries ≡ in_hand any false
+  pub free : (location_of x).hand ≡ None
   pub deeds : AreLeaving (x.deeds None Done)
-  pub goes : station_then x Done ≡ record (station_of x) { inside = None; carries = None }
+  pub goes : location_then x Done ≡ record (location_of x) { inside = None; carries = None }
   pub may : (r : Rules) (s : Site) (t : ℕ) → s.lock.taken t ≡ None → hears r s t None Done
 
 -- ---------------------------------------------------------------- a right is handed over
 
--- what a thread claims that was handed what it wanted: a writer beside readers is pending, with
--- nothing to fall back to
+-- the claim of a thread that was handed what it wanted: a writer beside readers is pending, with nothing to
+-- fall back to
 abbrev pub claim_handed : Bool → Want → Claim
 claim_handed false Exclusive = Pends false
 claim_handed alone x = Has x
 
--- whom the right goes to that one alone can have, if to anybody, and what it wants
+-- the waiter that gets the right that one alone can have, if any, and its want
 abbrev pub heir_of : Option ℕ → Option Want → Option Queued
 heir_of (Some u) (Some x) = Some (record { thread = u; want = x })
 heir_of whom x = None
@@ -189,47 +189,47 @@ bit_left none_left = if none_left then Clear Main else Mark Main
 -- it hands a right of its own over to all whom it has in hand, where its operation takes effect
 pub record HandsOver (x : Move) (op : Op) : Type 0 where
   pub right : Want
-  -- what the one of them wants that wants more than to share
+  -- the want of the one among them that wants more than to share
   pub successor : Option Want
   pub any : Bool
   pub none_left : Bool
-  pub was : station_of x ≡ record (inside_of Main) { carries = in_hand any false }
+  pub was : location_of x ≡ record (inside_of Main) { carries = in_hand any false }
   pub deeds : (whom : Option ℕ) (seen : ℕ) → takes_effect op seen ≡ true
       → x.deeds whom (Value seen)
       ≡ Case (HandOff right (heir_of whom successor)) ∷ bit_left none_left ∷ []
   pub goes : (seen : ℕ) → takes_effect op seen ≡ true
-      → station_then x (Value seen) ≡ record (inside_of Main) { carries = in_hand any true }
+      → location_then x (Value seen) ≡ record (inside_of Main) { carries = in_hand any true }
   pub fails : (whom : Option ℕ) (seen : ℕ) → takes_effect op seen ≡ false
       → x.deeds whom (Value seen) ≡ []
-  pub stays : (seen : ℕ) → takes_effect op seen ≡ false → station_then x (Value seen) ≡ station_of x
+  pub stays : (seen : ℕ) → takes_effect op seen ≡ false → location_then x (Value seen) ≡ location_of x
 
 -- then it goes out of the section, and tells them
 pub record TellsHanded (x : Move) (hears : Hears) (wakes : Wakes) : Type 0 where
   pub any : Bool
   pub notes : wakes ≡ wakes_taken any HandOffNote
-  pub was : station_of x ≡ record (inside_of Main) { carries = in_hand any true }
+  pub was : location_of x ≡ record (inside_of Main) { carries = in_hand any true }
   pub deeds : AreLeaving (x.deeds None Done)
-  pub goes : station_then x Done ≡ nowhere
+  pub goes : location_then x Done ≡ nowhere
   pub may : (r : Rules) (s : Site) (t : ℕ) → s.lock.taken t ≡ None → hears r s t None Done
 
 -- and who was told so ends its call
 pub record Accepts (x : Move) (hears : Hears) : Type 0 where
-  pub was : station_of x ≡ nowhere
+  pub was : location_of x ≡ nowhere
   pub deeds : x.deeds None Done ≡ End ∷ []
-  pub goes : station_then x Done ≡ nowhere
+  pub goes : location_then x Done ≡ nowhere
   pub may : (r : Rules) (s : Site) (t : ℕ) → hears r s t None Done
 
 -- in the hand of a thread, it may be handed what it wants, which it claims then
 pub record IsGiven (x : Move) (u : ℕ) (want : Want) (alone : Bool) : Type 0 where
-  pub goes : station_then x (HandedBy u alone) ≡ record nowhere { hand = hand u true }
-  pub claims : (x.next (HandedBy u alone)).doing
-      ≡ record x.row.doing { claims = Some (claim_handed alone want) }
+  pub goes : location_then x (HandedBy u alone) ≡ record nowhere { hand = hand u true }
+  pub claims : (x.next (HandedBy u alone)).role
+      ≡ record x.row.role { claims = Some (claim_handed alone want) }
 
 -- and is told so when that thread leaves the section
 pub record WasGiven (x : Move) (u : ℕ) : Type 0 where
-  pub was : station_of x ≡ record nowhere { hand = hand u true }
-  pub goes : station_then x (Woken HandOffNote) ≡ nowhere
-  pub doing : (x.next (Woken HandOffNote)).doing ≡ x.row.doing
+  pub was : location_of x ≡ record nowhere { hand = hand u true }
+  pub goes : location_then x (Woken HandOffNote) ≡ nowhere
+  pub role : (x.next (Woken HandOffNote)).role ≡ x.row.role
 
 -- ---------------------------------------------------------------- all acts
 
@@ -256,24 +256,24 @@ Moves l recursive x hears act = ⊥
 -- asleep in a line, it may be taken
 pub record Sleeps (x : Move) (m : Line) : Type 0 where
   pub want : Want
-  pub was : station_of x ≡ record nowhere { stands = Some m; waits = Some want }
-  pub taken : (u : ℕ) → station_then x (TakenBy u) ≡ record nowhere { hand = hand u false }
+  pub was : location_of x ≡ record nowhere { stands = Some m; waits = Some want }
+  pub taken : (u : ℕ) → location_then x (TakenBy u) ≡ record nowhere { hand = hand u false }
   pub wants : (u : ℕ) → (x.next (TakenBy u)).wants ≡ Some want
-  pub doing : (u : ℕ) → (x.next (TakenBy u)).doing ≡ x.row.doing
+  pub role : (u : ℕ) → (x.next (TakenBy u)).role ≡ x.row.role
 
 -- in the hand of a thread, it may be woken, and tries again
 pub record IsHeld (x : Move) (u : ℕ) : Type 0 where
   pub want : Want
   pub wants : x.row.wants ≡ Some want
-  pub was : station_of x ≡ record nowhere { hand = hand u false }
-  pub woken : station_then x (Woken Normal) ≡ nowhere
-  pub doing : (x.next (Woken Normal)).doing ≡ record x.row.doing { retries = Some want }
+  pub was : location_of x ≡ record nowhere { hand = hand u false }
+  pub woken : location_then x (Woken Normal) ≡ nowhere
+  pub role : (x.next (Woken Normal)).role ≡ record x.row.role { retries = Some want }
 
--- who stands in a line sleeps there or is inside its section, only a pending writer stands aside,
--- and who is in a hand is so to be woken
+-- a thread that stands in a line sleeps there or is inside its section, only a pending writer stands aside,
+-- and one in a hand is so to be woken
 pub record Waits (x : Move) : Type 0 where
   pub aside : x.row.stands ≡ Some Second
       → (x.row.wants ≡ Some Exclusive)
-      × ((falls_back : Bool) × (x.row.doing.claims ≡ Some (Pends falls_back)))
-  pub stands : (m : Line) → x.row.stands ≡ Some m → ((station_of x).inside ≡ Some m) ⊎ Sleeps x m
+      × ((falls_back : Bool) × (x.row.role.claims ≡ Some (Pends falls_back)))
+  pub stands : (m : Line) → x.row.stands ≡ Some m → ((location_of x).inside ≡ Some m) ⊎ Sleeps x m
   pub held : (u : ℕ) (handed : Bool) → x.row.hand ≡ hand u handed → (handed ≡ false) × IsHeld x u

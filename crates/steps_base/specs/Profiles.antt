@@ -5,8 +5,9 @@ use Rattle.core_base.specs.declared.wants.Want.{Want}
 use Rattle.core_base.specs.declared.wants.Want.TheVariants.{Exclusive}
 use Rattle.spec_locks.specs.Condvars.{Stage}
 use Rattle.spec_locks.specs.Locks.{Rights, Taken}
-use Rattle.spec_locks.specs.Purposes.{Purpose, Enters, Try, Recall, Blank}
-use Rattle.spec_locks.specs.Sites.{Doing, Line, idle}
+use Rattle.spec_locks.specs.Purposes.{Purpose, Enters, Recall, Blank}
+use Rattle.spec_locks.specs.declared.calls.Patience.TheVariants.{Try}
+use Rattle.spec_locks.specs.Sites.{Role, Line, idle}
 
 -- in whose hand a thread is, and whether it was handed the lock since
 pub data Hand : Type 0 where
@@ -27,15 +28,15 @@ abbrev pub in_hand : Bool → Bool → Option Bool
 in_hand any handed = if any then Some handed else None
 
 pub record Profile : Type 0 where
-  -- what it does about the lock
-  pub doing : Doing
+  -- its deeds at the lock
+  pub role : Role
   -- in which line it stands
   pub stands : Option Line
   -- whether it has anybody in hand, and if so, whether it has handed the lock over
   pub carries : Option Bool
   -- in whose hand it is
   pub hand : Option Hand
-  -- what it wants, where it waits
+  -- its want, where it waits
   pub wants : Option Want
   -- on which line it is shown to owe a wake, and whether to try again
   pub owes : Option Line
@@ -48,22 +49,21 @@ pub record Profile : Type 0 where
   pub gave_up : Bool
   -- its run of a `Once` failed
   pub failed : Bool
-  -- what a call of a condition variable has seen and moved, and what befell it
+  -- a call of a condition variable: what it has seen and moved, and what befell it
   pub recalls : Recall
-  -- what it is about to do inside the section of a condition variable, and the mutex that its wait
-  -- names
+  -- its next deed inside the section of a condition variable, and the mutex that its wait names
   pub stage : Option Stage
   pub names : Option ℕ
-  -- what its call is for, by the lock, and whether it has given its right up
+  -- the goal of its call, by the lock, and whether it has given its right up
   pub purpose : ℕ → Purpose
   pub released : Bool
-  -- what it owned of each lock as its call of this one began, by what it owns now
+  -- its ownership of each lock as its call of this one began, by what it owns now
   pub former : ℕ → (ℕ → Rights) → ℕ → Rights
 
 -- the row of a try: each other row is told by what is otherwise
 abbrev pub blank : Profile
 blank = record {
-  doing = idle;
+  role = idle;
   stands = None;
   carries = None;
   hand = None;
@@ -85,7 +85,7 @@ blank = record {
 
 -- it brings no waiters: only a condition variable does
 abbrev pub bringing_nobody : Profile → Profile
-bringing_nobody row = record row { doing = record row.doing { brings = false; sets = false } }
+bringing_nobody row = record row { role = record row.role { brings = false; sets = false } }
 
 -- by whom it was taken from a queue of the lock, where it was not handed the lock since
 abbrev pub taken_from : Option Hand → Option Want → Bool → Option Taken

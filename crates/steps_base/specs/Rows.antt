@@ -15,7 +15,7 @@ use Rattle.spec_locks.specs.Locks.{Sort, Taken, Knows, Once}
 use Rattle.spec_locks.specs.Locks as locks
 use Rattle.spec_locks.specs.Purposes.{Purpose, Enters, Releases, Converts, Bumps, CallsOnce, Awaits, Waits, Notifies, MayWait, IsReleasing, lock_for}
 use Rattle.spec_locks.specs.Runs.{IsTimed}
-use Rattle.spec_locks.specs.Sites.{Claim, Doing, Line, Main, Second, Has, Pends, IsDebtor, counts_some, has_readers}
+use Rattle.spec_locks.specs.Sites.{Claim, Role, Line, Main, Second, Has, Pends, IsDebtor, counts_some, has_readers}
 
 -- ---------------------------------------------------------------- calls
 
@@ -44,7 +44,7 @@ KnowsRights sort None = Unit {0}
 
 -- ---------------------------------------------------------------- rows
 
--- what a thread in a call does
+-- the doing of a thread in a call
 abbrev pub is_acting : Act → Bool
 is_acting Rest = false
 is_acting (End answer) = false
@@ -70,28 +70,28 @@ pub record WasHanded (sort : Sort) (l : ℕ) (row : Profile) : Type 0 where
   pub waited : MayWait (Some (row.purpose l)) l
   pub want : Want
   pub wants : want_of (Some (row.purpose l)) ≡ Some want
-  pub has : HasClaimed sort row.doing.claims want
+  pub has : HasClaimed sort row.role.claims want
 
 -- its call lets others in
 abbrev pub LetsIn : Sort → ℕ → Profile → Type 0
 LetsIn sort l row =
     IsReleasing (Some (row.purpose l)) row.released l
-    ⊎ ((has_readers sort ≡ true) × (IsDowngrade (Some (row.purpose l)) l ⊎ ((row.gave_up ≡ true) × (row.doing.inside ≡ None))))
+    ⊎ ((has_readers sort ≡ true) × (IsDowngrade (Some (row.purpose l)) l ⊎ ((row.gave_up ≡ true) × (row.role.inside ≡ None))))
 
 -- on its way into the section of this line
 abbrev pub LetsInAt : Sort → ℕ → Profile → Line → Type 0
 LetsInAt sort l row m = LetsIn sort l row ⊎ WakesAside (Some (row.purpose l)) l m
 
--- who owes a wake on a line is inside its section, or lets others in and is on its way into it
+-- a thread that owes a wake on a line is inside its section, or lets others in and is on its way into it
 pub record RowOwes (sort : Sort) (l : ℕ) (row : Profile) (a : Act) : Type 0 where
   pub owes : (m : Line) → row.owes ≡ Some m
-      → (row.doing.inside ≡ Some m) ⊎ ((a ≡ Enter (One (key_of l m))) × LetsInAt sort l row m)
-  pub inside : (m : Line) → row.doing.inside ≡ Some m → row.owes ≡ Some m
+      → (row.role.inside ≡ Some m) ⊎ ((a ≡ Enter (One (key_of l m))) × LetsInAt sort l row m)
+  pub inside : (m : Line) → row.role.inside ≡ Some m → row.owes ≡ Some m
   pub entering : (m : Line) → a ≡ Enter (One (key_of l m)) → LetsInAt sort l row m → row.owes ≡ Some m
   pub second : row.owes ≡ Some Second → has_readers sort ≡ true
 
 -- it is to look after the waiters of a line, by what it does
-abbrev pub IsDebtorIn : Sort → Doing → Line → Type 0
+abbrev pub IsDebtorIn : Sort → Role → Line → Type 0
 IsDebtorIn sort d Main = IsDebtor sort d
 IsDebtorIn sort d Second = d.wakes ≡ Some Second
 
@@ -108,7 +108,7 @@ pub record RowLooksAfter (sort : Sort) (l : ℕ) (row : Profile) (a : Act) (m : 
   pub stands : row.stands ≡ None
   pub taken : taken_of row ≡ None
 
--- who sleeps and may give up stands in the line, in a call that has a deadline and lets nobody in
+-- a sleeper that may give up stands in the line, in a call that has a deadline and lets nobody in
 pub record RowIsLate (sort : Sort) (l : ℕ) (row : Profile) (a : Act) (m : Line) : Type 0 where
   pub stands : row.stands ≡ Some m
   pub asleep : a ≡ Sleep
@@ -120,19 +120,19 @@ pub record RowPromises (sort : Sort) (l : ℕ) (row : Profile) (a : Act) : Type 
   pub own : lock_for (row.purpose l) ≡ l
   -- it has something to do
   pub acts : is_acting a ≡ true
-  -- who waits is in a call that may
+  -- a waiter is in a call that may wait
   pub waits : IsWaiting row → MayWait (Some (row.purpose l)) l
   -- and it is for rights that the lock knows
   pub known : (sorts : ℕ → Sort) → sorts l ≡ sort → KnowsRights sorts (Some (row.purpose l))
   -- in the second line stands only who is pending
-  pub aside : row.stands ≡ Some Second → (b : Bool) × (row.doing.claims ≡ Some (Pends b))
+  pub aside : row.stands ≡ Some Second → (b : Bool) × (row.role.claims ≡ Some (Pends b))
   pub owing : RowOwes sort l row a
-  pub debtor : (m : Line) → IsDebtorIn sort row.doing m → (row.doing.claims ≡ Some (Has Exclusive) → ⊥)
+  pub debtor : (m : Line) → IsDebtorIn sort row.role m → (row.role.claims ≡ Some (Has Exclusive) → ⊥)
       → RowLooksAfter sort l row a m
   pub asleep : a ≡ Sleep → IsWaiting row ⊎ WasHanded sort l row
-  -- who has handed the lock over leaves its section next, and tells so
+  -- a thread that has handed the lock over leaves its section next, and tells so
   pub tells : row.carries ≡ Some true
-      → (a ≡ Leave (One (2 * l)) (wakes.TheVariants.All note.HandOff)) × (row.doing.inside ≡ Some Main)
+      → (a ≡ Leave (One (2 * l)) (wakes.TheVariants.All note.HandOff)) × (row.role.inside ≡ Some Main)
   pub late : (m : Line) → row.late_line ≡ Some m → RowIsLate sort l row a m
   pub may_be_late : (m : Line) → row.stands ≡ Some m → a ≡ Sleep → IsTimed (Some (row.purpose l)) row.recalls l
       → row.late_line ≡ Some m

@@ -3,7 +3,7 @@ use Rattle.std.proofs.Common.{ℕ, Bool, true, false, Option, Some, None, if◌t
 use Rattle.std.proofs.lemmas.Bool.Decides.{nat_tests}
 use Rattle.steps_mutex.specs.declared.lock.Entry.{Entry}
 use Rattle.spec_locks.specs.Locks.{putting}
-use Rattle.spec_locks.specs.Sites.{Has, Doing}
+use Rattle.spec_locks.specs.Sites.{Has, Role}
 use Rattle.steps_condvar.proofs.NotifierFit.{put_same}
 use Rattle.std.specs.Prelude.{nat_lt, not, ◌||◌}
 use Rattle.core_base.specs.declared.keys.Keys.TheVariants.{One}
@@ -16,9 +16,9 @@ use Rattle.steps_base.specs.declared.acts.Next.{Next}
 use Rattle.steps_base.specs.declared.acts.Next.TheVariants.{At, End as Over}
 use Rattle.steps_base.specs.declared.acts.Reply.{Reply}
 use Rattle.steps_base.specs.declared.acts.Reply.TheVariants.{Value}
-use Rattle.steps_base.specs.Moves.{inside_of, station_of}
+use Rattle.steps_base.specs.Moves.{inside_of, location_of}
 use Rattle.steps_base.specs.Profiles.{Hand, hand, in_hand}
-use Rattle.steps_base.specs.Stations.{Station, nowhere, station_by}
+use Rattle.steps_base.specs.Locations.{Location, nowhere, location_by}
 use Rattle.spec_locks.specs.Condvars.{MissIt, SeeAgain, SeeOther, Show}
 use Rattle.spec_locks.specs.Locks.{Leave, Queued}
 use Rattle.spec_locks.specs.Sites.{Case, End, Line, Main, Mark, MarkOwned}
@@ -47,11 +47,11 @@ use Rattle.steps_condvar.specs.CondvarCalls.{IsLockOf, IsReached}
 use Rattle.steps_condvar.specs.CondvarMoves.{WaitersLookAgain, WaitsBegin, CondvarMoves, IsInHand, LooksMove, NotifiesMove, SleepsBeside, SleepsThere, StayBeside, StayThere, StaysBeside, StaysThere, WaitersMove, WaitsAtBoth, WaitsMove, beside, row_beside, row_there, there}
 
 -- where a thread is next, at each lock
-abbrev there_next : Next CondvarPlace → Station
-there_next n = station_by (row_there n)
+abbrev there_next : Next CondvarPlace → Location
+there_next n = location_by (row_there n)
 
-abbrev beside_next : Next CondvarPlace → Station
-beside_next n = station_by (row_beside n)
+abbrev beside_next : Next CondvarPlace → Location
+beside_next n = location_by (row_beside n)
 
 -- ---------------------------------------------------------------- the release
 
@@ -62,7 +62,7 @@ module _ (c m : ℕ) (timed : Bool) where
   abbrev releasing : Stands → UnlockAt → CondvarPlace
   releasing st at = place (wait.Release st (mutex.Unlock at))
 
-  -- behind it, it is where what befell it says
+  -- after it, it is where what befell it says
   behind_there : (st : Stands) → there (place (behind st)) ≡ there (releasing st unlock.Subtract)
   behind_there stands.Listed = refl
   behind_there stands.Moved = refl
@@ -71,7 +71,7 @@ module _ (c m : ℕ) (timed : Bool) where
   behind_there (stands.Noted note.Normal) = refl
   behind_there (stands.Noted note.HandOff) = refl
 
-  behind_beside : (st : Stands) → station_by (mutex_side (place (behind st))) ≡ station_by (mutex_side (releasing st unlock.Subtract))
+  behind_beside : (st : Stands) → location_by (mutex_side (place (behind st))) ≡ location_by (mutex_side (releasing st unlock.Subtract))
   behind_beside stands.Listed = refl
   behind_beside stands.Moved = refl
   behind_beside (stands.InHand by) = refl
@@ -86,7 +86,7 @@ module _ (c m : ℕ) (timed : Bool) where
       by_there true = refl
       by_there false = behind_there st
 
-      by_beside : (b : Bool) → beside_next (in_wait m timed (At (released st (in_unlock (if b then At unlock.Enter else Over answer.Ok))))) ≡ station_by (mutex_side (releasing st unlock.Subtract))
+      by_beside : (b : Bool) → beside_next (in_wait m timed (At (released st (in_unlock (if b then At unlock.Enter else Over answer.Ok))))) ≡ location_by (mutex_side (releasing st unlock.Subtract))
       by_beside true = refl
       by_beside false = behind_beside st
 
@@ -104,7 +104,7 @@ module _ (c m : ℕ) (timed : Bool) where
       takes_so None any none_left = refl
       takes_so (Some u) any none_left = refl
 
-      took : (any none_left : Bool) → beside_next (in_wait m timed (At (released st (in_unlock (if none_left then At (unlock.Clear any) else At (unlock.Leave any)))))) ≡ record (station_by (mutex_side (releasing st unlock.Take))) { carries = in_hand any false }
+      took : (any none_left : Bool) → beside_next (in_wait m timed (At (released st (in_unlock (if none_left then At (unlock.Clear any) else At (unlock.Leave any)))))) ≡ record (location_by (mutex_side (releasing st unlock.Take))) { carries = in_hand any false }
       took any true = refl
       took any false = refl
 
@@ -258,10 +258,10 @@ module _ (c m : ℕ) (q : List Queued) where
   Stays all at told = StaysThere (notifying all at) told × StaysBeside (beside q (notifying all at)) told
 
   -- inside both sections, with those whom it has taken, if any, in hand
-  abbrev both_with : Bool → Station
+  abbrev both_with : Bool → Location
   both_with any = record (inside_of Main) { carries = in_hand any false }
 
-  leaving_is : (all any : Bool) (number : ℕ) → station_by (mutex_side (notifying all (notify.Leave any number))) ≡ both_with any
+  leaving_is : (all any : Bool) (number : ℕ) → location_by (mutex_side (notifying all (notify.Leave any number))) ≡ both_with any
   leaving_is all any number = λ i. record (both_with any) { inside = sections (number == 0) i }
     where
       sections : (b : Bool) → (if b then inside else has_moved any false).inside ≡ Some Main
@@ -293,7 +293,7 @@ module _ (c m : ℕ) (q : List Queued) where
     marked_there seen true = refl
     marked_there seen false = refl
 
-    marked_beside : (seen : ℕ) (b : Bool) → station_by (mutex_side (notifying all (if b then notify.Set seen else notify.Move false))) ≡ inside_of Main
+    marked_beside : (seen : ℕ) (b : Bool) → location_by (mutex_side (notifying all (if b then notify.Set seen else notify.Move false))) ≡ inside_of Main
     marked_beside seen true = refl
     marked_beside seen false = refl
 
@@ -316,7 +316,7 @@ module _ (c m : ℕ) (q : List Queued) where
   one_there any true = refl
   one_there any false = refl
 
-  one_beside : (any b : Bool) → station_by (mutex_side (notifying false (moved_one any b))) ≡ both_with any
+  one_beside : (any b : Bool) → location_by (mutex_side (notifying false (moved_one any b))) ≡ both_with any
   one_beside any true = refl
   one_beside any false = refl
 
@@ -324,7 +324,7 @@ module _ (c m : ℕ) (q : List Queued) where
   all_there any number true = refl
   all_there any number false = refl
 
-  all_beside : (number : ℕ) (b : Bool) → station_by (mutex_side (notifying true (if b then notify.MarkMoved number else notify.Leave true number))) ≡ both_with true
+  all_beside : (number : ℕ) (b : Bool) → location_by (mutex_side (notifying true (if b then notify.MarkMoved number else notify.Leave true number))) ≡ both_with true
   all_beside number true = refl
   all_beside number false = leaving_is true true number
 
@@ -351,7 +351,7 @@ module _ (c m : ℕ) (q : List Queued) where
       inr (inr (
         refl,
         record { inside = refl; deeds = tt; goes = refl },
-        record { any = any; notes = refl; inside = ap (λ (x : Station). x.inside) (leaving_is all any number); carries = refl; deeds = tt; goes = refl },
+        record { any = any; notes = refl; inside = ap (λ (x : Location). x.inside) (leaving_is all any number); carries = refl; deeds = tt; goes = refl },
       ))
 
 pub notifies_move : NotifiesMove
@@ -374,7 +374,7 @@ looks_move c m all = (inl refl, λ seen. (record { deeds = tt; goes = by_there s
 -- ---------------------------------------------------------------- what befalls a waiter
 
 -- it stands in neither queue, and is in nobody's hand
-awake : (p : CondvarPlace) → (there p).stands ≡ None → (station_of (beside [] p)).stands ≡ None → (station_of (beside [] p)).hand ≡ None → WaitsAtBoth p
+awake : (p : CondvarPlace) → (there p).stands ≡ None → (location_of (beside [] p)).stands ≡ None → (location_of (beside [] p)).hand ≡ None → WaitsAtBoth p
 awake p out off free = record {
   listed = λ e. absurd (let g : ◌≡◌ {A = Option Line} None (Some Main) = sym out ∙ e in cc);
   moved = λ e. absurd (let g : ◌≡◌ {A = Option Line} None (Some Main) = sym off ∙ e in cc);
@@ -385,21 +385,21 @@ module _ (m : ℕ) (timed : Bool) where
   abbrev waiting : WaitAt → CondvarPlace
   waiting at = Wait m timed at
 
-  listed : (p : CondvarPlace) → ((there p).inside ≡ Some Main) ⊎ SleepsThere p → (station_of (beside [] p)).stands ≡ None → (station_of (beside [] p)).hand ≡ None → WaitsAtBoth p
+  listed : (p : CondvarPlace) → ((there p).inside ≡ Some Main) ⊎ SleepsThere p → (location_of (beside [] p)).stands ≡ None → (location_of (beside [] p)).hand ≡ None → WaitsAtBoth p
   listed p so off free = record {
     listed = λ e. so;
     moved = λ e. absurd (let g : ◌≡◌ {A = Option Line} None (Some Main) = sym off ∙ e in cc);
     held = λ u handed e. absurd (let g : ◌≡◌ {A = Option Hand} None (hand u handed) = sym free ∙ e in cc);
   }
 
-  moved : (p : CondvarPlace) → ((station_of (beside [] p)).inside ≡ Some Main) ⊎ SleepsBeside p → (there p).stands ≡ None → (station_of (beside [] p)).hand ≡ None → WaitsAtBoth p
+  moved : (p : CondvarPlace) → ((location_of (beside [] p)).inside ≡ Some Main) ⊎ SleepsBeside p → (there p).stands ≡ None → (location_of (beside [] p)).hand ≡ None → WaitsAtBoth p
   moved p so out free = record {
     listed = λ e. absurd (let g : ◌≡◌ {A = Option Line} None (Some Main) = sym out ∙ e in cc);
     moved = λ e. so;
     held = λ u handed e. absurd (let g : ◌≡◌ {A = Option Hand} None (hand u handed) = sym free ∙ e in cc);
   }
 
-  in_hand_of : (p : CondvarPlace) (by : ℕ) (given : Bool) → (there p).stands ≡ None → (station_of (beside [] p)).stands ≡ None → (station_of (beside [] p)).hand ≡ hand by given
+  in_hand_of : (p : CondvarPlace) (by : ℕ) (given : Bool) → (there p).stands ≡ None → (location_of (beside [] p)).stands ≡ None → (location_of (beside [] p)).hand ≡ hand by given
       → ((u : ℕ) → hand by given ≡ hand u given → IsInHand p u given) → WaitsAtBoth p
   in_hand_of p by given out off holds so = record {
     listed = λ e. absurd (let g : ◌≡◌ {A = Option Line} None (Some Main) = sym out ∙ e in cc);
@@ -444,8 +444,8 @@ waits_begin v r s t c m timed away own is = record {
   reached = tt;
   needed = ((away.unlisted, away.outside), own);
   at = record { stage = away.outside; listed = away.unlisted; names = names };
-  doing = put_same s.doing t _ ∙ ap (λ (d : Doing). record d { claims = Some (Has Exclusive) }) is;
-  stations = (refl, refl);
+  role = put_same s.role t _ ∙ ap (λ (d : Role). record d { claims = Some (Has Exclusive) }) is;
+  locations = (refl, refl);
   call = λ rights. refl;
 }
   where

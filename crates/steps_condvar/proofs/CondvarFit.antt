@@ -16,7 +16,7 @@ use Rattle.steps_base.specs.declared.owners.Owners.{Owners}
 use Rattle.spec_locks.specs.Condvars.{Stage, Rests, Refuses, Misses, Sees, Takes, Clears, Inside, CondvarSite, IsCondvar, CondvarDeed, Show, SeeOther, SeeAgain, MissIt, Hide, MoveFirst, MoveAll, LeaveList, Clear, MayGo, MayGoOut, IsAsInside, IsInsideAt, IsInsideNot, at, condvar_leads, hidden, waiter}
 use Rattle.spec_locks.specs.Condvars as condvars
 use Rattle.spec_locks.specs.Locks.{Queued, putting, times, without}
-use Rattle.spec_locks.specs.Sites.{Doing, is_empty}
+use Rattle.spec_locks.specs.Sites.{Role, is_empty}
 use Rattle.spec_locks.proofs.CondvarKeeps.{move_fits}
 use Rattle.spec_locks.proofs.LockKeeps.{times_append}
 use Rattle.steps_mutex.specs.declared.hand_off.HandOffAt.TheVariants as hand_off
@@ -93,7 +93,7 @@ record Does (c : CondvarSite) (t : ℕ) (ds : List CondvarDeed) (n : Next Condva
   pub next : IsAtNext (after_all ds c t) t n
 
 module _ (c : CondvarSite) (t : ℕ) (site : IsCondvar c) where
-  -- what t knows by its stage
+  -- tells what t knows by its stage
   known : (stage : Stage) → IsInsideAt c t stage → condvars.IsAt c t stage
   known stage e = subst (λ (i : Option Inside). IsAsInside c i) e site.inside
 
@@ -360,6 +360,6 @@ condvar_steps_code c t k p f is ne = leaves_word c t k p f is ne
 -- ---------------------------------------------------------------- with the mutex
 
 pub condvar_moves_fit : CondvarMovesFit
-condvar_moves_fit r all locked c s t m sort site aside a doing =
-    move_fits r all locked c s t m sort site aside a.stage (ap (λ (d : Doing). d.inside) doing) (ap (λ (d : Doing). d.carries) doing)
-    (ap (λ (d : Doing). d.wakes) doing) (ap (λ (d : Doing). d.retries) doing) (λ e. ap (λ (d : Doing). d.brings) doing ∙ e)
+condvar_moves_fit r all locked c s t m sort site aside a role =
+    move_fits r all locked c s t m sort site aside a.stage (ap (λ (d : Role). d.inside) role) (ap (λ (d : Role). d.carries) role)
+    (ap (λ (d : Role). d.wakes) role) (ap (λ (d : Role). d.retries) role) (λ e. ap (λ (d : Role). d.brings) role ∙ e)

@@ -170,9 +170,9 @@ goes_behind m timed (stands.Handed by) = tt
 goes_behind m timed (stands.Noted note.Normal) = ((λ e. cc), tt)
 goes_behind m timed (stands.Noted note.HandOff) = ((λ e. cc), tt)
 
--- behind its first step it owns the mutex no more
+-- after its first step it owns the mutex no more
 abbrev OwnsNot : Stands → Next UnlockAt → Type 0
-OwnsNot st (At q) = has_mutex st ≡ true → (mutex_profile (mutex.Unlock q)).doing.claims ≡ None
+OwnsNot st (At q) = has_mutex st ≡ true → (mutex_profile (mutex.Unlock q)).role.claims ≡ None
 OwnsNot st (Over answer) = Unit {0}
 
 owns_not : (st : Stands) (at : UnlockAt) (told : Reply) → OwnsNot st (At at) → OwnsNot st (next_unlock at told)

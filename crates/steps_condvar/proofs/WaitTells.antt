@@ -132,7 +132,7 @@ module _ (v : CondvarSite) (limit : ℕ) (s : Site) (t c m : ℕ) (timed : Bool)
   Follows at whom told =
       CallFollows c m (place at) told (wait_event c m at whom told) (deeds.after_all (condvar_deeds (place at) told) v t).shown s.lock (after_all r (waiter_deeds at whom told) s t).lock t (condvar_next (place at) told)
 
-  releases : (st : Stands) (at : UnlockAt) (whom : Option ℕ) (told : Reply) → s.doing t ≡ (wait_row m (wait.Release st (mutex.Unlock at))).doing → MayHearReleasing r s t st at whom told → Follows (wait.Release st (mutex.Unlock at)) whom told
+  releases : (st : Stands) (at : UnlockAt) (whom : Option ℕ) (told : Reply) → s.role t ≡ (wait_row m (wait.Release st (mutex.Unlock at))).role → MayHearReleasing r s t st at whom told → Follows (wait.Release st (mutex.Unlock at)) whom told
   releases st unlock.Subtract whom (Value seen) is f = by_bit (is_parked seen)
     where
       by_bit : (b : Bool)
@@ -237,7 +237,7 @@ module _ (v : CondvarSite) (limit : ℕ) (s : Site) (t c m : ℕ) (timed : Bool)
       by true = (released, other, own)
       by false = (released, other, own)
 
-  tells : (at : WaitAt) (whom : Option ℕ) (told : Reply) → IsAt v t (place at) → s.doing t ≡ (wait_row m at).doing → MayHearWaiter r s t at whom told → IsReached (place at) → Follows at whom told
+  tells : (at : WaitAt) (whom : Option ℕ) (told : Reply) → IsAt v t (place at) → s.role t ≡ (wait_row m at).role → MayHearWaiter r s t at whom told → IsReached (place at) → Follows at whom told
   tells wait.Enter whom Done a is f reached = keeps c m t _ _ Done Nothing v.shown s.lock _ tt refl (λ rights. refl)
   tells wait.Show whom (Value seen) a is f reached = shows seen ((seen == 0) || is_shown seen m)
   tells wait.Stand whom Done a is f reached = keeps c m t _ _ Done (AtLock c (Park WaitHere)) v.shown s.lock _ (inl (refl, (refl, refl)), tt) refl (λ rights. refl)
@@ -264,7 +264,7 @@ waits_tell v r s t c m timed at whom told sort site a h is hears f reached =
 
 -- ---------------------------------------------------------------- what befalls it
 
-handed_release : (c m : ℕ) (timed : Bool) (by u : ℕ) (alone : Bool) (at : MutexPlace) (rights : ℕ → Rights) → (mutex_profile at).doing.claims ≡ None
+handed_release : (c m : ℕ) (timed : Bool) (by u : ℕ) (alone : Bool) (at : MutexPlace) (rights : ℕ → Rights) → (mutex_profile at).role.claims ≡ None
     → call_at c m (Wait m timed (wait.Release (stands.Handed u) at)) (one_more_at m Exclusive rights)
     ≡ record (call_at c m (Wait m timed (wait.Release (stands.InHand by) at)) rights) { retries = None; recalls = WasNotified }
 handed_release c m timed by u alone at rights e =

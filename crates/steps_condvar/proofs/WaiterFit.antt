@@ -22,7 +22,7 @@ use Rattle.steps_base.specs.Owners.{with_exclusive}
 use Rattle.spec_locks.specs.Codes.{code}
 use Rattle.spec_locks.specs.Deeds.{AllNeeded, after_all}
 use Rattle.spec_locks.specs.Locks.{Enter, HasTakenNobody, IsSomePending, KnowsAll, Pending, aside_without, Late as GivesUp, Leave, Mutex, Queued, Rules, Knows, first_thread, standing, times, without}
-use Rattle.spec_locks.specs.Sites.{Case, Deed, Doing, End, Has, In, IsSite, Line, Main, Mark, Out, Second, Site, StandsIn, after_deed, counts_some, found, idle, is_empty, late_found, leaves, seen_main, wakened}
+use Rattle.spec_locks.specs.Sites.{Case, Deed, Role, End, Has, In, IsSite, Line, Main, Mark, Out, Second, Site, StandsIn, after_deed, counts_some, found, idle, is_empty, late_found, leaves, seen_main, wakened}
 use Rattle.steps_mutex.specs.declared.lock.Entry.{Entry}
 use Rattle.steps_mutex.specs.declared.lock.Entry.TheVariants as entry
 use Rattle.steps_mutex.specs.declared.lock.LockAt.{LockAt}
@@ -85,7 +85,7 @@ first_is : (q : List Queued) (u : ℕ) → KnowsAll Mutex q → first_thread q �
 first_is [] u k e = absurd cc
 first_is (x ∷ q) u k e = let same : x.thread ≡ u = cc in ap (λ y. y ∷ q) (exclusive_wanted x k.0 ∙ ap queued same)
 
-behind_row : (m : ℕ) (st : Stands) → (wait_row m (behind st)).doing ≡ befell st idle
+behind_row : (m : ℕ) (st : Stands) → (wait_row m (behind st)).role ≡ befell st idle
 behind_row m stands.Listed = refl
 behind_row m stands.Moved = refl
 behind_row m (stands.InHand by) = refl
@@ -98,8 +98,8 @@ module _ (limit : ℕ) (s : Site) (t m : ℕ) (h : IsSite (record { sort = Mutex
   r = record { sort = Mutex; limit = limit }
 
   -- deeds may be done, and the thread stands so behind them
-  abbrev Does : List Deed → Doing → Type 0
-  Does ds d = AllNeeded r ds s t × ((after_all r ds s t).doing t ≡ itself_woken t s ds d)
+  abbrev Does : List Deed → Role → Type 0
+  Does ds d = AllNeeded r ds s t × ((after_all r ds s t).role t ≡ itself_woken t s ds d)
 
   -- ---------------------------------------------------------------- the release
 
@@ -111,57 +111,57 @@ module _ (limit : ℕ) (s : Site) (t m : ℕ) (h : IsSite (record { sort = Mutex
     claims_it true = refl
     claims_it false = refl
 
-    pub owns : s.doing t ≡ befell st owner → s.lock.exclusive ≡ Some t
-    owns is = h.held t (Has Exclusive) (ap (λ (d : Doing). d.claims) is ∙ claims_it (has_mutex st))
+    pub owns : s.role t ≡ befell st owner → s.lock.exclusive ≡ Some t
+    owns is = h.held t (Has Exclusive) (ap (λ (d : Role). d.claims) is ∙ claims_it (has_mutex st))
 
-    left_mutex : s.doing t ≡ befell st owner → has_mutex st ≡ false → (b : Bool) → s.parked ≡ b
-        → (after_deed r (Case (Leave Exclusive)) s t).doing t ≡ befell st (record idle { wakes = seen_main b })
+    left_mutex : s.role t ≡ befell st owner → has_mutex st ≡ false → (b : Bool) → s.parked ≡ b
+        → (after_deed r (Case (Leave Exclusive)) s t).role t ≡ befell st (record idle { wakes = seen_main b })
     left_mutex is without b e =
-        put_same s.doing t _
+        put_same s.role t _
         ∙ (λ i. record (is i) { wakes = if (is i).covers then (is i).wakes else seen_main (e i); claims = (sym (ap (λ c. if c then Some (Has Exclusive) else None) without)) i })
 
-    subtracts : s.doing t ≡ befell st owner → has_mutex st ≡ false → (b : Bool) → s.parked ≡ b
+    subtracts : s.role t ≡ befell st owner → has_mutex st ≡ false → (b : Bool) → s.parked ≡ b
         → Releases (Case (Leave Exclusive) ∷ (if b then [] else End ∷ [])) (if b then At unlock.Enter else Over answer.Ok)
-    subtracts is without true e = (((owns is, ap (λ (d : Doing). d.wakes) is), tt), left_mutex is without true e)
-    subtracts is without false e = (((owns is, ap (λ (d : Doing). d.wakes) is), tt), left_mutex is without false e ∙ sym (behind_row m st))
+    subtracts is without true e = (((owns is, ap (λ (d : Role). d.wakes) is), tt), left_mutex is without true e)
+    subtracts is without false e = (((owns is, ap (λ (d : Role). d.wakes) is), tt), left_mutex is without false e ∙ sym (behind_row m st))
 
     took : (any : Bool) (b : Bool) → befell st (record carrying { empty = found Main b }) ≡ waiter_next m (At (released st (in_unlock (if b then At (unlock.Clear any) else At (unlock.Leave any)))))
     took any true = refl
     took any false = refl
 
-    takes_first : s.doing t ≡ befell st (record inside { wakes = Some Main }) → (whom : Option ℕ) (any none_left : Bool) → TakesFirst s whom any none_left → HasTakenNobody s.lock t
+    takes_first : s.role t ≡ befell st (record inside { wakes = Some Main }) → (whom : Option ℕ) (any none_left : Bool) → TakesFirst s whom any none_left → HasTakenNobody s.lock t
         → Releases (takes whom) (if none_left then At (unlock.Clear any) else At (unlock.Leave any))
     takes_first is None any none_left f nobody =
         let e : s.lock.queue ≡ [] = nobody_first s.lock.queue (sym f.first) in
         let left : none_left ≡ true = f.left ∙ ap (λ q. is_empty (drop 1 q)) e in (
-          ((ap (λ (d : Doing). d.inside) is, ap (λ (d : Doing). d.carries) is, e, inr (ap (λ (d : Doing). d.wakes) is)), tt),
-          put_same s.doing t _ ∙ ap (λ (d : Doing). record d { wakes = None; carries = true; covers = true; empty = Some Main }) is
+          ((ap (λ (d : Role). d.inside) is, ap (λ (d : Role). d.carries) is, e, inr (ap (λ (d : Role). d.wakes) is)), tt),
+          put_same s.role t _ ∙ ap (λ (d : Role). record d { wakes = None; carries = true; covers = true; empty = Some Main }) is
               ∙ ap (λ b. befell st (record carrying { empty = found Main b })) (sym left) ∙ took any none_left,
         )
     takes_first is (Some u) any none_left f nobody =
         let e = first_is s.lock.queue u h.state.known_queue (sym f.first) in (
-          ((((drop 1 s.lock.queue, e), nobody, tt), (ap (λ (d : Doing). d.inside) is, ap (λ (d : Doing). d.carries) is, λ second. let g : Some Main ≡ Some Second = sym (ap (λ (d : Doing). d.wakes) is) ∙ second in cc)), tt),
-          put_same s.doing t _
+          ((((drop 1 s.lock.queue, e), nobody, tt), (ap (λ (d : Role). d.inside) is, ap (λ (d : Role). d.carries) is, λ second. let g : Some Main ≡ Some Second = sym (ap (λ (d : Role). d.wakes) is) ∙ second in cc)), tt),
+          put_same s.role t _
               ∙ (λ i. record (is i) { wakes = None; carries = true; covers = true; empty = found Main (sym f.left i) })
               ∙ took any none_left,
         )
 
-    releases : (timed : Bool) (at : UnlockAt) (whom : Option ℕ) (told : Reply) → s.doing t ≡ (wait_row m (wait.Release st (mutex.Unlock at))).doing → MayHearReleasing r s t st at whom told
+    releases : (timed : Bool) (at : UnlockAt) (whom : Option ℕ) (told : Reply) → s.role t ≡ (wait_row m (wait.Release st (mutex.Unlock at))).role → MayHearReleasing r s t st at whom told
         → WaiterFollows r s t m timed (wait.Release st (mutex.Unlock at)) whom told
     releases timed unlock.Subtract whom (Value seen) is f =
-        let d = subtracts is f.1 (is_parked seen) (sym (ap is_parked f.0 ∙ parked_is s.parked s.lock.exclusive)) in record { needed = d.0; doing = d.1 }
+        let d = subtracts is f.1 (is_parked seen) (sym (ap is_parked f.0 ∙ parked_is s.parked s.lock.exclusive)) in record { needed = d.0; role = d.1 }
     releases timed unlock.Enter whom Done is f = record {
-      needed = ((f, ap (λ (d : Doing). d.inside) is, ap (λ (d : Doing). d.empty) is), tt);
-      doing = put_same s.doing t _ ∙ ap (λ (d : Doing). record d { inside = Some Main }) is;
+      needed = ((f, ap (λ (d : Role). d.inside) is, ap (λ (d : Role). d.empty) is), tt);
+      role = put_same s.role t _ ∙ ap (λ (d : Role). record d { inside = Some Main }) is;
     }
-    releases timed unlock.Take whom (Took any none_left) is f = let d = takes_first is whom any none_left f.0 f.1 in record { needed = d.0; doing = d.1 }
+    releases timed unlock.Take whom (Took any none_left) is f = let d = takes_first is whom any none_left f.0 f.1 in record { needed = d.0; role = d.1 }
     releases timed (unlock.Clear any) whom (Value seen) is f = record {
-      needed = (ap (λ (d : Doing). d.empty) is, tt);
-      doing = put_same s.doing t _ ∙ ap (λ (d : Doing). record d { empty = None; brings = false }) is;
+      needed = (ap (λ (d : Role). d.empty) is, tt);
+      role = put_same s.role t _ ∙ ap (λ (d : Role). record d { empty = None; brings = false }) is;
     }
     releases timed (unlock.Leave any) whom Done is f = record {
-      needed = ((λ e. let g : Some Main ≡ None = sym (ap (λ (d : Doing). d.inside) is) ∙ e in cc, ap (λ (d : Doing). d.wakes) is, ap (λ (d : Doing). d.sets) is), tt);
-      doing = ap (λ d. wakened t (s.lock.taken t) d) (put_same s.doing t _ ∙ ap leaves is ∙ sym (behind_row m st));
+      needed = ((λ e. let g : Some Main ≡ None = sym (ap (λ (d : Role). d.inside) is) ∙ e in cc, ap (λ (d : Role). d.wakes) is, ap (λ (d : Role). d.sets) is), tt);
+      role = ap (λ d. wakened t (s.lock.taken t) d) (put_same s.role t _ ∙ ap leaves is ∙ sym (behind_row m st));
     }
     releases timed at whom told is f = absurd f
 
@@ -176,52 +176,52 @@ module _ (limit : ℕ) (s : Site) (t m : ℕ) (h : IsSite (record { sort = Mutex
     wants_it false = inl refl
 
     -- it enters, and its call ends
-    comes_in : s.doing t ≡ again retries idle → s.lock.exclusive ≡ None → Locks enters retries (Over (entered e))
+    comes_in : s.role t ≡ again retries idle → s.lock.exclusive ≡ None → Locks enters retries (Over (entered e))
     comes_in is free =
-        let own : (after_deed r (Case (Enter Exclusive)) s t).doing t ≡ record (s.doing t) { retries = None; claims = None } = put_same s.doing t _ in (
+        let own : (after_deed r (Case (Enter Exclusive)) s t).role t ≡ record (s.role t) { retries = None; claims = None } = put_same s.role t _ in (
           (
-            ((((tt, free), tt), h.state.unshared (λ x. x)), subst (λ w. (w ≡ None) ⊎ (w ≡ Some Exclusive)) (sym (ap (λ (d : Doing). d.retries) is)) (wants_it retries)),
+            ((((tt, free), tt), h.state.unshared (λ x. x)), subst (λ w. (w ≡ None) ⊎ (w ≡ Some Exclusive)) (sym (ap (λ (d : Role). d.retries) is)) (wants_it retries)),
             (
               (
-                ap (λ (d : Doing). d.inside) own ∙ ap (λ (d : Doing). d.inside) is,
-                ap (λ (d : Doing). d.wakes) own ∙ ap (λ (d : Doing). d.wakes) is,
-                ap (λ (d : Doing). d.carries) own ∙ ap (λ (d : Doing). d.carries) is,
-                λ some. absurd (let g : false ≡ true = sym (ap (λ (d : Doing). counts_some Mutex d.retries) own) ∙ some in cc),
+                ap (λ (d : Role). d.inside) own ∙ ap (λ (d : Role). d.inside) is,
+                ap (λ (d : Role). d.wakes) own ∙ ap (λ (d : Role). d.wakes) is,
+                ap (λ (d : Role). d.carries) own ∙ ap (λ (d : Role). d.carries) is,
+                λ some. absurd (let g : false ≡ true = sym (ap (λ (d : Role). counts_some Mutex d.retries) own) ∙ some in cc),
               ),
               tt,
             ),
           ),
-          put_same (after_deed r (Case (Enter Exclusive)) s t).doing t idle,
+          put_same (after_deed r (Case (Enter Exclusive)) s t).role t idle,
         )
 
-    tries : s.doing t ≡ again retries idle → (b : Bool) → (b ≡ true → s.lock.exclusive ≡ None) → Locks (if b then enters else []) retries (if b then Over (entered e) else At lock.Load)
+    tries : s.role t ≡ again retries idle → (b : Bool) → (b ≡ true → s.lock.exclusive ≡ None) → Locks (if b then enters else []) retries (if b then Over (entered e) else At lock.Load)
     tries is true free = comes_in is (free refl)
     tries is false free = (tt, is)
 
     -- an exchange, and whether it saw the mutex locked
-    decides : s.doing t ≡ again retries idle → (v : ℕ) (same locked : Bool) → (locked ≡ false → s.lock.exclusive ≡ None)
+    decides : s.role t ≡ again retries idle → (v : ℕ) (same locked : Bool) → (locked ≡ false → s.lock.exclusive ≡ None)
         → Locks (if not same then [] else if locked then Mark Main ∷ [] else enters) retries (if not same then At (lock.Decide v) else if locked then At (lock.Decide 3) else Over (entered e))
     decides is v false locked free = (tt, is)
     decides is v true true free = ((tt, tt), is)
     decides is v true false free = comes_in is (free refl)
 
-    parks : s.doing t ≡ again retries inside → (b : Bool) → b ≡ (word_of s.parked s.lock.exclusive == 3) → standing t s.lock ≡ 0
+    parks : s.role t ≡ again retries inside → (b : Bool) → b ≡ (word_of s.parked s.lock.exclusive == 3) → standing t s.lock ≡ 0
         → WaiterFollows r s t m timed (wait.Lock timed_out (mutex.Lock e retries lock.Check)) None (Parked b)
     parks is true f out = let w = three s.parked s.lock.exclusive (sym f) in record {
-      needed = (((((tt, w.0), out), (ap (λ (d : Doing). d.inside) is, w.1, ap (λ (d : Doing). d.wakes) is, ap (λ (d : Doing). d.covers) is)), tt));
-      doing = put_same s.doing t _ ∙ ap (λ (d : Doing). record d { retries = None; empty = None }) is;
+      needed = (((((tt, w.0), out), (ap (λ (d : Role). d.inside) is, w.1, ap (λ (d : Role). d.wakes) is, ap (λ (d : Role). d.covers) is)), tt));
+      role = put_same s.role t _ ∙ ap (λ (d : Role). record d { retries = None; empty = None }) is;
     }
-    parks is false f out = record { needed = tt; doing = is ∙ ap (λ b. again b inside) (still retries) }
+    parks is false f out = record { needed = tt; role = is ∙ ap (λ b. again b inside) (still retries) }
       where
         still : (b : Bool) → b ≡ (b && true)
         still true = refl
         still false = refl
 
-    leaves_section : (parked : Bool) → s.doing t ≡ again (if parked then false else retries) inside
+    leaves_section : (parked : Bool) → s.role t ≡ again (if parked then false else retries) inside
         → WaiterFollows r s t m timed (wait.Lock timed_out (mutex.Lock e retries (lock.Leave parked))) None Done
     leaves_section parked is = record {
-      needed = ((λ e. let g : Some Main ≡ None = sym (ap (λ (d : Doing). d.inside) is) ∙ e in cc, ap (λ (d : Doing). d.wakes) is, ap (λ (d : Doing). d.sets) is), tt);
-      doing = ap (λ d. wakened t (s.lock.taken t) d) (put_same s.doing t _ ∙ ap leaves is ∙ left parked);
+      needed = ((λ e. let g : Some Main ≡ None = sym (ap (λ (d : Role). d.inside) is) ∙ e in cc, ap (λ (d : Role). d.wakes) is, ap (λ (d : Role). d.sets) is), tt);
+      role = ap (λ d. wakened t (s.lock.taken t) d) (put_same s.role t _ ∙ ap leaves is ∙ left parked);
     }
       where
         left : (b : Bool) → again (if b then false else retries) idle ≡ waiter_next m (relocked timed timed_out (in_lock e retries (if b then At lock.Asleep else At lock.Load)))
@@ -229,35 +229,35 @@ module _ (limit : ℕ) (s : Site) (t m : ℕ) (h : IsSite (record { sort = Mutex
         left false = refl
 
     -- it was handed the mutex
-    accepts : s.doing t ≡ owner → Locks (End ∷ []) retries (Over (entered e))
-    accepts is = (((ap (λ (d : Doing). d.inside) is, ap (λ (d : Doing). d.wakes) is, ap (λ (d : Doing). d.carries) is, λ some. absurd (let g : false ≡ true = sym (ap (λ (d : Doing). counts_some Mutex d.retries) is) ∙ some in cc)), tt), put_same s.doing t idle)
+    accepts : s.role t ≡ owner → Locks (End ∷ []) retries (Over (entered e))
+    accepts is = (((ap (λ (d : Role). d.inside) is, ap (λ (d : Role). d.wakes) is, ap (λ (d : Role). d.carries) is, λ some. absurd (let g : false ≡ true = sym (ap (λ (d : Role). counts_some Mutex d.retries) is) ∙ some in cc)), tt), put_same s.role t idle)
 
-    locks : (at : LockAt) (whom : Option ℕ) (told : Reply) → s.doing t ≡ (wait_row m (wait.Lock timed_out (mutex.Lock e retries at))).doing → MayHearLocking r s t at told
+    locks : (at : LockAt) (whom : Option ℕ) (told : Reply) → s.role t ≡ (wait_row m (wait.Lock timed_out (mutex.Lock e retries at))).role → MayHearLocking r s t at told
         → WaiterFollows r s t m timed (wait.Lock timed_out (mutex.Lock e retries at)) whom told
     locks lock.First whom (Value seen) is f =
-        let d = tries is (seen == 0) (λ z. zero_free s.parked s.lock.exclusive (ap (λ n. n == 0) (sym f) ∙ z)) in record { needed = d.0; doing = d.1 }
-    locks lock.Load whom (Value seen) is f = record { needed = tt; doing = is }
+        let d = tries is (seen == 0) (λ z. zero_free s.parked s.lock.exclusive (ap (λ n. n == 0) (sym f) ∙ z)) in record { needed = d.0; role = d.1 }
+    locks lock.Load whom (Value seen) is f = record { needed = tt; role = is }
     locks (lock.Decide expected) whom (Value seen) is f =
-        let d = decides is seen (seen == expected) (is_locked seen) (λ z. unlocked_free s.parked s.lock.exclusive (ap is_locked (sym f) ∙ z)) in record { needed = d.0; doing = d.1 }
+        let d = decides is seen (seen == expected) (is_locked seen) (λ z. unlocked_free s.parked s.lock.exclusive (ap is_locked (sym f) ∙ z)) in record { needed = d.0; role = d.1 }
     locks (lock.Decide expected) whom Done is f = record {
-      needed = ((f, ap (λ (d : Doing). d.inside) is, ap (λ (d : Doing). d.empty) is), tt);
-      doing = put_same s.doing t _ ∙ ap (λ (d : Doing). record d { inside = Some Main }) is;
+      needed = ((f, ap (λ (d : Role). d.inside) is, ap (λ (d : Role). d.empty) is), tt);
+      role = put_same s.role t _ ∙ ap (λ (d : Role). record d { inside = Some Main }) is;
     }
-    locks lock.Check whom (Parked b) is f = let d = parks is b f.0 f.1 in record { needed = d.needed; doing = d.doing }
-    locks (lock.Leave parked) whom Done is f = let d = leaves_section parked is in record { needed = d.needed; doing = d.doing }
-    locks lock.Accept whom Done is f = let d = accepts is in record { needed = d.0; doing = d.1 }
+    locks lock.Check whom (Parked b) is f = let d = parks is b f.0 f.1 in record { needed = d.needed; role = d.role }
+    locks (lock.Leave parked) whom Done is f = let d = leaves_section parked is in record { needed = d.needed; role = d.role }
+    locks lock.Accept whom Done is f = let d = accepts is in record { needed = d.0; role = d.1 }
     locks at whom told is f = absurd f
 
   -- ---------------------------------------------------------------- each place
 
-  goes_in : s.doing t ≡ idle → IsFree s Main → Does (In Main ∷ []) inside
-  goes_in is free = (((free, ap (λ (d : Doing). d.inside) is, ap (λ (d : Doing). d.empty) is), tt), put_same s.doing t _ ∙ ap (λ (d : Doing). record d { inside = Some Main }) is)
+  goes_in : s.role t ≡ idle → IsFree s Main → Does (In Main ∷ []) inside
+  goes_in is free = (((free, ap (λ (d : Role). d.inside) is, ap (λ (d : Role). d.empty) is), tt), put_same s.role t _ ∙ ap (λ (d : Role). record d { inside = Some Main }) is)
 
-  late : s.doing t ≡ inside → (b : Bool) → 1 ≤ times t s.lock.queue → b ≡ is_empty (without t s.lock.queue)
+  late : s.role t ≡ inside → (b : Bool) → 1 ≤ times t s.lock.queue → b ≡ is_empty (without t s.lock.queue)
       → Does (Case GivesUp ∷ []) (record inside { empty = found Main b })
   late is b listed e = (
-    ((omega (arith, listed), subst (λ n. StandsIn s.lock t n × ((s.doing t).carries ≡ false)) (sym (ap (λ (d : Doing). d.inside) is)) (beside, ap (λ (d : Doing). d.carries) is)), tt),
-    put_same s.doing t _
+    ((omega (arith, listed), subst (λ n. StandsIn s.lock t n × ((s.role t).carries ≡ false)) (sym (ap (λ (d : Role). d.inside) is)) (beside, ap (λ (d : Role). d.carries) is)), tt),
+    put_same s.role t _
         ∙ (λ i. record (is i) { empty = late_found (record s.lock { queue = without t s.lock.queue; aside = aside_without t s.lock.aside }) (is i).inside })
         ∙ ap (λ c. record inside { empty = found Main c }) (sym e),
   )
@@ -269,37 +269,37 @@ module _ (limit : ℕ) (s : Site) (t m : ℕ) (h : IsSite (record { sort = Mutex
           nobody_pends None e p = p
           nobody_pends (Some x) e p = cc
 
-  refuses : s.doing t ≡ owner → Does (End ∷ []) idle
-  refuses is = (((ap (λ (d : Doing). d.inside) is, ap (λ (d : Doing). d.wakes) is, ap (λ (d : Doing). d.carries) is, λ some. absurd (let g : false ≡ true = sym (ap (λ (d : Doing). counts_some Mutex d.retries) is) ∙ some in cc)), tt), put_same s.doing t idle)
+  refuses : s.role t ≡ owner → Does (End ∷ []) idle
+  refuses is = (((ap (λ (d : Role). d.inside) is, ap (λ (d : Role). d.wakes) is, ap (λ (d : Role). d.carries) is, λ some. absurd (let g : false ≡ true = sym (ap (λ (d : Role). counts_some Mutex d.retries) is) ∙ some in cc)), tt), put_same s.role t idle)
 
-  goes_out : (o : Option Line) → s.doing t ≡ record inside { empty = o } → Does (Out ∷ []) idle
+  goes_out : (o : Option Line) → s.role t ≡ record inside { empty = o } → Does (Out ∷ []) idle
   goes_out o is = (
-    ((λ e. let g : Some Main ≡ None = sym (ap (λ (d : Doing). d.inside) is) ∙ e in cc, ap (λ (d : Doing). d.wakes) is, ap (λ (d : Doing). d.sets) is), tt),
-    ap (λ d. wakened t (s.lock.taken t) d) (put_same s.doing t _ ∙ ap leaves is),
+    ((λ e. let g : Some Main ≡ None = sym (ap (λ (d : Role). d.inside) is) ∙ e in cc, ap (λ (d : Role). d.wakes) is, ap (λ (d : Role). d.sets) is), tt),
+    ap (λ d. wakened t (s.lock.taken t) d) (put_same s.role t _ ∙ ap leaves is),
   )
 
-  shows : (b : Bool) → s.doing t ≡ owner → s.doing t ≡ waiter_next m (if b then At wait.Stand else At wait.Refuse)
+  shows : (b : Bool) → s.role t ≡ owner → s.role t ≡ waiter_next m (if b then At wait.Stand else At wait.Refuse)
   shows true is = is
   shows false is = is
 
-  unlisted : (b : Bool) → s.doing t ≡ idle → s.doing t ≡ waiter_next m (if b then At wait.Hide else At wait.GiveUp)
+  unlisted : (b : Bool) → s.role t ≡ idle → s.role t ≡ waiter_next m (if b then At wait.Hide else At wait.GiveUp)
   unlisted true is = is
   unlisted false is = is
 
-  waits : (timed : Bool) (at : WaitAt) (whom : Option ℕ) (told : Reply) → s.doing t ≡ (wait_row m at).doing → MayHearWaiter r s t at whom told → WaiterFollows r s t m timed at whom told
-  waits timed wait.Enter whom Done is f = record { needed = tt; doing = is }
-  waits timed wait.Show whom (Value seen) is f = record { needed = tt; doing = shows ((seen == 0) || is_shown seen m) is }
-  waits timed wait.Stand whom Done is f = record { needed = tt; doing = is }
-  waits timed wait.Leave whom Done is f = record { needed = tt; doing = is }
-  waits timed wait.Refuse whom Done is f = let d = refuses is in record { needed = d.0; doing = d.1 }
+  waits : (timed : Bool) (at : WaitAt) (whom : Option ℕ) (told : Reply) → s.role t ≡ (wait_row m at).role → MayHearWaiter r s t at whom told → WaiterFollows r s t m timed at whom told
+  waits timed wait.Enter whom Done is f = record { needed = tt; role = is }
+  waits timed wait.Show whom (Value seen) is f = record { needed = tt; role = shows ((seen == 0) || is_shown seen m) is }
+  waits timed wait.Stand whom Done is f = record { needed = tt; role = is }
+  waits timed wait.Leave whom Done is f = record { needed = tt; role = is }
+  waits timed wait.Refuse whom Done is f = let d = refuses is in record { needed = d.0; role = d.1 }
   waits timed (wait.Release st (mutex.Unlock at)) whom told is f = releases st timed at whom told is f
-  waits timed (wait.Asleep stands.Listed) whom Late is f = record { needed = tt; doing = is }
-  waits timed (wait.Asleep stands.Moved) whom Late is f = let d = goes_in is f in record { needed = d.0; doing = d.1 }
-  waits timed wait.Remove whom (Removed none_left) is f = record { needed = tt; doing = unlisted none_left is }
-  waits timed wait.Hide whom (Value seen) is f = record { needed = tt; doing = is }
-  waits timed wait.GiveUp whom Done is f = record { needed = tt; doing = is }
-  waits timed wait.RemoveMoved whom (Removed none_left) is f = let d = late is none_left f.0 f.1 in record { needed = d.0; doing = d.1 }
-  waits timed (wait.GiveUpMoved none_left) whom Done is f = let d = goes_out (found Main none_left) is in record { needed = d.0; doing = d.1 }
+  waits timed (wait.Asleep stands.Listed) whom Late is f = record { needed = tt; role = is }
+  waits timed (wait.Asleep stands.Moved) whom Late is f = let d = goes_in is f in record { needed = d.0; role = d.1 }
+  waits timed wait.Remove whom (Removed none_left) is f = record { needed = tt; role = unlisted none_left is }
+  waits timed wait.Hide whom (Value seen) is f = record { needed = tt; role = is }
+  waits timed wait.GiveUp whom Done is f = record { needed = tt; role = is }
+  waits timed wait.RemoveMoved whom (Removed none_left) is f = let d = late is none_left f.0 f.1 in record { needed = d.0; role = d.1 }
+  waits timed (wait.GiveUpMoved none_left) whom Done is f = let d = goes_out (found Main none_left) is in record { needed = d.0; role = d.1 }
   waits timed (wait.Lock timed_out (mutex.Lock e retries at)) whom told is f = locks e retries timed timed_out at whom told is f
   waits timed at whom told is f = absurd f
 
@@ -343,7 +343,7 @@ module _ (limit : ℕ) (s : Site) (t k m : ℕ) (apart : k ≢ m) (h : IsSite (r
   abbrev Leaves : List Deed → ℕ → Option ℕ → Type 0
   Leaves ds w owner = (w ≡ code rules (after_all rules ds s t)) × (owner ≡ (after_all rules ds s t).lock.exclusive)
 
-  -- behind a release
+  -- after a release
   released_word : s.lock.exclusive ≡ Some t → (b : Bool) → Leaves (unended (Case (Leave Exclusive) ∷ (if b then [] else End ∷ []))) (apply (op.Sub 1) v) None
   released_word own true = (ap (λ e. apply (op.Sub 1) (word_of s.parked e)) own ∙ less_one s.parked t, refl)
   released_word own false = (ap (λ e. apply (op.Sub 1) (word_of s.parked e)) own ∙ less_one s.parked t, refl)
@@ -352,7 +352,7 @@ module _ (limit : ℕ) (s : Site) (t k m : ℕ) (apart : k ≢ m) (h : IsSite (r
   tried_word true e = (entered_zero s.parked s.lock.exclusive t e, refl)
   tried_word false e = (refl, owned)
 
-  -- behind an exchange that found what it expected, or did not
+  -- after an exchange that found what it expected, or did not
   abbrev Decides : ℕ → (same locked : Bool) → Op → Type 0
   Decides expected same locked f =
       Leaves (if not same then [] else if locked then Mark Main ∷ [] else enters) (apply f v) (if same && not locked then with_exclusive o (Some t) else o).exclusive
@@ -383,7 +383,7 @@ module _ (limit : ℕ) (s : Site) (t k m : ℕ) (apart : k ≢ m) (h : IsSite (r
       subst (λ n. Decides n true (is_locked v) f) same (fresh f (is_locked v) refl (v == 1) refl (subst (λ n. wait_act k m (wait.Lock false (mutex.Lock entry.Lock false (lock.Decide n))) ≡ act.Word m f) (sym same) is))
   decides_word expected f is false e = stale_op expected f (is_locked expected) (expected == 1) (is_locked v) e is (λ x. eqb-true expected 1 x)
 
-  leaves_mutex : (timed : Bool) (at : WaitAt) (f : Op) → s.doing t ≡ (wait_row m at).doing → MayHearWaiter rules s t at None (Value v) → wait_act k m at ≡ act.Word m f
+  leaves_mutex : (timed : Bool) (at : WaitAt) (f : Op) → s.role t ≡ (wait_row m at).role → MayHearWaiter rules s t at None (Value v) → wait_act k m at ≡ act.Word m f
       → LeavesMutex rules s t m timed at f o
   leaves_mutex timed wait.Show f is hears at = absurd (apart (let g : k ≡ m = cc in g))
   leaves_mutex timed wait.Hide f is hears at = absurd (apart (let g : k ≡ m = cc in g))

@@ -84,7 +84,7 @@ look_event c seen = if seen == 0 then Nothing
 
 -- ---------------------------------------------------------------- what it makes of the call
 
--- what a call has come to at a place, by what its thread owns
+-- the state of a call at a place, by what its thread owns
 abbrev pub call_at : ℕ → ℕ → CondvarPlace → (ℕ → Rights) → CallState
 call_at c m p rights = call_of_two c m (condvar_profile p) (mutex_side p) rights
 
@@ -135,7 +135,7 @@ abbrev pub IsRelock : MutexPlace → Type 0
 IsRelock (mutex.Lock entry.Lock retries at) = IsLockOf at
 IsRelock at = ⊥
 
--- who has its note is awake
+-- a thread that has its note is awake
 abbrev pub IsUnnoted : Stands → Type 0
 IsUnnoted (stands.Noted by) = ⊥
 IsUnnoted s = Unit {0}
@@ -145,7 +145,7 @@ IsUnnoted s = Unit {0}
 -- wake somebody has moved some: the first alone where it isn't to move all
 abbrev pub IsReached : CondvarPlace → Type 0
 IsReached (Wait m timed (wait.Release s at)) =
-    IsRelease at × (has_mutex s ≡ true → (mutex_profile at).doing.claims ≡ None)
+    IsRelease at × (has_mutex s ≡ true → (mutex_profile at).role.claims ≡ None)
 IsReached (Wait m timed (wait.Asleep s)) = IsUnnoted s
 IsReached (Wait m timed wait.Remove) = timed ≡ true
 IsReached (Wait m timed wait.Hide) = timed ≡ true
@@ -177,7 +177,7 @@ WaitsTell =
     (v : CondvarSite) (r : Rules) (s : Site) (t c m : ℕ) (timed : Bool) (at : WaitAt)
     (whom : Option ℕ) (told : Reply)
     → r.sort ≡ Mutex → IsCondvar v → IsAt v t (Wait m timed at) → IsSite r s
-    → s.doing t ≡ (wait_row m at).doing
+    → s.role t ≡ (wait_row m at).role
     → MayHear v t (Wait m timed at) told → MayHearWaiter r s t at whom told
     → IsReached (Wait m timed at)
     → CallFollows c m (Wait m timed at) told (wait_event c m at whom told)
@@ -190,7 +190,7 @@ abbrev pub NotifiesTell : Type 0
 NotifiesTell =
     (v : CondvarSite) (r : Rules) (s : Site) (t c m : ℕ) (all : Bool) (at : NotifyAt) (told : Reply)
     → r.sort ≡ Mutex → IsCondvar v → IsAt v t (Notify all m at)
-    → s.doing t ≡ (notify_row all m at).doing
+    → s.role t ≡ (notify_row all m at).role
     → MayHear v t (Notify all m at) told → MayHearBeside r s v t m all at told
     → IsReached (Notify all m at)
     → CallFollows c m (Notify all m at) told (notify_event c all m at told)
@@ -232,7 +232,7 @@ BecomesTold c m timed at told (At next) =
 BecomesTold c m timed at told (Over answer) = ⊥
 
 abbrev pub HasReleased : WaitAt → Reply → Type 0
-HasReleased at (HandedBy u alone) = (wait_row 0 at).doing.claims ≡ None
+HasReleased at (HandedBy u alone) = (wait_row 0 at).role.claims ≡ None
 HasReleased at told = Unit {0}
 
 abbrev pub WaitersAreTold : Type 0

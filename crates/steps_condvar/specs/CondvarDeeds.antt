@@ -137,7 +137,7 @@ MayHearNotifying c all (notify.MarkMoved number) (Value seen) = number ≢ 0
 MayHearNotifying c all (notify.Leave any number) Done = Unit {0}
 MayHearNotifying c all at told = ⊥
 
--- what a thread may be told of its own steps
+-- the outcomes that a thread may be told of its own steps
 abbrev pub MayHear : CondvarSite → ℕ → CondvarPlace → Reply → Type 0
 MayHear c t (Wait m timed at) told = MayHearWaiting c t at told
 MayHear c t (Look all) (Value seen) = Unit {0}
@@ -179,5 +179,5 @@ CondvarMovesFit =
     (r : Rules) (all locked : Bool) (c : CondvarSite) (s : Site) (t m : ℕ) → r.sort ≡ Mutex
     → IsCondvar c → WaitsAside c s m
     → IsAt c t (Notify all m (notify.Move locked))
-    → s.doing t ≡ (notify_row all m (notify.Move locked)).doing
+    → s.role t ≡ (notify_row all m (notify.Move locked)).role
     → MoveFits r all locked c s t m

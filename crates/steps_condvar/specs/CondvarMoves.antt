@@ -17,9 +17,9 @@ use Rattle.steps_base.specs.declared.acts.Reply.TheVariants.{Done, Value, Parked
 use Rattle.steps_base.specs.declared.acts.Wakes.{Wakes}
 use Rattle.steps_base.specs.declared.acts.Whom.TheVariants.{First}
 use Rattle.steps_base.specs.Acts.{wakes_taken}
-use Rattle.steps_base.specs.Moves.{Accepts, AreLeaving, AreOfWord, Hears, IsFree, LeavesLine, Move, Parks, inside_of, station_of, station_then}
+use Rattle.steps_base.specs.Moves.{Accepts, AreLeaving, AreOfWord, Hears, IsFree, LeavesLine, Move, Parks, inside_of, location_of, location_then}
 use Rattle.steps_base.specs.Profiles.{Profile, blank, hand, in_hand}
-use Rattle.steps_base.specs.Stations.{Station, station_by, nowhere}
+use Rattle.steps_base.specs.Locations.{Location, location_by, nowhere}
 use Rattle.spec_locks.specs.Condvars.{BeginsWait, CondvarNeeded, condvar_leads, CondvarDeed, CondvarSite, EndsWait, GoesIn, GoesOut, LeaveList, MoveAll, MoveFirst, StandLast, line_of, moved_of, taken_of}
 use Rattle.spec_locks.specs.Locks.{HasTakenNobody, Owns, Queued, Rights, Rules}
 use Rattle.spec_locks.specs.Sites.{Begin, Bring, Deed, Has, In, Main, MarkBrought, MarkOwned, Needed, Site, after_deed, idle}
@@ -49,11 +49,11 @@ row_beside (At p) = mutex_side p
 row_beside (Over answer) = blank
 
 -- at the condition variable
-abbrev pub there : CondvarPlace → Station
-there p = station_by (condvar_profile p)
+abbrev pub there : CondvarPlace → Location
+there p = location_by (condvar_profile p)
 
-abbrev pub there_then : CondvarPlace → Reply → Station
-there_then p told = station_by (row_there (condvar_next p told))
+abbrev pub there_then : CondvarPlace → Reply → Location
+there_then p told = location_by (row_there (condvar_next p told))
 
 -- at the mutex beside it; of these waiters it moves some, and whomever it takes there is no part of
 -- the place
@@ -69,7 +69,7 @@ beside q p = record {
   deeds = λ whom told. deeds_beside q p whom told;
 }
 
--- what it may be told there, whatever the condition variable is
+-- the news that it may be told there, however the condition variable stands
 abbrev pub hears_beside : CondvarPlace → Hears
 hears_beside (Wait m timed at) r s t whom told = MayHearWaiter r s t at whom told
 hears_beside (Look all) r s t whom told = Unit {0}
@@ -78,7 +78,7 @@ hears_beside (Notify all m at) r s t whom told = (v : CondvarSite)
 
 -- ---------------------------------------------------------------- at the condition variable
 
--- of a step on the word, or at the mutex: nobody goes in or out, and nobody stands or is moved
+-- a step on the word, or at the mutex: nobody goes in or out, and nobody stands or is moved
 abbrev pub StayThere : List CondvarDeed → Type 0
 StayThere [] = Unit {0}
 StayThere (GoesIn ∷ ds) = ⊥
@@ -134,22 +134,22 @@ StayBeside ds = AreOfWord ds
 -- it stays where it is; while it releases the mutex it may stand in its queue, or be in a hand
 pub record StaysBeside (x : Move) (told : Reply) : Type 0 where
   pub deeds : StayBeside (x.deeds None told)
-  pub goes : station_then x told ≡ station_of x
+  pub goes : location_then x told ≡ location_of x
 
 pub record GoesInBeside (x : Move) (hears : Hears) (told : Reply) : Type 0 where
-  pub out : (station_of x).inside ≡ None
+  pub out : (location_of x).inside ≡ None
   pub deeds : x.deeds None told ≡ In Main ∷ []
-  pub goes : station_then x told ≡ record (station_of x) { inside = Some Main }
+  pub goes : location_then x told ≡ record (location_of x) { inside = Some Main }
   pub may : (r : Rules) (s : Site) (t : ℕ) → IsFree s Main → hears r s t None told
 
 -- a release takes the first, if anybody waits: it may be its own thread
 pub record TakesBeside (x : Move) (hears : Hears) : Type 0 where
-  pub inside : (station_of x).inside ≡ Some Main
-  pub empty_handed : (station_of x).carries ≡ None
+  pub inside : (location_of x).inside ≡ Some Main
+  pub empty_handed : (location_of x).carries ≡ None
   pub deeds : (whom : Option ℕ) (any none_left : Bool)
       → x.deeds whom (Took any none_left) ≡ takes whom
   pub goes : (any none_left : Bool)
-      → station_then x (Took any none_left) ≡ record (station_of x) { carries = in_hand any false }
+      → location_then x (Took any none_left) ≡ record (location_of x) { carries = in_hand any false }
   pub may : (r : Rules) (s : Site) (t : ℕ) (whom : Option ℕ) (any none_left : Bool)
       → TakesFirst s whom any none_left
       → HasTakenNobody s.lock t → hears r s t whom (Took any none_left)
@@ -158,10 +158,10 @@ pub record TakesBeside (x : Move) (hears : Hears) : Type 0 where
 pub record GoesOutBeside (x : Move) (wakes : Wakes) : Type 0 where
   pub any : Bool
   pub notes : wakes ≡ wakes_taken any Normal
-  pub inside : (station_of x).inside ≡ Some Main
-  pub carries : (station_of x).carries ≡ in_hand any false
+  pub inside : (location_of x).inside ≡ Some Main
+  pub carries : (location_of x).carries ≡ in_hand any false
   pub deeds : AreLeaving (x.deeds None Done)
-  pub goes : station_then x Done ≡ record (station_of x) { inside = None; carries = None }
+  pub goes : location_then x Done ≡ record (location_of x) { inside = None; carries = None }
 
 -- ---------------------------------------------------------------- at both
 
@@ -169,15 +169,15 @@ pub record GoesOutBeside (x : Move) (wakes : Wakes) : Type 0 where
 -- them
 pub record MovesWaiters (q : List Queued) (p : CondvarPlace) (all locked : Bool)
     (told : Reply) : Type 0 where
-  pub inside : ((there p) ≡ inside_of Main) × (station_of (beside q p) ≡ inside_of Main)
+  pub inside : ((there p) ≡ inside_of Main) × (location_of (beside q p) ≡ inside_of Main)
   pub deeds_there : condvar_deeds p told ≡ (if all then MoveAll else MoveFirst) ∷ []
   pub deeds_beside : deeds_beside q p None told
       ≡ Bring (taken_of locked (moved_of all q)) (line_of locked (moved_of all q)) ∷ []
   pub stays : there_then p told ≡ there p
-  pub carries : station_then (beside q p) told
+  pub carries : location_then (beside q p) told
       ≡ record (inside_of Main) { carries = in_hand (not locked) false }
 
--- what is moved, by how
+-- the waiters moved, by how
 abbrev pub MovesBy : List Queued → CondvarPlace → Requeue → Type 0
 MovesBy q p requeue.One = (number : ℕ) (none_left : Bool)
     → MovesWaiters q p false true (Requeued number none_left)
@@ -241,57 +241,57 @@ LooksMove = (c m : ℕ) (all : Bool) → CondvarMoves c m [] (Look all) (condvar
 
 -- ---------------------------------------------------------------- what befalls a waiter
 
--- who stands in the queue of the condition variable is taken or moved: it stands there no more, and
--- is in a hand at the mutex, or stands there
+-- a waiter in the queue of the condition variable is taken or moved: it stands there no more, and is in a
+-- hand at the mutex, or stands there
 pub record SleepsThere (p : CondvarPlace) : Type 0 where
-  pub was : ((there p).stands ≡ Some Main) × ((station_of (beside [] p)).stands ≡ None)
-      × ((station_of (beside [] p)).hand ≡ None)
+  pub was : ((there p).stands ≡ Some Main) × ((location_of (beside [] p)).stands ≡ None)
+      × ((location_of (beside [] p)).hand ≡ None)
   pub taken : (u : ℕ) → (there_then p (TakenBy u)
       ≡ record (there p) { stands = None; waits = None })
-      × (station_then (beside [] p) (TakenBy u)
-      ≡ record (station_of (beside [] p)) { hand = hand u false })
+      × (location_then (beside [] p) (TakenBy u)
+      ≡ record (location_of (beside [] p)) { hand = hand u false })
   pub moved : (key : ℕ) →
       (there_then p (MovedTo key) ≡ record (there p) { stands = None; waits = None })
-      × (station_then (beside [] p) (MovedTo key)
-      ≡ record (station_of (beside [] p)) { stands = Some Main; waits = Some Exclusive })
+      × (location_then (beside [] p) (MovedTo key)
+      ≡ record (location_of (beside [] p)) { stands = Some Main; waits = Some Exclusive })
 
--- who stands in that of the mutex is taken
+-- a waiter in that of the mutex is taken
 pub record SleepsBeside (p : CondvarPlace) : Type 0 where
-  pub was : ((station_of (beside [] p)).stands ≡ Some Main) × ((there p).stands ≡ None)
+  pub was : ((location_of (beside [] p)).stands ≡ Some Main) × ((there p).stands ≡ None)
   pub taken : (u : ℕ) → (there_then p (TakenBy u) ≡ there p)
-      × (station_then (beside [] p) (TakenBy u)
-      ≡ record (station_of (beside [] p)) { stands = None; waits = None; hand = hand u false })
+      × (location_then (beside [] p) (TakenBy u)
+      ≡ record (location_of (beside [] p)) { stands = None; waits = None; hand = hand u false })
 
--- who is in a hand is handed the mutex, or woken, and then stands nowhere
+-- a thread in a hand is handed the mutex, or woken, and then stands nowhere
 pub record IsHeldBeside (p : CondvarPlace) (u : ℕ) : Type 0 where
-  pub was : ((station_of (beside [] p)).hand ≡ hand u false)
-      × ((station_of (beside [] p)).stands ≡ None) × ((there p).stands ≡ None)
+  pub was : ((location_of (beside [] p)).hand ≡ hand u false)
+      × ((location_of (beside [] p)).stands ≡ None) × ((there p).stands ≡ None)
   pub handed : (alone : Bool) → (there_then p (HandedBy u alone) ≡ there p)
-      × (station_then (beside [] p) (HandedBy u alone)
-      ≡ record (station_of (beside [] p)) { hand = hand u true })
+      × (location_then (beside [] p) (HandedBy u alone)
+      ≡ record (location_of (beside [] p)) { hand = hand u true })
   pub woken : (there_then p (Woken Normal) ≡ there p)
-      × (station_then (beside [] p) (Woken Normal)
-      ≡ record (station_of (beside [] p)) { hand = None })
+      × (location_then (beside [] p) (Woken Normal)
+      ≡ record (location_of (beside [] p)) { hand = None })
 
--- who was handed the mutex is told so
+-- a thread that was handed the mutex is told so
 pub record WasGivenBeside (p : CondvarPlace) (u : ℕ) : Type 0 where
-  pub was : ((station_of (beside [] p)).hand ≡ hand u true)
-      × ((station_of (beside [] p)).stands ≡ None) × ((there p).stands ≡ None)
+  pub was : ((location_of (beside [] p)).hand ≡ hand u true)
+      × ((location_of (beside [] p)).stands ≡ None) × ((there p).stands ≡ None)
   pub told : (there_then p (Woken HandOffNote) ≡ there p)
-      × (station_then (beside [] p) (Woken HandOffNote)
-      ≡ record (station_of (beside [] p)) { hand = None })
+      × (location_then (beside [] p) (Woken HandOffNote)
+      ≡ record (location_of (beside [] p)) { hand = None })
 
 abbrev pub IsInHand : CondvarPlace → ℕ → Bool → Type 0
 IsInHand p u false = IsHeldBeside p u
 IsInHand p u true = WasGivenBeside p u
 
--- who stands in one of the two queues is inside its section, or is so to be taken, and who is in a
--- hand is so to be told
+-- a thread in one of the two queues is inside its section, or is so to be taken, and one in a hand is so to
+-- be told
 pub record WaitsAtBoth (p : CondvarPlace) : Type 0 where
   pub listed : (there p).stands ≡ Some Main → ((there p).inside ≡ Some Main) ⊎ SleepsThere p
-  pub moved : (station_of (beside [] p)).stands ≡ Some Main
-      → ((station_of (beside [] p)).inside ≡ Some Main) ⊎ SleepsBeside p
-  pub held : (u : ℕ) (handed : Bool) → (station_of (beside [] p)).hand ≡ hand u handed
+  pub moved : (location_of (beside [] p)).stands ≡ Some Main
+      → ((location_of (beside [] p)).inside ≡ Some Main) ⊎ SleepsBeside p
+  pub held : (u : ℕ) (handed : Bool) → (location_of (beside [] p)).hand ≡ hand u handed
       → IsInHand p u handed
 
 abbrev pub WaitersMove : Type 0
@@ -306,10 +306,10 @@ pub record BeginsAt (v : CondvarSite) (r : Rules) (s : Site) (t c m : ℕ)
   pub reached : IsReached (condvar_first (call.Wait m timed))
   pub needed : CondvarNeeded (BeginsWait m) v t × Needed r (Begin (Some (Has Exclusive))) s t
   pub at : IsAt (condvar_leads (BeginsWait m) v t) t (condvar_first (call.Wait m timed))
-  pub doing : (after_deed r (Begin (Some (Has Exclusive))) s t).doing t
-      ≡ (wait_row m wait.Enter).doing
-  pub stations : (there (condvar_first (call.Wait m timed)) ≡ nowhere)
-      × (station_of (beside [] (condvar_first (call.Wait m timed))) ≡ nowhere)
+  pub role : (after_deed r (Begin (Some (Has Exclusive))) s t).role t
+      ≡ (wait_row m wait.Enter).role
+  pub locations : (there (condvar_first (call.Wait m timed)) ≡ nowhere)
+      × (location_of (beside [] (condvar_first (call.Wait m timed))) ≡ nowhere)
   pub call : (rights : ℕ → Rights)
       → call_at c m (condvar_first (call.Wait m timed)) rights
       ≡ new_call (Some (Waits c m timed)) rights
@@ -318,7 +318,7 @@ abbrev pub WaitsBegin : Type 0
 WaitsBegin =
     (v : CondvarSite) (r : Rules) (s : Site) (t c m : ℕ) (timed : Bool) → IsAway v t
     → Owns s.lock t Exclusive
-    → s.doing t ≡ idle → BeginsAt v r s t c m timed
+    → s.role t ≡ idle → BeginsAt v r s t c m timed
 
 -- its rows are the same there
 abbrev pub WaitersLookAgain : Type 0

@@ -11,14 +11,14 @@ use Rattle.spec_locks.specs.Codes.{code}
 use Rattle.spec_locks.specs.Condvars.{CondvarSite, MoveFits, line_of, moved_of, taken_of}
 use Rattle.spec_locks.specs.Deeds.{AllNeeded, after_all}
 use Rattle.spec_locks.specs.Locks.{Mutex, Queued, Rules}
-use Rattle.spec_locks.specs.Sites.{Bring, Deed, Doing, End, In, Main, MarkBrought, MarkOwned, Out, Site, idle}
+use Rattle.spec_locks.specs.Sites.{Bring, Deed, Role, End, In, Main, MarkBrought, MarkOwned, Out, Site, idle}
 use Rattle.steps_mutex.specs.MutexSteps.{is_locked}
 use Rattle.steps_condvar.specs.declared.notify.NotifyAt.{NotifyAt}
 use Rattle.steps_condvar.specs.declared.notify.NotifyAt.TheVariants as notify
 use Rattle.steps_condvar.specs.CondvarSteps.{next_notify, notify_act}
 use Rattle.steps_condvar.specs.CondvarProfiles.{notify_row}
 
--- of these waiters, those whom it moves or takes
+-- those among the waiters that it moves or takes
 abbrev pub brings : Bool → Bool → List Queued → List Deed
 brings all locked q = Bring (taken_of locked (moved_of all q)) (line_of locked (moved_of all q))
     ∷ []
@@ -33,9 +33,9 @@ beside_deeds all q (notify.MarkMoved number) (Value seen) = MarkBrought ∷ []
 beside_deeds all q (notify.Leave any number) Done = Out ∷ End ∷ []
 beside_deeds all q at told = []
 
--- what it may be told, beside this mutex
+-- the news that it may be told, beside this mutex
 abbrev pub MayHearBeside : Rules → Site → CondvarSite → ℕ → ℕ → Bool → NotifyAt → Reply → Type 0
-MayHearBeside r s c t m all notify.Enter Done = (u : ℕ) → (s.doing u).inside ≢ Some Main
+MayHearBeside r s c t m all notify.Enter Done = (u : ℕ) → (s.role u).inside ≢ Some Main
 MayHearBeside r s c t m all notify.Again (Value seen) = Unit {0}
 MayHearBeside r s c t m all notify.Hide (Value seen) = Unit {0}
 MayHearBeside r s c t m all notify.Mark (Value seen) = seen ≡ code r s
@@ -52,22 +52,22 @@ MayHearBeside r s c t m all (notify.MarkMoved number) (Value seen) = number ≢ 
 MayHearBeside r s c t m all (notify.Leave any number) Done = s.lock.taken t ≡ None
 MayHearBeside r s c t m all at told = ⊥
 
-abbrev pub doing_next : Bool → ℕ → Next NotifyAt → Doing
-doing_next all m (At at) = (notify_row all m at).doing
-doing_next all m (Over answer) = idle
+abbrev pub role_next : Bool → ℕ → Next NotifyAt → Role
+role_next all m (At at) = (notify_row all m at).role
+role_next all m (Over answer) = idle
 
 -- the deeds may be done, and the next place says what the thread does about the mutex behind them
 pub record FollowsBeside (r : Rules) (s : Site) (c : CondvarSite) (t m : ℕ) (all : Bool)
     (at : NotifyAt) (told : Reply) : Type 0 where
   pub needed : AllNeeded r (beside_deeds all c.waiters at told) s t
-  pub doing : (after_all r (beside_deeds all c.waiters at told) s t).doing t
-      ≡ doing_next all m (next_notify all m at told)
+  pub role : (after_all r (beside_deeds all c.waiters at told) s t).role t
+      ≡ role_next all m (next_notify all m at told)
 
 abbrev pub NotifiersFollow : Type 0
 NotifiersFollow =
     (r : Rules) (s : Site) (c : CondvarSite) (t m : ℕ) (all : Bool) (at : NotifyAt) (told : Reply)
     → r.sort ≡ Mutex
-    → s.doing t ≡ (notify_row all m at).doing → MayHearBeside r s c t m all at told
+    → s.role t ≡ (notify_row all m at).role → MayHearBeside r s c t m all at told
     → FollowsBeside r s c t m all at told
 
 -- and its steps on the word of the mutex leave the word of the mutex behind the deeds

@@ -9,7 +9,7 @@ use Rattle.steps_base.specs.Profiles.{Hand, Profile, hand, hand_owner, in_hand, 
 use Rattle.spec_locks.specs.Condvars.{Stage, Rests, Adds, Refuses, Misses, Sees, Clears, moving}
 use Rattle.spec_locks.specs.Locks.{Rights}
 use Rattle.spec_locks.specs.Purposes.{Purpose, Waits, Notifies, Recall, Blank, Saw, SawOwner, HasMoved, WasMoved, WasNotified}
-use Rattle.spec_locks.specs.Sites.{Doing, Line, Has, Main, found, idle}
+use Rattle.spec_locks.specs.Sites.{Role, Line, Has, Main, found, idle}
 use Rattle.steps_mutex.specs.MutexProfiles.{before_release, inside, mutex_profile, owner}
 use Rattle.steps_condvar.specs.declared.notify.NotifyAt.{NotifyAt}
 use Rattle.steps_condvar.specs.declared.notify.NotifyAt.TheVariants as notify
@@ -26,8 +26,8 @@ pub record CondvarRow : Type 0 where
   pub stage : Option Stage
   pub waits_with : Option ℕ
   pub listed : Bool
-  -- what it does about the mutex, and whether it stands in that queue
-  pub doing : Doing
+  -- its deeds at the mutex, and whether it stands in that queue
+  pub role : Role
   pub moved : Bool
   -- in whose hand it is, and what it wants, where it waits
   pub hand : Option Hand
@@ -42,7 +42,7 @@ blank = record {
   stage = None;
   waits_with = None;
   listed = false;
-  doing = idle;
+  role = idle;
   moved = false;
   hand = None;
   wants = None;
@@ -87,8 +87,8 @@ taker_of s = hand_owner (hand_of s)
 abbrev pub want_of : Stands → Want
 want_of s = if is_listed s then wants.Wait else wants.Exclusive
 
--- what befell it adds to what it does about the mutex
-abbrev pub befell : Stands → Doing → Doing
+-- the news that befell it adds to its deeds at the mutex
+abbrev pub befell : Stands → Role → Role
 befell s d = record d {
   retries = if is_woken s then Some wants.Exclusive else d.retries;
   claims = if has_mutex s then Some (Has wants.Exclusive) else d.claims;
@@ -107,7 +107,7 @@ standing s row = record row {
 -- as in a call of the mutex
 abbrev pub beside : Profile → CondvarRow
 beside row = record blank {
-  doing = row.doing;
+  role = row.role;
   moved = is_main row.stands;
   hand = row.hand;
   wants = row.wants;
@@ -121,22 +121,22 @@ waiting_at stage = record blank { stage = Some stage; wants = Some wants.Wait; o
 
 -- it still owns its mutex there
 abbrev pub coming : Stage → CondvarRow
-coming stage = record (waiting_at stage) { doing = owner }
+coming stage = record (waiting_at stage) { role = owner }
 
 -- inside the section of the mutex, to which it was moved
-abbrev pub leaving_mutex : Bool → Doing → CondvarRow
-leaving_mutex moved doing =
-    record blank { doing = doing; moved = moved; wants = Some wants.Exclusive; owes_mutex = true }
+abbrev pub leaving_mutex : Bool → Role → CondvarRow
+leaving_mutex moved role =
+    record blank { role = role; moved = moved; wants = Some wants.Exclusive; owes_mutex = true }
 
 abbrev pub wait_row : ℕ → WaitAt → CondvarRow
-wait_row m wait.Enter = record blank { doing = owner; wants = Some wants.Wait }
+wait_row m wait.Enter = record blank { role = owner; wants = Some wants.Wait }
 wait_row m wait.Show = coming Rests
 wait_row m wait.Stand = coming (Adds m)
 wait_row m wait.Leave = record (coming Rests) { listed = true }
 wait_row m wait.Refuse = coming (Refuses m)
 wait_row m (wait.Release s at) =
-    standing s (record (beside (mutex_profile at)) { doing = befell s (mutex_profile at).doing })
-wait_row m (wait.Asleep s) = standing s (record blank { doing = befell s idle })
+    standing s (record (beside (mutex_profile at)) { role = befell s (mutex_profile at).role })
+wait_row m (wait.Asleep s) = standing s (record blank { role = befell s idle })
 wait_row m wait.Remove = record (waiting_at Rests) { listed = true }
 wait_row m wait.Hide = waiting_at Clears
 wait_row m wait.GiveUp = waiting_at Rests
@@ -147,16 +147,16 @@ wait_row m (wait.Lock timed_out at) = beside (mutex_profile at)
 
 -- ---------------------------------------------------------------- who notifies
 
-abbrev pub brings_to : Bool → Doing
+abbrev pub brings_to : Bool → Role
 brings_to locked = record inside { brings = locked }
 
 -- it has taken the first, if any, and has the bit to set yet where it has moved others
-abbrev pub has_moved : Bool → Bool → Doing
+abbrev pub has_moved : Bool → Bool → Role
 has_moved any sets = record inside { carries = true; covers = any; sets = sets }
 
-abbrev pub both : Stage → Doing → CondvarRow
-both stage doing = record blank
-    { stage = Some stage; doing = doing; owes = true; owes_mutex = true }
+abbrev pub both : Stage → Role → CondvarRow
+both stage role = record blank
+    { stage = Some stage; role = role; owes = true; owes_mutex = true }
 
 -- it has moved nobody, or so many
 abbrev pub told_stage : ℕ → ℕ → Stage
@@ -188,7 +188,7 @@ condvar_row (Notify all m at) = notify_row all m at
 abbrev pub condvar_taker : CondvarPlace → Option ℕ
 condvar_taker p = hand_owner (condvar_row p).hand
 
--- what it wants, where it waits
+-- its want, where it waits
 abbrev pub condvar_wants : CondvarPlace → Option Want
 condvar_wants p = (condvar_row p).wants
 
@@ -219,7 +219,7 @@ abbrev pub section_in : Option Stage → Option Line
 section_in None = None
 section_in (Some stage) = Some Main
 
--- who waits to be notified does so at the condition variable, and everybody else at the mutex
+-- a thread that waits to be notified does so at the condition variable, and all others at the mutex
 abbrev pub wants_there : Option Want → Option Want
 wants_there (Some wants.Wait) = Some wants.Wait
 wants_there x = None
@@ -256,7 +256,7 @@ abbrev pub is_late_beside : CondvarPlace → Bool
 is_late_beside (Wait m timed wait.RemoveMoved) = true
 is_late_beside p = false
 
--- what its call is for
+-- the goal of its call
 abbrev pub condvar_purpose : CondvarPlace → ℕ → Purpose
 condvar_purpose (Wait m timed at) c = Waits c m timed
 condvar_purpose (Look all) c = Notifies c all
@@ -276,7 +276,7 @@ abbrev pub condvar_released : CondvarPlace → Bool
 condvar_released (Wait m timed at) = has_released at
 condvar_released p = false
 
--- what its call recalls
+-- the memory of its call
 abbrev pub stands_recalls : Stands → Recall
 stands_recalls stands.Listed = Blank
 stands_recalls stands.Moved = WasMoved
@@ -306,7 +306,7 @@ condvar_recalls (Notify all m at) = notify_recalls m at
 -- a wait owned its mutex as it began, by whether it does now
 abbrev pub owned_before : CondvarPlace → ℕ → (ℕ → Rights) → ℕ → Rights
 owned_before (Wait m timed at) l rights =
-    before_release l (is_none (wait_row m at).doing.claims) rights
+    before_release l (is_none (wait_row m at).role.claims) rights
 owned_before p l rights = rights
 
 -- whether it has anybody in hand, who waits for the mutex
@@ -326,10 +326,10 @@ carries_beside (Wait m timed at) = wait_carries at
 carries_beside (Look all) = None
 carries_beside (Notify all m at) = notify_carries at
 
--- what a place says of its thread at the condition variable: nobody is in a hand there
+-- the row of a place at the condition variable: nobody is in a hand there
 abbrev pub condvar_profile : CondvarPlace → Profile
 condvar_profile p = record profiles.blank {
-  doing = record idle { inside = section_in (condvar_row p).stage };
+  role = record idle { inside = section_in (condvar_row p).stage };
   stands = in_line (condvar_row p).listed Main;
   wants = wants_there (condvar_row p).wants;
   owes = in_line (condvar_row p).owes Main;
@@ -347,7 +347,7 @@ condvar_profile p = record profiles.blank {
 -- and at the mutex beside it
 abbrev pub mutex_side : CondvarPlace → Profile
 mutex_side p = record profiles.blank {
-  doing = (condvar_row p).doing;
+  role = (condvar_row p).role;
   stands = in_line (condvar_row p).moved Main;
   carries = carries_beside p;
   hand = (condvar_row p).hand;

@@ -51,7 +51,7 @@ abbrev pub condvar_first : CondvarCall → CondvarPlace
 condvar_first (call.Wait m timed) = Wait m timed wait.Enter
 condvar_first (call.Notify all) = Look all
 
--- who waits owns the mutex
+-- a waiting thread owns the mutex
 abbrev pub condvar_right : CondvarCall → ℕ → Owners → Bool
 condvar_right (call.Wait m timed) t owners = is_thread t owners.exclusive
 condvar_right (call.Notify all) t owners = true
@@ -87,7 +87,7 @@ wait_act c m wait.RemoveMoved = act.Remove (2 * m)
 wait_act c m (wait.GiveUpMoved none_left) = act.Leave (One (2 * m)) Nobody
 wait_act c m (wait.Lock timed_out at) = mutex_act m at
 
--- whom it moves to a mutex that somebody owned, or else takes
+-- the waiters that it moves to a mutex that was owned, or else takes
 abbrev pub move_act : Bool → Bool → ℕ → ℕ → Act
 move_act true locked c m =
     act.Requeue (2 * c) (2 * m) (if locked then requeue.All else requeue.TakeOneMoveRest)
@@ -132,8 +132,7 @@ stands_after s reply = s
 abbrev pub first_lock : Bool → MutexPlace
 first_lock retries = mutex.Lock entry.Lock retries lock.First
 
--- behind its release: with a normal note it locks the mutex again, with that of a hand-off it has
--- it
+-- after its release: with a normal note it locks the mutex again, with that of a hand-off it has it
 abbrev pub behind : Stands → WaitAt
 behind (stands.Noted note.Normal) = wait.Lock false (first_lock true)
 behind (stands.Noted note.HandOff) = wait.Lock false (mutex.Lock entry.Lock false lock.Accept)
@@ -147,7 +146,7 @@ late_place s = wait.Asleep s
 
 -- ---------------------------------------------------------------- where a reply leads
 
--- what a wait answers with the mutex
+-- the answer of a wait that has the mutex
 abbrev pub waited : Bool → Bool → Answer
 waited timed timed_out =
     if not timed then answer.Ok else if timed_out then answer.TimedOut else answer.Notified
@@ -186,7 +185,7 @@ next_wait m timed (wait.GiveUpMoved none_left) Done = At (wait.Lock false (first
 next_wait m timed (wait.Lock timed_out at) reply = relocked timed timed_out (mutex_next at reply)
 next_wait m timed at reply = At at
 
--- what a notification answers that has taken and moved so many
+-- the answer of a notification that has taken and moved so many
 abbrev pub notified : Bool → ℕ → Answer
 notified all number = if all then answer.Number number else if number == 0 then answer.No
     else answer.Yes
@@ -257,7 +256,7 @@ condvar_looking p = None
 
 -- ---------------------------------------------------------------- who owns
 
--- who owns the mutex, or which one is shown, behind an operation on a word that saw this value
+-- the owner of the mutex, or the one shown, after an operation on a word that saw this value
 abbrev pub condvar_owners : CondvarPlace → ℕ → ℕ → Owners → Owners
 condvar_owners (Wait m timed wait.Show) t seen owners =
     if seen == 0 then record owners { shown = Some m } else owners

@@ -14,7 +14,7 @@ use Rattle.steps_base.specs.Moves.{IsFree}
 use Rattle.spec_locks.specs.Codes.{code}
 use Rattle.spec_locks.specs.Deeds.{AllNeeded, after_all}
 use Rattle.spec_locks.specs.Locks.{HasTakenNobody, Late as GivesUp, Mutex, Rules, first_thread, standing, times, without}
-use Rattle.spec_locks.specs.Sites.{Case, Deed, Doing, End, Has, In, IsSite, Main, Out, Site, idle, is_empty, wakened}
+use Rattle.spec_locks.specs.Sites.{Case, Deed, Role, End, Has, In, IsSite, Main, Out, Site, idle, is_empty, wakened}
 use Rattle.steps_mutex.specs.declared.lock.LockAt.{LockAt}
 use Rattle.steps_mutex.specs.declared.lock.LockAt.TheVariants as lock
 use Rattle.steps_mutex.specs.declared.places.MutexPlace.TheVariants as mutex
@@ -56,7 +56,7 @@ pub record TakesFirst (s : Site) (whom : Option ℕ) (any none_left : Bool) : Ty
   pub some : any ≡ not (is_none whom)
   pub left : none_left ≡ is_empty (drop 1 s.lock.queue)
 
--- who releases it owns it, and nobody has handed it over meanwhile
+-- a thread that releases it owns it, and nobody has handed it over meanwhile
 abbrev pub MayHearReleasing : Rules → Site → ℕ → Stands → UnlockAt → Option ℕ → Reply → Type 0
 MayHearReleasing r s t st unlock.Subtract whom (Value seen) =
     (seen ≡ code r s) × (has_mutex st ≡ false)
@@ -101,12 +101,12 @@ MayHearWaiter r s t at whom told = ⊥
 
 -- ---------------------------------------------------------------- the laws
 
-abbrev pub waiter_next : ℕ → Next WaitAt → Doing
-waiter_next m (At at) = (wait_row m at).doing
+abbrev pub waiter_next : ℕ → Next WaitAt → Role
+waiter_next m (At at) = (wait_row m at).role
 waiter_next m (Over answer) = idle
 
--- who leaves the section is woken where it was in its own hand: a release may take its own thread
-abbrev pub itself_woken : ℕ → Site → List Deed → Doing → Doing
+-- a thread that leaves the section is woken where it was in its own hand: a release may take its own thread
+abbrev pub itself_woken : ℕ → Site → List Deed → Role → Role
 itself_woken t s (Out ∷ ds) d = wakened t (s.lock.taken t) d
 itself_woken t s ds d = d
 
@@ -114,14 +114,14 @@ itself_woken t s ds d = d
 pub record WaiterFollows (r : Rules) (s : Site) (t m : ℕ) (timed : Bool) (at : WaitAt)
     (whom : Option ℕ) (told : Reply) : Type 0 where
   pub needed : AllNeeded r (waiter_deeds at whom told) s t
-  pub doing : (after_all r (waiter_deeds at whom told) s t).doing t
+  pub role : (after_all r (waiter_deeds at whom told) s t).role t
       ≡ itself_woken t s (waiter_deeds at whom told) (waiter_next m (next_wait m timed at told))
 
 abbrev pub WaitersFollow : Type 0
 WaitersFollow =
     (r : Rules) (s : Site) (t m : ℕ) (timed : Bool) (at : WaitAt) (whom : Option ℕ) (told : Reply)
     → r.sort ≡ Mutex
-    → IsSite r s → s.doing t ≡ (wait_row m at).doing → MayHearWaiter r s t at whom told
+    → IsSite r s → s.role t ≡ (wait_row m at).role → MayHearWaiter r s t at whom told
     → WaiterFollows r s t m timed at whom told
 
 -- its steps on the word of the mutex leave the word of the mutex behind the deeds, and the owner
@@ -135,18 +135,18 @@ abbrev pub WaitersCode : Type 0
 WaitersCode =
     (r : Rules) (s : Site) (t k m : ℕ) (timed : Bool) (at : WaitAt) (f : Op) (o : Owners)
     → r.sort ≡ Mutex → k ≢ m
-    → IsSite r s → s.doing t ≡ (wait_row m at).doing
+    → IsSite r s → s.role t ≡ (wait_row m at).role
     → MayHearWaiter r s t at None (Value (code r s))
     → wait_act k m at ≡ act.Word m f → o.exclusive ≡ s.lock.exclusive
     → LeavesMutex r s t m timed at f o
 
 -- ---------------------------------------------------------------- what befalls a waiter
 
--- who was taken and handed the mutex has it, and who was woken without it tries again
-abbrev pub befalls_doing : Reply → Doing → Doing
-befalls_doing (HandedBy by alone) d = record d { claims = Some (Has Exclusive) }
-befalls_doing (Woken Normal) d = record d { retries = Some Exclusive }
-befalls_doing told d = d
+-- a waiter that was taken and handed the mutex has it, and one that was woken without it tries again
+abbrev pub befalls_role : Reply → Role → Role
+befalls_role (HandedBy by alone) d = record d { claims = Some (Has Exclusive) }
+befalls_role (Woken Normal) d = record d { retries = Some Exclusive }
+befalls_role told d = d
 
 -- it stands in a queue and is taken, or moved to its mutex's; it is in a hand, and handed the mutex
 -- or woken
@@ -174,4 +174,4 @@ MayBefall at told = ⊥
 abbrev pub WaitersHear : Type 0
 WaitersHear =
     (m : ℕ) (timed : Bool) (at : WaitAt) (told : Reply) → MayBefall at told
-    → waiter_next m (next_wait m timed at told) ≡ befalls_doing told (wait_row m at).doing
+    → waiter_next m (next_wait m timed at told) ≡ befalls_role told (wait_row m at).role

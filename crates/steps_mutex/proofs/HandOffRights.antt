@@ -65,7 +65,7 @@ module _ (limit : ℕ) (s : LockState) (t : ℕ) where
           none : is_thread u to ≡ is_thread u s.exclusive
           none = not_heir to nu ∙ sym (ap (is_thread u) own ∙ other_counts u t nt)
 
--- who has an heir that isn't itself gives its right up
+-- a thread that has an heir that isn't itself gives its right up
 pub gives_right : (limit : ℕ) (s : Site) (t : ℕ) (to : Option ℕ) → IsSite (record { sort = Mutex; limit = limit }) s → Needs (record { sort = Mutex; limit = limit }) (HandsOff Exclusive (heir to)) s.lock t
     → s.lock.taken t ≡ None → with_right Exclusive (rights_of (locks.handed t Exclusive (heir to) s.lock) t) ≡ rights_of s.lock t
 gives_right limit s t to site needs awake = gave limit s.lock t site.state to needs.0 (λ e. let g : s.lock.taken t ≡ Some (record { by = t; want = Exclusive }) = ((needs.2 t Exclusive).0 (ap heir e)).0 in let none : s.lock.taken t ≡ None = awake in cc)

@@ -34,7 +34,7 @@ abbrev pub Rests : ℕ → Next MutexPlace → Type 0
 Rests l (next.At at) = (outcome_of (mutex_act l at) ≡ outcome.Step) ⊎ ((outcome_of (mutex_act l at) ≡ outcome.Sleep) × ((mutex_row at).stands ≡ Some Main))
 Rests l (next.End a) = Unit {0}
 
--- whatever it decides by, a thread that decides goes on
+-- a thread that decides goes on, by any decision
 pub decides : (l s : ℕ) → outcome_of (lock_act l (Decide s)) ≡ outcome.Step
 decides l s = either (is_locked s) (s == 1)
   where
@@ -46,7 +46,7 @@ decides l s = either (is_locked s) (s == 1)
     either true true = refl
     either true false = refl
 
--- whatever it hands over, it goes on
+-- it goes on, with any hand-over
 stores_so : (l : ℕ) (any none_left : Bool) → outcome_of (hand_off_act l (hand_off.Store any none_left)) ≡ outcome.Step
 stores_so l true none_left = refl
 stores_so l false none_left = refl

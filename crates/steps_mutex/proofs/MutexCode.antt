@@ -17,7 +17,7 @@ use Rattle.spec_locks.proofs.LockKeeps.{sharing_same}
 use Rattle.spec_locks.specs.Codes.{code}
 use Rattle.spec_locks.specs.Deeds.{after_all}
 use Rattle.spec_locks.specs.Locks.{Leave, LockState, Mutex, Rules, handed, let_go, pending_for, with_owner, with_successor, without_owner}
-use Rattle.spec_locks.specs.Sites.{Case, Deed, Doing, End, Has, IsSite, Main, Mark, Site}
+use Rattle.spec_locks.specs.Sites.{Case, Deed, Role, End, Has, IsSite, Main, Mark, Site}
 use Rattle.steps_mutex.specs.declared.lock.LockAt.TheVariants as lock
 use Rattle.steps_mutex.specs.declared.places.MutexPlace.{MutexPlace}
 use Rattle.steps_mutex.specs.declared.places.MutexPlace.TheVariants.{Lock, TryLock, Unlock, UnlockFair, Bump, HandOff}
@@ -25,7 +25,7 @@ use Rattle.steps_mutex.specs.declared.places.TheConstants.{NOT_PARKED}
 use Rattle.steps_mutex.specs.declared.unlock.UnlockAt.TheVariants as unlock
 use Rattle.steps_mutex.specs.declared.hand_off.HandOffAt.TheVariants as hand_off
 use Rattle.steps_mutex.specs.MutexDeeds.{enters, hands_over, mutex_deeds, queued}
-use Rattle.steps_mutex.specs.MutexLaws.{HandsOver, LeavesMutex, MayHear, MutexHandOversCode, MutexStepsCode, mutex_doing}
+use Rattle.steps_mutex.specs.MutexLaws.{HandsOver, LeavesMutex, MayHear, MutexHandOversCode, MutexStepsCode, mutex_role}
 use Rattle.steps_mutex.specs.MutexSteps.{decided, hand_off_word, is_locked, is_parked, mutex_act, mutex_owners}
 use Rattle.steps_mutex.proofs.MutexWords.{cleared, entered_free, entered_zero, less_one, one, owned_word, tried_free, tried_owned, word_of}
 
@@ -82,8 +82,8 @@ module _ (limit : ℕ) (s : Site) (t l : ℕ) (h : IsSite (record { sort = Mutex
     tried_once true e = (tried_owned s.parked s.lock.exclusive e, owned)
     tried_once false e = (tried_free s.parked s.lock.exclusive t e, refl)
 
-    owns : s.doing t ≡ mutex_doing UnlockFair → s.lock.exclusive ≡ Some t
-    owns is = h.held t (Has Exclusive) (ap (λ (d : Doing). d.claims) is)
+    owns : s.role t ≡ mutex_role UnlockFair → s.lock.exclusive ≡ Some t
+    owns is = h.held t (Has Exclusive) (ap (λ (d : Role). d.claims) is)
 
     -- a release
     released : s.lock.exclusive ≡ Some t → (b : Bool) → Leaves (Case (Leave Exclusive) ∷ (if b then [] else End ∷ [])) (apply (op.Sub 1) v) None
@@ -110,7 +110,7 @@ module _ (limit : ℕ) (s : Site) (t l : ℕ) (h : IsSite (record { sort = Mutex
       owner = x.1 ∙ ap (λ d. (after_all r d s t).lock.exclusive) (sym does);
     }
 
-    each_code : (p : MutexPlace) (whom : Option ℕ) (f : Op) → s.doing t ≡ mutex_doing p → MayHear r s t p whom (Value v) → mutex_act l p ≡ act.Word l f → LeavesMutex r s t p whom f o
+    each_code : (p : MutexPlace) (whom : Option ℕ) (f : Op) → s.role t ≡ mutex_role p → MayHear r s t p whom (Value v) → mutex_act l p ≡ act.Word l f → LeavesMutex r s t p whom f o
     each_code (Lock e retries lock.First) whom f is hears does = let g : op.Exchange 0 1 ≡ f = cc in rw (← g) (leaves _ whom _ _ _ refl refl (tried (v == 0) refl))
     each_code (Lock e retries lock.Load) whom f is hears does = let g : op.Load ≡ f = cc in rw (← g) (leaves _ whom _ _ _ refl refl (refl, owned))
     each_code (Lock e retries (lock.Decide expected)) whom f is hears does = leaves _ whom f _ _ refl refl (decides expected f does (v == expected) refl)
@@ -176,7 +176,7 @@ module _ (limit : ℕ) (s : Site) (t l : ℕ) (h : IsSite (record { sort = Mutex
 pub mutex_steps_code : MutexStepsCode
 mutex_steps_code r s t l p whom f o a hears does owned =
     subst (λ x. IsSite x s → MayHear x s t p whom (Value (code x s)) → LeavesMutex x s t p whom f o)
-    (λ i. record { sort = sym a.sort i; limit = r.limit }) (λ h hears. each_code r.limit s t l h o owned p whom f a.doing hears does) a.site hears
+    (λ i. record { sort = sym a.sort i; limit = r.limit }) (λ h hears. each_code r.limit s t l h o owned p whom f a.role hears does) a.site hears
 
 pub mutex_hand_overs_code : MutexHandOversCode
 mutex_hand_overs_code r s t l p whom f a hears does =

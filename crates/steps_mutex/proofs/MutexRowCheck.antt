@@ -82,7 +82,7 @@ goes l at = record { acts = refl; awake = λ e. cc; elsewhere = λ m e. cc }
 abbrev Passes : ℕ → MutexPlace → Going → Bool
 Passes l at g = keeps_row Mutex (mutex_row at) ((mutex_row at).purpose l) g
 
--- whatever the call, and whether it was woken
+-- for every call, woken or not
 each : (f : Entry → Bool → Bool)
     → (f entries.Lock true && (f entries.Lock false && (f entries.LockTimed true && (f entries.LockTimed false && (f entries.Bump true && f entries.Bump false))))) ≡ true
     → (e : Entry) (r : Bool) → f e r ≡ true

@@ -7,21 +7,21 @@ use Rattle.steps_base.specs.declared.acts.Reply.TheVariants.{Done, Value, Parked
 use Rattle.steps_base.specs.Calls.{CallFollows}
 use Rattle.spec_locks.specs.Deeds.{AllNeeded}
 use Rattle.spec_locks.specs.Locks.{Mutex, Needs, Rules, HandOff as HandsOff}
-use Rattle.spec_locks.specs.Sites.{Site, IsSite, Doing, Has, Main, In, End, Mark, Clear as Clears}
+use Rattle.spec_locks.specs.Sites.{Site, IsSite, Role, Has, Main, In, End, Mark, Clear as Clears}
 use Rattle.steps_mutex.specs.declared.places.MutexPlace.{MutexPlace}
 use Rattle.steps_mutex.specs.declared.places.MutexPlace.TheVariants.{Lock, TryLock, Unlock, UnlockFair, Bump, HandOff}
 use Rattle.steps_mutex.specs.declared.lock.LockAt.TheVariants.{First, Load, Decide, Check, Leave, Asleep, Accept, Remove, Clear, GiveUp}
 use Rattle.steps_mutex.specs.declared.unlock.UnlockAt.TheVariants as unlock
 use Rattle.steps_mutex.specs.declared.hand_off.HandOffAt.TheVariants as hand_off
 use Rattle.steps_mutex.specs.MutexDeeds.{mutex_deeds, enters, hands_over}
-use Rattle.steps_mutex.specs.MutexLaws.{MayHear, MutexStepsTell, heir, mutex_doing, mutex_row, next_row}
+use Rattle.steps_mutex.specs.MutexLaws.{MayHear, MutexStepsTell, heir, mutex_role, mutex_row, next_row}
 use Rattle.steps_mutex.specs.MutexSteps.{is_locked, is_parked, is_timed, mutex_next}
 use Rattle.steps_mutex.proofs.HandOffRights.{gives_right}
 use Rattle.steps_mutex.proofs.MutexCalls.{Tells, first, loads, exchanges, checks, leaves_line, removes, gives_up, accepts, tries, subtracts, takes_one, wakes_taken, unlocks_fairly, bumps, takes_fairly, stores, leaves_fairly, goes_to}
 use Rattle.steps_mutex.proofs.MutexFit.{mutex_steps_follow}
 use Rattle.steps_mutex.proofs.MutexWords.{locked_owned}
 
--- what a thread may be told of its own step, as far as its call goes
+-- tells what a thread may be told of its own step, as far as its call goes
 abbrev pub Hears : Site → ℕ → MutexPlace → Reply → Type 0
 Hears s t (Lock e again First) (Value v) = Unit {0}
 Hears s t (Lock e again Load) (Value v) = Unit {0}
@@ -52,10 +52,10 @@ module _ (limit : ℕ) (s : Site) (t l : ℕ) (site : IsSite (record { sort = Mu
   mutex = record { sort = Mutex; limit = limit }
 
   -- its right by its place
-  owns : (d : Doing) → s.doing t ≡ d → d.claims ≡ Some (Has Exclusive) → s.lock.exclusive ≡ Some t
-  owns d doing claims = site.held t (Has Exclusive) (ap (λ (x : Doing). x.claims) doing ∙ claims)
+  owns : (d : Role) → s.role t ≡ d → d.claims ≡ Some (Has Exclusive) → s.lock.exclusive ≡ Some t
+  owns d role claims = site.held t (Has Exclusive) (ap (λ (x : Role). x.claims) role ∙ claims)
 
-  -- who enters, finds nobody
+  -- a thread that enters, finds nobody
   nobody : AllNeeded mutex enters s t → s.lock.exclusive ≡ None
   nobody needed = needed.0.0.0.0.1
 
@@ -77,33 +77,33 @@ module _ (limit : ℕ) (s : Site) (t l : ℕ) (site : IsSite (record { sort = Mu
   given None b needed = needed.0.0
   given (Some u) b needed = needed.0.0
 
-  pub mutex_tells : (at : MutexPlace) (whom : Option ℕ) (told : Reply) → s.doing t ≡ mutex_doing at
+  pub mutex_tells : (at : MutexPlace) (whom : Option ℕ) (told : Reply) → s.role t ≡ mutex_role at
       → AllNeeded mutex (mutex_deeds at whom told) s t → Hears s t at told
       → Tells limit l t s.lock at (mutex_deeds at whom told) (mutex_next at told)
-  mutex_tells (Lock e again First) whom (Value v) doing needed hears = first limit l t s.lock e again (v == 0) (first_free (v == 0) needed)
-  mutex_tells (Lock e again Load) whom (Value v) doing needed hears = loads limit l t s.lock e again v
-  mutex_tells (Lock e again (Decide was)) whom (Value v) doing needed hears = exchanges limit l t s.lock e again was v (v == was) (is_locked v) (decided_free (v == was) (is_locked v) needed)
-  mutex_tells (Lock e again (Decide was)) whom Done doing needed hears = goes_to limit l t s.lock (Lock e again (Decide was)) (Lock e again Check) (In Main) tt refl (λ rights. refl) (inl refl)
-  mutex_tells (Lock e again Check) whom (Parked true) doing needed hears = checks limit l t s.lock e again true
-  mutex_tells (Lock e again Check) whom (Parked false) doing needed hears = checks limit l t s.lock e again false
-  mutex_tells (Lock e again (Leave b)) whom Done doing needed hears = leaves_line limit l t s.lock e again b
-  mutex_tells (Lock e again Accept) whom Done doing needed hears = accepts limit l t s.lock e again (owns _ doing refl)
-  mutex_tells (Lock e again Remove) whom (Removed b) doing needed hears = removes limit l t s.lock e again b hears
-  mutex_tells (Lock e again Clear) whom (Value v) doing needed hears = goes_to limit l t s.lock (Lock e again Clear) (Lock e again GiveUp) (Clears Main) tt refl (λ rights. refl) (inl refl)
-  mutex_tells (Lock e again GiveUp) whom Done doing needed hears = gives_up limit l t s.lock e again hears
-  mutex_tells TryLock whom (Value v) doing needed hears = tries limit l t s.lock (is_locked v) (tried_free (is_locked v) needed) hears
-  mutex_tells (Unlock unlock.Subtract) whom (Value v) doing needed hears = subtracts limit l t s.lock (is_parked v) (owns _ doing refl)
-  mutex_tells (Unlock unlock.Enter) whom Done doing needed hears = goes_to limit l t s.lock (Unlock unlock.Enter) (Unlock unlock.Take) (In Main) tt refl (λ rights. refl) (inl refl)
-  mutex_tells (Unlock unlock.Take) whom (Took any b) doing needed hears = takes_one limit l t s.lock whom any b
-  mutex_tells (Unlock (unlock.Clear any)) whom (Value v) doing needed hears = goes_to limit l t s.lock (Unlock (unlock.Clear any)) (Unlock (unlock.Leave any)) (Clears Main) tt refl (λ rights. refl) (inl refl)
-  mutex_tells (Unlock (unlock.Leave any)) whom Done doing needed hears = wakes_taken limit l t s.lock any
-  mutex_tells UnlockFair whom (Value v) doing needed hears = unlocks_fairly limit l t s.lock (v == 1) (λ e. owns _ doing refl)
-  mutex_tells Bump whom (Value v) doing needed hears = bumps limit l t s.lock (is_parked v) (owns _ doing refl)
-  mutex_tells (HandOff bumping hand_off.Enter) whom Done doing needed hears = goes_to limit l t s.lock (HandOff bumping hand_off.Enter) (HandOff bumping hand_off.Take) (In Main) tt refl (λ rights. refl) (inl refl)
-  mutex_tells (HandOff bumping hand_off.Take) whom (Took any b) doing needed hears = takes_fairly limit l t s.lock bumping whom any b
-  mutex_tells (HandOff bumping (hand_off.Store any b)) whom (Value v) doing needed hears = stores limit l t s.lock bumping any b whom (gives_right limit s t whom site (given whom b needed) hears)
-  mutex_tells (HandOff bumping (hand_off.Leave any)) whom Done doing needed hears = leaves_fairly limit l t s.lock bumping any
-  mutex_tells at whom told doing needed hears = absurd hears
+  mutex_tells (Lock e again First) whom (Value v) role needed hears = first limit l t s.lock e again (v == 0) (first_free (v == 0) needed)
+  mutex_tells (Lock e again Load) whom (Value v) role needed hears = loads limit l t s.lock e again v
+  mutex_tells (Lock e again (Decide was)) whom (Value v) role needed hears = exchanges limit l t s.lock e again was v (v == was) (is_locked v) (decided_free (v == was) (is_locked v) needed)
+  mutex_tells (Lock e again (Decide was)) whom Done role needed hears = goes_to limit l t s.lock (Lock e again (Decide was)) (Lock e again Check) (In Main) tt refl (λ rights. refl) (inl refl)
+  mutex_tells (Lock e again Check) whom (Parked true) role needed hears = checks limit l t s.lock e again true
+  mutex_tells (Lock e again Check) whom (Parked false) role needed hears = checks limit l t s.lock e again false
+  mutex_tells (Lock e again (Leave b)) whom Done role needed hears = leaves_line limit l t s.lock e again b
+  mutex_tells (Lock e again Accept) whom Done role needed hears = accepts limit l t s.lock e again (owns _ role refl)
+  mutex_tells (Lock e again Remove) whom (Removed b) role needed hears = removes limit l t s.lock e again b hears
+  mutex_tells (Lock e again Clear) whom (Value v) role needed hears = goes_to limit l t s.lock (Lock e again Clear) (Lock e again GiveUp) (Clears Main) tt refl (λ rights. refl) (inl refl)
+  mutex_tells (Lock e again GiveUp) whom Done role needed hears = gives_up limit l t s.lock e again hears
+  mutex_tells TryLock whom (Value v) role needed hears = tries limit l t s.lock (is_locked v) (tried_free (is_locked v) needed) hears
+  mutex_tells (Unlock unlock.Subtract) whom (Value v) role needed hears = subtracts limit l t s.lock (is_parked v) (owns _ role refl)
+  mutex_tells (Unlock unlock.Enter) whom Done role needed hears = goes_to limit l t s.lock (Unlock unlock.Enter) (Unlock unlock.Take) (In Main) tt refl (λ rights. refl) (inl refl)
+  mutex_tells (Unlock unlock.Take) whom (Took any b) role needed hears = takes_one limit l t s.lock whom any b
+  mutex_tells (Unlock (unlock.Clear any)) whom (Value v) role needed hears = goes_to limit l t s.lock (Unlock (unlock.Clear any)) (Unlock (unlock.Leave any)) (Clears Main) tt refl (λ rights. refl) (inl refl)
+  mutex_tells (Unlock (unlock.Leave any)) whom Done role needed hears = wakes_taken limit l t s.lock any
+  mutex_tells UnlockFair whom (Value v) role needed hears = unlocks_fairly limit l t s.lock (v == 1) (λ e. owns _ role refl)
+  mutex_tells Bump whom (Value v) role needed hears = bumps limit l t s.lock (is_parked v) (owns _ role refl)
+  mutex_tells (HandOff bumping hand_off.Enter) whom Done role needed hears = goes_to limit l t s.lock (HandOff bumping hand_off.Enter) (HandOff bumping hand_off.Take) (In Main) tt refl (λ rights. refl) (inl refl)
+  mutex_tells (HandOff bumping hand_off.Take) whom (Took any b) role needed hears = takes_fairly limit l t s.lock bumping whom any b
+  mutex_tells (HandOff bumping (hand_off.Store any b)) whom (Value v) role needed hears = stores limit l t s.lock bumping any b whom (gives_right limit s t whom site (given whom b needed) hears)
+  mutex_tells (HandOff bumping (hand_off.Leave any)) whom Done role needed hears = leaves_fairly limit l t s.lock bumping any
+  mutex_tells at whom told role needed hears = absurd hears
 
 -- ---------------------------------------------------------------- the law
 
@@ -141,5 +141,5 @@ pub mutex_steps_tell : MutexStepsTell
 mutex_steps_tell r s t l p whom told a f on_time =
     subst (λ x. IsSite x s → MayHear x s t p whom told → AllNeeded x (mutex_deeds p whom told) s t → CallFollows x s.lock t l (mutex_row p) (mutex_deeds p whom told) (next_row (mutex_next p told)))
     (λ i. record { sort = sym a.sort i; limit = r.limit })
-    (λ h f needed. (mutex_tells r.limit s t l h p whom told a.doing needed (hears_so r.limit s t l p whom told f on_time)).follows)
+    (λ h f needed. (mutex_tells r.limit s t l h p whom told a.role needed (hears_so r.limit s t l p whom told f on_time)).follows)
     a.site f (mutex_steps_follow r s t p whom told a f).needed

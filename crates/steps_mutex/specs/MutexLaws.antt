@@ -16,7 +16,7 @@ use Rattle.steps_base.specs.Rows.{RowPromises}
 use Rattle.spec_locks.specs.Codes.{code}
 use Rattle.spec_locks.specs.Deeds.{AllNeeded, after_all}
 use Rattle.spec_locks.specs.Locks.{HasTakenNobody, IsSuccessor, Mutex, Queued, Rules, first_thread, standing}
-use Rattle.spec_locks.specs.Sites.{Doing, IsSite, Main, Site, idle, is_empty}
+use Rattle.spec_locks.specs.Sites.{Role, IsSite, Main, Site, idle, is_empty}
 use Rattle.steps_mutex.specs.declared.places.MutexPlace.{MutexPlace}
 use Rattle.steps_mutex.specs.declared.places.MutexPlace.TheVariants.{Lock, TryLock, Unlock, UnlockFair, Bump, HandOff}
 use Rattle.steps_mutex.specs.declared.lock.Entry.{Entry}
@@ -36,18 +36,18 @@ use Rattle.steps_mutex.specs.MutexSteps.{is_timed, mutex_act, mutex_next, mutex_
 abbrev pub mutex_row : MutexPlace → Profile
 mutex_row p = bringing_nobody (mutex_profile p)
 
-abbrev pub mutex_doing : MutexPlace → Doing
-mutex_doing p = (mutex_row p).doing
+abbrev pub mutex_role : MutexPlace → Role
+mutex_role p = (mutex_row p).role
 
--- behind a step, at its next place or in no call
-abbrev pub doing_next : Next MutexPlace → Doing
-doing_next (next.At p) = mutex_doing p
-doing_next (next.End answer) = idle
+-- the state after a step, at its next place or in no call
+abbrev pub role_next : Next MutexPlace → Role
+role_next (next.At p) = mutex_role p
+role_next (next.End answer) = idle
 
 pub record IsAt (r : Rules) (s : Site) (t : ℕ) (p : MutexPlace) : Type 0 where
   pub sort : r.sort ≡ Mutex
   pub site : IsSite r s
-  pub doing : s.doing t ≡ mutex_doing p
+  pub role : s.role t ≡ mutex_role p
 
 -- ---------------------------------------------------------------- what it may be told
 
@@ -113,7 +113,7 @@ MayHear r s t p whom told = ⊥
 pub record Follows (r : Rules) (s : Site) (t : ℕ) (p : MutexPlace) (whom : Option ℕ) (told : Reply)
     : Type 0 where
   pub needed : AllNeeded r (mutex_deeds p whom told) s t
-  pub doing : (after_all r (mutex_deeds p whom told) s t).doing t ≡ doing_next (mutex_next p told)
+  pub role : (after_all r (mutex_deeds p whom told) s t).role t ≡ role_next (mutex_next p told)
 
 abbrev pub MutexStepsFollow : Type 0
 MutexStepsFollow =

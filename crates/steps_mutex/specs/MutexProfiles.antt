@@ -16,21 +16,22 @@ use Rattle.steps_mutex.specs.MutexSteps.{is_timed}
 use Rattle.steps_base.specs.Profiles.{hand, hand_owner, in_hand, in_line, Profile, blank}
 use Rattle.spec_locks.specs.Locks.{Rights}
 use Rattle.spec_locks.specs.Runs.{one_more_at, one_less_at}
-use Rattle.spec_locks.specs.Purposes.{Purpose, Enters, Releases, Bumps, Patient, Timed}
-use Rattle.spec_locks.specs.Sites.{Doing, Line, Has, Main, idle, found}
+use Rattle.spec_locks.specs.Purposes.{Purpose, Enters, Releases, Bumps}
+use Rattle.spec_locks.specs.declared.calls.Patience.TheVariants.{Patient, Timed}
+use Rattle.spec_locks.specs.Sites.{Role, Line, Has, Main, idle, found}
 
 -- ---------------------------------------------------------------- what a thread does about the lock
 
-abbrev pub owner : Doing
+abbrev pub owner : Role
 owner = record idle { claims = Some (Has Exclusive) }
 
-abbrev pub inside : Doing
+abbrev pub inside : Role
 inside = record idle { inside = Some Main }
 
-abbrev pub carrying : Doing
+abbrev pub carrying : Role
 carrying = record inside { carries = true; covers = true }
 
-abbrev pub again : Bool → Doing → Doing
+abbrev pub again : Bool → Role → Role
 again retries d = record d { retries = if retries then Some Exclusive else None }
 
 -- ---------------------------------------------------------------- calls that enter
@@ -44,7 +45,7 @@ entry_purpose l entry.Lock = Enters l Exclusive Patient
 entry_purpose l entry.LockTimed = Enters l Exclusive Timed
 entry_purpose l entry.Bump = Bumps l Exclusive
 
--- what it owned before, by what it owns now
+-- its ownership before, by what it owns now
 abbrev pub before_release : ℕ → Bool → (ℕ → Rights) → ℕ → Rights
 before_release l released rights = if released then one_more_at l Exclusive rights else rights
 
@@ -58,32 +59,32 @@ was_handed lock.Accept = true
 was_handed at = false
 
 abbrev pub lock_row : Bool → Bool → LockAt → Profile
-lock_row timed retries lock.First = record blank { doing = again retries idle }
-lock_row timed retries lock.Load = record blank { doing = again retries idle }
-lock_row timed retries (lock.Decide seen) = record blank { doing = again retries idle }
-lock_row timed retries lock.Check = record blank { doing = again retries inside; owes = Some Main }
+lock_row timed retries lock.First = record blank { role = again retries idle }
+lock_row timed retries lock.Load = record blank { role = again retries idle }
+lock_row timed retries (lock.Decide seen) = record blank { role = again retries idle }
+lock_row timed retries lock.Check = record blank { role = again retries inside; owes = Some Main }
 lock_row timed retries (lock.Leave parked) =
     record blank {
-      doing = again (if parked then false else retries) inside;
+      role = again (if parked then false else retries) inside;
       stands = if parked then Some Main else None;
       owes = Some Main;
     }
 lock_row timed retries lock.Asleep =
     record blank { stands = Some Main; late_line = in_line timed Main }
 lock_row timed retries (lock.Taken by) = record blank { hand = hand by false }
-lock_row timed retries (lock.Handed by) = record blank { doing = owner; hand = hand by true }
-lock_row timed retries lock.Accept = record blank { doing = owner }
+lock_row timed retries (lock.Handed by) = record blank { role = owner; hand = hand by true }
+lock_row timed retries lock.Accept = record blank { role = owner }
 lock_row timed retries lock.Remove =
-    record blank { doing = inside; stands = Some Main; owes = Some Main; late = true }
+    record blank { role = inside; stands = Some Main; owes = Some Main; late = true }
 lock_row timed retries lock.Clear =
     record blank {
-      doing = record inside { empty = Some Main };
+      role = record inside { empty = Some Main };
       owes = Some Main;
       late = true;
       gave_up = true;
     }
 lock_row timed retries lock.GiveUp =
-    record blank { doing = inside; owes = Some Main; late = true; gave_up = true }
+    record blank { role = inside; owes = Some Main; late = true; gave_up = true }
 
 -- ---------------------------------------------------------------- calls that release
 
@@ -92,21 +93,21 @@ abbrev pub release_purpose : ℕ → Bool → Purpose
 release_purpose l bumps = if bumps then Bumps l Exclusive else Releases l Exclusive true
 
 abbrev pub unlock_row : UnlockAt → Profile
-unlock_row unlock.Subtract = record blank { doing = owner }
+unlock_row unlock.Subtract = record blank { role = owner }
 unlock_row unlock.Enter =
-    record blank { doing = record idle { wakes = Some Main }; owes = Some Main; released = true }
+    record blank { role = record idle { wakes = Some Main }; owes = Some Main; released = true }
 unlock_row unlock.Take =
-    record blank { doing = record inside { wakes = Some Main }; owes = Some Main; released = true }
+    record blank { role = record inside { wakes = Some Main }; owes = Some Main; released = true }
 unlock_row (unlock.Clear any) =
     record blank {
-      doing = record carrying { empty = Some Main };
+      role = record carrying { empty = Some Main };
       carries = in_hand any false;
       owes = Some Main;
       released = true;
     }
 unlock_row (unlock.Leave any) =
     record blank {
-      doing = carrying;
+      role = carrying;
       carries = in_hand any false;
       owes = Some Main;
       released = true;
@@ -117,18 +118,18 @@ abbrev pub seen_empty : Bool → Bool → Bool
 seen_empty any none_left = if any then none_left else true
 
 abbrev pub hand_off_row : HandOffAt → Profile
-hand_off_row hand_off.Enter = record blank { doing = owner }
-hand_off_row hand_off.Take = record blank { doing = record owner { inside = Some Main } }
+hand_off_row hand_off.Enter = record blank { role = owner }
+hand_off_row hand_off.Take = record blank { role = record owner { inside = Some Main } }
 hand_off_row (hand_off.Store any none_left) =
     record blank {
-      doing = record carrying
+      role = record carrying
           { claims = Some (Has Exclusive); empty = found Main (seen_empty any none_left) };
       carries =
           in_hand any false;
     }
 hand_off_row (hand_off.Leave any) =
     record blank {
-      doing = record inside { carries = true };
+      role = record inside { carries = true };
       carries = in_hand any true;
       released = true;
     }
@@ -150,7 +151,7 @@ entering e retries handed row = record row {
 -- a call that releases waits for nothing
 abbrev pub leaving : (ℕ → Purpose) → Profile → Profile
 leaving purpose row = record blank {
-  doing = row.doing;
+  role = row.role;
   carries = row.carries;
   owes = row.owes;
   purpose = purpose;
@@ -163,8 +164,8 @@ mutex_profile (Lock e retries at) =
     entering e retries (was_handed at) (lock_row (is_timed e) retries at)
 mutex_profile TryLock = blank
 mutex_profile (Unlock at) = leaving (λ l. Releases l Exclusive false) (unlock_row at)
-mutex_profile UnlockFair = leaving (λ l. release_purpose l false) (record blank { doing = owner })
-mutex_profile Bump = leaving (λ l. release_purpose l true) (record blank { doing = owner })
+mutex_profile UnlockFair = leaving (λ l. release_purpose l false) (record blank { role = owner })
+mutex_profile Bump = leaving (λ l. release_purpose l true) (record blank { role = owner })
 mutex_profile (HandOff bumps at) =
     leaving (λ l. release_purpose l bumps) (record (hand_off_row at) { owes = Some Main })
 
@@ -172,7 +173,7 @@ mutex_profile (HandOff bumps at) =
 abbrev pub mutex_taker : MutexPlace → Option ℕ
 mutex_taker at = hand_owner (mutex_profile at).hand
 
--- what it wants, where it waits
+-- its want, where it waits
 abbrev pub mutex_wants : MutexPlace → Option Want
 mutex_wants at = (mutex_profile at).wants
 

@@ -103,7 +103,7 @@ abbrev pub hand_off_word : Bool → Bool → ℕ
 hand_off_word false none_left = 0
 hand_off_word true none_left = if none_left then 1 else 3
 
--- who was taken owns the lock from that store on
+-- a waiter that was taken owns the lock from that store on
 abbrev pub hand_off_store : ℕ → Bool → Bool → Act
 hand_off_store l false none_left =
     act.TheVariants.Word l (op.TheVariants.Store (hand_off_word false none_left))
@@ -211,7 +211,7 @@ abbrev pub in_unlock : Next UnlockAt → Next MutexPlace
 in_unlock (At at) = At (Unlock at)
 in_unlock (End answer) = End answer
 
--- behind its hand-off a bump enters again
+-- after its hand-off a bump enters again
 abbrev pub in_hand_off : Bool → Next HandOffAt → Next MutexPlace
 in_hand_off bumps (At at) = At (HandOff bumps at)
 in_hand_off bumps (End answer) = if bumps then At (enters entry.TheVariants.Bump) else End answer
@@ -245,8 +245,8 @@ abbrev pub unlock_owners : UnlockAt → Owners → Owners
 unlock_owners unlock.TheVariants.Subtract owners = with_exclusive owners None
 unlock_owners _ owners = owners
 
--- who owns the mutex after an operation on its word that saw this value, but for those to whom it
--- hands the lock
+-- the owner of the mutex after an operation on its word that saw this value, but for those to which it hands
+-- the lock
 abbrev pub mutex_owners : MutexPlace → ℕ → ℕ → Owners → Owners
 mutex_owners (Lock e retries at) t seen owners = lock_owners at t seen owners
 mutex_owners TryLock t seen owners =

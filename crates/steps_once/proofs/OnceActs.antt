@@ -7,9 +7,9 @@ use Rattle.spec_locks.specs.declared.calls.OnceCall.TheVariants.{CallOnce, Wait,
 use Rattle.steps_base.specs.declared.acts.Next.{Next}
 use Rattle.steps_base.specs.declared.acts.Next.TheVariants.{At, End as Over}
 use Rattle.steps_base.specs.declared.acts.Reply.TheVariants as reply
-use Rattle.steps_base.specs.Moves.{AreOfWord, GoesIn, inside_of, station_then, IsHeld, Sleeps, StaysPut, Waits, row_of}
+use Rattle.steps_base.specs.Moves.{AreOfWord, GoesIn, inside_of, location_then, IsHeld, Sleeps, StaysPut, Waits, row_of}
 use Rattle.steps_base.specs.Profiles.{Hand, hand}
-use Rattle.steps_base.specs.Stations.{Station, station_by, nowhere}
+use Rattle.steps_base.specs.Locations.{Location, location_by, nowhere}
 use Rattle.spec_locks.specs.Sites.{Line, Main, Second}
 use Rattle.spec_locks.specs.Codes.{is_marked}
 use Rattle.steps_once.specs.declared.look.LookAt.TheVariants as look
@@ -25,12 +25,12 @@ use Rattle.steps_once.specs.OnceDeeds.{closes, exchanged_deeds, looked_deeds}
 use Rattle.steps_once.specs.OnceCalls.{next_row}
 use Rattle.steps_once.specs.OnceMoves.{OnceActsMove, OnceLateMove, OnceMoves, OnceSleepersMove, once_hears, once_move}
 
-abbrev station_next : Next OncePlace → Station
-station_next n = station_by (row_of (next_row n))
+abbrev location_next : Next OncePlace → Location
+location_next n = location_by (row_of (next_row n))
 
 -- ---------------------------------------------------------------- the word
 
-looks_rest : (c : OnceCall) (again : Bool) (v : ℕ) (k : Course) → station_next (in_look c again (looked_by v k)) ≡ nowhere
+looks_rest : (c : OnceCall) (again : Bool) (v : ℕ) (k : Course) → location_next (in_look c again (looked_by v k)) ≡ nowhere
 looks_rest c again v (Ends answer) = refl
 looks_rest c again v Runs = refl
 looks_rest c again v Marks = refl
@@ -44,7 +44,7 @@ looks_word Parks = tt
 
 -- by whether the exchange succeeded
 exchanged_rest : (c : OnceCall) (again won : Bool) (v : ℕ) (k : Course)
-    → station_next (if won && is_run k then At (Run (is_forced c) (found (reply.Value v))) else in_look c again (if won && is_mark k then At (look.Decide (marked v)) else looked_by v k)) ≡ nowhere
+    → location_next (if won && is_run k then At (Run (is_forced c) (found (reply.Value v))) else in_look c again (if won && is_mark k then At (look.Decide (marked v)) else looked_by v k)) ≡ nowhere
 exchanged_rest c again true v (Ends answer) = refl
 exchanged_rest c again true v Runs = refl
 exchanged_rest c again true v Marks = refl
@@ -67,7 +67,7 @@ closes_word true false = tt
 closes_word false true = tt
 closes_word false false = tt
 
-closes_rest : (forced succeeded b : Bool) → station_next (in_run forced (if b then At (run.Enter succeeded) else Over (ended succeeded))) ≡ nowhere
+closes_rest : (forced succeeded b : Bool) → location_next (in_run forced (if b then At (run.Enter succeeded) else Over (ended succeeded))) ≡ nowhere
 closes_rest forced succeeded true = refl
 closes_rest forced succeeded false = refl
 
@@ -96,14 +96,14 @@ once_acts_move l (Look c again (look.Leave true)) = (Main, refl, record { any = 
 once_acts_move l (Look c again (look.Leave false)) = (Main, refl, record { any = false; notes = refl; inside = refl; carries = refl; free = refl; deeds = tt; goes = refl; may = λ r s t out. out })
 once_acts_move l (Look c again look.Asleep) = tt
 once_acts_move l (Look c again (look.Taken by)) = tt
-once_acts_move l (Run forced (run.Closure poisoned)) = record { was = refl; deeds = λ succeeded. refl; goes = λ succeeded. refl; doing = λ succeeded. refl }
+once_acts_move l (Run forced (run.Closure poisoned)) = record { was = refl; deeds = λ succeeded. refl; goes = λ succeeded. refl; role = λ succeeded. refl }
 once_acts_move l (Run forced (run.Close succeeded)) = (refl, record { out = refl; free = refl; deeds = λ seen. closes_word succeeded (is_marked seen); goes = λ seen. closes_rest forced succeeded (is_marked seen) })
 once_acts_move l (Run forced (run.Enter succeeded)) = (Main, refl, record { out = refl; free = refl; deeds = refl; goes = refl; may = λ r s t free. free })
 once_acts_move l (Run forced (run.Take succeeded)) = (refl, record { was = refl; deeds = λ any none_left. refl; goes = λ any none_left. refl; may = λ r s t any none_left nobody. nobody })
 once_acts_move l (Run forced (run.Leave succeeded any)) = (Main, refl, record { any = any; notes = refl; inside = refl; carries = refl; free = refl; deeds = tt; goes = refl; may = λ r s t out. out })
 once_acts_move l (GiveUp retries give_up.Remove) = (Main, refl, record { want = wants.Wait; was = refl; deeds = λ none_left. refl; goes = removed; may = λ r s t none_left stands. stands })
   where
-    removed : (none_left : Bool) → station_then (once_move (GiveUp retries give_up.Remove)) (reply.Removed none_left) ≡ inside_of Main
+    removed : (none_left : Bool) → location_then (once_move (GiveUp retries give_up.Remove)) (reply.Removed none_left) ≡ inside_of Main
     removed true = refl
     removed false = refl
 once_acts_move l (GiveUp retries give_up.Clear) = (refl, record { out = refl; free = refl; deeds = λ seen. tt; goes = λ seen. refl })
@@ -125,7 +125,7 @@ asleep_in c again m e = record {
   was = ap (λ (n : Line). record nowhere { stands = Some n; waits = Some (want_of c) }) (sym e);
   taken = λ u. refl;
   wants = λ u. refl;
-  doing = λ u. refl;
+  role = λ u. refl;
 }
 
 pub once_sleepers_move : OnceSleepersMove
@@ -148,7 +148,7 @@ once_sleepers_move (Look c again (look.Taken by)) = record {
         wants = refl;
         was = ap (λ n. record nowhere { hand = hand n false }) whose;
         woken = refl;
-        doing = refl;
+        role = refl;
       },
     )
 once_sleepers_move (Look c again (look.Leave true)) = record {

@@ -17,7 +17,7 @@ use Rattle.steps_base.specs.declared.owners.Phase.TheVariants as phases
 use Rattle.steps_base.specs.Owners.{lock_seen}
 use Rattle.spec_locks.specs.Onces.{Poisoned, InProgress, Done, MayStart, Finish, Fail}
 use Rattle.spec_locks.specs.Locks.{Rules, Once, OfOnce, Taken, LockState, putting}
-use Rattle.spec_locks.specs.Sites.{Doing, Site, IsSite, Deed, End, Case, Runs as Running, idle, counts_some, after_deed, seen_main}
+use Rattle.spec_locks.specs.Sites.{Role, Site, IsSite, Deed, End, Case, Runs as Running, idle, counts_some, after_deed, seen_main}
 use Rattle.spec_locks.specs.Deeds.{after_all, AllNeeded}
 use Rattle.spec_locks.specs.Codes.{code, is_marked}
 use Rattle.steps_once.specs.declared.look.LookAt.TheVariants as look
@@ -26,11 +26,11 @@ use Rattle.steps_once.specs.declared.look.Course.TheVariants.{Ends, Runs, Marks,
 use Rattle.steps_once.specs.declared.run.RunAt.TheVariants as run
 use Rattle.steps_once.specs.declared.give_up.GiveUpAt.TheVariants as give_up
 use Rattle.steps_once.specs.declared.places.OncePlace.{OncePlace}
-use Rattle.steps_once.specs.declared.places.TheConstants.{NOT_MARKED}
+use Rattle.steps_once.specs.declared.places.TheConstants.{NOT_PARKED}
 use Rattle.steps_once.specs.declared.places.OncePlace.TheVariants.{Look, Run, GiveUp}
 use Rattle.steps_once.specs.OnceSteps.{is_forced, course_of, course_act, is_run, is_mark, started, marked, found, looked_by, in_look, in_run, ended, once_act, once_owners, phase_behind, word_behind}
 use Rattle.steps_once.specs.OnceProfiles.{again, again_of, running, taking}
-use Rattle.steps_once.specs.OnceDeeds.{once_deeds, looked_deeds, exchanged_deeds, end_of, closes, doing_next, IsAt, Follows, OnceStepsFollow, OnceStepsCode, OnceOwnersFollow}
+use Rattle.steps_once.specs.OnceDeeds.{once_deeds, looked_deeds, exchanged_deeds, end_of, closes, role_next, IsAt, Follows, OnceStepsFollow, OnceStepsCode, OnceOwnersFollow}
 use Rattle.steps_once.proofs.OnceWords.{word_of, coded, MayGo, may_go, marks_tell, started_is, marked_is, unmarked_is}
 
 put_same : {A : Type 0} (f : ℕ → A) (t : ℕ) (x : A) → putting f t x t ≡ x
@@ -39,28 +39,28 @@ put_same f t x = grind (arith, nat_tests)
 -- some deeds may be done, and the thread stands so behind them
 record Does (r : Rules) (s : Site) (t : ℕ) (ds : List Deed) (n : Next OncePlace) : Type 0 where
   pub needed : AllNeeded r ds s t
-  pub doing : (after_all r ds s t).doing t ≡ doing_next n
+  pub role : (after_all r ds s t).role t ≡ role_next n
 
 module _ (r : Rules) (s : Site) (t : ℕ) (sort : r.sort ≡ Once) (h : IsSite r s) where
   -- a call ends, of a thread outside the section
-  ends : (wanted : Option _) → s.doing t ≡ again wanted idle → AllNeeded r (End ∷ []) s t
-  ends wanted is = ((ap (λ (d : Doing). d.inside) is, ap (λ (d : Doing). d.wakes) is, ap (λ (d : Doing). d.carries) is, λ some. absurd (nobody (s.doing t).retries some)), tt)
+  ends : (wanted : Option _) → s.role t ≡ again wanted idle → AllNeeded r (End ∷ []) s t
+  ends wanted is = ((ap (λ (d : Role). d.inside) is, ap (λ (d : Role). d.wakes) is, ap (λ (d : Role). d.carries) is, λ some. absurd (nobody (s.role t).retries some)), tt)
     where
       nobody : (o : Option _) → counts_some r.sort o ≡ true → ⊥
       nobody o some = grind (arith, sort)
 
-  module _ (c : OnceCall) (retries : Bool) (v : ℕ) (is : s.doing t ≡ again (again_of c retries) idle) where
+  module _ (c : OnceCall) (retries : Bool) (v : ℕ) (is : s.role t ≡ again (again_of c retries) idle) where
     looks : (k : Course) → Does r s t (looked_deeds k) (in_look c retries (looked_by v k))
-    looks (Ends answer) = record { needed = ends (again_of c retries) is; doing = put_same s.doing t idle }
-    looks Runs = record { needed = tt; doing = is }
-    looks Marks = record { needed = tt; doing = is }
-    looks Parks = record { needed = tt; doing = is }
+    looks (Ends answer) = record { needed = ends (again_of c retries) is; role = put_same s.role t idle }
+    looks Runs = record { needed = tt; role = is }
+    looks Marks = record { needed = tt; role = is }
+    looks Parks = record { needed = tt; role = is }
 
-    -- behind its exchange
+    -- after its exchange
     exchanges : (b : Bool) (k : Course) → (k ≡ Runs → MayStart s.lock.phase (is_forced c))
         → Does r s t (exchanged_deeds c b k) (if b && is_run k then At (Run (is_forced c) (found (Value v))) else in_look c retries (if b && is_mark k then At (look.Decide (marked v)) else looked_by v k))
-    exchanges true Runs may = record { needed = (((sort, may refl), tt), tt); doing = put_same s.doing t _ ∙ ap (λ (d : Doing). record d { retries = None; claims = Some Running }) is }
-    exchanges true Marks may = record { needed = (tt, tt); doing = is }
+    exchanges true Runs may = record { needed = (((sort, may refl), tt), tt); role = put_same s.role t _ ∙ ap (λ (d : Role). record d { retries = None; claims = Some Running }) is }
+    exchanges true Marks may = record { needed = (tt, tt); role = is }
     exchanges true (Ends answer) may = looks (Ends answer)
     exchanges true Parks may = looks Parks
     exchanges false Runs may = looks Runs
@@ -69,31 +69,31 @@ module _ (r : Rules) (s : Site) (t : ℕ) (sort : r.sort ≡ Once) (h : IsSite r
     exchanges false (Ends answer) may = looks (Ends answer)
 
   -- a run ends
-  module _ (forced succeeded : Bool) (is : s.doing t ≡ running) where
+  module _ (forced succeeded : Bool) (is : s.role t ≡ running) where
     runs : s.lock.phase ≡ InProgress t
-    runs = h.held t Running (ap (λ (d : Doing). d.claims) is)
+    runs = h.held t Running (ap (λ (d : Role). d.claims) is)
 
-    quiet : ((s.doing t).wakes ≡ None) × ((s.doing t).sets ≡ false)
-    quiet = (ap (λ (d : Doing). d.wakes) is, ap (λ (d : Doing). d.sets) is)
+    quiet : ((s.role t).wakes ≡ None) × ((s.role t).sets ≡ false)
+    quiet = (ap (λ (d : Role). d.wakes) is, ap (λ (d : Role). d.sets) is)
 
     ends_run : (b : Bool) → s.parked ≡ b → Does r s t (closes succeeded b) (in_run forced (if b then At (run.Enter succeeded) else Over (ended succeeded)))
     ends_run true e = by_end succeeded
       where
         by_end : (ok : Bool) → Does r s t (closes ok true) (At (Run forced (run.Enter ok)))
-        by_end true = record { needed = (((sort, runs), quiet), tt); doing = put_same s.doing t _ ∙ (λ i. record (is i) { wakes = seen_main (e i); sets = e i; claims = (taking true).claims }) }
-        by_end false = record { needed = (((sort, runs), quiet), tt); doing = put_same s.doing t _ ∙ (λ i. record (is i) { wakes = seen_main (e i); sets = e i; claims = None }) }
+        by_end true = record { needed = (((sort, runs), quiet), tt); role = put_same s.role t _ ∙ (λ i. record (is i) { wakes = seen_main (e i); sets = e i; claims = (taking true).claims }) }
+        by_end false = record { needed = (((sort, runs), quiet), tt); role = put_same s.role t _ ∙ (λ i. record (is i) { wakes = seen_main (e i); sets = e i; claims = None }) }
     ends_run false e = by_end succeeded
       where
-        out : (ok : Bool) → (after_deed r (Case (OfOnce (end_of ok))) s t).doing t ≡ record running { claims = (taking ok).claims }
-        out true = put_same s.doing t _ ∙ (λ i. record (is i) { wakes = seen_main (e i); sets = e i; claims = (taking true).claims })
-        out false = put_same s.doing t _ ∙ (λ i. record (is i) { wakes = seen_main (e i); sets = e i; claims = None })
+        out : (ok : Bool) → (after_deed r (Case (OfOnce (end_of ok))) s t).role t ≡ record running { claims = (taking ok).claims }
+        out true = put_same s.role t _ ∙ (λ i. record (is i) { wakes = seen_main (e i); sets = e i; claims = (taking true).claims })
+        out false = put_same s.role t _ ∙ (λ i. record (is i) { wakes = seen_main (e i); sets = e i; claims = None })
 
         may_end : (ok : Bool) → AllNeeded r (End ∷ []) (after_deed r (Case (OfOnce (end_of ok))) s t) t
-        may_end ok = ((ap (λ (d : Doing). d.inside) (out ok), ap (λ (d : Doing). d.wakes) (out ok), ap (λ (d : Doing). d.carries) (out ok), λ some. absurd (let f : false ≡ true = sym (ap (λ (d : Doing). counts_some r.sort d.retries) (out ok)) ∙ some in cc)), tt)
+        may_end ok = ((ap (λ (d : Role). d.inside) (out ok), ap (λ (d : Role). d.wakes) (out ok), ap (λ (d : Role). d.carries) (out ok), λ some. absurd (let f : false ≡ true = sym (ap (λ (d : Role). counts_some r.sort d.retries) (out ok)) ∙ some in cc)), tt)
 
         by_end : (ok : Bool) → Does r s t (closes ok false) (Over (ended ok))
-        by_end true = record { needed = (((sort, runs), quiet), may_end true); doing = put_same (after_deed r (Case (OfOnce Finish)) s t).doing t idle }
-        by_end false = record { needed = (((sort, runs), quiet), may_end false); doing = put_same (after_deed r (Case (OfOnce Fail)) s t).doing t idle }
+        by_end true = record { needed = (((sort, runs), quiet), may_end true); role = put_same (after_deed r (Case (OfOnce Finish)) s t).role t idle }
+        by_end false = record { needed = (((sort, runs), quiet), may_end false); role = put_same (after_deed r (Case (OfOnce Fail)) s t).role t idle }
 
 -- ---------------------------------------------------------------- each place
 
@@ -103,25 +103,25 @@ module _ (r : Rules) (s : Site) (t l : ℕ) where
 
   follows : (p : OncePlace) (f : Op) → IsAt r s t p → once_act l p ≡ act.Word l f → Follows r s t p (Value (word_of s))
   follows (Look c retries look.Load) f a is =
-      let d = looks r s t a.sort a.site c retries (word_of s) a.doing (course_of c (word_of s)) in record { needed = d.needed; doing = d.doing }
+      let d = looks r s t a.sort a.site c retries (word_of s) a.role (course_of c (word_of s)) in record { needed = d.needed; role = d.role }
   follows (Look c retries (look.Decide expected)) f a is =
       let k = course_of c (word_of s) in
-      let d = exchanges r s t a.sort a.site c retries (word_of s) a.doing (word_of s == expected) k (may_start c k refl) in
-      record { needed = d.needed; doing = d.doing }
+      let d = exchanges r s t a.sort a.site c retries (word_of s) a.role (word_of s == expected) k (may_start c k refl) in
+      record { needed = d.needed; role = d.role }
   follows (Look c retries look.Check) f a is = absurd cc
   follows (Look c retries (look.Leave parked)) f a is = absurd cc
   follows (Look c retries look.Asleep) f a is = absurd cc
   follows (Look c retries (look.Taken by)) f a is = absurd cc
   follows (Run forced (run.Close succeeded)) f a is =
-      let d = ends_run r s t a.sort a.site forced succeeded a.doing (is_marked (word_of s)) (sym (marks_tell s.parked s.lock.phase)) in
-      record { needed = d.needed; doing = d.doing }
+      let d = ends_run r s t a.sort a.site forced succeeded a.role (is_marked (word_of s)) (sym (marks_tell s.parked s.lock.phase)) in
+      record { needed = d.needed; role = d.role }
   follows (Run forced (run.Closure poisoned)) f a is = absurd cc
   follows (Run forced (run.Enter succeeded)) f a is = absurd cc
   follows (Run forced (run.Take succeeded)) f a is = absurd cc
   follows (Run forced (run.Leave succeeded any)) f a is = absurd cc
   follows (GiveUp retries give_up.Clear) f a is = record {
-    needed = (ap (λ (d : Doing). d.empty) a.doing, tt);
-    doing = put_same s.doing t _ ∙ ap (λ (d : Doing). record d { empty = None; brings = false }) a.doing;
+    needed = (ap (λ (d : Role). d.empty) a.role, tt);
+    role = put_same s.role t _ ∙ ap (λ (d : Role). record d { empty = None; brings = false }) a.role;
   }
   follows (GiveUp retries give_up.Remove) f a is = absurd cc
   follows (GiveUp retries give_up.Leave) f a is = absurd cc
@@ -190,7 +190,7 @@ module _ (r : Rules) (s : Site) (t l : ℕ) (a : r.sort ≡ Once) where
   leaves_word (Run forced (run.Enter succeeded)) f is = absurd cc
   leaves_word (Run forced (run.Take succeeded)) f is = absurd cc
   leaves_word (Run forced (run.Leave succeeded any)) f is = absurd cc
-  leaves_word (GiveUp retries give_up.Clear) f is = let e : op.And NOT_MARKED ≡ f = cc in rw (← e) (unmarked_is s.parked s.lock.phase)
+  leaves_word (GiveUp retries give_up.Clear) f is = let e : op.And NOT_PARKED ≡ f = cc in rw (← e) (unmarked_is s.parked s.lock.phase)
   leaves_word (GiveUp retries give_up.Remove) f is = absurd cc
   leaves_word (GiveUp retries give_up.Leave) f is = absurd cc
 

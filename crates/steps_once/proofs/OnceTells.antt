@@ -15,7 +15,7 @@ use Rattle.spec_locks.specs.Onces.{Done, Poisoned}
 use Rattle.spec_locks.specs.Locks.{Late, Rules, Rights, LockState, after_case, rights_of}
 use Rattle.spec_locks.specs.Runs.{LocksState, CallState, Keeps, AnswerHolds}
 use Rattle.spec_locks.specs.Purposes.{once_purpose}
-use Rattle.spec_locks.specs.Sites.{Site, Deed, Doing, Ran}
+use Rattle.spec_locks.specs.Sites.{Site, Deed, Role, Ran}
 use Rattle.spec_locks.specs.Codes.{is_marked, is_poisoned}
 use Rattle.spec_locks.proofs.Rights.{unchanged}
 use Rattle.steps_once.specs.declared.look.LookAt.TheVariants as look
@@ -83,7 +83,7 @@ module _ (r : Rules) (s : Site) (t l : ℕ) where
     looks v Marks may = looks_on v
     looks v Parks may = looks_on v
 
-  -- behind an exchange
+  -- after an exchange
   starts : (c : OnceCall) (retries poisoned : Bool) → runs c ≡ true → Tells (Look c retries look.Load) (exchanged_deeds c true Runs) (At (Run (is_forced c) (run.Closure poisoned)))
   starts (CallOnce forced) retries poisoned is_run = record { one = tt; may = ((refl, refl), tt); comes = λ rights is. recalls _ _ (same s.lock refl rights is) }
   starts (Wait forced) retries poisoned is_run = absurd cc
@@ -160,7 +160,7 @@ module _ (r : Rules) (s : Site) (t l : ℕ) where
   sections (Look c retries (look.Leave false)) reply.Done a h now = record { one = tt; may = tt; comes = λ rights is. recalls _ _ (same s.lock refl rights is) }
   sections (Run forced (run.Enter ok)) reply.Done a h now = record { one = tt; may = tt; comes = λ rights is. recalls _ _ (same s.lock refl rights is) }
   sections (Run forced (run.Take ok)) (reply.Took any none_left) a h now = record { one = tt; may = ((refl, tt), tt); comes = λ rights is. recalls _ _ (same s.lock refl rights is) }
-  sections (Run forced (run.Leave ok any)) reply.Done a h now = leaves_tell forced ok any (λ e. a.site.held t Ran (ap (λ (d : Doing). d.claims) a.doing ∙ ap (λ b. if b then Some Ran else None) e))
+  sections (Run forced (run.Leave ok any)) reply.Done a h now = leaves_tell forced ok any (λ e. a.site.held t Ran (ap (λ (d : Role). d.claims) a.role ∙ ap (λ b. if b then Some Ran else None) e))
   sections (GiveUp retries give_up.Remove) (reply.Removed none_left) a h now = removes retries none_left
   sections (GiveUp retries give_up.Leave) reply.Done a h now = record { one = tt; may = tt; comes = λ w rights ruled now is has. (refl, λ k. has k ∙ same s.lock refl rights is k) }
   sections (Look c retries look.Asleep) reply.Late a h now = absurd now

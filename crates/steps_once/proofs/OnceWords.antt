@@ -11,7 +11,7 @@ use Rattle.spec_locks.specs.Sites.{Site}
 use Rattle.spec_locks.specs.Codes.{bit, code, code_of, is_marked}
 use Rattle.steps_once.specs.declared.look.Course.{Course}
 use Rattle.steps_once.specs.declared.look.Course.TheVariants.{Ends, Runs, Marks, Parks}
-use Rattle.steps_once.specs.declared.places.TheConstants.{NOT_MARKED}
+use Rattle.steps_once.specs.declared.places.TheConstants.{NOT_PARKED}
 use Rattle.steps_once.specs.OnceSteps.{is_forced, is_timed, runs, want_of, course_of, started, marked}
 
 abbrev pub word : Bool → Phase → ℕ
@@ -23,7 +23,7 @@ word_of s = word s.parked s.lock.phase
 pub coded : (r : Rules) (s : Site) → r.sort ≡ Once → code r s ≡ word_of s
 coded r s sort = ap (λ x. code_of x r.limit s) sort
 
--- what a call does by the word, it may do
+-- a call may do what it does by the word
 abbrev pub MayGo : OnceCall → Bool → Phase → Course → Type 0
 MayGo c parked phase (Ends answer.Ok) = (phase ≡ Done) × (is_timed c ≡ false)
 MayGo c parked phase (Ends answer.Yes) = (phase ≡ Done) × (is_timed c ≡ true)
@@ -95,7 +95,7 @@ marked_is false (InProgress u) = refl
 marked_is false Done = refl
 
 -- the word without the bit
-pub unmarked_is : (parked : Bool) (phase : Phase) → apply (op.And NOT_MARKED) (word parked phase) ≡ word false phase
+pub unmarked_is : (parked : Bool) (phase : Phase) → apply (op.And NOT_PARKED) (word parked phase) ≡ word false phase
 unmarked_is true New = refl
 unmarked_is true Poisoned = refl
 unmarked_is true (InProgress u) = refl

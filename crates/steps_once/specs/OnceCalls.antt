@@ -41,7 +41,7 @@ OnceSectionsTell =
     → MayHear r s t p told → IsNotLate told
     → CallFollowsBy r s t l p told
 
--- what befalls a thread asleep makes of its call
+-- the call of a thread asleep, after what befalls it
 abbrev pub CallBecomes : ℕ → OncePlace → Reply → (CallState → CallState) → Type 0
 CallBecomes l p told becomes =
     (p2 : OncePlace) (rights : ℕ → Rights) → once_next p told ≡ next.At p2

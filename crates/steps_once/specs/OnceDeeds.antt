@@ -15,7 +15,7 @@ use Rattle.steps_base.specs.Moves.{StandsAlone}
 use Rattle.steps_base.specs.Owners.{lock_seen}
 use Rattle.spec_locks.specs.Onces.{OnceCase, Start, Finish, Fail, Rest, TakeAll}
 use Rattle.spec_locks.specs.Locks.{Rules, Late as GivesUp, Once, OfOnce, Taken, standing, HasTakenNobody}
-use Rattle.spec_locks.specs.Sites.{Main, Doing, Site, IsSite, Deed, End, In, Out, Mark, Clear, Case, idle}
+use Rattle.spec_locks.specs.Sites.{Main, Role, Site, IsSite, Deed, End, In, Out, Mark, Clear, Case, idle}
 use Rattle.spec_locks.specs.Deeds.{after_all, AllNeeded}
 use Rattle.spec_locks.specs.Codes.{code, is_marked}
 use Rattle.steps_once.specs.declared.look.LookAt.{LookAt}
@@ -37,7 +37,7 @@ abbrev pub looked_deeds : Course → List Deed
 looked_deeds (Ends answer) = End ∷ []
 looked_deeds course = []
 
--- behind an exchange, by whether it succeeded
+-- the state after an exchange, by whether it succeeded
 abbrev pub exchanged_deeds : OnceCall → Bool → Course → List Deed
 exchanged_deeds c true Runs = Case (OfOnce (Start (is_forced c))) ∷ []
 exchanged_deeds c true Marks = Mark Main ∷ []
@@ -81,24 +81,24 @@ once_deeds (GiveUp retries at) told = give_up_deeds at told
 
 -- ---------------------------------------------------------------- the laws
 
-abbrev pub once_doing : OncePlace → Doing
-once_doing p = (once_profile p).doing
+abbrev pub once_role : OncePlace → Role
+once_role p = (once_profile p).role
 
--- behind a step, at its next place or in no call
-abbrev pub doing_next : Next OncePlace → Doing
-doing_next (next.At p) = once_doing p
-doing_next (next.End answer) = idle
+-- the state after a step, at its next place or in no call
+abbrev pub role_next : Next OncePlace → Role
+role_next (next.At p) = once_role p
+role_next (next.End answer) = idle
 
 -- a thread stands at a place of a call of a `Once`
 pub record IsAt (r : Rules) (s : Site) (t : ℕ) (p : OncePlace) : Type 0 where
   pub sort : r.sort ≡ Once
   pub site : IsSite r s
-  pub doing : s.doing t ≡ once_doing p
+  pub role : s.role t ≡ once_role p
 
 -- the deeds of a reply may be done, and the next place says what the thread does then
 pub record Follows (r : Rules) (s : Site) (t : ℕ) (p : OncePlace) (told : Reply) : Type 0 where
   pub needed : AllNeeded r (once_deeds p told) s t
-  pub doing : (after_all r (once_deeds p told) s t).doing t ≡ doing_next (once_next p told)
+  pub role : (after_all r (once_deeds p told) s t).role t ≡ role_next (once_next p told)
 
 -- each step on the word follows
 abbrev pub OnceStepsFollow : Type 0
@@ -125,9 +125,9 @@ OnceOwnersFollow =
 
 -- nobody is inside the section
 abbrev pub IsFree : Site → Type 0
-IsFree s = (u : ℕ) → (s.doing u).inside ≢ Some Main
+IsFree s = (u : ℕ) → (s.role u).inside ≢ Some Main
 
--- what a thread may be told of its steps in and out of the section, and as its time is up
+-- the outcomes that a thread may be told of its steps in and out of the section, and as its time is up
 abbrev pub MayHear : Rules → Site → ℕ → OncePlace → Reply → Type 0
 MayHear r s t (Look c retries (look.Decide seen)) reply.Done = IsFree s
 MayHear r s t (Look c retries look.Check) (reply.Parked b) =

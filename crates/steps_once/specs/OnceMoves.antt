@@ -8,9 +8,9 @@ use Rattle.steps_base.specs.declared.acts.Check.{Check}
 use Rattle.steps_base.specs.declared.acts.Reply.TheVariants.{Parked, Took, Late, Closed}
 use Rattle.steps_base.specs.declared.acts.Whom.TheVariants.{All}
 use Rattle.steps_base.specs.Acts.{holds}
-use Rattle.steps_base.specs.Moves.{Move, Hears, GoesIn, Moves, Waits, row_of, station_of, station_then, inside_of}
+use Rattle.steps_base.specs.Moves.{Move, Hears, GoesIn, Moves, Waits, row_of, location_of, location_then, inside_of}
 use Rattle.steps_base.specs.Profiles.{in_hand}
-use Rattle.steps_base.specs.Stations.{nowhere}
+use Rattle.steps_base.specs.Locations.{nowhere}
 use Rattle.spec_locks.specs.Onces.{Rest, TakeAll}
 use Rattle.spec_locks.specs.Locks.{Rules, OfOnce, HasTakenNobody, standing}
 use Rattle.spec_locks.specs.Sites.{Site, Line, Main, Case}
@@ -29,39 +29,39 @@ once_move p = record {
   deeds = λ whom told. once_deeds p told;
 }
 
--- what it may be told
+-- the news that it may be told
 abbrev pub once_hears : OncePlace → Hears
 once_hears p r s t whom told = MayHear r s t p told
 
 -- where it still has to wait it stands behind the last
 pub record RestsBehind (x : Move) (hears : Hears) (check : Check) (want : Want) : Type 0 where
   pub forced : Bool
-  pub was : station_of x ≡ inside_of Main
+  pub was : location_of x ≡ inside_of Main
   pub rests : x.deeds None (Parked true) ≡ Case (OfOnce (Rest want forced)) ∷ []
-  pub rested : station_then x (Parked true)
+  pub rested : location_then x (Parked true)
       ≡ record (inside_of Main) { stands = Some Main; waits = Some want }
   pub turns : x.deeds None (Parked false) ≡ []
-  pub turned : station_then x (Parked false) ≡ inside_of Main
+  pub turned : location_then x (Parked false) ≡ inside_of Main
   pub may : (r : Rules) (s : Site) (t : ℕ) (b : Bool) → b ≡ holds check (code r s)
       → standing t s.lock ≡ 0 → hears r s t None (Parked b)
 
 -- it takes all who wait
 pub record TakesAll (x : Move) (hears : Hears) : Type 0 where
-  pub was : station_of x ≡ inside_of Main
+  pub was : location_of x ≡ inside_of Main
   pub deeds : (any none_left : Bool)
       → x.deeds None (Took any none_left) ≡ Case (OfOnce TakeAll) ∷ []
   pub goes : (any none_left : Bool)
-      → station_then x (Took any none_left)
+      → location_then x (Took any none_left)
       ≡ record (inside_of Main) { carries = in_hand any false }
   pub may : (r : Rules) (s : Site) (t : ℕ) (any none_left : Bool) → HasTakenNobody s.lock t
       → hears r s t None (Took any none_left)
 
 -- its closure answers, and it stands nowhere before and behind
 pub record Closes (x : Move) : Type 0 where
-  pub was : station_of x ≡ nowhere
+  pub was : location_of x ≡ nowhere
   pub deeds : (succeeded : Bool) → x.deeds None (Closed succeeded) ≡ []
-  pub goes : (succeeded : Bool) → station_then x (Closed succeeded) ≡ nowhere
-  pub doing : (succeeded : Bool) → (x.next (Closed succeeded)).doing ≡ x.row.doing
+  pub goes : (succeeded : Bool) → location_then x (Closed succeeded) ≡ nowhere
+  pub role : (succeeded : Bool) → (x.next (Closed succeeded)).role ≡ x.row.role
 
 -- by its act, as in any call; or it stands behind the last, takes all, or runs its closure
 abbrev pub OnceMoves : ℕ → Move → Hears → Act → Type 0
@@ -75,8 +75,7 @@ OnceMoves l x hears act = Moves l false x hears act
 abbrev pub OnceActsMove : Type 0
 OnceActsMove = (l : ℕ) (p : OncePlace) → OnceMoves l (once_move p) (once_hears p) (once_act l p)
 
--- who stands in the queue sleeps there or is inside its section, and who is in a hand is so to be
--- woken
+-- a thread in the queue sleeps there or is inside its section, and one in a hand is so to be woken
 abbrev pub OnceSleepersMove : Type 0
 OnceSleepersMove = (p : OncePlace) → Waits (once_move p)
 

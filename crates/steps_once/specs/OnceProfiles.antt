@@ -5,7 +5,7 @@ use Rattle.core_base.specs.declared.wants.Want.TheVariants as wants
 use Rattle.spec_locks.specs.declared.calls.OnceCall.{OnceCall}
 use Rattle.steps_base.specs.Profiles.{hand, hand_owner, in_hand, in_line, Profile, blank}
 use Rattle.spec_locks.specs.Purposes.{Awaits, CallsOnce, once_purpose}
-use Rattle.spec_locks.specs.Sites.{Doing, Line, Claim, Runs, Ran, Main, idle}
+use Rattle.spec_locks.specs.Sites.{Role, Line, Claim, Runs, Ran, Main, idle}
 use Rattle.steps_once.specs.declared.look.LookAt.{LookAt}
 use Rattle.steps_once.specs.declared.look.LookAt.TheVariants as look
 use Rattle.steps_once.specs.declared.run.RunAt.{RunAt}
@@ -18,20 +18,20 @@ use Rattle.steps_once.specs.OnceSteps.{is_timed, want_of}
 
 -- ---------------------------------------------------------------- who looks, or waits
 
-abbrev pub inside : Doing
+abbrev pub inside : Role
 inside = record idle { inside = Some Main }
 
--- what it wants again since it was woken
-abbrev pub again : Option Want → Doing → Doing
+-- its want again since it was woken
+abbrev pub again : Option Want → Role → Role
 again wanted d = record d { retries = wanted }
 
 abbrev pub look_row : Bool → Option Want → LookAt → Profile
-look_row timed wanted look.Load = record blank { doing = again wanted idle }
-look_row timed wanted (look.Decide seen) = record blank { doing = again wanted idle }
-look_row timed wanted look.Check = record blank { doing = again wanted inside; owes = Some Main }
+look_row timed wanted look.Load = record blank { role = again wanted idle }
+look_row timed wanted (look.Decide seen) = record blank { role = again wanted idle }
+look_row timed wanted look.Check = record blank { role = again wanted inside; owes = Some Main }
 look_row timed wanted (look.Leave parked) =
     record blank {
-      doing = again (if parked then None else wanted) inside;
+      role = again (if parked then None else wanted) inside;
       stands = in_line parked Main;
       owes = Some Main;
     }
@@ -54,14 +54,14 @@ abbrev pub late_row : Profile → Profile
 late_row row = record row { owes = Some Main; late = true }
 
 abbrev pub give_up_row : GiveUpAt → Profile
-give_up_row give_up.Remove = late_row (record blank { doing = inside; stands = Some Main })
+give_up_row give_up.Remove = late_row (record blank { role = inside; stands = Some Main })
 give_up_row give_up.Clear =
-    late_row (record blank { doing = record inside { empty = Some Main }; gave_up = true })
-give_up_row give_up.Leave = late_row (record blank { doing = inside; gave_up = true })
+    late_row (record blank { role = record inside { empty = Some Main }; gave_up = true })
+give_up_row give_up.Leave = late_row (record blank { role = inside; gave_up = true })
 
 -- ---------------------------------------------------------------- who runs its closure
 
-abbrev pub running : Doing
+abbrev pub running : Role
 running = record idle { claims = Some Runs }
 
 -- its own run ended well, or not
@@ -69,16 +69,16 @@ abbrev pub ran : Bool → Option Claim
 ran succeeded = if succeeded then Some Ran else None
 
 -- it has cleared the bit beside waiters, whom it takes
-abbrev pub taking : Bool → Doing
+abbrev pub taking : Bool → Role
 taking succeeded = record idle { wakes = Some Main; sets = true; claims = ran succeeded }
 
 -- once its run has ended, it owes the waiters their wake
-abbrev pub ending : Bool → Doing → Profile
-ending succeeded doing = record blank { doing = doing; owes = Some Main; failed = not succeeded }
+abbrev pub ending : Bool → Role → Profile
+ending succeeded role = record blank { role = role; owes = Some Main; failed = not succeeded }
 
 abbrev pub run_row : RunAt → Profile
-run_row (run.Closure poisoned) = record blank { doing = running }
-run_row (run.Close succeeded) = record blank { doing = running }
+run_row (run.Closure poisoned) = record blank { role = running }
+run_row (run.Close succeeded) = record blank { role = running }
 run_row (run.Enter succeeded) = ending succeeded (taking succeeded)
 run_row (run.Take succeeded) = ending succeeded (record (taking succeeded) { inside = Some Main })
 run_row (run.Leave succeeded any) =
@@ -106,7 +106,7 @@ once_profile (GiveUp retries at) =
 abbrev pub once_taker : OncePlace → Option ℕ
 once_taker at = hand_owner (once_profile at).hand
 
--- what it wants, where it waits
+-- its want, where it waits
 abbrev pub once_wants : OncePlace → Option Want
 once_wants at = (once_profile at).wants
 

@@ -34,7 +34,7 @@ use Rattle.steps_once.specs.declared.run.RunAt.{RunAt}
 use Rattle.steps_once.specs.declared.run.RunAt.TheVariants as run
 use Rattle.steps_once.specs.declared.give_up.GiveUpAt.{GiveUpAt}
 use Rattle.steps_once.specs.declared.give_up.GiveUpAt.TheVariants as give_up
-use Rattle.steps_once.specs.declared.places.TheConstants.{NOT_MARKED}
+use Rattle.steps_once.specs.declared.places.TheConstants.{NOT_PARKED}
 use Rattle.steps_once.specs.declared.places.OncePlace.{OncePlace}
 use Rattle.steps_once.specs.declared.places.OncePlace.TheVariants.{Look, Run, GiveUp}
 
@@ -96,7 +96,7 @@ marked v = v % 8 + 8
 
 -- ---------------------------------------------------------------- what a thread does
 
--- who is to run still waits while another runs and the bit is set; who waits for a run does so
+-- a thread that is to run still waits while another runs and the bit is set; one that waits for a run does so
 -- until it has ended well
 abbrev pub check_of : OnceCall → Check
 check_of (CallOnce forced) = WordIs 12
@@ -120,7 +120,7 @@ look_act l c (look.Leave parked) = act.Leave (One (2 * l)) Nobody
 look_act l c look.Asleep = act.Sleep
 look_act l c (look.Taken by) = act.Sleep
 
--- what a closure is told that begins
+-- the news of a closure that begins
 abbrev pub state_before : Bool → OnceState
 state_before poisoned = if poisoned then state.Poisoned else state.New
 
@@ -136,7 +136,7 @@ run_act l (run.Leave succeeded any) = act.Leave (One (2 * l)) (wakes_taken any N
 
 abbrev pub give_up_act : ℕ → GiveUpAt → Act
 give_up_act l give_up.Remove = act.Remove (2 * l)
-give_up_act l give_up.Clear = act.Word l (op.And NOT_MARKED)
+give_up_act l give_up.Clear = act.Word l (op.And NOT_PARKED)
 give_up_act l give_up.Leave = act.Leave (One (2 * l)) Nobody
 
 abbrev pub once_act : ℕ → OncePlace → Act
@@ -238,7 +238,7 @@ once_looking at = None
 abbrev pub phase_behind : Bool → Phase
 phase_behind succeeded = if succeeded then phase.Done else phase.Poisoned
 
--- behind an operation on the word that saw this value
+-- the state after an operation on the word that saw this value
 abbrev pub once_owners : OncePlace → ℕ → ℕ → Owners → Owners
 once_owners (Look c retries at) t seen owners =
     if begins_run c at (Value seen) then record owners { phase = phase.InProgress t } else owners

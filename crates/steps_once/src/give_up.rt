@@ -3,12 +3,12 @@
 //! | place | does | then |
 //! |---|---|---|
 //! | `Remove` | leaves the queue | `Clear` where nobody is left, else `Leave` |
-//! | `Clear` | clears `MARKED` | `Leave` |
+//! | `Clear` | clears `PARKED` | `Leave` |
 //! | `Leave` | leaves the section | ends with `No` |
 ghost use Rattle.std.specs.Prelude.{◌≡◌, ◌<◌, ◌^◌};
 ghost use Rattle.steps_once.specs.OnceSteps.{give_up_act, next_give_up};
 
-use crate::places::NOT_MARKED;
+use crate::places::NOT_PARKED;
 use core_base::{Keys, Op, main_key};
 use spec_locks::Answer;
 use steps_base::{Act, Next, Reply, Wakes};
@@ -48,7 +48,7 @@ pub(super) fn give_up_act(lock: usize, at: GiveUpAt) -> Act
         GiveUpAt::Remove => Act::Remove(main_key(lock)),
         GiveUpAt::Clear => Act::Word {
             lock,
-            op: Op::And(NOT_MARKED),
+            op: Op::And(NOT_PARKED),
         },
         GiveUpAt::Leave => Act::Leave {
             keys: Keys::One(main_key(lock)),

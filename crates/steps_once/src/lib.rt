@@ -9,5 +9,5 @@ pub mod run;
 
 pub use give_up::GiveUpAt;
 pub use look::{Course, LookAt};
-pub use places::{DONE, MARKED, NOT_MARKED, OncePlace, POISONED, RUNNING};
+pub use places::{DONE, LOCKED, NOT_PARKED, OncePlace, PARKED, POISONED};
 pub use run::RunAt;

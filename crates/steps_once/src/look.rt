@@ -5,8 +5,8 @@
 //! |---|---|---|
 //! | `Load` | loads | by what it saw: ends, or `Decide` |
 //! | `Decide(v)`, to be run | exchanges `v` for the word of a run | runs its closure, or as by `Load` |
-//! | `Decide(v)`, without `MARKED` | exchanges `v` for `v + MARKED`, or goes on from `Load` as it spins | `Decide` |
-//! | `Decide(v)` with `MARKED` | enters the section of the queue | `Check` |
+//! | `Decide(v)`, without `PARKED` | exchanges `v` for `v + PARKED`, or goes on from `Load` as it spins | `Decide` |
+//! | `Decide(v)` with `PARKED` | enters the section of the queue | `Check` |
 //! | `Check` | stands behind the last of the queue, if it still has to wait | `Leave` |
 //! | `Leave` | leaves the section | `Asleep`, or `Load` where it doesn't stand in the queue |
 //! | `Asleep` | sleeps | `Taken`, or it gives up where its time is up |
@@ -14,7 +14,7 @@
 ghost use Rattle.std.specs.Prelude.{◌≡◌, ◌<◌, ◌^◌};
 ghost use Rattle.steps_once.specs.OnceSteps.{is_forced, is_timed, runs, want_of, when_done, course_of, started, marked, begins_run, gives_up, looked, next_look, still_retries, check_of, decided, look_act};
 
-use crate::places::{MARKED, RUNNING};
+use crate::places::{LOCKED, PARKED};
 use core_base::{Keys, Note, Op, Want, main_key};
 use spec_locks::{Answer, OnceCall};
 use steps_base::bits::{is_done, is_marked, is_poisoned, is_running};
@@ -110,13 +110,13 @@ pub(super) fn course_of(call: OnceCall, seen: u64) -> Course
 fn started(seen: u64) -> u64
     ensures { result ≡ started seen }
 {
-    seen / MARKED * MARKED + RUNNING
+    seen / PARKED * PARKED + LOCKED
 }
 
 fn marked(seen: u64) -> u64
     ensures { result ≡ marked seen }
 {
-    seen % MARKED + MARKED
+    seen % PARKED + PARKED
 }
 
 /// Whether the thread has won the exchange by which its run begins.
@@ -195,7 +195,7 @@ fn check(call: OnceCall) -> Check
     ensures { result ≡ check_of call }
 {
     match call {
-        OnceCall::CallOnce { .. } => Check::WordIs(RUNNING + MARKED),
+        OnceCall::CallOnce { .. } => Check::WordIs(LOCKED + PARKED),
         OnceCall::Wait { forced } => Check::Unfinished { forced },
         OnceCall::WaitTimed => Check::Unfinished { forced: false },
     }

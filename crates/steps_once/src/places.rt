@@ -4,8 +4,8 @@
 //! |---|---|
 //! | 1, `DONE` | a run has succeeded |
 //! | 2, `POISONED` | the last run failed |
-//! | 4, `RUNNING` | a thread runs its closure |
-//! | 8, `MARKED` | somebody may stand in the queue |
+//! | 4, `LOCKED` | a thread runs its closure |
+//! | 8, `PARKED` | somebody may stand in the queue |
 //!
 //! At most one of the first three is set.
 ghost use Rattle.std.specs.Prelude.{ℕ, ◌≡◌, ◌<◌, ◌^◌};
@@ -28,12 +28,12 @@ pub const DONE: u64 = 1;
 
 pub const POISONED: u64 = 2;
 
-pub const RUNNING: u64 = 4;
+pub const LOCKED: u64 = 4;
 
-pub const MARKED: u64 = 8;
+pub const PARKED: u64 = 8;
 
-/// All bits but `MARKED`.
-pub const NOT_MARKED: u64 = 18446744073709551607;
+/// All bits but `PARKED`.
+pub const NOT_PARKED: u64 = 18446744073709551607;
 
 /// Where a thread stands in a call of a `Once`.
 #[derive(Clone, Copy)]

@@ -3,7 +3,7 @@
 //! | place | does | then |
 //! |---|---|---|
 //! | `Closure` | runs the closure | `Close` |
-//! | `Close` | swaps in `DONE`, or `POISONED` where its closure answered an error | `Enter` where it saw `MARKED`, else ends |
+//! | `Close` | swaps in `DONE`, or `POISONED` where its closure answered an error | `Enter` where it saw `PARKED`, else ends |
 //! | `Enter` | enters the section of the queue | `Take` |
 //! | `Take` | takes all waiters | `Leave` |
 //! | `Leave` | leaves the section, and wakes them | ends |
@@ -22,7 +22,7 @@ pub enum RunAt {
     /// The run before failed, or there was none.
     Closure { poisoned: bool },
     Close { succeeded: bool },
-    /// It saw `MARKED`.
+    /// It saw `PARKED`.
     Enter { succeeded: bool },
     Take { succeeded: bool },
     Leave { succeeded: bool, any: bool },

@@ -50,7 +50,7 @@ module _ (a : Admission) where
   waits_timed Patient d = absurd d
   waits_timed Try d = absurd d
 
-  -- who decides to wait may
+  -- a thread that decides to wait may
   waits_by : (how : Patience) (word : ℕ) (b c : Bool) → (if b then decision_blocked how word else if c then decisions.Refuse ReadersFull else decisions.Take) ≡ decisions.Park → MayWait how
   waits_by Patient word b c e = tt
   waits_by Timed word b c e = tt
@@ -120,7 +120,7 @@ module _ (a : Admission) where
     asides fits looks rolls parking.GiveUp reply.Done by may = rolls by
     asides fits looks rolls to told by may = fits again to by
 
-    -- whoever wakes others goes on doing so
+    -- each thread that wakes others goes on doing so
     wakes_on : (m : Line) → ((to : WakeAt) → StandsAt q again (at.Wake m to)) → (to : WakeAt) (told : Reply) → StandsNext (wake_next (of q again (at.Wake m to)) m to told)
     wakes_on m fits waking.Enter reply.Done = fits waking.Take
     wakes_on m fits waking.Take (reply.Took any none_left) = fits _
@@ -377,7 +377,7 @@ module _ (a : Admission) (l : ℕ) where
   taken_same q again (at.Aside to) u rights = refl
   taken_same q again to u rights = refl
 
-  -- who was taken, and is woken, tries again
+  -- a thread that was taken, and is woken, tries again
   wakes_up : (q : RwLockPurpose) (again : Bool) (to : RwLockAt) (u : ℕ) → hand_at to ≡ hand u false → CallBecomes a l (of a q again to) (reply.Woken note.Normal) (λ c. record c { retries = Some l })
   wakes_up q again (at.Park (parking.Taken v)) u h = becomes (of a q again (at.Park (parking.Taken v))) (of a q true at.Load) (reply.Woken note.Normal) again_then refl (by_purpose q)
     where
@@ -424,12 +424,12 @@ module _ (a : Admission) (l : ℕ) where
   is_late_then q again (at.Aside to) fits may = absurd (may refl)
   is_late_then q again to fits may = absurd (may refl)
 
--- who is taken stands somewhere of its call, which is as it was, and for the same purpose
+-- a thread that is taken stands somewhere of its call, which is as it was, and for the same purpose
 pub taken_goes : (a : Admission) (l : ℕ) (p : RwLockPlace) (u : ℕ) → (p2 : RwLockPlace) × (rwlock_next a p (reply.TakenBy u) ≡ next.At p2)
     × ((rights : ℕ → Rights) → call_by l (rwlock_profile a p2) rights ≡ call_by l (rwlock_profile a p) rights) × (p2.purpose ≡ p.purpose)
 taken_goes a l p u = (of a p.purpose p.retries (taken_to a l u p.at), takes a l p.purpose p.retries p.at u, taken_same a l p.purpose p.retries p.at u, refl)
 
--- who was taken, and is woken, does too, and it tries again
+-- a thread that was taken, and is woken, does too, and it tries again
 pub woken_goes : (a : Admission) (l : ℕ) (p : RwLockPlace) (u : ℕ) → hand_at p.at ≡ hand u false → (p2 : RwLockPlace) × (rwlock_next a p (reply.Woken note.Normal) ≡ next.At p2)
     × ((rights : ℕ → Rights) → call_by l (rwlock_profile a p2) rights ≡ record (call_by l (rwlock_profile a p) rights) { retries = Some l }) × (p2.purpose ≡ p.purpose)
 woken_goes a l p u h = by_place p.at refl h

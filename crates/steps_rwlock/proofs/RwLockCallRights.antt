@@ -15,7 +15,7 @@ use Rattle.spec_locks.specs.Locks.{LockState, Rules, Rights, Owns, rights_of, wi
 use Rattle.spec_locks.specs.Runs.{LocksState, CallState, EntersAnswer, ConvertsAnswer, rights_in, one_more_at, one_less_at, rules_at as locks_rules}
 use Rattle.spec_locks.proofs.Rights.{AreAt, unchanged, changed, agree, less_pending}
 
--- what a call found at its lock, by what its thread owns there now
+-- tells what a call found at its lock, by what its thread owns there now
 abbrev pub found : RwLockPurpose → RwLockAt → Rights → Rights
 found (purpose.Enter x how) to y = if is_pending to then less_pending y else y
 found (purpose.Release x) to y = if is_waking to then with_right (wanted x) y else y

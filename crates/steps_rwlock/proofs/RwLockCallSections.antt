@@ -25,16 +25,16 @@ use Rattle.steps_rwlock.specs.declared.park.ParkAt.TheVariants as parking
 use Rattle.steps_rwlock.specs.declared.release.WakeAt.{WakeAt}
 use Rattle.steps_rwlock.specs.declared.release.WakeAt.TheVariants as waking
 use Rattle.steps_rwlock.specs.RwLockSteps.{wanted, from_of, to_of, start_of, patience_of, park_next, wake_next, rwlock_next}
-use Rattle.steps_rwlock.specs.RwLockDeeds.{Admits, IsFreshTry, MayHear, MayHearParking, MayHearWaking, rwlock_deeds, park_deeds, wake_deeds, rwlock_doing}
+use Rattle.steps_rwlock.specs.RwLockDeeds.{Admits, IsFreshTry, MayHear, MayHearParking, MayHearWaking, rwlock_deeds, park_deeds, wake_deeds, rwlock_role}
 use Rattle.steps_rwlock.specs.RwLockProfiles.{rwlock_profile}
 use Rattle.steps_rwlock.specs.RwLockCalls.{MayWait, HasDeadline, ParksBy, EntersAt, SharesAt, WritesAt, ReleasesAt, DowngradesAt, UpgradesAt, StandsAt, next_row, CallFollowsBy, RwLockSectionsTell}
 use Rattle.steps_rwlock.proofs.RwLockCallRights.{recalls, goes, keeps, loses, replaces}
 use Rattle.spec_locks.specs.Locks.{LockCase, LockState, Rules, Rights, Park, Aside, TakeAside, TakePicked, Wake, Late, Owns, after_case, rights_of, with_right, without_right}
 use Rattle.spec_locks.specs.Runs.{CallState, AtLock, going_on, EntersAnswer, ConvertsAnswer}
-use Rattle.spec_locks.specs.Sites.{Doing, Has, Site, IsSite, Deed, Case}
+use Rattle.spec_locks.specs.Sites.{Role, Has, Site, IsSite, Deed, Case}
 use Rattle.spec_locks.proofs.Rights.{regained}
 
--- who wakes others behind a downgrade owns what it got by it
+-- a thread that wakes others behind a downgrade owns what it got by it
 abbrev KeepsRight : LockState → ℕ → RwLockPurpose → RwLockAt → Type 0
 KeepsRight s t (purpose.Downgrade d) (at.Wake m to) = Owns s t (wanted (to_of d))
 KeepsRight s t q to = Unit {0}
@@ -174,7 +174,7 @@ module _ (r : Rules) (a : Admission) (s : Site) (t l : ℕ) (admits : Admits r a
     wakes_fallen (waking.Leave false) whom reply.Done ready hears = record { one = tt; may = tt; comes = λ w rights ruled now e has. subst (λ y. ConvertsAnswer w t (call_by l (rwlock_profile a (raiser how again (at.Wake Main (waking.Leave false)))) rights) l Upgradable Exclusive y No) (sym (is_timed how ready)) (refl, keeps l t s.lock s.lock (purpose.Upgrade how) (at.Wake Main (waking.Leave false)) r w rights ruled now e has refl) }
     wakes_fallen to whom told ready hears = absurd hears
 
-  -- who has released
+  -- a thread that has released
   module _ (x : Access) (again : Bool) where
     abbrev leaver : RwLockAt → RwLockPlace
     leaver to = of (purpose.Release x) again to
@@ -231,15 +231,15 @@ module _ (r : Rules) (a : Admission) (s : Site) (t l : ℕ) (admits : Admits r a
   abbrev TellsBy : RwLockPlace → Option ℕ → Reply → Type 0
   TellsBy p whom told = Tells p (rwlock_deeds a p whom told) (rwlock_next a p told)
 
-  writes_tell : (how : Patience) (again : Bool) (to : RwLockAt) (whom : Option ℕ) (told : Reply) → WritesAt how to → IsFreshTry how again → s.doing t ≡ rwlock_doing (writer how again to) → IsNotLate told → MayHear r a s t (writer how again to) to whom told → TellsBy (writer how again to) whom told
-  writes_tell how again (at.Decide seen) whom reply.Done fits fresh doing now hears = record { one = tt; may = tt; comes = λ rights e. recalls _ _ (goes l t s.lock s.lock (purpose.Enter access.Exclusive how) (at.Decide seen) (at.Park parking.Check) rights e refl) }
-  writes_tell how again (at.Count seen) whom reply.Done fits fresh doing now hears = record { one = tt; may = tt; comes = λ rights e. recalls _ _ (goes l t s.lock s.lock (purpose.Enter access.Exclusive how) (at.Count seen) (at.Aside parking.Check) rights e refl) }
-  writes_tell how again at.Marked whom reply.Done fits fresh doing now hears = record { one = tt; may = tt; comes = λ rights e. recalls _ _ (goes l t s.lock s.lock (purpose.Enter access.Exclusive how) at.Marked (at.Aside parking.Check) rights e refl) }
-  writes_tell how again (at.Park to) whom told fits fresh doing now hears = parks_tell access.Exclusive how again to told _ fits now hears
-  writes_tell how again (at.Aside to) whom told fits fresh doing now hears = aside_tells how again to told _ fits now hears
-  writes_tell how again (at.Wake Main to) whom told fits fresh doing now hears = wakes_late access.Exclusive how again to whom told fits hears
-  writes_tell how again (at.Wake Second to) whom told fits fresh doing now hears = absurd fits
-  writes_tell how again to whom told fits fresh doing now hears = absurd hears
+  writes_tell : (how : Patience) (again : Bool) (to : RwLockAt) (whom : Option ℕ) (told : Reply) → WritesAt how to → IsFreshTry how again → s.role t ≡ rwlock_role (writer how again to) → IsNotLate told → MayHear r a s t (writer how again to) to whom told → TellsBy (writer how again to) whom told
+  writes_tell how again (at.Decide seen) whom reply.Done fits fresh role now hears = record { one = tt; may = tt; comes = λ rights e. recalls _ _ (goes l t s.lock s.lock (purpose.Enter access.Exclusive how) (at.Decide seen) (at.Park parking.Check) rights e refl) }
+  writes_tell how again (at.Count seen) whom reply.Done fits fresh role now hears = record { one = tt; may = tt; comes = λ rights e. recalls _ _ (goes l t s.lock s.lock (purpose.Enter access.Exclusive how) (at.Count seen) (at.Aside parking.Check) rights e refl) }
+  writes_tell how again at.Marked whom reply.Done fits fresh role now hears = record { one = tt; may = tt; comes = λ rights e. recalls _ _ (goes l t s.lock s.lock (purpose.Enter access.Exclusive how) at.Marked (at.Aside parking.Check) rights e refl) }
+  writes_tell how again (at.Park to) whom told fits fresh role now hears = parks_tell access.Exclusive how again to told _ fits now hears
+  writes_tell how again (at.Aside to) whom told fits fresh role now hears = aside_tells how again to told _ fits now hears
+  writes_tell how again (at.Wake Main to) whom told fits fresh role now hears = wakes_late access.Exclusive how again to whom told fits hears
+  writes_tell how again (at.Wake Second to) whom told fits fresh role now hears = absurd fits
+  writes_tell how again to whom told fits fresh role now hears = absurd hears
 
   shares_tell : (x : Access) (how : Patience) (again : Bool) (to : RwLockAt) (whom : Option ℕ) (told : Reply) → SharesAt how to → EntersAt x how at.Load → IsFreshTry how again → IsNotLate told → MayHear r a s t (enterer x how again to) to whom told → TellsBy (enterer x how again to) whom told
   shares_tell x how again (at.Decide seen) whom reply.Done fits looking fresh now hears = record { one = tt; may = tt; comes = λ rights e. recalls _ _ (goes l t s.lock s.lock (purpose.Enter x how) (at.Decide seen) (at.Park parking.Check) rights e refl) }
@@ -248,10 +248,10 @@ module _ (r : Rules) (a : Admission) (s : Site) (t l : ℕ) (admits : Admits r a
   shares_tell x how again at.Load whom told fits looking fresh now hears = absurd hears
   shares_tell x how again to whom told fits looking fresh now hears = absurd fits
 
-  enters_tell : (x : Access) (how : Patience) (again : Bool) (to : RwLockAt) (whom : Option ℕ) (told : Reply) → EntersAt x how to → IsFreshTry how again → s.doing t ≡ rwlock_doing (enterer x how again to) → IsNotLate told → MayHear r a s t (enterer x how again to) to whom told → TellsBy (enterer x how again to) whom told
-  enters_tell access.Exclusive how again to whom told fits fresh doing now hears = writes_tell how again to whom told fits fresh doing now hears
-  enters_tell access.Shared how again to whom told fits fresh doing now hears = shares_tell access.Shared how again to whom told fits tt fresh now hears
-  enters_tell access.Upgradable how again to whom told fits fresh doing now hears = shares_tell access.Upgradable how again to whom told fits tt fresh now hears
+  enters_tell : (x : Access) (how : Patience) (again : Bool) (to : RwLockAt) (whom : Option ℕ) (told : Reply) → EntersAt x how to → IsFreshTry how again → s.role t ≡ rwlock_role (enterer x how again to) → IsNotLate told → MayHear r a s t (enterer x how again to) to whom told → TellsBy (enterer x how again to) whom told
+  enters_tell access.Exclusive how again to whom told fits fresh role now hears = writes_tell how again to whom told fits fresh role now hears
+  enters_tell access.Shared how again to whom told fits fresh role now hears = shares_tell access.Shared how again to whom told fits tt fresh now hears
+  enters_tell access.Upgradable how again to whom told fits fresh role now hears = shares_tell access.Upgradable how again to whom told fits tt fresh now hears
 
   releases_tell : (x : Access) (again : Bool) (to : RwLockAt) (whom : Option ℕ) (told : Reply) → ReleasesAt x to → MayHear r a s t (leaver x again to) to whom told → TellsBy (leaver x again to) whom told
   releases_tell access.Shared again (at.Wake Second to) whom told fits hears = wakes_aside access.Shared again to whom told refl hears
@@ -267,28 +267,28 @@ module _ (r : Rules) (a : Admission) (s : Site) (t l : ℕ) (admits : Admits r a
   downgrades_tell d again at.GiveWay whom told fits own hears = absurd hears
   downgrades_tell d again to whom told fits own hears = absurd fits
 
-  upgrades_tell : (how : Patience) (again : Bool) (to : RwLockAt) (whom : Option ℕ) (told : Reply) → how ≢ Try → UpgradesAt how again to → s.doing t ≡ rwlock_doing (raiser how again to) → IsNotLate told → MayHear r a s t (raiser how again to) to whom told → TellsBy (raiser how again to) whom told
-  upgrades_tell how again (at.Count seen) whom reply.Done more fits doing now hears = record { one = tt; may = tt; comes = λ rights e. recalls _ _ (goes l t s.lock s.lock (purpose.Upgrade how) (at.Count seen) (at.Aside parking.Check) rights e refl) }
-  upgrades_tell how again at.Marked whom reply.Done more fits doing now hears = record { one = tt; may = tt; comes = λ rights e. recalls _ _ (goes l t s.lock s.lock (purpose.Upgrade how) at.Marked (at.Aside parking.Check) rights e refl) }
-  upgrades_tell Patient again (at.Count seen) whom told more fits doing now hears = absurd hears
-  upgrades_tell Patient again at.Marked whom told more fits doing now hears = absurd hears
-  upgrades_tell Patient again (at.Aside to) whom told more fits doing now hears = aside_up Patient again to told _ fits now hears
-  upgrades_tell Patient again at.GiveWay whom told more fits doing now hears = absurd hears
-  upgrades_tell Patient again at.Look whom told more fits doing now hears = absurd hears
-  upgrades_tell Patient again at.RollBack whom told more fits doing now hears = absurd hears
-  upgrades_tell Patient again (at.Wake Main to) whom told more fits doing now hears = absurd fits
-  upgrades_tell Patient again (at.Wake Second to) whom told more fits doing now hears = absurd fits
-  upgrades_tell Patient again to whom told more fits doing now hears = absurd fits
-  upgrades_tell Timed again (at.Count seen) whom told more fits doing now hears = absurd hears
-  upgrades_tell Timed again at.Marked whom told more fits doing now hears = absurd hears
-  upgrades_tell Timed again (at.Aside to) whom told more fits doing now hears = aside_up Timed again to told _ fits now hears
-  upgrades_tell Timed again (at.Wake Main to) whom told more fits doing now hears = wakes_fallen Timed again to whom told fits hears
-  upgrades_tell Timed again at.GiveWay whom told more fits doing now hears = absurd hears
-  upgrades_tell Timed again at.Look whom told more fits doing now hears = absurd hears
-  upgrades_tell Timed again at.RollBack whom told more fits doing now hears = absurd hears
-  upgrades_tell Timed again (at.Wake Second to) whom told more fits doing now hears = absurd fits
-  upgrades_tell Timed again to whom told more fits doing now hears = absurd fits
-  upgrades_tell Try again to whom told more fits doing now hears = absurd (more refl)
+  upgrades_tell : (how : Patience) (again : Bool) (to : RwLockAt) (whom : Option ℕ) (told : Reply) → how ≢ Try → UpgradesAt how again to → s.role t ≡ rwlock_role (raiser how again to) → IsNotLate told → MayHear r a s t (raiser how again to) to whom told → TellsBy (raiser how again to) whom told
+  upgrades_tell how again (at.Count seen) whom reply.Done more fits role now hears = record { one = tt; may = tt; comes = λ rights e. recalls _ _ (goes l t s.lock s.lock (purpose.Upgrade how) (at.Count seen) (at.Aside parking.Check) rights e refl) }
+  upgrades_tell how again at.Marked whom reply.Done more fits role now hears = record { one = tt; may = tt; comes = λ rights e. recalls _ _ (goes l t s.lock s.lock (purpose.Upgrade how) at.Marked (at.Aside parking.Check) rights e refl) }
+  upgrades_tell Patient again (at.Count seen) whom told more fits role now hears = absurd hears
+  upgrades_tell Patient again at.Marked whom told more fits role now hears = absurd hears
+  upgrades_tell Patient again (at.Aside to) whom told more fits role now hears = aside_up Patient again to told _ fits now hears
+  upgrades_tell Patient again at.GiveWay whom told more fits role now hears = absurd hears
+  upgrades_tell Patient again at.Look whom told more fits role now hears = absurd hears
+  upgrades_tell Patient again at.RollBack whom told more fits role now hears = absurd hears
+  upgrades_tell Patient again (at.Wake Main to) whom told more fits role now hears = absurd fits
+  upgrades_tell Patient again (at.Wake Second to) whom told more fits role now hears = absurd fits
+  upgrades_tell Patient again to whom told more fits role now hears = absurd fits
+  upgrades_tell Timed again (at.Count seen) whom told more fits role now hears = absurd hears
+  upgrades_tell Timed again at.Marked whom told more fits role now hears = absurd hears
+  upgrades_tell Timed again (at.Aside to) whom told more fits role now hears = aside_up Timed again to told _ fits now hears
+  upgrades_tell Timed again (at.Wake Main to) whom told more fits role now hears = wakes_fallen Timed again to whom told fits hears
+  upgrades_tell Timed again at.GiveWay whom told more fits role now hears = absurd hears
+  upgrades_tell Timed again at.Look whom told more fits role now hears = absurd hears
+  upgrades_tell Timed again at.RollBack whom told more fits role now hears = absurd hears
+  upgrades_tell Timed again (at.Wake Second to) whom told more fits role now hears = absurd fits
+  upgrades_tell Timed again to whom told more fits role now hears = absurd fits
+  upgrades_tell Try again to whom told more fits role now hears = absurd (more refl)
 
   -- a try to upgrade enters no section
   tries_tell : (again : Bool) (to : RwLockAt) (whom : Option ℕ) (told : Reply) → UpgradesAt Try again to → MayHear r a s t (raiser Try again to) to whom told → TellsBy (raiser Try again to) whom told
@@ -297,29 +297,29 @@ module _ (r : Rules) (a : Admission) (s : Site) (t l : ℕ) (admits : Admits r a
   tries_tell again at.Load whom told fits hears = absurd hears
   tries_tell again to whom told fits hears = absurd fits
 
-keeps_right : {r : Rules} {s : Site} {t : ℕ} → IsSite r s → (q : RwLockPurpose) (again : Bool) (to : RwLockAt) → s.doing t ≡ rwlock_doing (record { purpose = q; retries = again; at = to }) → KeepsRight s.lock t q to
-keeps_right {s = s} {t} site (purpose.Downgrade d) again (at.Wake m waking.Enter) is = site.held t (Has (wanted (to_of d))) (ap (λ (x : Doing). x.claims) is)
-keeps_right {s = s} {t} site (purpose.Downgrade d) again (at.Wake m waking.Take) is = site.held t (Has (wanted (to_of d))) (ap (λ (x : Doing). x.claims) is)
-keeps_right {s = s} {t} site (purpose.Downgrade d) again (at.Wake m (waking.Clear any)) is = site.held t (Has (wanted (to_of d))) (ap (λ (x : Doing). x.claims) is)
-keeps_right {s = s} {t} site (purpose.Downgrade d) again (at.Wake m (waking.Leave any)) is = site.held t (Has (wanted (to_of d))) (ap (λ (x : Doing). x.claims) is)
+keeps_right : {r : Rules} {s : Site} {t : ℕ} → IsSite r s → (q : RwLockPurpose) (again : Bool) (to : RwLockAt) → s.role t ≡ rwlock_role (record { purpose = q; retries = again; at = to }) → KeepsRight s.lock t q to
+keeps_right {s = s} {t} site (purpose.Downgrade d) again (at.Wake m waking.Enter) is = site.held t (Has (wanted (to_of d))) (ap (λ (x : Role). x.claims) is)
+keeps_right {s = s} {t} site (purpose.Downgrade d) again (at.Wake m waking.Take) is = site.held t (Has (wanted (to_of d))) (ap (λ (x : Role). x.claims) is)
+keeps_right {s = s} {t} site (purpose.Downgrade d) again (at.Wake m (waking.Clear any)) is = site.held t (Has (wanted (to_of d))) (ap (λ (x : Role). x.claims) is)
+keeps_right {s = s} {t} site (purpose.Downgrade d) again (at.Wake m (waking.Leave any)) is = site.held t (Has (wanted (to_of d))) (ap (λ (x : Role). x.claims) is)
 keeps_right site (purpose.Downgrade d) again to is = tt
 keeps_right site q again to is = tt
 
 pub rwlock_sections_tell : RwLockSectionsTell
-rwlock_sections_tell r a s t l p whom told calling hears now = by_purpose p.purpose p.retries p.at calling.stands.place (keeps_right calling.at.site p.purpose p.retries p.at calling.at.doing) calling.at.fresh calling.at.doing hears
+rwlock_sections_tell r a s t l p whom told calling hears now = by_purpose p.purpose p.retries p.at calling.stands.place (keeps_right calling.at.site p.purpose p.retries p.at calling.at.role) calling.at.fresh calling.at.role hears
   where
     admits : Admits r a
     admits = calling.at.admits
 
-    by_patience : (how : Patience) (again : Bool) (to : RwLockAt) → UpgradesAt how again to → s.doing t ≡ rwlock_doing (record { purpose = purpose.Upgrade how; retries = again; at = to })
+    by_patience : (how : Patience) (again : Bool) (to : RwLockAt) → UpgradesAt how again to → s.role t ≡ rwlock_role (record { purpose = purpose.Upgrade how; retries = again; at = to })
         → MayHear r a s t (record { purpose = purpose.Upgrade how; retries = again; at = to }) to whom told → CallFollowsBy r a s t l (record { purpose = purpose.Upgrade how; retries = again; at = to }) whom told
-    by_patience Try again to stands doing hears = tries_tell r a s t l admits calling.at.site calling.at.there again to whom told stands hears
-    by_patience Patient again to stands doing hears = upgrades_tell r a s t l admits calling.at.site calling.at.there Patient again to whom told (λ e. cc) stands doing now hears
-    by_patience Timed again to stands doing hears = upgrades_tell r a s t l admits calling.at.site calling.at.there Timed again to whom told (λ e. cc) stands doing now hears
+    by_patience Try again to stands role hears = tries_tell r a s t l admits calling.at.site calling.at.there again to whom told stands hears
+    by_patience Patient again to stands role hears = upgrades_tell r a s t l admits calling.at.site calling.at.there Patient again to whom told (λ e. cc) stands role now hears
+    by_patience Timed again to stands role hears = upgrades_tell r a s t l admits calling.at.site calling.at.there Timed again to whom told (λ e. cc) stands role now hears
 
-    by_purpose : (q : RwLockPurpose) (again : Bool) (to : RwLockAt) → StandsAt q again to → KeepsRight s.lock t q to → IsFreshTry (patience_of q) again → s.doing t ≡ rwlock_doing (record { purpose = q; retries = again; at = to })
+    by_purpose : (q : RwLockPurpose) (again : Bool) (to : RwLockAt) → StandsAt q again to → KeepsRight s.lock t q to → IsFreshTry (patience_of q) again → s.role t ≡ rwlock_role (record { purpose = q; retries = again; at = to })
         → MayHear r a s t (record { purpose = q; retries = again; at = to }) to whom told → CallFollowsBy r a s t l (record { purpose = q; retries = again; at = to }) whom told
-    by_purpose (purpose.Enter x how) again to stands own fresh doing hears = enters_tell r a s t l admits calling.at.site calling.at.there x how again to whom told stands fresh doing now hears
-    by_purpose (purpose.Release x) again to stands own fresh doing hears = releases_tell r a s t l admits calling.at.site calling.at.there x again to whom told stands hears
-    by_purpose (purpose.Downgrade d) again to stands own fresh doing hears = downgrades_tell r a s t l admits calling.at.site calling.at.there d again to whom told stands own hears
-    by_purpose (purpose.Upgrade how) again to stands own fresh doing hears = by_patience how again to stands doing hears
+    by_purpose (purpose.Enter x how) again to stands own fresh role hears = enters_tell r a s t l admits calling.at.site calling.at.there x how again to whom told stands fresh role now hears
+    by_purpose (purpose.Release x) again to stands own fresh role hears = releases_tell r a s t l admits calling.at.site calling.at.there x again to whom told stands hears
+    by_purpose (purpose.Downgrade d) again to stands own fresh role hears = downgrades_tell r a s t l admits calling.at.site calling.at.there d again to whom told stands own hears
+    by_purpose (purpose.Upgrade how) again to stands own fresh role hears = by_patience how again to stands role hears

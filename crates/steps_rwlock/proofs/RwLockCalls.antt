@@ -31,7 +31,7 @@ use Rattle.steps_rwlock.specs.declared.enter.Decision.TheVariants as decisions
 use Rattle.steps_rwlock.specs.declared.park.ParkAt.TheVariants as parking
 use Rattle.steps_rwlock.specs.declared.release.WakeAt.TheVariants as waking
 use Rattle.steps_rwlock.specs.RwLockSteps.{patience_of, rwlock_act, rwlock_next, wanted, from_of, to_of, entered, is_counted, waits, decision_blocked, decision, decided, missed, looked_by, looked, came_in, exchanged_next, counted, stays, goes as goes_to, plus, wakes, wakes_or_ends}
-use Rattle.steps_rwlock.specs.RwLockDeeds.{rwlock_deeds, AtPending, AtTry, AtUpgrade, AtFits, Admits, IsFreshTry, missed_deeds, looked_deeds, enters_deeds, exchanged_deeds, counted_deeds, does_and_wakes, rwlock_doing}
+use Rattle.steps_rwlock.specs.RwLockDeeds.{rwlock_deeds, AtPending, AtTry, AtUpgrade, AtFits, Admits, IsFreshTry, missed_deeds, looked_deeds, enters_deeds, exchanged_deeds, counted_deeds, does_and_wakes, rwlock_role}
 use Rattle.steps_rwlock.specs.RwLockProfiles.{rwlock_profile, before}
 use Rattle.steps_rwlock.specs.RwLockCalls.{MayWait, HasDeadline, EntersAt, WritesAt, SharesAt, ReleasesAt, DowngradesAt, UpgradesAt, StandsAt, RwLockStepsTell, next_row, CallFollowsBy}
 use Rattle.steps_rwlock.proofs.RwLockFit.{knows_all, may_enter}
@@ -39,7 +39,7 @@ use Rattle.steps_rwlock.proofs.RwLockCallRights.{recalls, goes, keeps, loses, re
 use Rattle.spec_locks.specs.Locks.{LockState, Pending, Mutex, Rules, Rights, LockCase, after_case, falling_back, Enter, Settle, Leave, Convert, Rollback, Owns, MayConvert, NoWriter, IsFree, is_recursive, count, readers, standing, rights_of, with_right, without_right, with_owner, without_owner, pending_for}
 use Rattle.spec_locks.specs.Codes.{code, TellsTrue, count_in, has_parked, has_aside, is_blocked}
 use Rattle.spec_locks.specs.Runs.{LocksState, CallState, AtLock, going_on, EntersAnswer, ConvertsAnswer, MayRefuse, IsFull, rights_in, rules_at as locks_rules}
-use Rattle.spec_locks.specs.Sites.{Doing, has_readers, Site, IsSite, Deed, Case, End, Mark, Clear, Has, Pends}
+use Rattle.spec_locks.specs.Sites.{Role, has_readers, Site, IsSite, Deed, Case, End, Mark, Clear, Has, Pends}
 use Rattle.spec_locks.proofs.CodeLaws.{words_tell_true}
 use Rattle.spec_locks.proofs.Rights.{less_pending, entered_alone, entered_upgradable, entered_shared, pended, settled, left, lowered, replaced, raised, raising, fell, rolled}
 
@@ -57,7 +57,7 @@ module _ (r : Rules) (a : Admission) (s : Site) (t l : ℕ) (op : Op) (admits : 
   abbrev Tells : RwLockPlace → List Deed → Next RwLockPlace → Type 0
   Tells p ds n = CallFollows r s.lock t l (rwlock_profile a p) ds (next_row a n)
 
-  -- what the case of a step makes of the call there
+  -- tells what the case of a step makes of the call there
   abbrev by_case : LockCase → RwLockPlace → (ℕ → Rights) → CallState
   by_case case p rights = going_on (AtLock l case) (call_by l (rwlock_profile a p) rights)
 
@@ -206,25 +206,25 @@ module _ (r : Rules) (a : Admission) (s : Site) (t l : ℕ) (op : Op) (admits : 
     IsCounting (at.Count seen) = Unit {0}
     IsCounting to = ⊥
 
-    pub settles : (to : RwLockAt) → IsCounting to → s.doing t ≡ rwlock_doing (writer to) → (b : Bool) → Tells (writer to) (if b then Case Settle ∷ End ∷ [] else []) (if b then next.End (entered how) else stays (writer to) (at.Count v))
-    settles at.Look is doing true = let own : s.lock.pending ≡ Some (record { thread = t; falls_back = false }) = h.held t (Pends false) (ap (λ (d : Doing). d.claims) doing) in
+    pub settles : (to : RwLockAt) → IsCounting to → s.role t ≡ rwlock_role (writer to) → (b : Bool) → Tells (writer to) (if b then Case Settle ∷ End ∷ [] else []) (if b then next.End (entered how) else stays (writer to) (at.Count v))
+    settles at.Look is role true = let own : s.lock.pending ≡ Some (record { thread = t; falls_back = false }) = h.held t (Pends false) (ap (λ (d : Role). d.claims) role) in
         record { one = tt; may = ((refl, refl), tt); comes = λ w rights ruled now e has. enters l t s.lock _ (purpose.Enter access.Exclusive how) at.Look r w rights ruled now e has (by_case Settle (writer at.Look) rights) refl Exclusive how refl (settled s.lock t false own (alone false own)) }
-    settles (at.Count was) is doing true = let own : s.lock.pending ≡ Some (record { thread = t; falls_back = false }) = h.held t (Pends false) (ap (λ (d : Doing). d.claims) doing) in
+    settles (at.Count was) is role true = let own : s.lock.pending ≡ Some (record { thread = t; falls_back = false }) = h.held t (Pends false) (ap (λ (d : Role). d.claims) role) in
         record { one = tt; may = ((refl, refl), tt); comes = λ w rights ruled now e has. enters l t s.lock _ (purpose.Enter access.Exclusive how) (at.Count was) r w rights ruled now e has (by_case Settle (writer (at.Count was)) rights) refl Exclusive how refl (settled s.lock t false own (alone false own)) }
-    settles at.Look is doing false = record { one = tt; may = tt; comes = λ rights e. recalls _ _ (goes l t s.lock s.lock (purpose.Enter access.Exclusive how) at.Look (at.Count v) rights e refl) }
-    settles (at.Count was) is doing false = record { one = tt; may = tt; comes = λ rights e. recalls _ _ (goes l t s.lock s.lock (purpose.Enter access.Exclusive how) (at.Count was) (at.Count v) rights e refl) }
-    settles to is doing b = absurd is
+    settles at.Look is role false = record { one = tt; may = tt; comes = λ rights e. recalls _ _ (goes l t s.lock s.lock (purpose.Enter access.Exclusive how) at.Look (at.Count v) rights e refl) }
+    settles (at.Count was) is role false = record { one = tt; may = tt; comes = λ rights e. recalls _ _ (goes l t s.lock s.lock (purpose.Enter access.Exclusive how) (at.Count was) (at.Count v) rights e refl) }
+    settles to is role b = absurd is
 
-    sets_aside : (was : ℕ) → s.doing t ≡ rwlock_doing (writer (at.Count was)) → (b : Bool) → Tells (writer (at.Count was)) (if b then Mark Second ∷ [] else counted_deeds v) (if b then stays (writer (at.Count was)) at.Marked else counted (writer (at.Count was)) v)
-    sets_aside was doing true = record { one = tt; may = tt; comes = λ rights e. recalls _ _ (goes l t s.lock s.lock (purpose.Enter access.Exclusive how) (at.Count was) at.Marked rights e refl) }
-    sets_aside was doing false = settles (at.Count was) tt doing (count_in v == 0)
+    sets_aside : (was : ℕ) → s.role t ≡ rwlock_role (writer (at.Count was)) → (b : Bool) → Tells (writer (at.Count was)) (if b then Mark Second ∷ [] else counted_deeds v) (if b then stays (writer (at.Count was)) at.Marked else counted (writer (at.Count was)) v)
+    sets_aside was role true = record { one = tt; may = tt; comes = λ rights e. recalls _ _ (goes l t s.lock s.lock (purpose.Enter access.Exclusive how) (at.Count was) at.Marked rights e refl) }
+    sets_aside was role false = settles (at.Count was) tt role (count_in v == 0)
 
     -- it rolls back, and wakes others, or has given up
-    rolls : HasDeadline how → s.doing t ≡ rwlock_doing (writer at.RollBack) → (b : Bool) → Tells (writer at.RollBack) (does_and_wakes b (Case Rollback)) (if b then stays (writer at.RollBack) (wakes Main) else next.End No)
-    rolls late doing b = by_bit b
+    rolls : HasDeadline how → s.role t ≡ rwlock_role (writer at.RollBack) → (b : Bool) → Tells (writer at.RollBack) (does_and_wakes b (Case Rollback)) (if b then stays (writer at.RollBack) (wakes Main) else next.End No)
+    rolls late role b = by_bit b
       where
         own : s.lock.pending ≡ Some (record { thread = t; falls_back = false })
-        own = h.held t (Pends false) (ap (λ (d : Doing). d.claims) doing)
+        own = h.held t (Pends false) (ap (λ (d : Role). d.claims) role)
 
         gone : rights_of (after_case r Rollback s.lock t) t ≡ less_pending (rights_of s.lock t)
         gone = ap (λ (o : Option Pending). rights_of (falling_back t o (record s.lock { pending = None })) t) own ∙ rolled s.lock t false own
@@ -238,21 +238,21 @@ module _ (r : Rules) (a : Admission) (s : Site) (t l : ℕ) (op : Op) (admits : 
             gives_up w rights kept Try d f = absurd d
             gives_up w rights kept Patient d f = absurd d
 
-    writes : (to : RwLockAt) → WritesAt how to → IsFreshTry how again → s.doing t ≡ rwlock_doing (writer to) → rwlock_act l a (writer to) ≡ act.Word l op → Tells (writer to) (rwlock_deeds a (writer to) None (reply.Value v)) (rwlock_next a (writer to) (reply.Value v))
-    writes at.First fits fresh doing e = first (v == 0) refl
-    writes at.Load fits fresh doing e = looks access.Exclusive how again fresh at.Load tt fits
-    writes (at.Decide was) fits fresh doing e = decides access.Exclusive how again fresh was fits (decision a Exclusive how was) refl
-    writes (at.Park parking.Clear) fits fresh doing e = record { one = tt; may = tt; comes = λ rights e. recalls _ _ (goes l t s.lock s.lock (purpose.Enter access.Exclusive how) (at.Park parking.Clear) (at.Park parking.GiveUp) rights e refl) }
-    writes at.Look fits fresh doing e = settles at.Look tt doing (count_in v == 0)
-    writes (at.Count was) fits fresh doing e = sets_aside was doing (v == was)
-    writes (at.Aside parking.Clear) fits fresh doing e = record { one = tt; may = tt; comes = λ rights e. recalls _ _ (goes l t s.lock s.lock (purpose.Enter access.Exclusive how) (at.Aside parking.Clear) (at.Aside parking.GiveUp) rights e refl) }
-    writes at.RollBack fits fresh doing e = rolls fits doing (has_parked v)
-    writes (at.Wake Main (waking.Clear any)) fits fresh doing e = record { one = tt; may = tt; comes = λ rights e. recalls _ _ (goes l t s.lock s.lock (purpose.Enter access.Exclusive how) (at.Wake Main (waking.Clear any)) (at.Wake Main (waking.Leave any)) rights e refl) }
-    writes at.GiveWay fits fresh doing e = absurd fits
-    writes (at.Wake Second to) fits fresh doing e = absurd fits
-    writes to fits fresh doing e = absurd cc
+    writes : (to : RwLockAt) → WritesAt how to → IsFreshTry how again → s.role t ≡ rwlock_role (writer to) → rwlock_act l a (writer to) ≡ act.Word l op → Tells (writer to) (rwlock_deeds a (writer to) None (reply.Value v)) (rwlock_next a (writer to) (reply.Value v))
+    writes at.First fits fresh role e = first (v == 0) refl
+    writes at.Load fits fresh role e = looks access.Exclusive how again fresh at.Load tt fits
+    writes (at.Decide was) fits fresh role e = decides access.Exclusive how again fresh was fits (decision a Exclusive how was) refl
+    writes (at.Park parking.Clear) fits fresh role e = record { one = tt; may = tt; comes = λ rights e. recalls _ _ (goes l t s.lock s.lock (purpose.Enter access.Exclusive how) (at.Park parking.Clear) (at.Park parking.GiveUp) rights e refl) }
+    writes at.Look fits fresh role e = settles at.Look tt role (count_in v == 0)
+    writes (at.Count was) fits fresh role e = sets_aside was role (v == was)
+    writes (at.Aside parking.Clear) fits fresh role e = record { one = tt; may = tt; comes = λ rights e. recalls _ _ (goes l t s.lock s.lock (purpose.Enter access.Exclusive how) (at.Aside parking.Clear) (at.Aside parking.GiveUp) rights e refl) }
+    writes at.RollBack fits fresh role e = rolls fits role (has_parked v)
+    writes (at.Wake Main (waking.Clear any)) fits fresh role e = record { one = tt; may = tt; comes = λ rights e. recalls _ _ (goes l t s.lock s.lock (purpose.Enter access.Exclusive how) (at.Wake Main (waking.Clear any)) (at.Wake Main (waking.Leave any)) rights e refl) }
+    writes at.GiveWay fits fresh role e = absurd fits
+    writes (at.Wake Second to) fits fresh role e = absurd fits
+    writes to fits fresh role e = absurd cc
 
-  -- who wants to share, or may want to write later
+  -- a thread that wants to share, or may want to write later
   shares_tell : (x : Access) → wanted x ≢ Exclusive → (how : Patience) (again : Bool) (to : RwLockAt) → SharesAt how to → EntersAt x how at.Load → IsFreshTry how again → rwlock_act l a (of (purpose.Enter x how) again to) ≡ act.Word l op
       → Tells (of (purpose.Enter x how) again to) (rwlock_deeds a (of (purpose.Enter x how) again to) None (reply.Value v)) (rwlock_next a (of (purpose.Enter x how) again to) (reply.Value v))
   shares_tell x more how again at.Load fits looking fresh e = looks x how again fresh at.Load tt looking
@@ -261,11 +261,11 @@ module _ (r : Rules) (a : Admission) (s : Site) (t l : ℕ) (op : Op) (admits : 
   shares_tell x more how again (at.Park to) fits looking fresh e = absurd cc
   shares_tell x more how again to fits looking fresh e = absurd fits
 
-  enters_tell : (x : Access) (how : Patience) (again : Bool) (to : RwLockAt) → EntersAt x how to → IsFreshTry how again → s.doing t ≡ rwlock_doing (of (purpose.Enter x how) again to) → rwlock_act l a (of (purpose.Enter x how) again to) ≡ act.Word l op
+  enters_tell : (x : Access) (how : Patience) (again : Bool) (to : RwLockAt) → EntersAt x how to → IsFreshTry how again → s.role t ≡ rwlock_role (of (purpose.Enter x how) again to) → rwlock_act l a (of (purpose.Enter x how) again to) ≡ act.Word l op
       → Tells (of (purpose.Enter x how) again to) (rwlock_deeds a (of (purpose.Enter x how) again to) None (reply.Value v)) (rwlock_next a (of (purpose.Enter x how) again to) (reply.Value v))
-  enters_tell access.Exclusive how again to fits fresh doing e = writes how again to fits fresh doing e
-  enters_tell access.Shared how again to fits fresh doing e = shares_tell access.Shared (λ f. cc) how again to fits tt fresh e
-  enters_tell access.Upgradable how again to fits fresh doing e = shares_tell access.Upgradable (λ f. cc) how again to fits tt fresh e
+  enters_tell access.Exclusive how again to fits fresh role e = writes how again to fits fresh role e
+  enters_tell access.Shared how again to fits fresh role e = shares_tell access.Shared (λ f. cc) how again to fits tt fresh e
+  enters_tell access.Upgradable how again to fits fresh role e = shares_tell access.Upgradable (λ f. cc) how again to fits tt fresh e
 
   -- ---------------------------------------------------------------- calls that release
 
@@ -281,20 +281,20 @@ module _ (r : Rules) (a : Admission) (s : Site) (t l : ℕ) (op : Op) (admits : 
     clears : (m : Line) (any : Bool) → Tells (leaver (at.Wake m (waking.Clear any))) (Clear m ∷ []) (next.At (leaver (at.Wake m (waking.Leave any))))
     clears m any = record { one = tt; may = tt; comes = λ rights e. recalls _ _ (goes l t s.lock s.lock (purpose.Release x) (at.Wake m (waking.Clear any)) (at.Wake m (waking.Leave any)) rights e refl) }
 
-  releases_tell : (x : Access) (again : Bool) (to : RwLockAt) → ReleasesAt x to → s.doing t ≡ rwlock_doing (leaver x again to) → rwlock_act l a (leaver x again to) ≡ act.Word l op
+  releases_tell : (x : Access) (again : Bool) (to : RwLockAt) → ReleasesAt x to → s.role t ≡ rwlock_role (leaver x again to) → rwlock_act l a (leaver x again to) ≡ act.Word l op
       → Tells (leaver x again to) (rwlock_deeds a (leaver x again to) None (reply.Value v)) (rwlock_next a (leaver x again to) (reply.Value v))
-  releases_tell access.Shared again at.GiveWay fits doing e = gives access.Shared again Second (h.held t (Has Shared) (ap (λ (d : Doing). d.claims) doing)) (has_aside v && (count_in v == 1))
-  releases_tell access.Upgradable again at.GiveWay fits doing e = gives access.Upgradable again Main (h.held t (Has Upgradable) (ap (λ (d : Doing). d.claims) doing)) (has_parked v)
-  releases_tell access.Exclusive again at.GiveWay fits doing e = gives access.Exclusive again Main (h.held t (Has Exclusive) (ap (λ (d : Doing). d.claims) doing)) (has_parked v)
-  releases_tell access.Shared again (at.Wake Second (waking.Clear any)) fits doing e = clears access.Shared again Second any
-  releases_tell access.Upgradable again (at.Wake Main (waking.Clear any)) fits doing e = clears access.Upgradable again Main any
-  releases_tell access.Exclusive again (at.Wake Main (waking.Clear any)) fits doing e = clears access.Exclusive again Main any
-  releases_tell access.Shared again (at.Wake Second to) fits doing e = absurd cc
-  releases_tell access.Upgradable again (at.Wake Main to) fits doing e = absurd cc
-  releases_tell access.Exclusive again (at.Wake Main to) fits doing e = absurd cc
-  releases_tell access.Shared again to fits doing e = absurd fits
-  releases_tell access.Upgradable again to fits doing e = absurd fits
-  releases_tell access.Exclusive again to fits doing e = absurd fits
+  releases_tell access.Shared again at.GiveWay fits role e = gives access.Shared again Second (h.held t (Has Shared) (ap (λ (d : Role). d.claims) role)) (has_aside v && (count_in v == 1))
+  releases_tell access.Upgradable again at.GiveWay fits role e = gives access.Upgradable again Main (h.held t (Has Upgradable) (ap (λ (d : Role). d.claims) role)) (has_parked v)
+  releases_tell access.Exclusive again at.GiveWay fits role e = gives access.Exclusive again Main (h.held t (Has Exclusive) (ap (λ (d : Role). d.claims) role)) (has_parked v)
+  releases_tell access.Shared again (at.Wake Second (waking.Clear any)) fits role e = clears access.Shared again Second any
+  releases_tell access.Upgradable again (at.Wake Main (waking.Clear any)) fits role e = clears access.Upgradable again Main any
+  releases_tell access.Exclusive again (at.Wake Main (waking.Clear any)) fits role e = clears access.Exclusive again Main any
+  releases_tell access.Shared again (at.Wake Second to) fits role e = absurd cc
+  releases_tell access.Upgradable again (at.Wake Main to) fits role e = absurd cc
+  releases_tell access.Exclusive again (at.Wake Main to) fits role e = absurd cc
+  releases_tell access.Shared again to fits role e = absurd fits
+  releases_tell access.Upgradable again to fits role e = absurd fits
+  releases_tell access.Exclusive again to fits role e = absurd fits
 
   -- ---------------------------------------------------------------- calls that turn a right into a lesser one
 
@@ -321,18 +321,18 @@ module _ (r : Rules) (a : Admission) (s : Site) (t l : ℕ) (op : Op) (admits : 
     clears_lower : (any : Bool) → Tells (lowerer (at.Wake Main (waking.Clear any))) (Clear Main ∷ []) (next.At (lowerer (at.Wake Main (waking.Leave any))))
     clears_lower any = record { one = tt; may = tt; comes = λ rights e. recalls _ _ (goes l t s.lock s.lock (purpose.Downgrade d) (at.Wake Main (waking.Clear any)) (at.Wake Main (waking.Leave any)) rights e refl) }
 
-  lowers_by : (d : Downgrade) (again : Bool) → s.doing t ≡ rwlock_doing (lowerer d again at.GiveWay) → (b : Bool)
+  lowers_by : (d : Downgrade) (again : Bool) → s.role t ≡ rwlock_role (lowerer d again at.GiveWay) → (b : Bool)
       → Tells (lowerer d again at.GiveWay) (does_and_wakes b (Case (Convert (wanted (from_of d)) (wanted (to_of d))))) (wakes_or_ends (lowerer d again at.GiveWay) Main b)
-  lowers_by downgrade.ToShared again doing b = lowers downgrade.ToShared again (h.held t (Has Exclusive) (ap (λ (d : Doing). d.claims) doing)) tt (λ f. cc) refl b
-  lowers_by downgrade.ToUpgradable again doing b = lowers downgrade.ToUpgradable again (h.held t (Has Exclusive) (ap (λ (d : Doing). d.claims) doing)) tt (λ f. cc) refl b
-  lowers_by downgrade.UpgradableToShared again doing b = lowers downgrade.UpgradableToShared again (h.held t (Has Upgradable) (ap (λ (d : Doing). d.claims) doing)) tt (λ f. cc) refl b
+  lowers_by downgrade.ToShared again role b = lowers downgrade.ToShared again (h.held t (Has Exclusive) (ap (λ (d : Role). d.claims) role)) tt (λ f. cc) refl b
+  lowers_by downgrade.ToUpgradable again role b = lowers downgrade.ToUpgradable again (h.held t (Has Exclusive) (ap (λ (d : Role). d.claims) role)) tt (λ f. cc) refl b
+  lowers_by downgrade.UpgradableToShared again role b = lowers downgrade.UpgradableToShared again (h.held t (Has Upgradable) (ap (λ (d : Role). d.claims) role)) tt (λ f. cc) refl b
 
-  downgrades_tell : (d : Downgrade) (again : Bool) (to : RwLockAt) → DowngradesAt to → s.doing t ≡ rwlock_doing (lowerer d again to) → rwlock_act l a (lowerer d again to) ≡ act.Word l op
+  downgrades_tell : (d : Downgrade) (again : Bool) (to : RwLockAt) → DowngradesAt to → s.role t ≡ rwlock_role (lowerer d again to) → rwlock_act l a (lowerer d again to) ≡ act.Word l op
       → Tells (lowerer d again to) (rwlock_deeds a (lowerer d again to) None (reply.Value v)) (rwlock_next a (lowerer d again to) (reply.Value v))
-  downgrades_tell d again at.GiveWay fits doing e = lowers_by d again doing (has_parked v)
-  downgrades_tell d again (at.Wake Main (waking.Clear any)) fits doing e = clears_lower d again any
-  downgrades_tell d again (at.Wake Main to) fits doing e = absurd cc
-  downgrades_tell d again to fits doing e = absurd fits
+  downgrades_tell d again at.GiveWay fits role e = lowers_by d again role (has_parked v)
+  downgrades_tell d again (at.Wake Main (waking.Clear any)) fits role e = clears_lower d again any
+  downgrades_tell d again (at.Wake Main to) fits role e = absurd cc
+  downgrades_tell d again to fits role e = absurd fits
 
   -- ---------------------------------------------------------------- calls that upgrade
 
@@ -382,24 +382,24 @@ module _ (r : Rules) (a : Admission) (s : Site) (t l : ℕ) (op : Op) (admits : 
             → call_by l (rwlock_profile a (of (purpose.Upgrade how) false at.Look)) (rights_where l upgraded t rights) ≡ by_case (Convert Upgradable Exclusive) (raiser at.GiveWay) rights
         next_call rights same = λ i. record (call_by l (rwlock_profile a (raiser at.GiveWay)) rights) { former = λ k. same k i; retries = (ap (λ b. if b then Some l else None) (sym first)) i }
 
-    pub settles_up : (to : RwLockAt) → IsCounting how again to → s.doing t ≡ rwlock_doing (raiser to) → (b : Bool) → Tells (raiser to) (if b then Case Settle ∷ End ∷ [] else []) (if b then next.End (entered how) else stays (raiser to) (at.Count v))
-    settles_up at.Look is doing true = let own : s.lock.pending ≡ Some (record { thread = t; falls_back = true }) = h.held t (Pends true) (ap (λ (d : Doing). d.claims) doing) in
+    pub settles_up : (to : RwLockAt) → IsCounting how again to → s.role t ≡ rwlock_role (raiser to) → (b : Bool) → Tells (raiser to) (if b then Case Settle ∷ End ∷ [] else []) (if b then next.End (entered how) else stays (raiser to) (at.Count v))
+    settles_up at.Look is role true = let own : s.lock.pending ≡ Some (record { thread = t; falls_back = true }) = h.held t (Pends true) (ap (λ (d : Role). d.claims) role) in
         record { one = tt; may = ((refl, refl), tt); comes = λ w rights ruled now e has. raises l t s.lock (after_case r Settle s.lock t) (purpose.Upgrade how) at.Look r w rights ruled now e has (by_case Settle (raiser at.Look) rights) refl Upgradable Exclusive how (ap (with_right Upgradable) (settled s.lock t true own (alone how again true own))) }
-    settles_up (at.Count was) is doing true = let own : s.lock.pending ≡ Some (record { thread = t; falls_back = true }) = h.held t (Pends true) (ap (λ (d : Doing). d.claims) doing) in
+    settles_up (at.Count was) is role true = let own : s.lock.pending ≡ Some (record { thread = t; falls_back = true }) = h.held t (Pends true) (ap (λ (d : Role). d.claims) role) in
         record { one = tt; may = ((refl, refl), tt); comes = λ w rights ruled now e has. raises l t s.lock (after_case r Settle s.lock t) (purpose.Upgrade how) (at.Count was) r w rights ruled now e has (by_case Settle (raiser (at.Count was)) rights) refl Upgradable Exclusive how (ap (with_right Upgradable) (settled s.lock t true own (alone how again true own))) }
-    settles_up at.Look is doing false = record { one = tt; may = tt; comes = λ rights e. recalls _ _ (goes l t s.lock s.lock (purpose.Upgrade how) at.Look (at.Count v) rights e refl) }
-    settles_up (at.Count was) is doing false = record { one = tt; may = tt; comes = λ rights e. recalls _ _ (goes l t s.lock s.lock (purpose.Upgrade how) (at.Count was) (at.Count v) rights e refl) }
-    settles_up to is doing b = absurd is
+    settles_up at.Look is role false = record { one = tt; may = tt; comes = λ rights e. recalls _ _ (goes l t s.lock s.lock (purpose.Upgrade how) at.Look (at.Count v) rights e refl) }
+    settles_up (at.Count was) is role false = record { one = tt; may = tt; comes = λ rights e. recalls _ _ (goes l t s.lock s.lock (purpose.Upgrade how) (at.Count was) (at.Count v) rights e refl) }
+    settles_up to is role b = absurd is
 
-    sets_aside_up : (was : ℕ) → s.doing t ≡ rwlock_doing (raiser (at.Count was)) → (b : Bool) → Tells (raiser (at.Count was)) (if b then Mark Second ∷ [] else counted_deeds v) (if b then stays (raiser (at.Count was)) at.Marked else counted (raiser (at.Count was)) v)
-    sets_aside_up was doing true = record { one = tt; may = tt; comes = λ rights e. recalls _ _ (goes l t s.lock s.lock (purpose.Upgrade how) (at.Count was) at.Marked rights e refl) }
-    sets_aside_up was doing false = settles_up (at.Count was) tt doing (count_in v == 0)
+    sets_aside_up : (was : ℕ) → s.role t ≡ rwlock_role (raiser (at.Count was)) → (b : Bool) → Tells (raiser (at.Count was)) (if b then Mark Second ∷ [] else counted_deeds v) (if b then stays (raiser (at.Count was)) at.Marked else counted (raiser (at.Count was)) v)
+    sets_aside_up was role true = record { one = tt; may = tt; comes = λ rights e. recalls _ _ (goes l t s.lock s.lock (purpose.Upgrade how) (at.Count was) at.Marked rights e refl) }
+    sets_aside_up was role false = settles_up (at.Count was) tt role (count_in v == 0)
 
-    falls : HasDeadline how → s.doing t ≡ rwlock_doing (raiser at.RollBack) → (b : Bool) → Tells (raiser at.RollBack) (does_and_wakes b (Case Rollback)) (if b then stays (raiser at.RollBack) (wakes Main) else next.End No)
-    falls late doing b = by_bit b
+    falls : HasDeadline how → s.role t ≡ rwlock_role (raiser at.RollBack) → (b : Bool) → Tells (raiser at.RollBack) (does_and_wakes b (Case Rollback)) (if b then stays (raiser at.RollBack) (wakes Main) else next.End No)
+    falls late role b = by_bit b
       where
         own : s.lock.pending ≡ Some (record { thread = t; falls_back = true })
-        own = h.held t (Pends true) (ap (λ (d : Doing). d.claims) doing)
+        own = h.held t (Pends true) (ap (λ (d : Role). d.claims) role)
 
         gone : rights_of (after_case r Rollback s.lock t) t ≡ with_right Upgradable (less_pending (rights_of s.lock t))
         gone = ap (λ (o : Option Pending). rights_of (falling_back t o (record s.lock { pending = None })) t) own ∙ fell s.lock t r h.state own
@@ -413,28 +413,28 @@ module _ (r : Rules) (a : Admission) (s : Site) (t l : ℕ) (op : Op) (admits : 
             gives_up w rights kept Try d f = absurd d
             gives_up w rights kept Patient d f = absurd d
 
-    waits_up : (to : RwLockAt) → AtPending to → UpgradesAt how again to → s.doing t ≡ rwlock_doing (raiser to) → rwlock_act l a (raiser to) ≡ act.Word l op → (how ≢ Try)
+    waits_up : (to : RwLockAt) → AtPending to → UpgradesAt how again to → s.role t ≡ rwlock_role (raiser to) → rwlock_act l a (raiser to) ≡ act.Word l op → (how ≢ Try)
         → Tells (raiser to) (rwlock_deeds a (raiser to) None (reply.Value v)) (rwlock_next a (raiser to) (reply.Value v))
-    waits_up at.GiveWay pending fits doing e more = gives_up_right (h.held t (Has Upgradable) (ap (λ (d : Doing). d.claims) doing)) (unwoken how fits more) (count_in v == 1) refl
+    waits_up at.GiveWay pending fits role e more = gives_up_right (h.held t (Has Upgradable) (ap (λ (d : Role). d.claims) role)) (unwoken how fits more) (count_in v == 1) refl
       where
         unwoken : (y : Patience) → UpgradesAt y again at.GiveWay → y ≢ Try → again ≡ false
         unwoken Patient f m = f
         unwoken Timed f m = f
         unwoken Try f m = absurd (m refl)
-    waits_up at.Look pending fits doing e more = settles_up at.Look tt doing (count_in v == 0)
-    waits_up (at.Count was) pending fits doing e more = sets_aside_up was doing (v == was)
-    waits_up (at.Aside parking.Clear) pending fits doing e more = record { one = tt; may = tt; comes = λ rights e. recalls _ _ (goes l t s.lock s.lock (purpose.Upgrade how) (at.Aside parking.Clear) (at.Aside parking.GiveUp) rights e refl) }
-    waits_up at.RollBack pending fits doing e more = falls (deadline how fits) doing (has_parked v)
+    waits_up at.Look pending fits role e more = settles_up at.Look tt role (count_in v == 0)
+    waits_up (at.Count was) pending fits role e more = sets_aside_up was role (v == was)
+    waits_up (at.Aside parking.Clear) pending fits role e more = record { one = tt; may = tt; comes = λ rights e. recalls _ _ (goes l t s.lock s.lock (purpose.Upgrade how) (at.Aside parking.Clear) (at.Aside parking.GiveUp) rights e refl) }
+    waits_up at.RollBack pending fits role e more = falls (deadline how fits) role (has_parked v)
       where
         deadline : (y : Patience) → UpgradesAt y again at.RollBack → HasDeadline y
         deadline Timed f = f
         deadline Patient f = absurd f
         deadline Try f = absurd f
-    waits_up (at.Wake Main (waking.Clear any)) pending fits doing e more = record { one = tt; may = tt; comes = λ rights e. recalls _ _ (goes l t s.lock s.lock (purpose.Upgrade how) (at.Wake Main (waking.Clear any)) (at.Wake Main (waking.Leave any)) rights e refl) }
-    waits_up at.Marked pending fits doing e more = absurd cc
-    waits_up (at.Aside to) pending fits doing e more = absurd cc
-    waits_up (at.Wake Main to) pending fits doing e more = absurd cc
-    waits_up to pending fits doing e more = absurd pending
+    waits_up (at.Wake Main (waking.Clear any)) pending fits role e more = record { one = tt; may = tt; comes = λ rights e. recalls _ _ (goes l t s.lock s.lock (purpose.Upgrade how) (at.Wake Main (waking.Clear any)) (at.Wake Main (waking.Leave any)) rights e refl) }
+    waits_up at.Marked pending fits role e more = absurd cc
+    waits_up (at.Aside to) pending fits role e more = absurd cc
+    waits_up (at.Wake Main to) pending fits role e more = absurd cc
+    waits_up to pending fits role e more = absurd pending
 
   -- ---------------------------------------------------------------- a try to upgrade
 
@@ -457,12 +457,12 @@ module _ (r : Rules) (a : Admission) (s : Site) (t l : ℕ) (op : Op) (admits : 
         others own e = let c = tells.count in grind (arith, nat_tests)
     looks_up to is own b e = absurd is
 
-    tries_up : (to : RwLockAt) → AtTry to → s.doing t ≡ rwlock_doing (trier to) → Tells (trier to) (rwlock_deeds a (trier to) None (reply.Value v)) (rwlock_next a (trier to) (reply.Value v))
-    tries_up at.Load is doing = looks_up at.Load tt (h.held t (Has Upgradable) (ap (λ (d : Doing). d.claims) doing)) (count_in v == 1) refl
-    tries_up (at.Decide was) is doing = by_sight (count_in was == 1) refl
+    tries_up : (to : RwLockAt) → AtTry to → s.role t ≡ rwlock_role (trier to) → Tells (trier to) (rwlock_deeds a (trier to) None (reply.Value v)) (rwlock_next a (trier to) (reply.Value v))
+    tries_up at.Load is role = looks_up at.Load tt (h.held t (Has Upgradable) (ap (λ (d : Role). d.claims) role)) (count_in v == 1) refl
+    tries_up (at.Decide was) is role = by_sight (count_in was == 1) refl
       where
         own : Owns s.lock t Upgradable
-        own = h.held t (Has Upgradable) (ap (λ (d : Doing). d.claims) doing)
+        own = h.held t (Has Upgradable) (ap (λ (d : Role). d.claims) role)
 
         won : (c : Bool) → (v == was) ≡ c → (count_in was == 1) ≡ true → Tells (trier (at.Decide was)) (exchanged_deeds (purpose.Upgrade Try) decisions.Take c (decided a (trier (at.Decide was)) v)) (if c then next.End Yes else looked a (trier (at.Decide was)) v)
         won true f e = owns_it Try again (at.Decide was) (inr (was, refl)) own (ap (λ n. count_in n == 1) (eqb-true v was f) ∙ e)
@@ -473,25 +473,25 @@ module _ (r : Rules) (a : Admission) (s : Site) (t l : ℕ) (op : Op) (admits : 
             (exchanged_next a (trier (at.Decide was)) was v (if b then decisions.Take else decisions.Refuse No))
         by_sight true e = won (v == was) refl e
         by_sight false e = looks_up (at.Decide was) tt own (count_in v == 1) refl
-    tries_up to is doing = absurd is
+    tries_up to is role = absurd is
 
 -- ---------------------------------------------------------------- every place
 
 pub rwlock_steps_tell : RwLockStepsTell
-rwlock_steps_tell r a s t l p op calling nowhere e = by_purpose p.purpose p.retries p.at calling.stands.place calling.at.place calling.at.fresh calling.at.doing e
+rwlock_steps_tell r a s t l p op calling nowhere e = by_purpose p.purpose p.retries p.at calling.stands.place calling.at.place calling.at.fresh calling.at.role e
   where
     admits : Admits r a
     admits = calling.at.admits
 
-    by_patience : (how : Patience) (again : Bool) (to : RwLockAt) → UpgradesAt how again to → AtUpgrade how to → s.doing t ≡ rwlock_doing (record { purpose = purpose.Upgrade how; retries = again; at = to })
+    by_patience : (how : Patience) (again : Bool) (to : RwLockAt) → UpgradesAt how again to → AtUpgrade how to → s.role t ≡ rwlock_role (record { purpose = purpose.Upgrade how; retries = again; at = to })
         → rwlock_act l a (record { purpose = purpose.Upgrade how; retries = again; at = to }) ≡ act.Word l op → CallFollowsBy r a s t l (record { purpose = purpose.Upgrade how; retries = again; at = to }) None (reply.Value (code r s))
-    by_patience Try again to stands fits doing e = tries_up r a s t l op admits calling.at.site nowhere calling.at.there again to fits doing
-    by_patience Patient again to stands fits doing e = waits_up r a s t l op admits calling.at.site nowhere calling.at.there Patient again to fits stands doing e (λ f. cc)
-    by_patience Timed again to stands fits doing e = waits_up r a s t l op admits calling.at.site nowhere calling.at.there Timed again to fits stands doing e (λ f. cc)
+    by_patience Try again to stands fits role e = tries_up r a s t l op admits calling.at.site nowhere calling.at.there again to fits role
+    by_patience Patient again to stands fits role e = waits_up r a s t l op admits calling.at.site nowhere calling.at.there Patient again to fits stands role e (λ f. cc)
+    by_patience Timed again to stands fits role e = waits_up r a s t l op admits calling.at.site nowhere calling.at.there Timed again to fits stands role e (λ f. cc)
 
-    by_purpose : (q : RwLockPurpose) (again : Bool) (to : RwLockAt) → StandsAt q again to → AtFits q to → IsFreshTry (patience_of q) again → s.doing t ≡ rwlock_doing (record { purpose = q; retries = again; at = to })
+    by_purpose : (q : RwLockPurpose) (again : Bool) (to : RwLockAt) → StandsAt q again to → AtFits q to → IsFreshTry (patience_of q) again → s.role t ≡ rwlock_role (record { purpose = q; retries = again; at = to })
         → rwlock_act l a (record { purpose = q; retries = again; at = to }) ≡ act.Word l op → CallFollowsBy r a s t l (record { purpose = q; retries = again; at = to }) None (reply.Value (code r s))
-    by_purpose (purpose.Enter x how) again to stands fits fresh doing e = enters_tell r a s t l op admits calling.at.site nowhere calling.at.there x how again to stands fresh doing e
-    by_purpose (purpose.Release x) again to stands fits fresh doing e = releases_tell r a s t l op admits calling.at.site nowhere calling.at.there x again to stands doing e
-    by_purpose (purpose.Downgrade d) again to stands fits fresh doing e = downgrades_tell r a s t l op admits calling.at.site nowhere calling.at.there d again to stands doing e
-    by_purpose (purpose.Upgrade how) again to stands fits fresh doing e = by_patience how again to stands fits doing e
+    by_purpose (purpose.Enter x how) again to stands fits fresh role e = enters_tell r a s t l op admits calling.at.site nowhere calling.at.there x how again to stands fresh role e
+    by_purpose (purpose.Release x) again to stands fits fresh role e = releases_tell r a s t l op admits calling.at.site nowhere calling.at.there x again to stands role e
+    by_purpose (purpose.Downgrade d) again to stands fits fresh role e = downgrades_tell r a s t l op admits calling.at.site nowhere calling.at.there d again to stands role e
+    by_purpose (purpose.Upgrade how) again to stands fits fresh role e = by_patience how again to stands fits role e

@@ -35,7 +35,7 @@ use Rattle.steps_rwlock.specs.declared.enter.Decision.TheVariants as decisions
 use Rattle.steps_rwlock.specs.declared.park.ParkAt.TheVariants as parking
 use Rattle.steps_rwlock.specs.declared.release.WakeAt.TheVariants as waking
 use Rattle.steps_rwlock.specs.RwLockSteps.{wanted, from_of, to_of, give_op, token, is_counted, waits, decision_blocked, decision, decided_act, rwlock_act, plus, unparked}
-use Rattle.steps_rwlock.specs.RwLockDeeds.{at_rest, enters_deeds, rwlock_doing, missed_deeds, looked_deeds, exchanged_deeds, counted_deeds, does_and_wakes, sees_waiter, rwlock_deeds, AllNeeded, after_all, Admits, AtFits, AtTry, AtPending, AtUpgrade, RwLockStepsCode}
+use Rattle.steps_rwlock.specs.RwLockDeeds.{at_rest, enters_deeds, rwlock_role, missed_deeds, looked_deeds, exchanged_deeds, counted_deeds, does_and_wakes, sees_waiter, rwlock_deeds, AllNeeded, after_all, Admits, AtFits, AtTry, AtPending, AtUpgrade, RwLockStepsCode}
 use Rattle.steps_rwlock.proofs.RwLockFit.{rwlock_steps_follow}
 
 subtracts : (v by c : ℕ) → v < 2 ^ 64 → by ≤ v → c + by ≡ v → (v + (2 ^ 64 - by)) % 2 ^ 64 ≡ c
@@ -164,7 +164,7 @@ blocked_unset Patient v e = marks_unset (has_parked v) e
 blocked_unset Timed v e = marks_unset (has_parked v) e
 
 module _ (a : Admission) (how : Patience) (v : ℕ) (small : v < 2 ^ 64) (few : a.limit < 2 ^ 60) where
-  -- what is taken fits into the word
+  -- the right that is taken fits into the word
   take_fits : (x : Access) → decision a (wanted x) how v ≡ decisions.Take → plus v (token (wanted x)) ≡ v + token (wanted x)
   take_fits x e = by_tests (is_blocked a.recursive (wanted x) v) refl (is_counted (wanted x) && nat_le a.limit (count_in v)) refl e
     where
@@ -178,7 +178,7 @@ module _ (a : Admission) (how : Patience) (v : ℕ) (small : v < 2 ^ 64) (few : 
       by_tests false eb true ec f = absurd cc
       by_tests true eb c ec f = absurd (blocked_takes_no how v f)
 
-  -- what is marked is clear
+  -- the bit that is marked was clear
   mark_fits : (x : Want) → decision a x how v ≡ decisions.Mark → has_parked v ≡ false
   mark_fits x e = by_tests (is_blocked a.recursive x v) (is_counted x && nat_le a.limit (count_in v)) e
     where
@@ -245,7 +245,7 @@ module _ (r : Rules) (a : Admission) (s : Site) (t l : ℕ) (f : Op) (admits : A
         rw (is, ec) (sym (marked_aside r s t admits.0 h tells there small (sym tells.aside ∙ clear) ∙ sym (fits_aside v small clear) ∙ ap (λ y. plus y 2) same))
     sets_aside expected false eb e false ec n = let is : f ≡ op.Exchange expected (plus expected 2) = cc in rw (is, ec) (sym (counts_same n))
 
-    enters_code : (to : RwLockAt) → AtFits (purpose.Enter x how) to → s.doing t ≡ rwlock_doing (place to) → rwlock_act l a (place to) ≡ act.Word l f → Leads (rwlock_deeds a (place to) None (reply.Value v))
+    enters_code : (to : RwLockAt) → AtFits (purpose.Enter x how) to → s.role t ≡ rwlock_role (place to) → rwlock_act l a (place to) ≡ act.Word l f → Leads (rwlock_deeds a (place to) None (reply.Value v))
     enters_code at.First fits is e n = let same : f ≡ op.Exchange 0 8 = cc in exchanged 0 8 same (Case (Enter Exclusive) ∷ End ∷ []) (missed_deeds how) (v == 0) refl (λ same k. let g = behind_case_end r s t admits.0 h tells there small (Enter Exclusive) k.0 (λ g. g) in omega arith) (λ k. behind_missed r s t admits.0 h tells there small how) n
     enters_code at.Load fits is e n = let same : f ≡ op.Load = cc in rw same (sym (looks_same n))
     enters_code (at.Decide expected) fits is e n = decides expected (decision a (wanted x) how expected) refl e (v == expected) refl n
@@ -278,12 +278,12 @@ module _ (r : Rules) (a : Admission) (s : Site) (t l : ℕ) (f : Op) (admits : A
     releases_code x (at.Wake m to) fits e n = absurd cc
     releases_code x to fits e n = absurd fits
 
-    downgraded : (d : Downgrade) (b : Bool) → f ≡ give_op (purpose.Downgrade d) → s.doing t ≡ at_rest None (Some (Has (wanted (from_of d)))) → Leads (does_and_wakes b (Case (Convert (wanted (from_of d)) (wanted (to_of d)))))
+    downgraded : (d : Downgrade) (b : Bool) → f ≡ give_op (purpose.Downgrade d) → s.role t ≡ at_rest None (Some (Has (wanted (from_of d)))) → Leads (does_and_wakes b (Case (Convert (wanted (from_of d)) (wanted (to_of d)))))
     downgraded downgrade.ToShared b is own n = let lt = lone r s t admits.0 h tells there small (h.held t (Has Exclusive) (grind (arith, own))) in added 8 _ is (omega arith) (to_shared r s t admits.0 h tells there small b n)
     downgraded downgrade.ToUpgradable b is own n = let lt = lone r s t admits.0 h tells there small (h.held t (Has Exclusive) (grind (arith, own))) in added 12 _ is (omega arith) (to_upgradable r s t admits.0 h tells there small b n)
     downgraded downgrade.UpgradableToShared b is own n = let g = upgradable_to_shared r s t admits.0 h tells there small b n in subtracted 4 _ is (omega arith) g
 
-    downgrades_code : (d : Downgrade) (to : RwLockAt) → AtFits (purpose.Downgrade d) to → s.doing t ≡ rwlock_doing (of (purpose.Downgrade d) to) → rwlock_act l a (of (purpose.Downgrade d) to) ≡ act.Word l f → Leads (rwlock_deeds a (of (purpose.Downgrade d) to) None (reply.Value v))
+    downgrades_code : (d : Downgrade) (to : RwLockAt) → AtFits (purpose.Downgrade d) to → s.role t ≡ rwlock_role (of (purpose.Downgrade d) to) → rwlock_act l a (of (purpose.Downgrade d) to) ≡ act.Word l f → Leads (rwlock_deeds a (of (purpose.Downgrade d) to) None (reply.Value v))
     downgrades_code d at.GiveWay fits is e n = let same : f ≡ give_op (purpose.Downgrade d) = cc in downgraded d (has_parked v) same is n
     downgrades_code d (at.Wake Main (waking.Clear any)) fits is e n = let same : f ≡ unparked Main = cc in clears_fit Main same n
     downgrades_code d (at.Wake Main to) fits is e n = absurd cc
@@ -299,7 +299,7 @@ module _ (r : Rules) (a : Admission) (s : Site) (t l : ℕ) (f : Op) (admits : A
       upgrade_sets : (expected : ℕ) (b : Bool) → has_aside expected ≡ b → (if b then act.Enter (One (2 * l + 1)) else act.Word l (op.Exchange expected (plus expected 2))) ≡ act.Word l f → (c : Bool) → (v == expected) ≡ c → Leads (if c then Mark Second ∷ [] else counted_deeds v)
       upgrade_sets expected b eb e c ec = sets_aside access.Exclusive how again expected b eb e c ec
 
-      pending_code : (to : RwLockAt) → AtPending to → s.doing t ≡ rwlock_doing (upgrade to) → rwlock_act l a (upgrade to) ≡ act.Word l f → Leads (rwlock_deeds a (upgrade to) None (reply.Value v))
+      pending_code : (to : RwLockAt) → AtPending to → s.role t ≡ rwlock_role (upgrade to) → rwlock_act l a (upgrade to) ≡ act.Word l f → Leads (rwlock_deeds a (upgrade to) None (reply.Value v))
       pending_code at.GiveWay fits is e n = let same : f ≡ op.Sub 12 = cc in let g = upgrades r s t admits.0 h tells there small (not (count_in v == 1)) n in subtracted 12 _ same (omega arith) g
       pending_code at.Look fits is e n = let same : f ≡ op.Load = cc in rw same (sym (upgrade_counts_same n))
       pending_code (at.Count expected) fits is e n = upgrade_sets expected (has_aside expected) refl e (v == expected) refl n
@@ -338,15 +338,15 @@ IsCoded r a s t f p =
     → apply f (code r s) ≡ code r (after_all r (rwlock_deeds a p None (reply.Value (code r s))) s t)
 
 pub rwlock_steps_code : RwLockStepsCode
-rwlock_steps_code r a s t l p f at nowhere e there small few limit = by_purpose p.purpose p.retries p.at at.place at.doing e (rwlock_steps_follow r a s t l p f at nowhere e).needed
+rwlock_steps_code r a s t l p f at nowhere e there small few limit = by_purpose p.purpose p.retries p.at at.place at.role e (rwlock_steps_follow r a s t l p f at nowhere e).needed
   where
-    by_patience : (how : Patience) (again : Bool) (to : RwLockAt) → AtUpgrade how to → s.doing t ≡ rwlock_doing (record { purpose = purpose.Upgrade how; retries = again; at = to })
+    by_patience : (how : Patience) (again : Bool) (to : RwLockAt) → AtUpgrade how to → s.role t ≡ rwlock_role (record { purpose = purpose.Upgrade how; retries = again; at = to })
         → rwlock_act l a (record { purpose = purpose.Upgrade how; retries = again; at = to }) ≡ act.Word l f → IsCoded r a s t f (record { purpose = purpose.Upgrade how; retries = again; at = to })
     by_patience Try again to fits is g n = try_code r a s t l f at.admits at.site there small few limit again Try to fits g n
     by_patience Patient again to fits is g n = pending_code r a s t l f at.admits at.site there small few limit again Patient to fits is g n
     by_patience Timed again to fits is g n = pending_code r a s t l f at.admits at.site there small few limit again Timed to fits is g n
 
-    by_purpose : (q : RwLockPurpose) (again : Bool) (to : RwLockAt) → AtFits q to → s.doing t ≡ rwlock_doing (record { purpose = q; retries = again; at = to })
+    by_purpose : (q : RwLockPurpose) (again : Bool) (to : RwLockAt) → AtFits q to → s.role t ≡ rwlock_role (record { purpose = q; retries = again; at = to })
         → rwlock_act l a (record { purpose = q; retries = again; at = to }) ≡ act.Word l f → IsCoded r a s t f (record { purpose = q; retries = again; at = to })
     by_purpose (purpose.Enter x how) again to fits is g n = enters_code r a s t l f at.admits at.site there small few limit x how again to fits is g n
     by_purpose (purpose.Release x) again to fits is g n = releases_code r a s t l f at.admits at.site there small few limit again x to fits g n

@@ -15,10 +15,10 @@ use Rattle.steps_base.specs.declared.acts.Act.TheVariants as act
 use Rattle.steps_base.specs.declared.acts.Next.{Next}
 use Rattle.steps_base.specs.declared.acts.Next.TheVariants as next
 use Rattle.steps_base.specs.declared.acts.Reply.TheVariants as reply
-use Rattle.steps_base.specs.Moves.{Move, StaysPut, GoesIn, Moves, Sleeps, IsHeld, Waits, AreOfWord, station_of, AreLeaving, takes_aside, inside_of, row_of}
+use Rattle.steps_base.specs.Moves.{Move, StaysPut, GoesIn, Moves, Sleeps, IsHeld, Waits, AreOfWord, location_of, AreLeaving, takes_aside, inside_of, row_of}
 use Rattle.steps_base.specs.Acts.{any_picked}
 use Rattle.steps_base.specs.Profiles.{hand, in_hand}
-use Rattle.steps_base.specs.Stations.{Station, station_by, nowhere}
+use Rattle.steps_base.specs.Locations.{Location, location_by, nowhere}
 use Rattle.spec_locks.specs.Sites.{Pends, Case, End, Mark}
 use Rattle.spec_locks.specs.Locks.{Enter, Settle, Leave, Convert, Rollback}
 use Rattle.spec_locks.specs.Codes.{count_in, has_aside, has_parked}
@@ -47,13 +47,13 @@ module _ (l : ℕ) (a : Admission) where
   abbrev MovesAt : RwLockPlace → Type 0
   MovesAt p = Moves l a.recursive (rwlock_move a p) (rwlock_hears a p) (rwlock_act l a p)
 
-  abbrev station_next : Next RwLockPlace → Station
-  station_next n = station_by (row_of (next_row a n))
+  abbrev location_next : Next RwLockPlace → Location
+  location_next n = location_by (row_of (next_row a n))
 
   -- ---------------------------------------------------------------- the word
 
   -- it rests, wherever it goes
-  looks_rest : (p : RwLockPlace) (seen : ℕ) (d : Decision) → station_next (looked_by p seen d) ≡ nowhere
+  looks_rest : (p : RwLockPlace) (seen : ℕ) (d : Decision) → location_next (looked_by p seen d) ≡ nowhere
   looks_rest p seen (decisions.Refuse answer) = refl
   looks_rest p seen decisions.Take = refl
   looks_rest p seen decisions.Mark = refl
@@ -65,7 +65,7 @@ module _ (l : ℕ) (a : Admission) where
   looks_deeds decisions.Mark = tt
   looks_deeds decisions.Park = tt
 
-  missed_rest : (q : RwLockPurpose) (again : Bool) (how : Patience) → station_next (missed (of q again at.First) how) ≡ nowhere
+  missed_rest : (q : RwLockPurpose) (again : Bool) (how : Patience) → location_next (missed (of q again at.First) how) ≡ nowhere
   missed_rest q again Try = refl
   missed_rest q again Patient = refl
   missed_rest q again Timed = refl
@@ -86,7 +86,7 @@ module _ (l : ℕ) (a : Admission) where
   came_word (purpose.Downgrade d) now = enters_word (from_of d)
   came_word (purpose.Upgrade how) now = tt
 
-  came_rest : (q : RwLockPurpose) (again : Bool) (to : RwLockAt) → station_next (came_in (of q again to)) ≡ nowhere
+  came_rest : (q : RwLockPurpose) (again : Bool) (to : RwLockAt) → location_next (came_in (of q again to)) ≡ nowhere
   came_rest (purpose.Enter access.Shared how) again to = refl
   came_rest (purpose.Enter access.Upgradable how) again to = refl
   came_rest (purpose.Enter access.Exclusive how) again to = refl
@@ -104,15 +104,15 @@ module _ (l : ℕ) (a : Admission) where
   exchanged_word q (decisions.Refuse answer) now true = looks_deeds now
   exchanged_word q (decisions.Refuse answer) now false = looks_deeds now
 
-  exchanged_rest : (q : RwLockPurpose) (again : Bool) (was seen : ℕ) (d : Decision) → station_next (exchanged_next a (of q again (at.Decide was)) was seen d) ≡ nowhere
+  exchanged_rest : (q : RwLockPurpose) (again : Bool) (was seen : ℕ) (d : Decision) → location_next (exchanged_next a (of q again (at.Decide was)) was seen d) ≡ nowhere
   exchanged_rest q again was seen decisions.Take = either (seen == was)
     where
-      either : (b : Bool) → station_next (if b then came_in (of q again (at.Decide was)) else looked a (of q again (at.Decide was)) seen) ≡ nowhere
+      either : (b : Bool) → location_next (if b then came_in (of q again (at.Decide was)) else looked a (of q again (at.Decide was)) seen) ≡ nowhere
       either true = came_rest q again (at.Decide was)
       either false = looks_rest (of q again (at.Decide was)) seen (decided a (of q again (at.Decide was)) seen)
   exchanged_rest q again was seen decisions.Mark = either (seen == was)
     where
-      either : (b : Bool) → station_next (if b then stays (of q again (at.Decide was)) (at.Decide (plus was 1)) else looked a (of q again (at.Decide was)) seen) ≡ nowhere
+      either : (b : Bool) → location_next (if b then stays (of q again (at.Decide was)) (at.Decide (plus was 1)) else looked a (of q again (at.Decide was)) seen) ≡ nowhere
       either true = refl
       either false = looks_rest (of q again (at.Decide was)) seen (decided a (of q again (at.Decide was)) seen)
   exchanged_rest q again was seen decisions.Park = looks_rest (of q again (at.Decide was)) seen (decided a (of q again (at.Decide was)) seen)
@@ -122,7 +122,7 @@ module _ (l : ℕ) (a : Admission) where
   settles_word true = tt
   settles_word false = tt
 
-  settles_rest : (p : RwLockPlace) (seen : ℕ) (b : Bool) (ans : Answer) → station_next (if b then next.End ans else stays p (at.Count seen)) ≡ nowhere
+  settles_rest : (p : RwLockPlace) (seen : ℕ) (b : Bool) (ans : Answer) → location_next (if b then next.End ans else stays p (at.Count seen)) ≡ nowhere
   settles_rest p seen true ans = refl
   settles_rest p seen false ans = refl
 
@@ -130,11 +130,11 @@ module _ (l : ℕ) (a : Admission) where
   counts_word true c = tt
   counts_word false c = settles_word c
 
-  counts_rest : (p : RwLockPlace) (seen : ℕ) (b c : Bool) (ans : Answer) → station_next (if b then stays p at.Marked else if c then next.End ans else stays p (at.Count seen)) ≡ nowhere
+  counts_rest : (p : RwLockPlace) (seen : ℕ) (b c : Bool) (ans : Answer) → location_next (if b then stays p at.Marked else if c then next.End ans else stays p (at.Count seen)) ≡ nowhere
   counts_rest p seen true c ans = refl
   counts_rest p seen false c ans = settles_rest p seen c ans
 
-  wakes_rest : (p : RwLockPlace) (m : Line) (b : Bool) (ans : Answer) → station_next (if b then stays p (wakes m) else next.End ans) ≡ nowhere
+  wakes_rest : (p : RwLockPlace) (m : Line) (b : Bool) (ans : Answer) → location_next (if b then stays p (wakes m) else next.End ans) ≡ nowhere
   wakes_rest p m true ans = refl
   wakes_rest p m false ans = refl
 
@@ -156,18 +156,18 @@ module _ (l : ℕ) (a : Admission) where
   gives_word (purpose.Downgrade d) seen = lowers_word (wanted (from_of d)) (wanted (to_of d)) (has_parked seen)
   gives_word (purpose.Upgrade how) seen = lowers_word Upgradable Exclusive (not (count_in seen == 1))
 
-  released_rest : (p : RwLockPlace) (seen : ℕ) (x : Access) → station_next (released p seen x) ≡ nowhere
+  released_rest : (p : RwLockPlace) (seen : ℕ) (x : Access) → location_next (released p seen x) ≡ nowhere
   released_rest p seen access.Shared = wakes_rest p Second (has_aside seen && (count_in seen == 1)) Ok
   released_rest p seen access.Upgradable = wakes_rest p Main (has_parked seen) Ok
   released_rest p seen access.Exclusive = wakes_rest p Main (has_parked seen) Ok
 
-  gave_rest : (p : RwLockPlace) (seen : ℕ) (q : RwLockPurpose) → station_next (gave_way_by p seen q) ≡ nowhere
+  gave_rest : (p : RwLockPlace) (seen : ℕ) (q : RwLockPurpose) → location_next (gave_way_by p seen q) ≡ nowhere
   gave_rest p seen (purpose.Enter x how) = released_rest p seen x
   gave_rest p seen (purpose.Release x) = released_rest p seen x
   gave_rest p seen (purpose.Downgrade d) = wakes_rest p Main (has_parked seen) Ok
   gave_rest p seen (purpose.Upgrade how) = either (count_in seen == 1)
     where
-      either : (b : Bool) → station_next (if b then next.End (entered how) else goes p at.Look false) ≡ nowhere
+      either : (b : Bool) → location_next (if b then next.End (entered how) else goes p at.Look false) ≡ nowhere
       either true = refl
       either false = refl
 
@@ -204,7 +204,7 @@ module _ (l : ℕ) (a : Admission) where
     leaves_home None = tt
     leaves_home (Some x) = tt
 
-    took_main : (any none_left : Bool) → station_by (rwlock_profile a (of q again (at.Wake Main (took Main any none_left)))) ≡ record (inside_of Main) { carries = in_hand any false }
+    took_main : (any none_left : Bool) → location_by (rwlock_profile a (of q again (at.Wake Main (took Main any none_left)))) ≡ record (inside_of Main) { carries = in_hand any false }
     took_main any true = refl
     took_main any false = refl
 
@@ -255,7 +255,7 @@ module _ (l : ℕ) (a : Admission) where
       abbrev want : Want
       want = wanted (access_of q)
 
-      abbrev waiting : Station → Line → Option Want → Station
+      abbrev waiting : Location → Line → Option Want → Location
       waiting x m y = record x { stands = Some m; waits = y }
 
       parks_move : (to : ParkAt) → MovesAt (of q again (at.Park to))
@@ -314,7 +314,7 @@ module _ (l : ℕ) (a : Admission) where
         },
       )
         where
-          left : (b : Bool) → station_by (rwlock_profile a (of q again (at.Park (if b then parking.Clear else parking.GiveUp)))) ≡ inside_of Main
+          left : (b : Bool) → location_by (rwlock_profile a (of q again (at.Park (if b then parking.Clear else parking.GiveUp)))) ≡ inside_of Main
           left true = refl
           left false = refl
       parks_move parking.Clear = (refl, record { out = refl; free = refl; deeds = λ seen. tt; goes = λ seen. refl })
@@ -413,7 +413,7 @@ module _ (l : ℕ) (a : Admission) where
       word true = tt
       word false = missed_word (patience_of q)
 
-      rest : (b : Bool) → station_next (if b then next.End (entered (patience_of q)) else missed (of q again at.First) (patience_of q)) ≡ nowhere
+      rest : (b : Bool) → location_next (if b then next.End (entered (patience_of q)) else missed (of q again at.First) (patience_of q)) ≡ nowhere
       rest true = refl
       rest false = missed_rest q again (patience_of q)
 
@@ -459,22 +459,22 @@ module _ (a : Admission) where
   abbrev move : RwLockPurpose → Bool → RwLockAt → Move
   move q again to = rwlock_move a (place q again to)
 
-  -- who stands in a line
+  -- a thread that stands in a line
   abbrev StandsWell : RwLockPurpose → Bool → RwLockAt → Type 0
   StandsWell q again to =
-      (m : Line) → (rwlock_profile a (place q again to)).stands ≡ Some m → ((station_of (move q again to)).inside ≡ Some m) ⊎ Sleeps (move q again to) m
+      (m : Line) → (rwlock_profile a (place q again to)).stands ≡ Some m → ((location_of (move q again to)).inside ≡ Some m) ⊎ Sleeps (move q again to) m
 
   abbrev AsideWell : RwLockPurpose → Bool → RwLockAt → Type 0
   AsideWell q again to =
       (rwlock_profile a (place q again to)).stands ≡ Some Second
-      → ((rwlock_profile a (place q again to)).wants ≡ Some Exclusive) × ((b : Bool) × ((rwlock_profile a (place q again to)).doing.claims ≡ Some (Pends b)))
+      → ((rwlock_profile a (place q again to)).wants ≡ Some Exclusive) × ((b : Bool) × ((rwlock_profile a (place q again to)).role.claims ≡ Some (Pends b)))
 
   abbrev HeldWell : RwLockPurpose → Bool → RwLockAt → Type 0
   HeldWell q again to =
       (u : ℕ) (handed : Bool) → (rwlock_profile a (place q again to)).hand ≡ hand u handed → (handed ≡ false) × IsHeld (move q again to) u
 
   module _ (q : RwLockPurpose) (again : Bool) (waits : wants_for q ≡ Some (wanted (access_of q))) where
-    abbrev asleep_in : Line → Option Want → Station
+    abbrev asleep_in : Line → Option Want → Location
     asleep_in m y = record nowhere { stands = Some m; waits = y }
 
     parks_stand : (to : ParkAt) → StandsWell q again (at.Park to)
@@ -485,7 +485,7 @@ module _ (a : Admission) where
       was = ap (asleep_in Main) waits;
       taken = λ u. refl;
       wants = λ u. waits;
-      doing = λ u. refl;
+      role = λ u. refl;
     })
     parks_stand (parking.Leave true) Second e = absurd cc
     parks_stand parking.Remove Second e = absurd cc
@@ -501,7 +501,7 @@ module _ (a : Admission) where
       was = ap (asleep_in Second) waits;
       taken = λ u. refl;
       wants = λ u. waits;
-      doing = λ u. refl;
+      role = λ u. refl;
     })
     asides_stand (parking.Leave true) Main e = absurd cc
     asides_stand parking.Remove Main e = absurd cc
@@ -520,12 +520,12 @@ module _ (a : Admission) where
         wants = waits;
         was = ap (λ v. record nowhere { hand = hand v false }) same.1;
         woken = refl;
-        doing = refl;
+        role = refl;
       },
     )
     asides_held to u handed e = absurd cc
 
-    -- who waits in the main line has nothing yet
+    -- a thread that waits in the main line has nothing yet
     parks_held : claimed q ≡ None → (to : ParkAt) → HeldWell q again (at.Park to)
     parks_held none (parking.Taken by) u handed e = let same = held_by u by handed e in (
       same.0,
@@ -534,12 +534,12 @@ module _ (a : Admission) where
         wants = waits;
         was = ap (λ v. record nowhere { hand = hand v false }) same.1;
         woken = refl;
-        doing = ap (at_rest (Some (wanted (access_of q)))) none;
+        role = ap (at_rest (Some (wanted (access_of q)))) none;
       },
     )
     parks_held none to u handed e = absurd cc
 
-    -- who waits in the main line isn't aside
+    -- a thread that waits in the main line isn't aside
     parks_aside : (to : ParkAt) → AsideWell q again (at.Park to)
     parks_aside (parking.Leave true) e = absurd cc
     parks_aside (parking.Leave false) e = absurd cc
@@ -585,7 +585,7 @@ module _ (a : Admission) where
   waits_all (purpose.Downgrade d) again (at.Aside to) fits = absurd fits
   waits_all q again to fits = record { aside = λ e. absurd cc; stands = λ m e. absurd cc; held = λ u handed e. absurd cc }
 
-  -- whose time is up goes into the section of its line
+  -- a thread whose time is up goes into the section of its line
   parks_late : (q : RwLockPurpose) (again : Bool) (how : Patience) (to : ParkAt) (m : Line) → late_line_at how (at.Park to) ≡ Some m → GoesIn (move q again (at.Park to)) (rwlock_hears a (place q again (at.Park to))) m reply.Late
   parks_late q again Timed parking.Asleep Main e = record { out = refl; free = refl; deeds = refl; goes = refl; may = λ r s t free. free }
   parks_late q again Timed parking.Asleep Second e = absurd cc

@@ -38,7 +38,7 @@ use Rattle.steps_rwlock.specs.declared.enter.Decision.TheVariants as decisions
 use Rattle.steps_rwlock.specs.declared.park.ParkAt.TheVariants as parking
 use Rattle.steps_rwlock.specs.declared.release.WakeAt.TheVariants as waking
 use Rattle.steps_rwlock.specs.RwLockSteps.{wanted, from_of, to_of, decision, decided_act, rwlock_act, enters_by, came_change, change, owners_by, shares_by, plus}
-use Rattle.steps_rwlock.specs.RwLockDeeds.{Admits, AtTry, AtPending, AtUpgrade, rwlock_doing, missed_deeds, looked_deeds, enters_deeds, exchanged_deeds, does_and_wakes, sees_waiter, rwlock_deeds, after_all, AtFits, IsAt, RwLockOwnersFollow}
+use Rattle.steps_rwlock.specs.RwLockDeeds.{Admits, AtTry, AtPending, AtUpgrade, rwlock_role, missed_deeds, looked_deeds, enters_deeds, exchanged_deeds, does_and_wakes, sees_waiter, rwlock_deeds, after_all, AtFits, IsAt, RwLockOwnersFollow}
 
 -- the lock behind what an operation does to its owners
 abbrev lock_after : Change → ℕ → LockState → LockState
@@ -174,7 +174,7 @@ module _ (r : Rules) (a : Admission) (s : Site) (t l : ℕ) (f : Op) (h : IsSite
       abbrev Owned : RwLockPlace → Type 0
       Owned p = behind (rwlock_deeds a p None (reply.Value v)) ≡ lock_after (change a p v) t s.lock
 
-      enters_owners : (x : Access) (how : Patience) (to : RwLockAt) → AtFits (purpose.Enter x how) to → s.doing t ≡ rwlock_doing (of (purpose.Enter x how) to) → rwlock_act l a (of (purpose.Enter x how) to) ≡ act.Word l f → Owned (of (purpose.Enter x how) to)
+      enters_owners : (x : Access) (how : Patience) (to : RwLockAt) → AtFits (purpose.Enter x how) to → s.role t ≡ rwlock_role (of (purpose.Enter x how) to) → rwlock_act l a (of (purpose.Enter x how) to) ≡ act.Word l f → Owned (of (purpose.Enter x how) to)
       enters_owners x how at.First fits is e = first how (v == 0)
       enters_owners x how at.Load fits is e = looks_same (decision a (wanted x) how v)
       enters_owners x how (at.Decide expected) fits is e = exchanged x how (decision a (wanted x) how expected) (decision a (wanted x) how v) (v == expected)
@@ -201,7 +201,7 @@ module _ (r : Rules) (a : Admission) (s : Site) (t l : ℕ) (f : Op) (h : IsSite
       downgrades_owners d (at.Wake Main to) fits e = absurd cc
       downgrades_owners d to fits e = absurd fits
 
-      pending_owners : (how : Patience) (to : RwLockAt) → AtPending to → s.doing t ≡ rwlock_doing (of (purpose.Upgrade how) to) → rwlock_act l a (of (purpose.Upgrade how) to) ≡ act.Word l f → Owned (of (purpose.Upgrade how) to)
+      pending_owners : (how : Patience) (to : RwLockAt) → AtPending to → s.role t ≡ rwlock_role (of (purpose.Upgrade how) to) → rwlock_act l a (of (purpose.Upgrade how) to) ≡ act.Word l f → Owned (of (purpose.Upgrade how) to)
       pending_owners how at.GiveWay fits is e = upgraded (not (count_in v == 1)) (count_in v == 1) (alone (h.held t (Has Upgradable) (grind (arith, is))) (count_in v == 1) refl)
       pending_owners how at.Look fits is e = settled (count_in v == 0)
       pending_owners how (at.Count expected) fits is e = counts (v == expected) (count_in v == 0)
@@ -223,7 +223,7 @@ module _ (r : Rules) (a : Admission) (s : Site) (t l : ℕ) (f : Op) (h : IsSite
       takes_up how expected true one e false ec own = looks_up (count_in v == 1)
       takes_up how expected false one e c ec own = absurd cc
 
-      try_owners : (to : RwLockAt) → AtTry to → s.doing t ≡ rwlock_doing (of (purpose.Upgrade Try) to) → rwlock_act l a (of (purpose.Upgrade Try) to) ≡ act.Word l f → Owned (of (purpose.Upgrade Try) to)
+      try_owners : (to : RwLockAt) → AtTry to → s.role t ≡ rwlock_role (of (purpose.Upgrade Try) to) → rwlock_act l a (of (purpose.Upgrade Try) to) ≡ act.Word l f → Owned (of (purpose.Upgrade Try) to)
       try_owners at.Load fits is e = looks_up (count_in v == 1)
       try_owners (at.Decide expected) fits is e = takes_up Try expected (count_in expected == 1) refl e (v == expected) refl (h.held t (Has Upgradable) (grind (arith, is)))
       try_owners to fits is e = absurd fits
@@ -234,15 +234,15 @@ IsOwned r a s t p =
 
 -- each step on the word changes the lock as its deeds say
 owned_all : (r : Rules) (a : Admission) (s : Site) (t l : ℕ) (p : RwLockPlace) (f : Op) → IsAt r a s t p → rwlock_act l a p ≡ act.Word l f → IsOwned r a s t p
-owned_all r a s t l p f at e = by_purpose p.purpose p.retries p.at at.place at.doing e
+owned_all r a s t l p f at e = by_purpose p.purpose p.retries p.at at.place at.role e
   where
-    by_patience : (how : Patience) (again : Bool) (to : RwLockAt) → AtUpgrade how to → s.doing t ≡ rwlock_doing (record { purpose = purpose.Upgrade how; retries = again; at = to })
+    by_patience : (how : Patience) (again : Bool) (to : RwLockAt) → AtUpgrade how to → s.role t ≡ rwlock_role (record { purpose = purpose.Upgrade how; retries = again; at = to })
         → rwlock_act l a (record { purpose = purpose.Upgrade how; retries = again; at = to }) ≡ act.Word l f → IsOwned r a s t (record { purpose = purpose.Upgrade how; retries = again; at = to })
     by_patience Try again to fits is g = try_owners r a s t l f at.site at.admits again to fits is g
     by_patience Patient again to fits is g = pending_owners r a s t l f at.site at.admits again Patient to fits is g
     by_patience Timed again to fits is g = pending_owners r a s t l f at.site at.admits again Timed to fits is g
 
-    by_purpose : (q : RwLockPurpose) (again : Bool) (to : RwLockAt) → AtFits q to → s.doing t ≡ rwlock_doing (record { purpose = q; retries = again; at = to })
+    by_purpose : (q : RwLockPurpose) (again : Bool) (to : RwLockAt) → AtFits q to → s.role t ≡ rwlock_role (record { purpose = q; retries = again; at = to })
         → rwlock_act l a (record { purpose = q; retries = again; at = to }) ≡ act.Word l f → IsOwned r a s t (record { purpose = q; retries = again; at = to })
     by_purpose (purpose.Enter x how) again to fits is g = enters_owners r a s t l f at.site at.admits again x how to fits is g
     by_purpose (purpose.Release x) again to fits is g = releases_owners r a s t l f at.site at.admits again x to fits g

@@ -31,7 +31,7 @@ use Rattle.steps_rwlock.specs.declared.park.ParkAt.TheVariants as parking
 use Rattle.steps_rwlock.specs.declared.release.WakeAt.{WakeAt}
 use Rattle.steps_rwlock.specs.declared.release.WakeAt.TheVariants as waking
 use Rattle.steps_rwlock.specs.RwLockSteps.{wanted, access_of, patience_of, is_counted, waits, decision_blocked, decision, decided_for, plus, stays, goes, missed, entered, looked_by, looked, came_in, exchanged_next, counted, wakes, parks_at, released, gave_way_by, park_next, wake_next, rwlock_next}
-use Rattle.steps_rwlock.specs.RwLockDeeds.{Admits, AtFits, AtUpgrade, IsAt, IsFreshTry, rwlock_doing}
+use Rattle.steps_rwlock.specs.RwLockDeeds.{Admits, AtFits, AtUpgrade, IsAt, IsFreshTry, rwlock_role}
 use Rattle.spec_locks.specs.Locks.{Rules}
 use Rattle.spec_locks.specs.Sites.{Site, IsSite}
 use Rattle.steps_rwlock.specs.RwLockCalls.{MayWait, HasDeadline, ParksBy, StandsAt, UpgradesAt, IsNoRefusal, IsDecided, MayStand, MayBeTold, MayStandNext, RwLockCallsStand}
@@ -112,7 +112,7 @@ aside_set word few unset = (grind (arith, nat_tests), let more : plus word 2 ≡
 
 -- ---------------------------------------------------------------- patience
 
--- whoever may wait may have been woken
+-- each thread that may wait may have been woken
 fresh_waits : (how : Patience) → MayWait how → (again : Bool) → IsFreshTry how again
 fresh_waits Patient w again = tt
 fresh_waits Timed w again = tt
@@ -323,5 +323,5 @@ place_fits (purpose.Downgrade d) again to fits = fits
 place_fits (purpose.Upgrade how) again to fits = upgrade_fits how again to fits
 
 -- so it is there, by what the lock is and what the thread does
-pub is_at : (r : Rules) (a : Admission) (s : Site) (t : ℕ) (p : RwLockPlace) → Admits r a → IsSite r s → s.doing t ≡ rwlock_doing p → MayStand a p → t < length s.lock.shared → IsAt r a s t p
-is_at r a s t p admits site doing stands there = record { there = there; admits = admits; site = site; doing = doing; fresh = stands.fresh; place = place_fits p.purpose p.retries p.at stands.place }
+pub is_at : (r : Rules) (a : Admission) (s : Site) (t : ℕ) (p : RwLockPlace) → Admits r a → IsSite r s → s.role t ≡ rwlock_role p → MayStand a p → t < length s.lock.shared → IsAt r a s t p
+is_at r a s t p admits site role stands there = record { there = there; admits = admits; site = site; role = role; fresh = stands.fresh; place = place_fits p.purpose p.retries p.at stands.place }

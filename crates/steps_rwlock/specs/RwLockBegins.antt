@@ -14,7 +14,7 @@ use Rattle.steps_rwlock.specs.declared.places.RwLockAt.TheVariants as at
 use Rattle.steps_rwlock.specs.declared.purposes.RwLockPurpose.{RwLockPurpose}
 use Rattle.steps_rwlock.specs.declared.purposes.RwLockPurpose.TheVariants as purpose
 
--- what is chosen for a lock of a kind; one that isn't a reader-writer lock admits no reader
+-- the settings of a lock of a kind; one that isn't a reader-writer lock admits no reader
 abbrev pub admission_of : Kind → Admission
 admission_of kind.Mutex = record { recursive = false; limit = 0 }
 admission_of kind.Fair = record { recursive = false; limit = 0 }

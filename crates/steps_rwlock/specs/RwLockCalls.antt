@@ -43,7 +43,7 @@ abbrev pub HasDeadline : Patience → Type 0
 HasDeadline Timed = Unit {0}
 HasDeadline how = ⊥
 
--- who leaves a line because its time is up has a deadline
+-- a thread that leaves a line because its time is up has a deadline
 abbrev pub ParksBy : Patience → ParkAt → Type 0
 ParksBy how parking.Remove = HasDeadline how
 ParksBy how parking.Clear = HasDeadline how
@@ -104,7 +104,7 @@ StandsAt (purpose.Release x) again to = ReleasesAt x to
 StandsAt (purpose.Downgrade d) again to = DowngradesAt to
 StandsAt (purpose.Upgrade how) again to = UpgradesAt how again to
 
--- what it decides by the value that it saw is not to refuse: then its call has ended
+-- its decision by the value that it saw is not to refuse: then its call has ended
 abbrev pub IsNoRefusal : Decision → Type 0
 IsNoRefusal (decisions.Refuse answer) = ⊥
 IsNoRefusal decision = Unit {0}
@@ -175,7 +175,7 @@ RwLockSectionsTell =
     → IsCalling r a s t p → MayHear r a s t p p.at whom told → IsNotLate told
     → CallFollowsBy r a s t l p whom told
 
--- what befalls a thread asleep makes of its call
+-- the call of a thread asleep, after what befalls it
 abbrev pub CallBecomes : Admission → ℕ → RwLockPlace → Reply → (CallState → CallState) → Type 0
 CallBecomes a l p told becomes =
     (p2 : RwLockPlace) (rights : ℕ → Rights) → rwlock_next a p told ≡ next.At p2

@@ -34,33 +34,33 @@ use Rattle.steps_base.specs.declared.owners.Owners.{Owners}
 use Rattle.steps_base.specs.Owners.{lock_seen, shares_then}
 use Rattle.steps_base.specs.Moves.{IsFree, StandsAlone, MayTake}
 use Rattle.spec_locks.specs.Locks.{Rules, Taken, Enter, Pend, Settle, Leave, Convert, Park, Aside, TakeAside, TakePicked, Late, Rollback, is_recursive, keeps_more, standing}
-use Rattle.spec_locks.specs.Sites.{Claim, Has, Pends, Doing, idle, is_main, Site, IsSite, has_readers, Deed, End, In, Out, Mark, Clear, FindNobody, Case}
+use Rattle.spec_locks.specs.Sites.{Claim, Has, Pends, Role, idle, is_main, Site, IsSite, has_readers, Deed, End, In, Out, Mark, Clear, FindNobody, Case}
 pub use Rattle.spec_locks.specs.Deeds.{after_all, AllNeeded}
 use Rattle.spec_locks.specs.Codes.{code, HasLimit, count_in, has_aside, has_parked}
 
 -- ---------------------------------------------------------------- what a thread does, by its place
 
-abbrev pub at_rest : Option Want → Option Claim → Doing
+abbrev pub at_rest : Option Want → Option Claim → Role
 at_rest again claims = record idle { retries = again; claims = claims }
 
-abbrev pub within : Line → Option Want → Option Claim → Doing
+abbrev pub within : Line → Option Want → Option Claim → Role
 within m again claims = record idle { inside = Some m; retries = again; claims = claims }
 
 -- it has seen the queue empty
-abbrev pub finding : Line → Option Claim → Doing
+abbrev pub finding : Line → Option Claim → Role
 finding m claims = record idle { inside = Some m; empty = Some m; claims = claims }
 
-abbrev pub parking_doing : Line → Option Want → Option Claim → ParkAt → Doing
-parking_doing m again claims parking.Check = within m again claims
-parking_doing m again claims (parking.Leave false) = within m again claims
-parking_doing m again claims (parking.Leave true) = within m None claims
-parking_doing m again claims parking.Asleep = at_rest None claims
-parking_doing m again claims (parking.Taken by) = at_rest None claims
-parking_doing m again claims parking.Remove = within m None claims
-parking_doing m again claims parking.Clear = finding m claims
-parking_doing m again claims parking.GiveUp = within m None claims
+abbrev pub parking_role : Line → Option Want → Option Claim → ParkAt → Role
+parking_role m again claims parking.Check = within m again claims
+parking_role m again claims (parking.Leave false) = within m again claims
+parking_role m again claims (parking.Leave true) = within m None claims
+parking_role m again claims parking.Asleep = at_rest None claims
+parking_role m again claims (parking.Taken by) = at_rest None claims
+parking_role m again claims parking.Remove = within m None claims
+parking_role m again claims parking.Clear = finding m claims
+parking_role m again claims parking.GiveUp = within m None claims
 
--- what a thread keeps while it wakes others
+-- the right that a thread keeps while it wakes others
 abbrev pub kept_claim : Option Want → Option Claim
 kept_claim None = None
 kept_claim (Some x) = Some (Has x)
@@ -75,11 +75,11 @@ MayKeep start = ⊥
 abbrev pub covers_line : Option Want → Line → Bool
 covers_line start m = is_main m && not (keeps_more start)
 
-abbrev pub waking_doing : Option Want → Line → WakeAt → Doing
-waking_doing start m waking.Enter = record idle { wakes = Some m; claims = kept_claim start }
-waking_doing start m waking.Take =
+abbrev pub waking_role : Option Want → Line → WakeAt → Role
+waking_role start m waking.Enter = record idle { wakes = Some m; claims = kept_claim start }
+waking_role start m waking.Take =
     record idle { inside = Some m; wakes = Some m; claims = kept_claim start }
-waking_doing start m (waking.Clear any) =
+waking_role start m (waking.Clear any) =
     record idle {
       inside = Some m;
       carries = true;
@@ -87,7 +87,7 @@ waking_doing start m (waking.Clear any) =
       empty = Some m;
       claims = kept_claim start;
     }
-waking_doing start m (waking.Leave any) =
+waking_role start m (waking.Leave any) =
     record idle {
       inside = Some m;
       carries = true;
@@ -107,35 +107,35 @@ abbrev pub claimed : RwLockPurpose → Option Claim
 claimed (purpose.Upgrade how) = Some (Has Upgradable)
 claimed q = None
 
--- what a thread has that is about to give it up, or to turn it into another right
+-- the right of a thread that is about to give it up, or to turn it into another
 abbrev pub held_of : RwLockPurpose → Want
 held_of (purpose.Upgrade how) = Upgradable
 held_of q = wanted (access_of q)
 
-abbrev pub doing_at : Option Want → RwLockPurpose → RwLockAt → Doing
-doing_at again q at.First = at_rest again None
-doing_at again q at.Load = at_rest again (claimed q)
-doing_at again q (at.Decide seen) = at_rest again (claimed q)
-doing_at again q (at.Park to) = parking_doing Main again None to
-doing_at again q at.Look = at_rest again (pends q)
-doing_at again q (at.Count seen) = at_rest again (pends q)
-doing_at again q at.Marked = at_rest again (pends q)
-doing_at again q (at.Aside to) = parking_doing Second again (pends q) to
-doing_at again q at.RollBack = at_rest None (pends q)
-doing_at again q at.GiveWay = at_rest None (Some (Has (held_of q)))
-doing_at again q (at.Wake m to) = waking_doing (start_of q) m to
+abbrev pub role_at : Option Want → RwLockPurpose → RwLockAt → Role
+role_at again q at.First = at_rest again None
+role_at again q at.Load = at_rest again (claimed q)
+role_at again q (at.Decide seen) = at_rest again (claimed q)
+role_at again q (at.Park to) = parking_role Main again None to
+role_at again q at.Look = at_rest again (pends q)
+role_at again q (at.Count seen) = at_rest again (pends q)
+role_at again q at.Marked = at_rest again (pends q)
+role_at again q (at.Aside to) = parking_role Second again (pends q) to
+role_at again q at.RollBack = at_rest None (pends q)
+role_at again q at.GiveWay = at_rest None (Some (Has (held_of q)))
+role_at again q (at.Wake m to) = waking_role (start_of q) m to
 
--- what it wants again since it was woken
+-- its want again since it was woken
 abbrev pub again_of : RwLockPlace → Option Want
 again_of p = if p.retries then Some (want_at p) else None
 
-abbrev pub rwlock_doing : RwLockPlace → Doing
-rwlock_doing p = doing_at (again_of p) p.purpose p.at
+abbrev pub rwlock_role : RwLockPlace → Role
+rwlock_role p = role_at (again_of p) p.purpose p.at
 
--- behind a step, at its next place or in no call
-abbrev pub doing_next : Next RwLockPlace → Doing
-doing_next (next.At p) = rwlock_doing p
-doing_next (next.End answer) = idle
+-- the state after a step, at its next place or in no call
+abbrev pub role_next : Next RwLockPlace → Role
+role_next (next.At p) = rwlock_role p
+role_next (next.End answer) = idle
 
 -- ---------------------------------------------------------------- the deeds of each step
 
@@ -156,7 +156,7 @@ abbrev pub came_in_deeds : RwLockPurpose → List Deed
 came_in_deeds (purpose.Upgrade how) = Case (Convert Upgradable Exclusive) ∷ End ∷ []
 came_in_deeds q = enters_deeds (wanted (access_of q))
 
--- behind its exchange, by whether it succeeded
+-- the state after its exchange, by whether it succeeded
 abbrev pub exchanged_deeds : RwLockPurpose → Decision → Bool → Decision → List Deed
 exchanged_deeds q decisions.Take true now = came_in_deeds q
 exchanged_deeds q decisions.Mark true now = Mark Main ∷ []
@@ -196,13 +196,13 @@ park_deeds parks m parking.Clear (reply.Value seen) = Clear m ∷ []
 park_deeds parks m parking.GiveUp reply.Done = Out ∷ []
 park_deeds parks m to told = []
 
--- who is taken of the second queue, if anybody, is no part of a place: `whom`
+-- the waiter taken of the second queue, if any, is no part of a place: `whom`
 abbrev pub takes : Option Want → Line → Option ℕ → Deed
 takes start Main whom = Case (TakePicked start)
 takes start Second None = FindNobody Second
 takes start Second (Some u) = Case (TakeAside u)
 
--- who keeps a right of its own ends that as its call ends
+-- a thread that keeps a right of its own ends that as its call ends
 abbrev pub leaves_with : Option Want → List Deed
 leaves_with None = Out ∷ []
 leaves_with (Some x) = Out ∷ End ∷ []
@@ -287,20 +287,20 @@ AtFits (purpose.Upgrade how) to = AtUpgrade how to
 pub record IsAt (r : Rules) (a : Admission) (s : Site) (t : ℕ) (p : RwLockPlace) : Type 0 where
   pub admits : Admits r a
   pub site : IsSite r s
-  pub doing : s.doing t ≡ rwlock_doing p
+  pub role : s.role t ≡ rwlock_role p
   pub fresh : IsFreshTry (patience_at p) p.retries
   pub place : AtFits p.purpose p.at
   pub there : t < length s.lock.shared
 
 -- the deeds may be done, and the thread does then what this says
-pub record Follows (r : Rules) (s : Site) (t : ℕ) (ds : List Deed) (d : Doing) : Type 0 where
+pub record Follows (r : Rules) (s : Site) (t : ℕ) (ds : List Deed) (d : Role) : Type 0 where
   pub needed : AllNeeded r ds s t
-  pub doing : (after_all r ds s t).doing t ≡ d
+  pub role : (after_all r ds s t).role t ≡ d
 
 -- the deeds of a reply may be done, and the next place says what the thread does then
 abbrev pub FollowsBy : Rules → Admission → Site → ℕ → RwLockPlace → Option ℕ → Reply → Type 0
 FollowsBy r a s t p whom told =
-    Follows r s t (rwlock_deeds a p whom told) (doing_next (rwlock_next a p told))
+    Follows r s t (rwlock_deeds a p whom told) (role_next (rwlock_next a p told))
 
 -- each step on the word follows
 abbrev pub RwLockStepsFollow : Type 0
@@ -320,7 +320,7 @@ RwLockStepsCode =
 
 -- ---------------------------------------------------------------- steps in and out of sections
 
--- what a thread may be told on its way into a queue, and out of it
+-- the outcomes that a thread may be told on its way into a queue, and out of it
 abbrev pub MayHearParking : Rules → Site → ℕ → Line → Bool → ParkAt → Reply → Type 0
 MayHearParking r s t m finds parking.Check (reply.Parked b) = (b ≡ finds) × (standing t s.lock ≡ 0)
 MayHearParking r s t m finds (parking.Leave parked) reply.Done = s.lock.taken t ≡ None
@@ -339,7 +339,7 @@ MayHearWaking r s t start m waking.Take whom (reply.Picked n x none_left) =
 MayHearWaking r s t start m (waking.Leave any) whom reply.Done = s.lock.taken t ≡ None
 MayHearWaking r s t start m to whom told = ⊥
 
--- what a thread may be told of its steps in and out of sections, and as it is late
+-- the outcomes that a thread may be told of its steps in and out of sections, and as it is late
 abbrev pub MayHear : Rules → Admission → Site → ℕ → RwLockPlace → RwLockAt → Option ℕ → Reply
     → Type 0
 MayHear r a s t p (at.Decide seen) whom reply.Done =

@@ -2,7 +2,7 @@
 -- nothing done.
 use Rattle.std.specs.Prelude.{ℕ, false, Option, ◌≡◌}
 use Rattle.steps_base.specs.Profiles.{Profile}
-use Rattle.steps_base.specs.Stations.{station_by, nowhere}
+use Rattle.steps_base.specs.Locations.{location_by, nowhere}
 use Rattle.spec_locks.specs.Locks.{Rights}
 use Rattle.spec_locks.specs.Sites.{Claim, idle}
 use Rattle.spec_locks.specs.Purposes.{Blank}
@@ -15,8 +15,8 @@ use Rattle.steps_rwlock.specs.RwLockCalls.{MayStand}
 -- the row of a call that has done nothing yet
 pub record IsOpening (row : Profile) : Type 0 where
   pub claims : Option Claim
-  pub doing : row.doing ≡ record idle { claims = claims }
-  pub station : station_by row ≡ nowhere
+  pub role : row.role ≡ record idle { claims = claims }
+  pub location : location_by row ≡ nowhere
   pub late : row.late ≡ false
   pub gave_up : row.gave_up ≡ false
   pub failed : row.failed ≡ false

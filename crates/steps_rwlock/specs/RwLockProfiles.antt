@@ -19,7 +19,7 @@ use Rattle.steps_rwlock.specs.declared.park.ParkAt.TheVariants as parking
 use Rattle.steps_rwlock.specs.declared.release.WakeAt.{WakeAt}
 use Rattle.steps_rwlock.specs.declared.release.WakeAt.TheVariants as waking
 use Rattle.steps_rwlock.specs.RwLockSteps.{wanted, from_of, to_of, patience_of, decided}
-use Rattle.steps_rwlock.specs.RwLockDeeds.{rwlock_doing}
+use Rattle.steps_rwlock.specs.RwLockDeeds.{rwlock_role}
 use Rattle.steps_base.specs.Profiles.{Hand, Profile, hand, hand_owner, in_hand, in_line}
 use Rattle.spec_locks.specs.Codes.{has_aside}
 use Rattle.spec_locks.specs.Locks.{Rights, putting}
@@ -110,7 +110,7 @@ late_line_at how (at.Park to) = in_line (is_asleep to && is_timed how) Main
 late_line_at how (at.Aside to) = in_line (is_asleep to && is_timed how) Second
 late_line_at how to = None
 
--- who enters wakes others only where it has given up
+-- an entering thread wakes others only where it has given up
 abbrev pub enters_late : (ParkAt → Bool) → RwLockAt → Bool
 enters_late parked (at.Park to) = parked to
 enters_late parked (at.Aside to) = parked to
@@ -155,7 +155,7 @@ is_waking to = false
 abbrev pub without_pending : ℕ → (ℕ → Rights) → ℕ → Rights
 without_pending l rights = putting rights l (record (rights l) { pending = (rights l).pending - 1 })
 
--- what it owned of each lock as its call began, by what it owns now
+-- its ownership of each lock as its call began, by what it owns now
 abbrev pub before : RwLockPurpose → RwLockAt → ℕ → (ℕ → Rights) → ℕ → Rights
 before (purposes.Enter x how) to l rights =
     if is_pending to then without_pending l rights else rights
@@ -169,7 +169,7 @@ before (purposes.Upgrade how) to l rights =
 
 abbrev pub rwlock_profile : Admission → RwLockPlace → Profile
 rwlock_profile a p = record {
-  doing = rwlock_doing p;
+  role = rwlock_role p;
   stands = stands_at p.at;
   carries = carries_at p.at;
   hand = hand_at p.at;

@@ -55,7 +55,7 @@ use Rattle.steps_rwlock.specs.declared.places.TheConstants.{NOT_PARKED, NOT_WRIT
 
 -- ---------------------------------------------------------------- rights
 
--- what a right adds to the word
+-- a right adds this to the word
 abbrev pub token : Want → ℕ
 token want.TheVariants.Shared = 16
 token want.TheVariants.Upgradable = 20
@@ -80,13 +80,13 @@ patience_of (purpose.Enter x how) = how
 patience_of (purpose.Upgrade how) = how
 patience_of q = Patient
 
--- what a thread keeps while it wakes others
+-- the right that a thread keeps while it wakes others
 abbrev pub start_of : RwLockPurpose → Option Want
 start_of (purpose.Downgrade d) = Some (wanted (to_of d))
 start_of (purpose.Upgrade how) = Some want.TheVariants.Upgradable
 start_of q = None
 
--- behind a wake a release has done its part, and who entered or upgraded has given up
+-- after a wake a release has done its part, and a call that entered or upgraded has given up
 abbrev pub ends_with : RwLockPurpose → Answer
 ends_with (purpose.Enter x how) = answer.TheVariants.No
 ends_with (purpose.Upgrade how) = answer.TheVariants.No
@@ -119,7 +119,7 @@ abbrev pub decision_blocked : Patience → ℕ → Decision
 decision_blocked Try word = decisions.Refuse answer.TheVariants.No
 decision_blocked how word = waits (has_parked word)
 
--- who is blocked waits, who counts needs room, and whoever else comes takes what it wants
+-- a thread that is blocked waits, one that counts needs room, and any other takes what it wants
 abbrev pub decision : Admission → Want → Patience → ℕ → Decision
 decision a x how word =
     if is_blocked a.recursive x word then decision_blocked how word
@@ -200,12 +200,12 @@ park_act l a x m parking.Remove = act.TheVariants.Remove (key_of l m)
 park_act l a x m parking.Clear = act.TheVariants.Word l (unparked m)
 park_act l a x m parking.GiveUp = leaves l m
 
--- what a thread is told that comes to a place of a parking
+-- the outcome told to a thread that comes to a place of a parking
 abbrev pub IsTold : Outcome → ParkAt → Type 0
 IsTold told at = (l : ℕ) (a : Admission) (x : Want) (m : Line)
     → told ≡ outcome_of (park_act l a x m at)
 
--- whom a thread takes of a queue: those whom the lock lets in, or the writer aside
+-- the waiters that a thread takes of a queue: those that the lock lets in, or the writer aside
 abbrev pub whom : Admission → Option Want → Line → Whom
 whom a start Main = whom_taken.TheVariants.Picked start a.recursive
 whom a start Second = whom_taken.TheVariants.First
@@ -381,12 +381,12 @@ abbrev pub taken_change : RwLockPurpose → Change
 taken_change (purpose.Upgrade how) = changes.Upgrade true
 taken_change q = enters_by (access_of q)
 
--- behind an exchange that succeeded
+-- the state after an exchange that succeeded
 abbrev pub came_change : RwLockPurpose → Decision → Change
 came_change q decisions.Take = taken_change q
 came_change q decision = changes.Nothing
 
--- of a thread that gave way, and saw this
+-- the state of a thread that gave way, and saw this
 abbrev pub gives_change : RwLockPurpose → ℕ → Change
 gives_change (purpose.Enter x how) seen = changes.Leave x
 gives_change (purpose.Release x) seen = changes.Leave x
@@ -397,7 +397,7 @@ abbrev pub rollback_change : RwLockPurpose → Change
 rollback_change (purpose.Upgrade how) = changes.RollBack true
 rollback_change q = changes.RollBack false
 
--- of a pending writer that saw this
+-- the state of a pending writer that saw this
 abbrev pub settles : ℕ → Change
 settles seen = if count_in seen == 0 then changes.Settle else changes.Nothing
 
@@ -412,7 +412,7 @@ change_at a p seen at.RollBack = rollback_change p.purpose
 change_at a p seen at.GiveWay = gives_change p.purpose seen
 change_at a p seen to = changes.Nothing
 
--- what an operation on the word does to the owners, which saw this value
+-- the owners after an operation on the word which saw this value
 abbrev pub change : Admission → RwLockPlace → ℕ → Change
 change a p seen = change_at a p seen p.at
 

@@ -21,9 +21,9 @@ use Rattle.steps_base.specs.declared.acts.Reply.{Reply}
 use Rattle.steps_base.specs.declared.acts.Reply.TheVariants.{Done, Value, Parked, Took, Picked, Removed, TakenBy, HandedBy, Woken, Late}
 use Rattle.steps_base.specs.declared.acts.Whom as whom
 use Rattle.steps_base.specs.Acts.{any_picked}
-use Rattle.steps_base.specs.Moves.{Move, Hears, StaysPut, GoesIn, Parks, Picks, TakesAside, LeavesLine, GoesOut, Moves, Sleeps, IsHeld, Waits, AreOfWord, AreLeaving, station_of, station_then, inside_of, row_of}
+use Rattle.steps_base.specs.Moves.{Move, Hears, StaysPut, GoesIn, Parks, Picks, TakesAside, LeavesLine, GoesOut, Moves, Sleeps, IsHeld, Waits, AreOfWord, AreLeaving, location_of, location_then, inside_of, row_of}
 use Rattle.steps_base.specs.Profiles.{Profile, in_hand}
-use Rattle.steps_base.specs.Stations.{Station, station_by, nowhere}
+use Rattle.steps_base.specs.Locations.{Location, location_by, nowhere}
 use Rattle.spec_locks.specs.Sites.{Deed, Case}
 use Rattle.spec_locks.specs.Locks.{Leave}
 use Rattle.spec_locks.specs.Codes.{has_parked}
@@ -55,7 +55,7 @@ use Rattle.steps_rwlock_fair.proofs.FairMoves.{hand_overs_move}
 
 -- ---------------------------------------------------------------- calls that move alike
 
--- what is told where nothing is handed over
+-- tells what is told where nothing is handed over
 abbrev IsPlain : Reply → Type 0
 IsPlain (HandedBy u alone) = ⊥
 IsPlain (Woken note.HandOff) = ⊥
@@ -63,25 +63,25 @@ IsPlain told = Unit {0}
 
 -- at the same stations, by the same deeds
 record IsAs (x y : Move) : Type 0 where
-  pub here : station_of x ≡ station_of y
+  pub here : location_of x ≡ location_of y
   pub deeds : x.deeds ≡ y.deeds
-  pub goes : (told : Reply) → IsPlain told → station_then x told ≡ station_then y told
+  pub goes : (told : Reply) → IsPlain told → location_then x told ≡ location_then y told
 
 module _ (x y : Move) (hears : Hears) (alike : IsAs x y) where
   stays_as : StaysPut y → StaysPut x
   stays_as g = record {
-    out = ap (λ (s : Station). s.stands) alike.here ∙ g.out;
-    free = ap (λ (s : Station). s.hand) alike.here ∙ g.free;
+    out = ap (λ (s : Location). s.stands) alike.here ∙ g.out;
+    free = ap (λ (s : Location). s.hand) alike.here ∙ g.free;
     deeds = λ seen. subst (λ (d : Option ℕ → Reply → List Deed). AreOfWord (d None (Value seen))) (sym alike.deeds) (g.deeds seen);
     goes = λ seen. alike.goes (Value seen) tt ∙ g.goes seen ∙ sym alike.here;
   }
 
   goes_in_as : (m : Line) (told : Reply) → IsPlain told → GoesIn y hears m told → GoesIn x hears m told
   goes_in_as m told plain g = record {
-    out = ap (λ (s : Station). s.inside) alike.here ∙ g.out;
-    free = ap (λ (s : Station). s.hand) alike.here ∙ g.free;
+    out = ap (λ (s : Location). s.inside) alike.here ∙ g.out;
+    free = ap (λ (s : Location). s.hand) alike.here ∙ g.free;
     deeds = ap (λ (d : Option ℕ → Reply → List Deed). d None told) alike.deeds ∙ g.deeds;
-    goes = alike.goes told plain ∙ g.goes ∙ sym (ap (λ (s : Station). record s { inside = Some m }) alike.here);
+    goes = alike.goes told plain ∙ g.goes ∙ sym (ap (λ (s : Location). record s { inside = Some m }) alike.here);
     may = g.may;
   }
 
@@ -124,11 +124,11 @@ module _ (x y : Move) (hears : Hears) (alike : IsAs x y) where
   goes_out_as m wakes g = record {
     any = g.any;
     notes = g.notes;
-    inside = ap (λ (s : Station). s.inside) alike.here ∙ g.inside;
-    carries = ap (λ (s : Station). s.carries) alike.here ∙ g.carries;
-    free = ap (λ (s : Station). s.hand) alike.here ∙ g.free;
+    inside = ap (λ (s : Location). s.inside) alike.here ∙ g.inside;
+    carries = ap (λ (s : Location). s.carries) alike.here ∙ g.carries;
+    free = ap (λ (s : Location). s.hand) alike.here ∙ g.free;
     deeds = subst (λ (d : Option ℕ → Reply → List Deed). AreLeaving (d None Done)) (sym alike.deeds) g.deeds;
-    goes = alike.goes Done tt ∙ g.goes ∙ sym (ap (λ (s : Station). record s { inside = None; carries = None }) alike.here);
+    goes = alike.goes Done tt ∙ g.goes ∙ sym (ap (λ (s : Location). record s { inside = None; carries = None }) alike.here);
     may = g.may;
   }
 
@@ -166,16 +166,16 @@ module _ (a : Admission) where
   plain_goes p told plain = rw (none_given false p told plain) (plain_row (rwlock_next a p told))
 
   plain_as : (p : RwLockPlace) → IsAs (call_move a (Plain p)) (rwlock_move a p)
-  plain_as p = record { here = refl; deeds = refl; goes = λ told plain. ap station_by (plain_goes p told plain) }
+  plain_as p = record { here = refl; deeds = refl; goes = λ told plain. ap location_by (plain_goes p told plain) }
 
   -- a bump is where the plain call is
-  bumping_stands : (q : RwLockPurpose) (row : Profile) → station_by (bumping q row) ≡ station_by row
+  bumping_stands : (q : RwLockPurpose) (row : Profile) → location_by (bumping q row) ≡ location_by row
   bumping_stands (purpose.Enter x how) row = refl
   bumping_stands (purpose.Release x) row = refl
   bumping_stands (purpose.Downgrade d) row = refl
   bumping_stands (purpose.Upgrade how) row = refl
 
-  bump_stands : (q : RwLockPurpose) (n : Next RwLockPlace) → station_by (row_of (next_rows a (bump_next q n))) ≡ station_by (row_of (next_row a n))
+  bump_stands : (q : RwLockPurpose) (n : Next RwLockPlace) → location_by (row_of (next_rows a (bump_next q n))) ≡ location_by (row_of (next_row a n))
   bump_stands q (next.At p) = bumping_stands p.purpose (rwlock_profile a p)
   bump_stands (purpose.Release access.Shared) (next.End answer) = refl
   bump_stands (purpose.Release access.Upgradable) (next.End answer) = refl
@@ -197,10 +197,10 @@ module _ (l : ℕ) (a : Admission) where
   abbrev MovesAt : RwLockCallPlace → Type 0
   MovesAt c = CallMoves l a.recursive (call_move a c) (call_hears a c) (call_act l a c)
 
-  abbrev station_next : Next RwLockCallPlace → Station
-  station_next n = station_by (row_of (next_rows a n))
+  abbrev location_next : Next RwLockCallPlace → Location
+  location_next n = location_by (row_of (next_rows a n))
 
-  released_rest : (x : Access) (b : Bool) → station_next (released x b) ≡ nowhere
+  released_rest : (x : Access) (b : Bool) → location_next (released x b) ≡ nowhere
   released_rest x false = refl
   released_rest access.Shared true = refl
   released_rest access.Upgradable true = refl
@@ -213,7 +213,7 @@ module _ (l : ℕ) (a : Admission) where
       word true = tt
       word false = tt
 
-      rest : (x : Access) (b : Bool) → station_next (if b then next.At (gives_up_at x) else next.End Ok) ≡ nowhere
+      rest : (x : Access) (b : Bool) → location_next (if b then next.At (gives_up_at x) else next.End Ok) ≡ nowhere
       rest x false = refl
       rest access.Shared true = refl
       rest access.Upgradable true = refl
@@ -223,14 +223,14 @@ module _ (l : ℕ) (a : Admission) where
     abbrev over : HandOverAt → RwLockCallPlace
     over to = HandOver x b to
 
-    looked_rest : (seen : ℕ) → station_next (next.At (over (looked seen))) ≡ nowhere
+    looked_rest : (seen : ℕ) → location_next (next.At (over (looked seen))) ≡ nowhere
     looked_rest seen = either (has_parked seen)
       where
-        either : (c : Bool) → station_next (next.At (over (if c then handing.Enter else handing.Free seen))) ≡ nowhere
+        either : (c : Bool) → location_next (next.At (over (if c then handing.Enter else handing.Free seen))) ≡ nowhere
         either true = refl
         either false = refl
 
-    freed_rest : (y : Access) (seen : ℕ) → station_next (next.At (over (freed_next y seen))) ≡ nowhere
+    freed_rest : (y : Access) (seen : ℕ) → location_next (next.At (over (freed_next y seen))) ≡ nowhere
     freed_rest access.Upgradable seen = looked_rest seen
     freed_rest access.Shared seen = refl
     freed_rest access.Exclusive seen = refl
@@ -249,7 +249,7 @@ module _ (l : ℕ) (a : Admission) where
             by_bump true = tt
             by_bump false = tt
 
-        rest : (seen : ℕ) (c : Bool) → station_next (if c then released x b else next.At (over (freed_next x seen))) ≡ nowhere
+        rest : (seen : ℕ) (c : Bool) → location_next (if c then released x b else next.At (over (freed_next x seen))) ≡ nowhere
         rest seen true = released_rest x b
         rest seen false = freed_rest x seen
 
@@ -259,7 +259,7 @@ module _ (l : ℕ) (a : Admission) where
     take_moves : MovesAt (over handing.Take)
     take_moves = (refl, refl, record { was = refl; deeds = λ n y none_left. refl; goes = λ n y none_left. goes x n y none_left; may = λ r s t n y none_left left. left })
       where
-        goes : (z : Access) (n : ℕ) (y : Option Want) (none_left : Bool) → station_next (next.At (over (took z (record { sharers = n; successor = y; none_left = none_left })))) ≡ record (inside_of Main) { carries = in_hand (any_picked n y) false }
+        goes : (z : Access) (n : ℕ) (y : Option Want) (none_left : Bool) → location_next (next.At (over (took z (record { sharers = n; successor = y; none_left = none_left })))) ≡ record (inside_of Main) { carries = in_hand (any_picked n y) false }
         goes access.Shared n y none_left = refl
         goes access.Upgradable n y none_left = refl
         goes access.Exclusive n y none_left = refl
@@ -316,9 +316,9 @@ module _ (l : ℕ) (a : Admission) where
               by_left true = tt
               by_left false = tt
 
-          rest : (seen : ℕ) (won : Bool) → (seen == expected) ≡ won → station_next (if won then next.At (HandOver access.Upgradable b (handing.Leave (any_taken k) (has_room a.limit k seen))) else next.At (HandOver access.Upgradable b (handing.Exchange k seen))) ≡ station_by (call_profile a c)
+          rest : (seen : ℕ) (won : Bool) → (seen == expected) ≡ won → location_next (if won then next.At (HandOver access.Upgradable b (handing.Leave (any_taken k) (has_room a.limit k seen))) else next.At (HandOver access.Upgradable b (handing.Exchange k seen))) ≡ location_by (call_profile a c)
           rest seen false f = refl
-          rest seen true f = ap (λ z. station_next (next.At (HandOver access.Upgradable b (handing.Leave (any_taken k) z)))) (ap (has_room a.limit k) (eqb-true seen expected f) ∙ e)
+          rest seen true f = ap (λ z. location_next (next.At (HandOver access.Upgradable b (handing.Leave (any_taken k) z)))) (ap (has_room a.limit k) (eqb-true seen expected f) ∙ e)
 
   over_moves : (x : Access) (b : Bool) (to : HandOverAt) → HandsOverAt x to → MovesAt (HandOver x b to)
   over_moves access.Shared b to fits = absurd fits
@@ -356,15 +356,15 @@ module _ (a : Admission) where
       w : Waits (rwlock_move a p)
       w = rwlock_sleepers_move a p may
 
-      stands : (m : Line) → (rwlock_profile a p).stands ≡ Some m → ((station_of (rwlock_move a p)).inside ≡ Some m) ⊎ Sleeps (call_move a (Plain p)) m
+      stands : (m : Line) → (rwlock_profile a p).stands ≡ Some m → ((location_of (rwlock_move a p)).inside ≡ Some m) ⊎ Sleeps (call_move a (Plain p)) m
       stands m e = elim (w.stands m e) [
         | inl within ↦ inl within
         | inr k ↦ inr (record {
           want = k.want;
           was = k.was;
-          taken = λ u. ap station_by (plain_goes a p (TakenBy u) tt) ∙ k.taken u;
+          taken = λ u. ap location_by (plain_goes a p (TakenBy u) tt) ∙ k.taken u;
           wants = λ u. ap (λ (y : Profile). y.wants) (plain_goes a p (TakenBy u) tt) ∙ k.wants u;
-          doing = λ u. ap (λ (y : Profile). y.doing) (plain_goes a p (TakenBy u) tt) ∙ k.doing u;
+          role = λ u. ap (λ (y : Profile). y.role) (plain_goes a p (TakenBy u) tt) ∙ k.role u;
         })
       ]
 
@@ -373,11 +373,11 @@ module _ (a : Admission) where
         want = k.want;
         wants = k.wants;
         was = k.was;
-        woken = ap station_by (plain_goes a p (Woken note.Normal) tt) ∙ k.woken;
-        doing = ap (λ (y : Profile). y.doing) (plain_goes a p (Woken note.Normal) tt) ∙ k.doing;
+        woken = ap location_by (plain_goes a p (Woken note.Normal) tt) ∙ k.woken;
+        role = ap (λ (y : Profile). y.role) (plain_goes a p (Woken note.Normal) tt) ∙ k.role;
       }
 
-  -- who enters again waits as in a plain call that enters
+  -- a thread that enters again waits as in a plain call that enters
   module _ (x : Access) (again : Bool) (to : RwLockAt) where
     abbrev p : RwLockPlace
     p = of a (purpose.Enter x Patient) again to
@@ -388,25 +388,25 @@ module _ (a : Admission) where
     bumping_wants (purpose.Downgrade d) row = refl
     bumping_wants (purpose.Upgrade how) row = refl
 
-    bumping_doing : (q : RwLockPurpose) (row : Profile) → (bumping q row).doing ≡ row.doing
-    bumping_doing (purpose.Enter x how) row = refl
-    bumping_doing (purpose.Release x) row = refl
-    bumping_doing (purpose.Downgrade d) row = refl
-    bumping_doing (purpose.Upgrade how) row = refl
+    bumping_role : (q : RwLockPurpose) (row : Profile) → (bumping q row).role ≡ row.role
+    bumping_role (purpose.Enter x how) row = refl
+    bumping_role (purpose.Release x) row = refl
+    bumping_role (purpose.Downgrade d) row = refl
+    bumping_role (purpose.Upgrade how) row = refl
 
     wants_same : (n : Next RwLockPlace) → (row_of (next_rows a (bump_next (purpose.Enter x Patient) n))).wants ≡ (row_of (next_row a n)).wants
     wants_same (next.At q) = bumping_wants q.purpose (rwlock_profile a q)
     wants_same (next.End answer) = refl
 
-    doing_same : (n : Next RwLockPlace) → (row_of (next_rows a (bump_next (purpose.Enter x Patient) n))).doing ≡ (row_of (next_row a n)).doing
-    doing_same (next.At q) = bumping_doing q.purpose (rwlock_profile a q)
-    doing_same (next.End answer) = refl
+    role_same : (n : Next RwLockPlace) → (row_of (next_rows a (bump_next (purpose.Enter x Patient) n))).role ≡ (row_of (next_row a n)).role
+    role_same (next.At q) = bumping_role q.purpose (rwlock_profile a q)
+    role_same (next.End answer) = refl
 
     wants_then : (told : Reply) → IsPlain told → ((call_move a (Bump p)).next told).wants ≡ ((rwlock_move a p).next told).wants
     wants_then told plain = rw (none_given true p told plain) (wants_same (rwlock_next a p told))
 
-    doing_then : (told : Reply) → IsPlain told → ((call_move a (Bump p)).next told).doing ≡ ((rwlock_move a p).next told).doing
-    doing_then told plain = rw (none_given true p told plain) (doing_same (rwlock_next a p told))
+    role_then : (told : Reply) → IsPlain told → ((call_move a (Bump p)).next told).role ≡ ((rwlock_move a p).next told).role
+    role_then told plain = rw (none_given true p told plain) (role_same (rwlock_next a p told))
 
     again_waits : MayStand a p → CallWaits (call_move a (Bump p))
     again_waits may = record { aside = w.aside; stands = stands; held = λ u h. held u (w.held u false h).1 }
@@ -414,7 +414,7 @@ module _ (a : Admission) where
         w : Waits (rwlock_move a p)
         w = rwlock_sleepers_move a p may
 
-        stands : (m : Line) → (rwlock_profile a p).stands ≡ Some m → ((station_of (rwlock_move a p)).inside ≡ Some m) ⊎ Sleeps (call_move a (Bump p)) m
+        stands : (m : Line) → (rwlock_profile a p).stands ≡ Some m → ((location_of (rwlock_move a p)).inside ≡ Some m) ⊎ Sleeps (call_move a (Bump p)) m
         stands m e = elim (w.stands m e) [
           | inl within ↦ inl within
           | inr k ↦ inr (record {
@@ -422,7 +422,7 @@ module _ (a : Admission) where
             was = k.was;
             taken = λ u. (bump_as a p).goes (TakenBy u) tt ∙ k.taken u;
             wants = λ u. wants_then (TakenBy u) tt ∙ k.wants u;
-            doing = λ u. doing_then (TakenBy u) tt ∙ k.doing u;
+            role = λ u. role_then (TakenBy u) tt ∙ k.role u;
           })
         ]
 
@@ -432,7 +432,7 @@ module _ (a : Admission) where
           wants = k.wants;
           was = k.was;
           woken = (bump_as a p).goes (Woken note.Normal) tt ∙ k.woken;
-          doing = doing_then (Woken note.Normal) tt ∙ k.doing;
+          role = role_then (Woken note.Normal) tt ∙ k.role;
         }
 
   bump_waits : (q : RwLockPurpose) (again : Bool) (to : RwLockAt) → MayStand a (of a q again to) → IsOfBump q again → CallWaits (call_move a (Bump (of a q again to)))

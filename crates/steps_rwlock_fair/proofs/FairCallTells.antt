@@ -21,7 +21,7 @@ use Rattle.spec_locks.specs.Onces.{OnceCase, Start, Finish, Fail, Rest, TakeAll}
 use Rattle.spec_locks.specs.Locks.{LockState, Rules, Rights, Leave, TakeAside, Late, Wake, Owns, after_case, rights_of, with_right, without_right, without_owner, standing, OfOnce, CondvarCase, Look, Show, Hide, OfCondvar}
 use Rattle.spec_locks.specs.Purposes.{Enters, Bumps, IsMadeOf, Recall, Blank, Saw, SawOwner, HasMoved, WasMoved, WasNotified}
 use Rattle.spec_locks.specs.Runs.{LocksState, CallState, Event, Nothing, AtLock, Moves, AnswerHolds, gives_up, going_on, EntersAnswer, BumpsAnswer, rights_in, one_more_at, one_less_at}
-use Rattle.spec_locks.specs.Sites.{Has, Doing, Site, IsSite, Deed, Case, Clear, End}
+use Rattle.spec_locks.specs.Sites.{Has, Role, Site, IsSite, Deed, Case, Clear, End}
 use Rattle.spec_locks.specs.Deeds.{after_event}
 use Rattle.spec_locks.specs.Codes.{code, count_in, has_aside}
 use Rattle.spec_locks.proofs.Rights.{unchanged, changed, agree, left, regained}
@@ -34,7 +34,7 @@ use Rattle.steps_rwlock.specs.declared.purposes.RwLockPurpose.TheVariants as pur
 use Rattle.steps_rwlock.specs.declared.release.WakeAt.{WakeAt}
 use Rattle.steps_rwlock.specs.declared.release.WakeAt.TheVariants as waking
 use Rattle.steps_rwlock.specs.RwLockSteps.{wanted, entered, rwlock_act, rwlock_next, wake_next, wakes_or_ends}
-use Rattle.steps_rwlock.specs.RwLockDeeds.{Admits, MayHear, MayHearWaking, rwlock_doing, rwlock_deeds, does_and_wakes, wake_deeds}
+use Rattle.steps_rwlock.specs.RwLockDeeds.{Admits, MayHear, MayHearWaking, rwlock_role, rwlock_deeds, does_and_wakes, wake_deeds}
 use Rattle.steps_rwlock.specs.RwLockProfiles.{rwlock_profile}
 use Rattle.steps_rwlock.specs.RwLockCalls.{MayStand, IsCalling, next_row}
 use Rattle.steps_rwlock.proofs.RwLockCalls.{rwlock_steps_tell}
@@ -46,7 +46,7 @@ use Rattle.steps_rwlock_fair.specs.declared.hand_over.HandOverAt.TheVariants as 
 use Rattle.steps_rwlock_fair.specs.declared.handed.HandedAt.{HandedAt}
 use Rattle.steps_rwlock_fair.specs.declared.handed.HandedAt.TheVariants as handed
 use Rattle.steps_rwlock_fair.specs.FairSteps.{plain_next, bump_next, gives_way, call_act, hand_over_act}
-use Rattle.steps_rwlock_fair.specs.FairDeeds.{call_doing}
+use Rattle.steps_rwlock_fair.specs.FairDeeds.{call_role}
 use Rattle.steps_rwlock_fair.specs.FairProfiles.{bumping, call_profile, has_given}
 use Rattle.steps_rwlock_fair.specs.FairCalls.{IsOfBump, WaitsFor, MayHearHanded}
 use Rattle.steps_rwlock_fair.specs.FairLaws.{next_rows, CallTells, FairStepsTell, FairSectionsTell}
@@ -158,7 +158,7 @@ module _ (r : Rules) (a : Admission) (s : Site) (t l : ℕ) where
 
   -- ---------------------------------------------------------------- who was handed the lock
 
-  -- what it has got in this call it had not before
+  -- it hadn't before what it has got in this call
   module _ (x : Want) (own : Owns s.lock t x) (v : LocksState) (rights : ℕ → Rights) (here : rights l ≡ rights_of s.lock t) (has : (k : ℕ) → rights_in v t k ≡ rights_where l s.lock t rights k) where
     had_before : (k : ℕ) → rights_in v t k ≡ one_more_at l x (one_less_at l x rights) k
     had_before = agree rights l _ _ _ _ has (changed rights l (with_right x) (one_less_at l x rights) _ (changed rights l (without_right x) rights _ (unchanged rights l (rights_of s.lock t) here))) (sym (regained s.lock t x own))
@@ -173,23 +173,23 @@ module _ (r : Rules) (a : Admission) (s : Site) (t l : ℕ) where
 
   -- ---------------------------------------------------------------- every place
 
-  calling : (p : RwLockPlace) → Admits r a → IsSite r s → s.doing t ≡ rwlock_doing p → MayStand a p → t < length s.lock.shared → IsCalling r a s t p
+  calling : (p : RwLockPlace) → Admits r a → IsSite r s → s.role t ≡ rwlock_role p → MayStand a p → t < length s.lock.shared → IsCalling r a s t p
   calling p admits h is stands there = record { at = is_at r a s t p admits h is stands there; stands = stands }
 
   -- a step at a place of another call makes of the bump's what it makes of that
-  bump_words : (op : Op) (q : RwLockPurpose) (again : Bool) (to : RwLockAt) → Admits r a → IsSite r s → s.doing t ≡ rwlock_doing (of q again to) → MayStand a (of q again to) → IsOfBump q again → t < length s.lock.shared → standing t s.lock ≡ 0
+  bump_words : (op : Op) (q : RwLockPurpose) (again : Bool) (to : RwLockAt) → Admits r a → IsSite r s → s.role t ≡ rwlock_role (of q again to) → MayStand a (of q again to) → IsOfBump q again → t < length s.lock.shared → standing t s.lock ≡ 0
       → rwlock_act l a (of q again to) ≡ act.Word l op → CallTells r a s t l (Bump (of q again to)) None (reply.Value (code r s))
   bump_words op (purpose.Enter x Patient) again to admits h is stands bump there nowhere e =
       rw (entering_rows a x _ (stays_for a (of (purpose.Enter x Patient) again to) (reply.Value (code r s))))
       (bumps_again r s.lock t l x (rwlock_profile a (of (purpose.Enter x Patient) again to)) _ refl _ (rwlock_steps_tell r a s t l (of (purpose.Enter x Patient) again to) op (calling (of (purpose.Enter x Patient) again to) admits h is stands there) nowhere e))
-  bump_words op (purpose.Release access.Shared) false at.GiveWay admits h is stands bump there nowhere e = gives_tells (has_aside (code r s) && (count_in (code r s) == 1)) (h.held t (Has Shared) (ap (λ (d : Doing). d.claims) is))
+  bump_words op (purpose.Release access.Shared) false at.GiveWay admits h is stands bump there nowhere e = gives_tells (has_aside (code r s) && (count_in (code r s) == 1)) (h.held t (Has Shared) (ap (λ (d : Role). d.claims) is))
   bump_words op (purpose.Release access.Shared) false (at.Wake Second (waking.Clear any)) admits h is stands bump there nowhere e = clears_tell any
   bump_words op (purpose.Release access.Shared) false (at.Wake Second to) admits h is stands bump there nowhere e = absurd cc
   bump_words op (purpose.Release access.Shared) false to admits h is stands bump there nowhere e = absurd stands.place
   bump_words op (purpose.Release access.Shared) true to admits h is stands bump there nowhere e = absurd (let f : true ≡ false = bump in cc)
   bump_words op q again to admits h is stands bump there nowhere e = absurd bump
 
-  bump_sections : (q : RwLockPurpose) (again : Bool) (to : RwLockAt) (whom : Option ℕ) (told : Reply) → Admits r a → IsSite r s → s.doing t ≡ rwlock_doing (of q again to) → MayStand a (of q again to) → IsOfBump q again → t < length s.lock.shared
+  bump_sections : (q : RwLockPurpose) (again : Bool) (to : RwLockAt) (whom : Option ℕ) (told : Reply) → Admits r a → IsSite r s → s.role t ≡ rwlock_role (of q again to) → MayStand a (of q again to) → IsOfBump q again → t < length s.lock.shared
       → MayHear r a s t (of q again to) to whom told → IsNotLate told
       → CallFollows r s.lock t l (call_profile a (Bump (of q again to))) (rwlock_deeds a (of q again to) whom told) (next_rows a (bump_next q (rwlock_next a (of q again to) told)))
   bump_sections (purpose.Enter x Patient) again to whom told admits h is stands bump there hears now =
@@ -201,13 +201,13 @@ module _ (r : Rules) (a : Admission) (s : Site) (t l : ℕ) where
   bump_sections (purpose.Release access.Shared) true to whom told admits h is stands bump there hears now = absurd (let f : true ≡ false = bump in cc)
   bump_sections q again to whom told admits h is stands bump there hears now = absurd bump
 
-  handed_words : (op : Op) (x : Access) (how : Patience) (b : Bool) (to : HandedAt) → IsSite r s → s.doing t ≡ call_doing (Handed x how b to) → WaitsFor b how → call_act l a (Handed x how b to) ≡ act.Word l op → CallTells r a s t l (Handed x how b to) None (reply.Value (code r s))
-  handed_words op x how b handed.Accept h is waits e = accepts x how b (h.held t (Has (wanted x)) (ap (λ (d : Doing). d.claims) is)) waits
+  handed_words : (op : Op) (x : Access) (how : Patience) (b : Bool) (to : HandedAt) → IsSite r s → s.role t ≡ call_role (Handed x how b to) → WaitsFor b how → call_act l a (Handed x how b to) ≡ act.Word l op → CallTells r a s t l (Handed x how b to) None (reply.Value (code r s))
+  handed_words op x how b handed.Accept h is waits e = accepts x how b (h.held t (Has (wanted x)) (ap (λ (d : Role). d.claims) is)) waits
   handed_words op x how b (handed.Asleep by alone) h is waits e = absurd cc
 
-  handed_sections : (x : Access) (how : Patience) (b : Bool) (to : HandedAt) (told : Reply) → IsSite r s → s.doing t ≡ call_doing (Handed x how b to) → WaitsFor b how → MayHearHanded x to told → CallTells r a s t l (Handed x how b to) None told
-  handed_sections access.Shared how b handed.Accept reply.Done h is waits hears = accepts access.Shared how b (h.held t (Has (wanted access.Shared)) (ap (λ (d : Doing). d.claims) is)) waits
-  handed_sections access.Upgradable how b handed.Accept reply.Done h is waits hears = accepts access.Upgradable how b (h.held t (Has (wanted access.Upgradable)) (ap (λ (d : Doing). d.claims) is)) waits
+  handed_sections : (x : Access) (how : Patience) (b : Bool) (to : HandedAt) (told : Reply) → IsSite r s → s.role t ≡ call_role (Handed x how b to) → WaitsFor b how → MayHearHanded x to told → CallTells r a s t l (Handed x how b to) None told
+  handed_sections access.Shared how b handed.Accept reply.Done h is waits hears = accepts access.Shared how b (h.held t (Has (wanted access.Shared)) (ap (λ (d : Role). d.claims) is)) waits
+  handed_sections access.Upgradable how b handed.Accept reply.Done h is waits hears = accepts access.Upgradable how b (h.held t (Has (wanted access.Upgradable)) (ap (λ (d : Role). d.claims) is)) waits
   handed_sections access.Exclusive how b to told h is waits hears = absurd hears
   handed_sections x how b to told h is waits hears = absurd hears
 
@@ -222,15 +222,15 @@ module _ (r : Rules) (a : Admission) (s : Site) (t l : ℕ) where
   given_at op x b (handing.Leave any handed) e = absurd cc
 
 pub fair_steps_tell : FairStepsTell
-fair_steps_tell r a s t l (Plain p) op call nowhere e = rw (plain_rows a (rwlock_next a p (reply.Value (code r s)))) (rwlock_steps_tell r a s t l p op (calling r a s t l p call.admits call.site call.doing call.stands call.there) nowhere e)
-fair_steps_tell r a s t l (Bump p) op call nowhere e = bump_words r a s t l op p.purpose p.retries p.at call.admits call.site call.doing call.stands.0 call.stands.1 call.there nowhere e
-fair_steps_tell r a s t l (Glance x) op call nowhere e = glance_tells r a s t l x (call.site.held t (Has (wanted x)) (ap (λ (d : Doing). d.claims) call.doing)) (gives_way a x (code r s))
-fair_steps_tell r a s t l (HandOver x b to) op call nowhere e = hand_over_tells r a s t l op x b to call.stands (owns_at r a s t l x b to call.site call.doing (given_at r a s t l op x b to e)) e
-fair_steps_tell r a s t l (Handed x how b to) op call nowhere e = handed_words r a s t l op x how b to call.site call.doing call.stands e
+fair_steps_tell r a s t l (Plain p) op call nowhere e = rw (plain_rows a (rwlock_next a p (reply.Value (code r s)))) (rwlock_steps_tell r a s t l p op (calling r a s t l p call.admits call.site call.role call.stands call.there) nowhere e)
+fair_steps_tell r a s t l (Bump p) op call nowhere e = bump_words r a s t l op p.purpose p.retries p.at call.admits call.site call.role call.stands.0 call.stands.1 call.there nowhere e
+fair_steps_tell r a s t l (Glance x) op call nowhere e = glance_tells r a s t l x (call.site.held t (Has (wanted x)) (ap (λ (d : Role). d.claims) call.role)) (gives_way a x (code r s))
+fair_steps_tell r a s t l (HandOver x b to) op call nowhere e = hand_over_tells r a s t l op x b to call.stands (owns_at r a s t l x b to call.site call.role (given_at r a s t l op x b to e)) e
+fair_steps_tell r a s t l (Handed x how b to) op call nowhere e = handed_words r a s t l op x how b to call.site call.role call.stands e
 
 pub fair_sections_tell : FairSectionsTell
-fair_sections_tell r a s t l (Plain p) whom told call hears now = rw (not_given r a s t false p whom told hears) (rw (plain_rows a (rwlock_next a p told)) (rwlock_sections_tell r a s t l p whom told (calling r a s t l p call.admits call.site call.doing call.stands call.there) hears now))
-fair_sections_tell r a s t l (Bump p) whom told call hears now = rw (not_given r a s t true p whom told hears) (bump_sections r a s t l p.purpose p.retries p.at whom told call.admits call.site call.doing call.stands.0 call.stands.1 call.there hears now)
+fair_sections_tell r a s t l (Plain p) whom told call hears now = rw (not_given r a s t false p whom told hears) (rw (plain_rows a (rwlock_next a p told)) (rwlock_sections_tell r a s t l p whom told (calling r a s t l p call.admits call.site call.role call.stands call.there) hears now))
+fair_sections_tell r a s t l (Bump p) whom told call hears now = rw (not_given r a s t true p whom told hears) (bump_sections r a s t l p.purpose p.retries p.at whom told call.admits call.site call.role call.stands.0 call.stands.1 call.there hears now)
 fair_sections_tell r a s t l (Glance x) whom told call hears now = absurd hears
 fair_sections_tell r a s t l (HandOver x b to) whom told call hears now = hand_over_sections_tell r a s t l x b to whom told call.stands hears
-fair_sections_tell r a s t l (Handed x how b to) whom told call hears now = handed_sections r a s t l x how b to told call.site call.doing call.stands hears
+fair_sections_tell r a s t l (Handed x how b to) whom told call hears now = handed_sections r a s t l x how b to told call.site call.role call.stands hears

@@ -111,8 +111,8 @@ module _ (r : Rules) (a : Admission) (s : Site) (t l : ℕ) (op : Op) (rw_sort :
   hand_over_code x b to fits e n = absurd cc
 
 pub fair_steps_code : FairStepsCode
-fair_steps_code r a s t l (Plain p) op call nowhere e small few limit = rwlock_steps_code r a s t l p op (is_at r a s t p call.admits call.site call.doing call.stands call.there) nowhere e call.there small few limit
-fair_steps_code r a s t l (Bump p) op call nowhere e small few limit = rwlock_steps_code r a s t l p op (is_at r a s t p call.admits call.site call.doing call.stands.0 call.there) nowhere e call.there small few limit
+fair_steps_code r a s t l (Plain p) op call nowhere e small few limit = rwlock_steps_code r a s t l p op (is_at r a s t p call.admits call.site call.role call.stands call.there) nowhere e call.there small few limit
+fair_steps_code r a s t l (Bump p) op call nowhere e small few limit = rwlock_steps_code r a s t l p op (is_at r a s t p call.admits call.site call.role call.stands.0 call.there) nowhere e call.there small few limit
 fair_steps_code r a s t l (Glance x) op call nowhere e small few limit = let f : op ≡ operation.Load = cc in glanced r a s t l op call.admits.0 call.site call.there small (gives_way a x (code r s)) f
 fair_steps_code r a s t l (HandOver x b to) op call nowhere e small few limit = hand_over_code r a s t l op call.admits.0 call.site call.there small x b to call.stands e (fair_steps_follow r a s t l (HandOver x b to) op call nowhere e).needed
 fair_steps_code r a s t l (Handed access.Exclusive how b given.Accept) op call nowhere e small few limit = let f : op ≡ operation.Load = cc in glanced r a s t l op call.admits.0 call.site call.there small false f

@@ -16,7 +16,7 @@ use Rattle.steps_base.specs.Acts.{takes_effect}
 use Rattle.steps_base.specs.Moves.{bit_left, claim_handed, heir_of}
 use Rattle.spec_locks.specs.Locks.{LockState, Rules, Queued, Leave, Owns, IsTaken, HasTakenNobody, count, handed, readers}
 use Rattle.spec_locks.specs.Locks as locks
-use Rattle.spec_locks.specs.Sites.{Site, IsSite, Doing, Has, HasClaim, Case, Deed, counts, counts_taken}
+use Rattle.spec_locks.specs.Sites.{Site, IsSite, Role, Has, HasClaim, Case, Deed, counts, counts_taken}
 use Rattle.spec_locks.specs.Codes.{TellsTrue, code, count_in, has_parked}
 use Rattle.spec_locks.specs.Deeds.{after_all}
 use Rattle.spec_locks.proofs.CodeLaws.{words_tell_true}
@@ -37,7 +37,7 @@ use Rattle.steps_rwlock_fair.specs.FairSteps.{counted, has_room, gives_way, with
 use Rattle.steps_rwlock_fair.specs.FairDeeds.{exchanged_deeds, freed_deeds, glance_deeds, leaves_over, holding}
 use Rattle.steps_rwlock_fair.specs.FairProfiles.{call_profile, release_purpose}
 use Rattle.steps_rwlock_fair.specs.FairCalls.{IsInCall, IsOfBump, HasInHand, in_hand_of}
-use Rattle.steps_rwlock_fair.specs.FairLaws.{HandsOver as Over, lock_behind}
+use Rattle.steps_rwlock_fair.specs.FairLaws.{HandsOver as Over, lock_slow}
 use Rattle.steps_rwlock_fair.specs.FairGives.{IsToGive, HasGot, GivesToAll, LetsGo, WakesThem, FairReleasesGive}
 use Rattle.steps_rwlock_fair.proofs.HandOvers.{counts as counts_then, upgradable_gone, wants_more}
 use Rattle.steps_rwlock_fair.proofs.HandOversGive.{hand_overs_give}
@@ -84,12 +84,12 @@ got_by s s2 u x true e more h = absurd h
 got_by s s2 u x false e more h = absurd h
 
 module _ (r : Rules) (a : Admission) (s : Site) (t l : ℕ) (h : IsSite r s) where
-  -- who carries nobody has taken nobody
-  takes_nobody : (s.doing t).carries ≡ false → HasTakenNobody s.lock t
+  -- a thread that carries nobody has taken nobody
+  takes_nobody : (s.role t).carries ≡ false → HasTakenNobody s.lock t
   takes_nobody none u x taken = let e : true ≡ false = sym (h.carried u _ taken) ∙ none in cc
 
-  -- who covers the line has somebody in hand, or nobody is left
-  some_or_none : (s.doing t).covers ≡ true → ((u : ℕ) × ((x : Want) × IsTaken s.lock t u x)) ⊎ (s.lock.queue ≡ [])
+  -- a thread that covers the line has somebody in hand, or nobody is left
+  some_or_none : (s.role t).covers ≡ true → ((u : ℕ) × ((x : Want) × IsTaken s.lock t u x)) ⊎ (s.lock.queue ≡ [])
   some_or_none covers = by_line s.lock.queue refl
     where
       by_taken : (u : ℕ) (o : Option locks.Taken) → s.lock.taken u ≡ o → counts_taken r.sort t o ≡ true → (x : Want) × IsTaken s.lock t u x
@@ -113,22 +113,22 @@ module _ (r : Rules) (a : Admission) (s : Site) (t l : ℕ) (h : IsSite r s) whe
   glances x true own = inl own
   glances x false own = inl own
 
-  freed : (x : Want) (b : Bool) (expected : ℕ) → has_parked expected ≡ false → s.doing t ≡ at_rest None (Some (Has x)) → Owns s.lock t x → (won : Bool) → (code r s == expected) ≡ won → Given (after_all r (freed_deeds x b won) s t).lock x
+  freed : (x : Want) (b : Bool) (expected : ℕ) → has_parked expected ≡ false → s.role t ≡ at_rest None (Some (Has x)) → Owns s.lock t x → (won : Bool) → (code r s == expected) ≡ won → Given (after_all r (freed_deeds x b won) s t).lock x
   freed x b expected clear is own false e = inl own
-  freed x b expected clear is own true e = inr (inr (inl (takes_nobody (ap (λ (d : Doing). d.carries) is), ap has_parked (eqb-true (code r s) expected e) ∙ clear)))
+  freed x b expected clear is own true e = inr (inr (inl (takes_nobody (ap (λ (d : Role). d.carries) is), ap has_parked (eqb-true (code r s) expected e) ∙ clear)))
 
   module _ (admits : Admits r a) (k : Taken) (whom : Option ℕ) (hand : HasInHand s.lock t k whom) where
     -- they would pass the limit
-    passes : s.doing t ≡ holding Upgradable k → has_room a.limit k (code r s) ≡ false → r.limit < count (handed t Upgradable (heir_of whom k.successor) s.lock)
+    passes : s.role t ≡ holding Upgradable k → has_room a.limit k (code r s) ≡ false → r.limit < count (handed t Upgradable (heir_of whom k.successor) s.lock)
     passes is none =
         let tells : TellsTrue r s = words_tell_true r s admits.0 h in
-        let gone = upgradable_gone r s t h (ap (λ (d : Doing). d.claims) is) in
+        let gone = upgradable_gone r s t h (ap (λ (d : Role). d.claims) is) in
         let n = counts_then _ gone.0 k.successor whom (wants_more r s t k whom admits.0 h hand) hand.named in
         let all = hand.sharers in let c = tells.count in let m = admits.2 in let one = gone.1 in
         let many : a.limit < (count_in (code r s) - 1) + counted k = grind (arith, nat_tests) in
         omega arith
 
-    wakes : s.doing t ≡ holding Upgradable k → has_room a.limit k (code r s) ≡ false → Given (after_all r (leaves_over Upgradable k) s t).lock Upgradable
+    wakes : s.role t ≡ holding Upgradable k → has_room a.limit k (code r s) ≡ false → Given (after_all r (leaves_over Upgradable k) s t).lock Upgradable
     wakes is none = inr (inr (inr (refl, settled k.none_left, (heir_of whom k.successor, (hand.successor, passes is none)))))
       where
         settled : (b : Bool) → (after_all r (Case (Leave Upgradable) ∷ bit_left b ∷ []) s t).lock.taken ≡ s.lock.taken
@@ -139,9 +139,9 @@ module _ (r : Rules) (a : Admission) (s : Site) (t l : ℕ) (h : IsSite r s) whe
 
 module _ (r : Rules) (a : Admission) (s : Site) (t l : ℕ) (op : Op) (whom : Option ℕ) where
   -- to all in hand
-  gives_all : (c : RwLockCallPlace) → Over r a s t c whom → call_act l a c ≡ act.HandOver l op → takes_effect op (code r s) ≡ true → (s.doing t).covers ≡ true → GivesToAll s.lock (lock_behind r a s t c whom) t
+  gives_all : (c : RwLockCallPlace) → Over r a s t c whom → call_act l a c ≡ act.HandOver l op → takes_effect op (code r s) ≡ true → (s.role t).covers ≡ true → GivesToAll s.lock (lock_slow r a s t c whom) t
   gives_all c over e won covers = record {
-    all = λ u x mine there. got_by s.lock (lock_behind r a s t c whom) u x _ refl
+    all = λ u x mine there. got_by s.lock (lock_slow r a s t c whom) u x _ refl
         (λ shares. shares_given r a s t l u c op whom over e won (subst (IsTaken s.lock t u) shares mine) there)
         (hand_overs_give r a s t l u c op whom x over e won mine there);
     some = some_or_none r a s t l over.call.site covers;
@@ -152,14 +152,14 @@ module _ (r : Rules) (a : Admission) (s : Site) (t l : ℕ) (op : Op) (whom : Op
     over_of c k call is hand = record { call = call; free = free; taken = k; is = is; in_hand = hand }
 
     stores : (b : Bool) (k : Taken) → IsInCall r a s t (HandOver access.Exclusive b (handing.Store k)) → HasInHand s.lock t k whom → call_act l a (HandOver access.Exclusive b (handing.Store k)) ≡ act.HandOver l op
-        → GivesToAll s.lock (lock_behind r a s t (HandOver access.Exclusive b (handing.Store k)) whom) t
+        → GivesToAll s.lock (lock_slow r a s t (HandOver access.Exclusive b (handing.Store k)) whom) t
     stores b k call hand e =
         let same : operation.Store (parked_as k.none_left (tokens k)) ≡ op = cc in
-        gives_all (HandOver access.Exclusive b (handing.Store k)) (over_of _ k call refl hand) e (ap (λ o. takes_effect o (code r s)) (sym same)) (ap (λ (d : Doing). d.covers) call.doing)
+        gives_all (HandOver access.Exclusive b (handing.Store k)) (over_of _ k call refl hand) e (ap (λ o. takes_effect o (code r s)) (sym same)) (ap (λ (d : Role). d.covers) call.role)
 
     exchanges : (b : Bool) (k : Taken) (expected : ℕ) (call : IsInCall r a s t (HandOver access.Upgradable b (handing.Exchange k expected))) → HasInHand s.lock t k whom → Owns s.lock t Upgradable
         → (call_act l a (HandOver access.Upgradable b (handing.Exchange k expected)) ≡ act.Word l op) ⊎ (call_act l a (HandOver access.Upgradable b (handing.Exchange k expected)) ≡ act.HandOver l op)
-        → Given r a s t l call.site (lock_behind r a s t (HandOver access.Upgradable b (handing.Exchange k expected)) whom) Upgradable
+        → Given r a s t l call.site (lock_slow r a s t (HandOver access.Upgradable b (handing.Exchange k expected)) whom) Upgradable
     exchanges b k expected call hand own acts = either (code r s == expected) refl (has_room a.limit k expected) refl
       where
         -- its act, where there is room
@@ -174,23 +174,23 @@ module _ (r : Rules) (a : Admission) (s : Site) (t l : ℕ) (op : Op) (whom : Op
             by_act (inl e) = absurd (let f : act.HandOver l (operation.Exchange expected (with_taken access.Upgradable k expected)) ≡ act.Word l op = roomy ∙ e in cc)
             by_act (inr e) = roomy ∙ e
 
-        either : (won : Bool) → (code r s == expected) ≡ won → (room : Bool) → has_room a.limit k expected ≡ room → Given r a s t l call.site (lock_behind r a s t (HandOver access.Upgradable b (handing.Exchange k expected)) whom) Upgradable
+        either : (won : Bool) → (code r s == expected) ≡ won → (room : Bool) → has_room a.limit k expected ≡ room → Given r a s t l call.site (lock_slow r a s t (HandOver access.Upgradable b (handing.Exchange k expected)) whom) Upgradable
         either false ew room er = subst (λ b. Given r a s t l call.site (after_all r (exchanged_deeds Upgradable k whom b (has_room a.limit k expected)) s t).lock Upgradable) (sym ew) (inl own)
         either true ew false er = subst (λ (d : List Deed). Given r a s t l call.site (after_all r d s t).lock Upgradable) (λ i. exchanged_deeds Upgradable k whom (sym ew i) (sym er i))
-            (wakes r a s t l call.site call.admits k whom hand call.doing (ap (has_room a.limit k) (eqb-true (code r s) expected ew) ∙ er))
+            (wakes r a s t l call.site call.admits k whom hand call.role (ap (has_room a.limit k) (eqb-true (code r s) expected ew) ∙ er))
         either true ew true er =
             let same : operation.Exchange expected (with_taken access.Upgradable k expected) ≡ op = (let e = hands er in cc) in
             inr (inl (gives_all (HandOver access.Upgradable b (handing.Exchange k expected)) (over_of _ k call refl hand) (sym (ap (λ y. if y then act.HandOver l (operation.Exchange expected (with_taken access.Upgradable k expected)) else act.Word l (operation.Exchange expected (parked_as k.none_left (without access.Upgradable expected)))) (sym er)) ∙ hands er)
-            (sym (ap (λ o. takes_effect o (code r s)) same) ∙ ew) (ap (λ (d : Doing). d.covers) call.doing)))
+            (sym (ap (λ o. takes_effect o (code r s)) same) ∙ ew) (ap (λ (d : Role). d.covers) call.role)))
 
     -- an owner that hands its lock over
     over_gives : (y : Access) (b : Bool) (to : HandOverAt) (call : IsInCall r a s t (HandOver y b to)) → ((k : Taken) → in_hand_of (HandOver y b to) ≡ Some k → HasInHand s.lock t k whom) → Owns s.lock t (wanted y)
         → (call_profile a (HandOver y b to)).released ≡ false → (call_act l a (HandOver y b to) ≡ act.Word l op) ⊎ (call_act l a (HandOver y b to) ≡ act.HandOver l op)
-        → Given r a s t l call.site (lock_behind r a s t (HandOver y b to) whom) (wanted y)
+        → Given r a s t l call.site (lock_slow r a s t (HandOver y b to) whom) (wanted y)
     over_gives access.Shared b to call hand own keeps acts = absurd call.stands
     over_gives y b handing.Load call hand own keeps acts = inl own
-    over_gives access.Exclusive b (handing.Free expected) call hand own keeps acts = freed r a s t l call.site Exclusive b expected (ap has_parked call.stands) call.doing own (code r s == expected) refl
-    over_gives access.Upgradable b (handing.Free expected) call hand own keeps acts = freed r a s t l call.site Upgradable b expected call.stands call.doing own (code r s == expected) refl
+    over_gives access.Exclusive b (handing.Free expected) call hand own keeps acts = freed r a s t l call.site Exclusive b expected (ap has_parked call.stands) call.role own (code r s == expected) refl
+    over_gives access.Upgradable b (handing.Free expected) call hand own keeps acts = freed r a s t l call.site Upgradable b expected call.stands call.role own (code r s == expected) refl
     over_gives y b handing.Enter call hand own keeps acts = absurd (elim acts [ inl e ↦ cc | inr e ↦ cc ])
     over_gives y b handing.Take call hand own keeps acts = absurd (elim acts [ inl e ↦ cc | inr e ↦ cc ])
     over_gives access.Exclusive b (handing.Store k) call hand own keeps acts = inr (inl (elim acts [ inl e ↦ absurd cc | inr e ↦ stores b k call (hand k refl) e ]))
@@ -204,18 +204,18 @@ pub fair_releases_give : FairReleasesGive
 fair_releases_give r a s t l (Plain p) op whom x call free hand gives more acts = absurd (plain_keeps l p.purpose (call_profile a (Plain p)).released x gives)
 fair_releases_give r a s t l (Bump p) op whom x call free hand gives more acts = absurd (bump_keeps a l p.purpose p.retries p.at x call.stands.1 more gives)
 fair_releases_give r a s t l (Glance y) op whom x call free hand gives more acts =
-    subst (Given r a s t l call.site (lock_behind r a s t (Glance y) whom)) gives.0 (glances r a s t l call.site (wanted y) (gives_way a y (code r s)) (call.site.held t (Has (wanted y)) (ap (λ (d : Doing). d.claims) call.doing)))
+    subst (Given r a s t l call.site (lock_slow r a s t (Glance y) whom)) gives.0 (glances r a s t l call.site (wanted y) (gives_way a y (code r s)) (call.site.held t (Has (wanted y)) (ap (λ (d : Role). d.claims) call.role)))
 fair_releases_give r a s t l (HandOver y b to) op whom x call free hand gives more acts =
     let right = right_is l (wanted y) b (call_profile a (HandOver y b to)).released x gives in
-    subst (Given r a s t l call.site (lock_behind r a s t (HandOver y b to) whom)) right.0 (over_gives r a s t l op whom free y b to call hand (owned to right.1 call.doing acts) right.1 acts)
+    subst (Given r a s t l call.site (lock_slow r a s t (HandOver y b to) whom)) right.0 (over_gives r a s t l op whom free y b to call hand (owned to right.1 call.role acts) right.1 acts)
   where
-    owned : (to : HandOverAt) → (call_profile a (HandOver y b to)).released ≡ false → s.doing t ≡ (call_profile a (HandOver y b to)).doing → (call_act l a (HandOver y b to) ≡ act.Word l op) ⊎ (call_act l a (HandOver y b to) ≡ act.HandOver l op) → Owns s.lock t (wanted y)
+    owned : (to : HandOverAt) → (call_profile a (HandOver y b to)).released ≡ false → s.role t ≡ (call_profile a (HandOver y b to)).role → (call_act l a (HandOver y b to) ≡ act.Word l op) ⊎ (call_act l a (HandOver y b to) ≡ act.HandOver l op) → Owns s.lock t (wanted y)
     owned (handing.Leave any told) keeps is acts = absurd (let e : true ≡ false = keeps in cc)
-    owned handing.Load keeps is acts = call.site.held t (Has (wanted y)) (ap (λ (d : Doing). d.claims) is)
-    owned (handing.Free seen) keeps is acts = call.site.held t (Has (wanted y)) (ap (λ (d : Doing). d.claims) is)
-    owned handing.Enter keeps is acts = call.site.held t (Has (wanted y)) (ap (λ (d : Doing). d.claims) is)
-    owned handing.Take keeps is acts = call.site.held t (Has (wanted y)) (ap (λ (d : Doing). d.claims) is)
-    owned (handing.Store k) keeps is acts = call.site.held t (Has (wanted y)) (ap (λ (d : Doing). d.claims) is)
-    owned (handing.Look k) keeps is acts = call.site.held t (Has (wanted y)) (ap (λ (d : Doing). d.claims) is)
-    owned (handing.Exchange k seen) keeps is acts = call.site.held t (Has (wanted y)) (ap (λ (d : Doing). d.claims) is)
+    owned handing.Load keeps is acts = call.site.held t (Has (wanted y)) (ap (λ (d : Role). d.claims) is)
+    owned (handing.Free seen) keeps is acts = call.site.held t (Has (wanted y)) (ap (λ (d : Role). d.claims) is)
+    owned handing.Enter keeps is acts = call.site.held t (Has (wanted y)) (ap (λ (d : Role). d.claims) is)
+    owned handing.Take keeps is acts = call.site.held t (Has (wanted y)) (ap (λ (d : Role). d.claims) is)
+    owned (handing.Store k) keeps is acts = call.site.held t (Has (wanted y)) (ap (λ (d : Role). d.claims) is)
+    owned (handing.Look k) keeps is acts = call.site.held t (Has (wanted y)) (ap (λ (d : Role). d.claims) is)
+    owned (handing.Exchange k seen) keeps is acts = call.site.held t (Has (wanted y)) (ap (λ (d : Role). d.claims) is)
 fair_releases_give r a s t l (Handed y how b to) op whom x call free hand gives more acts = absurd (handed_keeps a l y how b to x gives)

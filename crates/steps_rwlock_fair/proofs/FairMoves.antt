@@ -13,7 +13,7 @@ use Rattle.steps_base.specs.declared.acts.Act.TheVariants as act
 use Rattle.steps_base.specs.declared.acts.Next.TheVariants as next
 use Rattle.steps_base.specs.Moves.{HandsOver as Hands, IsGiven, WasGiven, row_of}
 use Rattle.steps_base.specs.Profiles.{Hand, hand}
-use Rattle.steps_base.specs.Stations.{station_by, nowhere}
+use Rattle.steps_base.specs.Locations.{location_by, nowhere}
 use Rattle.steps_rwlock.specs.declared.places.Admission.{Admission}
 use Rattle.steps_rwlock.specs.declared.places.RwLockPlace.{RwLockPlace}
 use Rattle.steps_rwlock.specs.declared.places.RwLockAt.{RwLockAt}
@@ -62,7 +62,7 @@ module _ (a : Admission) where
     none_left = k.none_left;
     was = refl;
     deeds = λ whom seen e. rw (e, room) refl;
-    goes = λ seen e. rw e (ap (λ r. station_by (row_of (next_rows a (next.At (HandOver access.Upgradable b (handing.Leave (any_taken k) r)))))) (ap (has_room a.limit k) (eqb-true seen expected e) ∙ room));
+    goes = λ seen e. rw e (ap (λ r. location_by (row_of (next_rows a (next.At (HandOver access.Upgradable b (handing.Leave (any_taken k) r)))))) (ap (has_room a.limit k) (eqb-true seen expected e) ∙ room));
     fails = λ whom seen e. rw e refl;
     stays = λ seen e. rw e refl;
   }
@@ -91,7 +91,7 @@ hand_overs_move l k a c op taken stands is e = absurd cc
 module _ (a : Admission) where
   abbrev Given : RwLockCallPlace → Type 0
   Given c =
-      (u : ℕ) (alone : Bool) (x : Want) → (call_profile a c).hand ≡ hand u false → (call_profile a c).doing.claims ≡ None → (call_profile a c).wants ≡ Some x → IsGiven (call_move a c) u x alone
+      (u : ℕ) (alone : Bool) (x : Want) → (call_profile a c).hand ≡ hand u false → (call_profile a c).role.claims ≡ None → (call_profile a c).wants ≡ Some x → IsGiven (call_move a c) u x alone
 
   plain_given : (q : RwLockPurpose) (again : Bool) (to : RwLockAt) → StandsAt q again to → Given (Plain (of a q again to))
   plain_given (purpose.Enter y how) again (at.Park (parking.Taken v)) stands u alone x h none wants =
@@ -114,27 +114,27 @@ module _ (a : Admission) where
   bump_given q again to stands bump u alone x h none wants = absurd bump
 
   -- woken, it has what it was handed
-  woken_station : (x : Access) (how : Patience) (b alone : Bool) → station_by (call_profile a (handed_woken x how b alone)) ≡ nowhere
-  woken_station access.Shared how b alone = refl
-  woken_station access.Upgradable how b alone = refl
-  woken_station access.Exclusive how b true = refl
-  woken_station access.Exclusive how true false = refl
-  woken_station access.Exclusive how false false = refl
+  woken_location : (x : Access) (how : Patience) (b alone : Bool) → location_by (call_profile a (handed_woken x how b alone)) ≡ nowhere
+  woken_location access.Shared how b alone = refl
+  woken_location access.Upgradable how b alone = refl
+  woken_location access.Exclusive how b true = refl
+  woken_location access.Exclusive how true false = refl
+  woken_location access.Exclusive how false false = refl
 
-  woken_doing : (x : Access) (how : Patience) (b alone : Bool) (by : ℕ) → (call_profile a (handed_woken x how b alone)).doing ≡ (call_profile a (Handed x how b (handed.Asleep by alone))).doing
-  woken_doing access.Shared how b true by = refl
-  woken_doing access.Shared how b false by = refl
-  woken_doing access.Upgradable how b true by = refl
-  woken_doing access.Upgradable how b false by = refl
-  woken_doing access.Exclusive how b true by = refl
-  woken_doing access.Exclusive how true false by = refl
-  woken_doing access.Exclusive how false false by = refl
+  woken_role : (x : Access) (how : Patience) (b alone : Bool) (by : ℕ) → (call_profile a (handed_woken x how b alone)).role ≡ (call_profile a (Handed x how b (handed.Asleep by alone))).role
+  woken_role access.Shared how b true by = refl
+  woken_role access.Shared how b false by = refl
+  woken_role access.Upgradable how b true by = refl
+  woken_role access.Upgradable how b false by = refl
+  woken_role access.Exclusive how b true by = refl
+  woken_role access.Exclusive how true false by = refl
+  woken_role access.Exclusive how false false by = refl
 
   was_handed : (x : Access) (how : Patience) (b alone : Bool) (by u : ℕ) → hand by true ≡ hand u true → WasGiven (call_move a (Handed x how b (handed.Asleep by alone))) u
   was_handed x how b alone by u h = record {
     was = ap (λ (y : Option Hand). record nowhere { hand = y }) h;
-    goes = woken_station x how b alone;
-    doing = woken_doing x how b alone by;
+    goes = woken_location x how b alone;
+    role = woken_role x how b alone by;
   }
 
 pub handed_move : HandedMove

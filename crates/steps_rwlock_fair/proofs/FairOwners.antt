@@ -72,8 +72,8 @@ module _ (r : Rules) (a : Admission) (s : Site) (t l : ℕ) (op : Op) (shared : 
   hand_over_owners x b to fits e = absurd cc
 
 pub fair_owners_follow : FairOwnersFollow
-fair_owners_follow r a s t l (Plain p) op shared o main second taken call e few limit is = rwlock_owners_follow r a s t l p op shared o main second taken (is_at r a s t p call.admits call.site call.doing call.stands call.there) e few limit is
-fair_owners_follow r a s t l (Bump p) op shared o main second taken call e few limit is = rwlock_owners_follow r a s t l p op shared o main second taken (is_at r a s t p call.admits call.site call.doing call.stands.0 call.there) e few limit is
+fair_owners_follow r a s t l (Plain p) op shared o main second taken call e few limit is = rwlock_owners_follow r a s t l p op shared o main second taken (is_at r a s t p call.admits call.site call.role call.stands call.there) e few limit is
+fair_owners_follow r a s t l (Bump p) op shared o main second taken call e few limit is = rwlock_owners_follow r a s t l p op shared o main second taken (is_at r a s t p call.admits call.site call.role call.stands.0 call.there) e few limit is
 fair_owners_follow r a s t l (Glance x) op shared o main second taken call e few limit is = glanced r a s t l op shared o main second taken is (gives_way a x (code r s))
 fair_owners_follow r a s t l (HandOver x b to) op shared o main second taken call e few limit is = hand_over_owners r a s t l op shared o main second taken is x b to call.stands e
 fair_owners_follow r a s t l (Handed x how b given.Accept) op shared o main second taken call e few limit is = sym is

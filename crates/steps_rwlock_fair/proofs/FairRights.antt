@@ -15,7 +15,7 @@ use Rattle.steps_rwlock_fair.specs.FairProfiles.{before_release}
 use Rattle.steps_rwlock_fair.specs.FairCalls.{HasInHand}
 use Rattle.steps_rwlock_fair.proofs.HandOvers.{WantsMore, HasNoWriter}
 
--- what a release found at its lock
+-- tells what a release found at its lock
 abbrev pub found : Bool → Want → Rights → Rights
 found given x y = if given then with_right x y else y
 
@@ -50,7 +50,7 @@ module _ (l t : ℕ) (s s2 : LockState) (x : Want) where
 
 -- ---------------------------------------------------------------- the giver behind a hand-over
 
--- who isn't in hand shares as it did
+-- a thread that isn't in hand shares as it did
 shares_same : (t u i : ℕ) (taken : ℕ → Option TakenBy) (ns : List ℕ) → taken (i + u) ≡ None → slice_index (sharing_from t taken i ns) u ≡ slice_index ns u
 shares_same t u i taken [] e = refl
 shares_same t zero i taken (n ∷ ns) e = let z : shares_handed t (taken i) ≡ 0 = (let f : taken i ≡ None = subst (λ k. taken k ≡ None) (omega arith) e in ap (shares_handed t) f) in omega arith

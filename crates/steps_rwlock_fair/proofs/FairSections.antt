@@ -12,7 +12,7 @@ use Rattle.steps_base.specs.declared.acts.Reply.{Reply}
 use Rattle.steps_base.specs.declared.acts.Reply.TheVariants as reply
 use Rattle.steps_base.specs.Moves.{IsFree}
 use Rattle.spec_locks.specs.Locks.{Rules, Taken as TakenBy, TakePicked, Knows, HasTakenNobody, unpicked, putting}
-use Rattle.spec_locks.specs.Sites.{Has, Doing, idle, is_empty, Site, IsSite, End, In, Out, Case, leaves, wakened}
+use Rattle.spec_locks.specs.Sites.{Has, Role, idle, is_empty, Site, IsSite, End, In, Out, Case, leaves, wakened}
 use Rattle.steps_rwlock.specs.declared.places.Admission.{Admission}
 use Rattle.steps_rwlock.specs.declared.places.RwLockPlace.{RwLockPlace}
 use Rattle.steps_rwlock.specs.declared.places.RwLockAt.{RwLockAt}
@@ -22,7 +22,7 @@ use Rattle.steps_rwlock.specs.declared.park.ParkAt.TheVariants as parking
 use Rattle.steps_rwlock.specs.declared.release.WakeAt.{WakeAt}
 use Rattle.steps_rwlock.specs.declared.release.WakeAt.TheVariants as waking
 use Rattle.steps_rwlock.specs.RwLockSteps.{wanted, start_of, rwlock_next}
-use Rattle.steps_rwlock.specs.RwLockDeeds.{at_rest, within, rwlock_doing, rwlock_deeds, doing_next, Admits, MayHear, MayHearParking, MayHearWaking, Follows}
+use Rattle.steps_rwlock.specs.RwLockDeeds.{at_rest, within, rwlock_role, rwlock_deeds, role_next, Admits, MayHear, MayHearParking, MayHearWaking, Follows}
 use Rattle.steps_rwlock.specs.RwLockCalls.{MayStand}
 use Rattle.steps_rwlock.proofs.RwLockFit.{put_same, knows_all}
 use Rattle.steps_rwlock.proofs.RwLockSections.{rwlock_sections_follow}
@@ -34,10 +34,10 @@ use Rattle.steps_rwlock_fair.specs.declared.handed.HandedAt.{HandedAt}
 use Rattle.steps_rwlock_fair.specs.declared.handed.HandedAt.TheVariants as handed
 use Rattle.steps_rwlock_fair.specs.declared.hand_over.Taken.{Taken}
 use Rattle.steps_rwlock_fair.specs.FairSteps.{given, took}
-use Rattle.steps_rwlock_fair.specs.FairDeeds.{holding, hand_over_doing, call_doing}
+use Rattle.steps_rwlock_fair.specs.FairDeeds.{holding, hand_over_role, call_role}
 use Rattle.steps_rwlock_fair.specs.FairCalls.{MayHearHanding, MayHearHanded}
 use Rattle.steps_rwlock_fair.specs.FairLaws.{CallFollowsBy, FairSectionsFollow}
-use Rattle.steps_rwlock_fair.proofs.FairFit.{plain_doing, bump_doing, released_doing}
+use Rattle.steps_rwlock_fair.proofs.FairFit.{plain_role, bump_role, released_role}
 
 -- ---------------------------------------------------------------- what is told of a section goes to no hand
 
@@ -86,53 +86,53 @@ module _ (r : Rules) (a : Admission) (s : Site) (t : ℕ) where
 
 module _ (r : Rules) (a : Admission) (s : Site) (t : ℕ) (admits : Admits r a) (h : IsSite r s) where
   -- into a section that is free
-  goes_in : (x : Want) → IsFree s Main → s.doing t ≡ at_rest None (Some (Has x)) → Follows r s t (In Main ∷ []) (within Main None (Some (Has x)))
-  goes_in x free is = record { needed = ((free, ap (λ (d : Doing). d.inside) is, ap (λ (d : Doing). d.empty) is), tt); doing = put_same s.doing t _ ∙ ap (λ (d : Doing). record d { inside = Some Main }) is }
+  goes_in : (x : Want) → IsFree s Main → s.role t ≡ at_rest None (Some (Has x)) → Follows r s t (In Main ∷ []) (within Main None (Some (Has x)))
+  goes_in x free is = record { needed = ((free, ap (λ (d : Role). d.inside) is, ap (λ (d : Role). d.empty) is), tt); role = put_same s.role t _ ∙ ap (λ (d : Role). record d { inside = Some Main }) is }
 
   -- and out of one
-  goes_out : (d : Doing) → s.lock.taken t ≡ None → s.doing t ≡ d → d.inside ≢ None → d.wakes ≡ None → d.sets ≡ false → leaves d ≡ idle → Follows r s t (Out ∷ []) idle
+  goes_out : (d : Role) → s.lock.taken t ≡ None → s.role t ≡ d → d.inside ≢ None → d.wakes ≡ None → d.sets ≡ false → leaves d ≡ idle → Follows r s t (Out ∷ []) idle
   goes_out d free is inside owes unset gone = record {
-    needed = (((λ e. inside (sym (ap (λ (x : Doing). x.inside) is) ∙ e)), ap (λ (x : Doing). x.wakes) is ∙ owes, ap (λ (x : Doing). x.sets) is ∙ unset), tt);
-    doing = ap (λ (o : Option TakenBy). wakened t o (putting s.doing t (leaves (s.doing t)) t)) free ∙ put_same s.doing t _ ∙ ap leaves is ∙ gone;
+    needed = (((λ e. inside (sym (ap (λ (x : Role). x.inside) is) ∙ e)), ap (λ (x : Role). x.wakes) is ∙ owes, ap (λ (x : Role). x.sets) is ∙ unset), tt);
+    role = ap (λ (o : Option TakenBy). wakened t o (putting s.role t (leaves (s.role t)) t)) free ∙ put_same s.role t _ ∙ ap leaves is ∙ gone;
   }
 
-  nobody_taken : (s.doing t).carries ≡ false → HasTakenNobody s.lock t
+  nobody_taken : (s.role t).carries ≡ false → HasTakenNobody s.lock t
   nobody_taken none u x e = let g = h.carried u _ e in cc
 
   -- an owner takes whom the lock lets in once it has gone
-  takes : (x : Want) (n : ℕ) (y : Option Want) (b : Bool) → b ≡ is_empty (unpicked r.sort None s.lock.queue) → s.doing t ≡ within Main None (Some (Has x)) → Knows r.sort Upgradable
+  takes : (x : Want) (n : ℕ) (y : Option Want) (b : Bool) → b ≡ is_empty (unpicked r.sort None s.lock.queue) → s.role t ≡ within Main None (Some (Has x)) → Knows r.sort Upgradable
       → Follows r s t (Case (TakePicked None) ∷ []) (holding x (record { sharers = n; successor = y; none_left = b }))
-  takes x n y true e is knows = let free = nobody_taken (ap (λ (d : Doing). d.carries) is) in record { needed = grind (arith, nat_tests); doing = grind (arith, nat_tests) }
-  takes x n y false e is knows = let free = nobody_taken (ap (λ (d : Doing). d.carries) is) in record { needed = grind (arith, nat_tests); doing = grind (arith, nat_tests) }
+  takes x n y true e is knows = let free = nobody_taken (ap (λ (d : Role). d.carries) is) in record { needed = grind (arith, nat_tests); role = grind (arith, nat_tests) }
+  takes x n y false e is knows = let free = nobody_taken (ap (λ (d : Role). d.carries) is) in record { needed = grind (arith, nat_tests); role = grind (arith, nat_tests) }
 
-  took_doing : (x : Access) (y : Want) (k : Taken) → hand_over_doing y (took x k) ≡ holding y k
-  took_doing access.Shared y k = refl
-  took_doing access.Upgradable y k = refl
-  took_doing access.Exclusive y k = refl
+  took_role : (x : Access) (y : Want) (k : Taken) → hand_over_role y (took x k) ≡ holding y k
+  took_role access.Shared y k = refl
+  took_role access.Upgradable y k = refl
+  took_role access.Exclusive y k = refl
 
-  hand_over_sections : (x : Access) (b : Bool) (to : HandOverAt) (whom : Option ℕ) (told : Reply) → s.doing t ≡ call_doing (HandOver x b to) → MayHearHanding r s t to whom told → CallFollowsBy r a s t (HandOver x b to) whom told
+  hand_over_sections : (x : Access) (b : Bool) (to : HandOverAt) (whom : Option ℕ) (told : Reply) → s.role t ≡ call_role (HandOver x b to) → MayHearHanding r s t to whom told → CallFollowsBy r a s t (HandOver x b to) whom told
   hand_over_sections x b handing.Enter whom reply.Done is hears = goes_in (wanted x) hears is
   hand_over_sections x b handing.Take whom (reply.Picked n y none_left) is hears =
-      rw (took_doing x (wanted x) (record { sharers = n; successor = y; none_left = none_left })) (takes (wanted x) n y none_left hears is (knows_all r admits.0 access.Upgradable))
-  hand_over_sections x b (handing.Leave any handed) whom reply.Done is hears = rw (released_doing x b) (goes_out _ hears is (λ e. cc) refl refl refl)
+      rw (took_role x (wanted x) (record { sharers = n; successor = y; none_left = none_left })) (takes (wanted x) n y none_left hears is (knows_all r admits.0 access.Upgradable))
+  hand_over_sections x b (handing.Leave any handed) whom reply.Done is hears = rw (released_role x b) (goes_out _ hears is (λ e. cc) refl refl refl)
   hand_over_sections x b to whom told is hears = absurd hears
 
-  ends : (x : Want) → s.doing t ≡ at_rest None (Some (Has x)) → Follows r s t (End ∷ []) idle
-  ends x is = record { needed = grind (arith, nat_tests); doing = grind (arith, nat_tests) }
+  ends : (x : Want) → s.role t ≡ at_rest None (Some (Has x)) → Follows r s t (End ∷ []) idle
+  ends x is = record { needed = grind (arith, nat_tests); role = grind (arith, nat_tests) }
 
-  handed_sections : (x : Access) (how : Patience) (b : Bool) (to : HandedAt) (told : Reply) → s.doing t ≡ call_doing (Handed x how b to) → MayHearHanded x to told → CallFollowsBy r a s t (Handed x how b to) None told
+  handed_sections : (x : Access) (how : Patience) (b : Bool) (to : HandedAt) (told : Reply) → s.role t ≡ call_role (Handed x how b to) → MayHearHanded x to told → CallFollowsBy r a s t (Handed x how b to) None told
   handed_sections access.Shared how b handed.Accept reply.Done is hears = ends (wanted access.Shared) is
   handed_sections access.Upgradable how b handed.Accept reply.Done is hears = ends (wanted access.Upgradable) is
   handed_sections access.Exclusive how b to told is hears = absurd hears
   handed_sections x how b to told is hears = absurd hears
 
-  within_calls : (p : RwLockPlace) (whom : Option ℕ) (told : Reply) → MayStand a p → s.doing t ≡ rwlock_doing p → t < length s.lock.shared → MayHear r a s t p p.at whom told
-      → Follows r s t (rwlock_deeds a p whom told) (doing_next (rwlock_next a p told))
+  within_calls : (p : RwLockPlace) (whom : Option ℕ) (told : Reply) → MayStand a p → s.role t ≡ rwlock_role p → t < length s.lock.shared → MayHear r a s t p p.at whom told
+      → Follows r s t (rwlock_deeds a p whom told) (role_next (rwlock_next a p told))
   within_calls p whom told stands is there hears = rwlock_sections_follow r a s t p whom told (is_at r a s t p admits h is stands there) hears
 
 pub fair_sections_follow : FairSectionsFollow
-fair_sections_follow r a s t (Plain p) whom told call hears = rw (not_given r a s t false p whom told hears) (rw (plain_doing (rwlock_next a p told)) (within_calls r a s t call.admits call.site p whom told call.stands call.doing call.there hears))
-fair_sections_follow r a s t (Bump p) whom told call hears = rw (not_given r a s t true p whom told hears) (rw (bump_doing p.purpose (rwlock_next a p told)) (within_calls r a s t call.admits call.site p whom told call.stands.0 call.doing call.there hears))
+fair_sections_follow r a s t (Plain p) whom told call hears = rw (not_given r a s t false p whom told hears) (rw (plain_role (rwlock_next a p told)) (within_calls r a s t call.admits call.site p whom told call.stands call.role call.there hears))
+fair_sections_follow r a s t (Bump p) whom told call hears = rw (not_given r a s t true p whom told hears) (rw (bump_role p.purpose (rwlock_next a p told)) (within_calls r a s t call.admits call.site p whom told call.stands.0 call.role call.there hears))
 fair_sections_follow r a s t (Glance x) whom told call hears = absurd hears
-fair_sections_follow r a s t (HandOver x b to) whom told call hears = hand_over_sections r a s t call.admits call.site x b to whom told call.doing hears
-fair_sections_follow r a s t (Handed x how b to) whom told call hears = handed_sections r a s t call.admits call.site x how b to told call.doing hears
+fair_sections_follow r a s t (HandOver x b to) whom told call hears = hand_over_sections r a s t call.admits call.site x b to whom told call.role hears
+fair_sections_follow r a s t (Handed x how b to) whom told call hears = handed_sections r a s t call.admits call.site x how b to told call.role hears

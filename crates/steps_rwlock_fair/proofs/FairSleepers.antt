@@ -114,7 +114,7 @@ module _ (a : Admission) (l : ℕ) where
 
   -- ---------------------------------------------------------------- who is handed the lock
 
-  plain_given : (q : RwLockPurpose) (again : Bool) (to : RwLockAt) (u : ℕ) (alone : Bool) → StandsAt q again to → hand_at to ≡ hand u false → (rwlock_profile a (of q again to)).doing.claims ≡ None → IsGiven a l (Plain (of q again to)) u alone
+  plain_given : (q : RwLockPurpose) (again : Bool) (to : RwLockAt) (u : ℕ) (alone : Bool) → StandsAt q again to → hand_at to ≡ hand u false → (rwlock_profile a (of q again to)).role.claims ≡ None → IsGiven a l (Plain (of q again to)) u alone
   plain_given (purpose.Enter x how) again (at.Park (parking.Taken v)) u alone stands h none = λ c2 rights y w e.
       subst (λ c. call_by l (call_profile a c) (with_claim (claim_handed alone y) l rights) ≡ record (call_by l (call_profile a (Plain (of (purpose.Enter x how) again (at.Park (parking.Taken v))))) rights) { retries = None }) (let z : Handed x how false (handed.Asleep u alone) ≡ c2 = cc in z)
       (subst (λ z. call_by l (call_profile a (Handed x how false (handed.Asleep u alone))) (with_claim (claim_handed alone z) l rights) ≡ record (call_by l (call_profile a (Plain (of (purpose.Enter x how) again (at.Park (parking.Taken v))))) rights) { retries = None }) (let z : wanted x ≡ y = cc in z)
@@ -134,7 +134,7 @@ module _ (a : Admission) (l : ℕ) where
   plain_given (purpose.Downgrade d) again (at.Aside to) u alone stands h none = absurd stands
   plain_given q again to u alone stands h none = absurd cc
 
-  bump_given : (q : RwLockPurpose) (again : Bool) (to : RwLockAt) (u : ℕ) (alone : Bool) → StandsAt q again to → IsOfBump q again → hand_at to ≡ hand u false → (rwlock_profile a (of q again to)).doing.claims ≡ None → IsGiven a l (Bump (of q again to)) u alone
+  bump_given : (q : RwLockPurpose) (again : Bool) (to : RwLockAt) (u : ℕ) (alone : Bool) → StandsAt q again to → IsOfBump q again → hand_at to ≡ hand u false → (rwlock_profile a (of q again to)).role.claims ≡ None → IsGiven a l (Bump (of q again to)) u alone
   bump_given (purpose.Enter x Patient) again (at.Park (parking.Taken v)) u alone stands bump h none = λ c2 rights y w e.
       subst (λ c. call_by l (call_profile a c) (with_claim (claim_handed alone y) l rights) ≡ record (call_by l (call_profile a (Bump (of (purpose.Enter x Patient) again (at.Park (parking.Taken v))))) rights) { retries = None }) (let z : Handed x Patient true (handed.Asleep u alone) ≡ c2 = cc in z)
       (subst (λ z. call_by l (call_profile a (Handed x Patient true (handed.Asleep u alone))) (with_claim (claim_handed alone z) l rights) ≡ record (call_by l (call_profile a (Bump (of (purpose.Enter x Patient) again (at.Park (parking.Taken v))))) rights) { retries = None }) (let z : wanted x ≡ y = cc in z)

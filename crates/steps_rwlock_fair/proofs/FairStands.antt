@@ -181,7 +181,7 @@ module _ (a : Admission) where
   patient x Timed again of = absurd of
   patient x Try again of = absurd of
 
-  -- who is handed the lock waited for it
+  -- a thread that is handed the lock waited for it
   waited : (x : Access) (how : Patience) (again : Bool) (to : ParkAt) → IsAsleep to → StandsAt (purpose.Enter x how) again (at.Park to) → MayWait how
   waited access.Exclusive how again parking.Asleep is stands = stands
   waited access.Shared how again parking.Asleep is stands = stands

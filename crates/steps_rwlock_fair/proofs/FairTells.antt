@@ -18,7 +18,7 @@ use Rattle.steps_base.specs.Calls.{CallFollows}
 use Rattle.spec_locks.specs.Locks.{Rules, Rights, LockCase, Leave, TakePicked, HandOff, Wake, Owns, after_case, handed, rights_of, with_right, without_owner}
 use Rattle.spec_locks.specs.Purposes.{Blank, IsMadeOf, ReleasesBy, is_fair_bump}
 use Rattle.spec_locks.specs.Runs.{CallState}
-use Rattle.spec_locks.specs.Sites.{Has, Doing, Site, IsSite, Deed, Case, In, Out}
+use Rattle.spec_locks.specs.Sites.{Has, Role, Site, IsSite, Deed, Case, In, Out}
 use Rattle.spec_locks.specs.Codes.{code, has_parked}
 use Rattle.spec_locks.specs.Deeds.{KeepLock}
 use Rattle.spec_locks.proofs.Rights.{left}
@@ -32,7 +32,7 @@ use Rattle.steps_rwlock_fair.specs.declared.hand_over.Taken.{Taken}
 use Rattle.steps_rwlock_fair.specs.declared.hand_over.HandOverAt.{HandOverAt}
 use Rattle.steps_rwlock_fair.specs.declared.hand_over.HandOverAt.TheVariants as handing
 use Rattle.steps_rwlock_fair.specs.FairSteps.{any_taken, has_room, with_taken, parked_as, without, released, looked, took, freed_next, gives_up_at, hand_over_act, call_act}
-use Rattle.steps_rwlock_fair.specs.FairDeeds.{holding, freed_deeds, exchanged_deeds, hands_over, leaves_over, glance_deeds, call_doing}
+use Rattle.steps_rwlock_fair.specs.FairDeeds.{holding, freed_deeds, exchanged_deeds, hands_over, leaves_over, glance_deeds, call_role}
 use Rattle.steps_rwlock_fair.specs.FairProfiles.{call_profile, release_purpose, has_given}
 use Rattle.steps_rwlock_fair.specs.FairCalls.{HandsOverAt, IsInCall, HasInHand, MayHearHanding, in_hand_of}
 use Rattle.steps_rwlock_fair.specs.FairLaws.{next_rows, CallTells, HandOversTell}
@@ -183,14 +183,14 @@ module _ (r : Rules) (a : Admission) (s : Site) (t l : ℕ) where
   hand_over_sections_tell x b to whom told fits hears = absurd hears
 
   -- the giver owns until then
-  pub owns_at : (x : Access) (b : Bool) (to : HandOverAt) → IsSite r s → s.doing t ≡ call_doing (HandOver x b to) → has_given to ≡ false → Owns s.lock t (wanted x)
-  owns_at x b handing.Load h is e = h.held t (Has (wanted x)) (ap (λ (d : Doing). d.claims) is)
-  owns_at x b (handing.Free seen) h is e = h.held t (Has (wanted x)) (ap (λ (d : Doing). d.claims) is)
-  owns_at x b handing.Enter h is e = h.held t (Has (wanted x)) (ap (λ (d : Doing). d.claims) is)
-  owns_at x b handing.Take h is e = h.held t (Has (wanted x)) (ap (λ (d : Doing). d.claims) is)
-  owns_at x b (handing.Store k) h is e = h.held t (Has (wanted x)) (ap (λ (d : Doing). d.claims) is)
-  owns_at x b (handing.Look k) h is e = h.held t (Has (wanted x)) (ap (λ (d : Doing). d.claims) is)
-  owns_at x b (handing.Exchange k seen) h is e = h.held t (Has (wanted x)) (ap (λ (d : Doing). d.claims) is)
+  pub owns_at : (x : Access) (b : Bool) (to : HandOverAt) → IsSite r s → s.role t ≡ call_role (HandOver x b to) → has_given to ≡ false → Owns s.lock t (wanted x)
+  owns_at x b handing.Load h is e = h.held t (Has (wanted x)) (ap (λ (d : Role). d.claims) is)
+  owns_at x b (handing.Free seen) h is e = h.held t (Has (wanted x)) (ap (λ (d : Role). d.claims) is)
+  owns_at x b handing.Enter h is e = h.held t (Has (wanted x)) (ap (λ (d : Role). d.claims) is)
+  owns_at x b handing.Take h is e = h.held t (Has (wanted x)) (ap (λ (d : Role). d.claims) is)
+  owns_at x b (handing.Store k) h is e = h.held t (Has (wanted x)) (ap (λ (d : Role). d.claims) is)
+  owns_at x b (handing.Look k) h is e = h.held t (Has (wanted x)) (ap (λ (d : Role). d.claims) is)
+  owns_at x b (handing.Exchange k seen) h is e = h.held t (Has (wanted x)) (ap (λ (d : Role). d.claims) is)
   owns_at x b (handing.Leave any handed) h is e = absurd cc
 
 -- ---------------------------------------------------------------- the step that hands over
@@ -199,13 +199,13 @@ module _ (r : Rules) (a : Admission) (s : Site) (t l : ℕ) (op : Op) (whom : Op
   more : WantsMore j.successor
   more = wants_more r s t j whom call.0 site hand
 
-  gone_exclusive : s.doing t ≡ holding Exclusive j → with_right Exclusive (rights_of (handed t Exclusive (heir_of whom j.successor) s.lock) t) ≡ rights_of s.lock t
-  gone_exclusive is = gave r s.lock t free j whom hand more Exclusive (λ f. cc) (site.held t (Has Exclusive) (ap (λ (d : Doing). d.claims) is)) (exclusive_gone r s t site (ap (λ (d : Doing). d.claims) is)).0
+  gone_exclusive : s.role t ≡ holding Exclusive j → with_right Exclusive (rights_of (handed t Exclusive (heir_of whom j.successor) s.lock) t) ≡ rights_of s.lock t
+  gone_exclusive is = gave r s.lock t free j whom hand more Exclusive (λ f. cc) (site.held t (Has Exclusive) (ap (λ (d : Role). d.claims) is)) (exclusive_gone r s t site (ap (λ (d : Role). d.claims) is)).0
 
-  gone_upgradable : s.doing t ≡ holding Upgradable j → with_right Upgradable (rights_of (handed t Upgradable (heir_of whom j.successor) s.lock) t) ≡ rights_of s.lock t
-  gone_upgradable is = gave r s.lock t free j whom hand more Upgradable (λ f. cc) (site.held t (Has Upgradable) (ap (λ (d : Doing). d.claims) is)) (upgradable_gone r s t site (ap (λ (d : Doing). d.claims) is)).0
+  gone_upgradable : s.role t ≡ holding Upgradable j → with_right Upgradable (rights_of (handed t Upgradable (heir_of whom j.successor) s.lock) t) ≡ rights_of s.lock t
+  gone_upgradable is = gave r s.lock t free j whom hand more Upgradable (λ f. cc) (site.held t (Has Upgradable) (ap (λ (d : Role). d.claims) is)) (upgradable_gone r s t site (ap (λ (d : Role). d.claims) is)).0
 
-  exchanged : (b : Bool) (expected : ℕ) → s.doing t ≡ holding Upgradable j → (room : Bool) → has_room a.limit j expected ≡ room → (won : Bool) → (code r s == expected) ≡ won
+  exchanged : (b : Bool) (expected : ℕ) → s.role t ≡ holding Upgradable j → (room : Bool) → has_room a.limit j expected ≡ room → (won : Bool) → (code r s == expected) ≡ won
       → (if room then act.HandOver l (operation.Exchange expected (with_taken access.Upgradable j expected)) else act.Word l (operation.Exchange expected (parked_as j.none_left (without access.Upgradable expected)))) ≡ act.HandOver l op
       → Tells r a s t l (HandOver access.Upgradable b (handing.Exchange j expected)) (exchanged_deeds Upgradable j whom won room)
       (if won then next.At (HandOver access.Upgradable b (handing.Leave (any_taken j) (has_room a.limit j (code r s)))) else next.At (HandOver access.Upgradable b (handing.Exchange j (code r s))))
@@ -225,8 +225,8 @@ hand_overs_tell r a s t l c op whom over e = by_place c over.call over.is e
     hand_of j same = subst (λ (i : Taken). HasInHand s.lock t i whom) same over.in_hand
 
     by_place : (c : RwLockCallPlace) → IsInCall r a s t c → in_hand_of c ≡ Some k → call_act l a c ≡ act.HandOver l op → CallTells r a s t l c whom (reply.Value (code r s))
-    by_place (HandOver access.Exclusive b (handing.Store j)) call is e = let same : k ≡ j = cc in stores r a s t l b j whom (any_taken j) (gone_exclusive r a s t l op whom call.admits call.site over.free j (hand_of j same) call.doing)
-    by_place (HandOver access.Upgradable b (handing.Exchange j expected)) call is e = let same : k ≡ j = cc in exchanged r a s t l op whom call.admits call.site over.free j (hand_of j same) b expected call.doing (has_room a.limit j expected) refl (code r s == expected) refl e
+    by_place (HandOver access.Exclusive b (handing.Store j)) call is e = let same : k ≡ j = cc in stores r a s t l b j whom (any_taken j) (gone_exclusive r a s t l op whom call.admits call.site over.free j (hand_of j same) call.role)
+    by_place (HandOver access.Upgradable b (handing.Exchange j expected)) call is e = let same : k ≡ j = cc in exchanged r a s t l op whom call.admits call.site over.free j (hand_of j same) b expected call.role (has_room a.limit j expected) refl (code r s == expected) refl e
     by_place (HandOver access.Exclusive b (handing.Exchange j expected)) call is e = absurd call.stands
     by_place (HandOver access.Upgradable b (handing.Store j)) call is e = absurd call.stands
     by_place (HandOver access.Shared b to) call is e = absurd call.stands

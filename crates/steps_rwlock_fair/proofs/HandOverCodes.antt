@@ -11,7 +11,7 @@ use Rattle.spec_locks.specs.declared.calls.Access.TheVariants as access
 use Rattle.steps_base.specs.declared.acts.Act.TheVariants as act
 use Rattle.steps_base.specs.declared.acts.Reply.TheVariants as reply
 use Rattle.spec_locks.specs.Locks.{LockState, Rules, HandOff, count, readers, one_if_some, handed}
-use Rattle.spec_locks.specs.Sites.{Doing, Site, IsSite, Case, has_readers, after_deed}
+use Rattle.spec_locks.specs.Sites.{Role, Site, IsSite, Case, has_readers, after_deed}
 use Rattle.spec_locks.specs.Codes.{code, rw_code, TellsTrue, HasLimit, writers, count_in, bit}
 use Rattle.spec_locks.specs.Deeds.{after_all}
 use Rattle.spec_locks.proofs.CodeLaws.{rw_is, words_tell_true}
@@ -73,10 +73,10 @@ module _ (r : Rules) (s : Site) (t : ℕ) (whom : Option ℕ) (rw_sort : has_rea
   abbrev now : Want → LockState
   now x = handed t x (heir_of whom k.successor) s.lock
 
-  -- what an exclusive owner stores
-  pub stored : s.doing t ≡ holding Exclusive k → k.sharers < 2 ^ 60 - 1 → code r (after_deed r (bit_left k.none_left) (after_hand Exclusive) t) ≡ parked_as k.none_left (tokens k)
+  -- tells what an exclusive owner stores
+  pub stored : s.role t ≡ holding Exclusive k → k.sharers < 2 ^ 60 - 1 → code r (after_deed r (bit_left k.none_left) (after_hand Exclusive) t) ≡ parked_as k.none_left (tokens k)
   stored is few =
-      let gone = exclusive_gone r s t h (ap (λ (d : Doing). d.claims) is) in
+      let gone = exclusive_gone r s t h (ap (λ (d : Role). d.claims) is) in
       let sum_is = adds _ gone.0 k.successor whom more hand.named in
       let all = hand.sharers in let nobody = gone.1 in
       let bits = settles r (after_hand Exclusive) t k.none_left in
@@ -94,11 +94,11 @@ module _ (r : Rules) (s : Site) (t : ℕ) (whom : Option ℕ) (rw_sort : has_rea
   now_code : rw_code (after_hand Upgradable) ≡ (16 * count (now Upgradable) + (8 * writers (now Upgradable) + 4 * one_if_some (now Upgradable).upgradable)) + (2 * bit s.aside_parked + bit (after_hand Upgradable).parked)
   now_code = omega arith
 
-  -- what an upgradable owner exchanges
-  pub exchanged_word : s.doing t ≡ holding Upgradable k → code r s < 2 ^ 64 → (count_in (code r s) - 1) + counted k ≤ r.limit → r.limit < 2 ^ 60 - 1
+  -- tells what an upgradable owner exchanges
+  pub exchanged_word : s.role t ≡ holding Upgradable k → code r s < 2 ^ 64 → (count_in (code r s) - 1) + counted k ≤ r.limit → r.limit < 2 ^ 60 - 1
       → code r (after_deed r (bit_left k.none_left) (after_hand Upgradable) t) ≡ with_taken access.Upgradable k (code r s)
   exchanged_word is small room few =
-      let gone = upgradable_gone r s t h (ap (λ (d : Doing). d.claims) is) in
+      let gone = upgradable_gone r s t h (ap (λ (d : Role). d.claims) is) in
       let sum_is : 16 * count (now Upgradable) + (8 * writers (now Upgradable) + 4 * one_if_some (now Upgradable).upgradable) ≡ 16 * readers s.lock + (16 * k.sharers + token_of k.successor) =
       adds _ gone.0 k.successor whom more hand.named ∙ ap (λ n. 16 * n + token_of k.successor) hand.sharers ∙ (let e : 16 * (readers s.lock + k.sharers) + token_of k.successor ≡ 16 * readers s.lock + (16 * k.sharers + token_of k.successor) = omega arith in e) in
       let bits = settles r (after_hand Upgradable) t k.none_left in
@@ -108,9 +108,9 @@ module _ (r : Rules) (s : Site) (t : ℕ) (whom : Option ℕ) (rw_sort : has_rea
       (sums (code r s) (readers s.lock) (16 * k.sharers + token_of k.successor) (bit s.aside_parked) (bit s.parked) _ (if k.none_left then 0 else 1) (bit (after_hand Upgradable).parked) (rw_code (after_hand Upgradable)) (coded s ∙ gone.2) (one_bit s.aside_parked) (one_bit s.parked) small (let e = token_even k.successor in omega arith) (omega (arith, enough.1)) (now_code ∙ ap (λ n. n + (2 * bit s.aside_parked + bit (after_hand Upgradable).parked)) sum_is) bits)
 
   -- the limit
-  pub exclusive_limit : s.doing t ≡ holding Exclusive k → k.sharers < r.limit → HasLimit r (now Exclusive)
+  pub exclusive_limit : s.role t ≡ holding Exclusive k → k.sharers < r.limit → HasLimit r (now Exclusive)
   exclusive_limit is few =
-      let gone = exclusive_gone r s t h (ap (λ (d : Doing). d.claims) is) in
+      let gone = exclusive_gone r s t h (ap (λ (d : Role). d.claims) is) in
       let all = hand.sharers in let nobody = gone.1 in
       let n = by_bit (is_upgradable k.successor) (counts _ gone.0 k.successor whom more hand.named ∙ ap (λ m. m + (if is_upgradable k.successor then 1 else 0)) hand.sharers) in
       let last = lasting _ gone.0 k.successor whom more hand.named in
@@ -120,9 +120,9 @@ module _ (r : Rules) (s : Site) (t : ℕ) (whom : Option ℕ) (rw_sort : has_rea
       by_bit true e = omega arith
       by_bit false e = omega arith
 
-  pub upgradable_limit : s.doing t ≡ holding Upgradable k → count (now Upgradable) ≤ r.limit → HasLimit r (now Upgradable)
+  pub upgradable_limit : s.role t ≡ holding Upgradable k → count (now Upgradable) ≤ r.limit → HasLimit r (now Upgradable)
   upgradable_limit is few =
-      let gone = upgradable_gone r s t h (ap (λ (d : Doing). d.claims) is) in
+      let gone = upgradable_gone r s t h (ap (λ (d : Role). d.claims) is) in
       let last = lasting _ gone.0 k.successor whom more hand.named in
       record { top = omega arith; normal = λ e. few; falls = λ p e f. few; falls_normal = λ p e f. absurd (let g : true ≡ false = sym f ∙ last p e in cc) }
 
@@ -133,10 +133,10 @@ module _ (r : Rules) (a : Admission) (s : Site) (t l : ℕ) (op : Op) (whom : Op
   abbrev Leads : RwLockCallPlace → Type 0
   Leads c = apply op (code r s) ≡ code r (behind_call r a s t c whom (reply.Value (code r s)))
 
-  stores : s.doing t ≡ holding Exclusive k → op ≡ operation.Store (parked_as k.none_left (tokens k)) → k.sharers < 2 ^ 60 - 1 → Leads (HandOver access.Exclusive false (handing.Store k))
+  stores : s.role t ≡ holding Exclusive k → op ≡ operation.Store (parked_as k.none_left (tokens k)) → k.sharers < 2 ^ 60 - 1 → Leads (HandOver access.Exclusive false (handing.Store k))
   stores is e few = rw e (sym (stored r s t whom admits.0 h k hand is few))
 
-  exchanges : (expected : ℕ) → s.doing t ≡ holding Upgradable k → code r s < 2 ^ 64 → a.limit < 2 ^ 60 - 1 → (room : Bool) → has_room a.limit k expected ≡ room → (won : Bool) → (code r s == expected) ≡ won
+  exchanges : (expected : ℕ) → s.role t ≡ holding Upgradable k → code r s < 2 ^ 64 → a.limit < 2 ^ 60 - 1 → (room : Bool) → has_room a.limit k expected ≡ room → (won : Bool) → (code r s == expected) ≡ won
       → (if room then act.HandOver l (operation.Exchange expected (with_taken access.Upgradable k expected)) else act.Word l (operation.Exchange expected (parked_as k.none_left (without access.Upgradable expected)))) ≡ act.HandOver l op
       → apply op (code r s) ≡ code r (after_all r (exchanged_deeds Upgradable k whom won room) s t)
   exchanges expected is small few false er won ew e = absurd cc
@@ -146,7 +146,7 @@ module _ (r : Rules) (a : Admission) (s : Site) (t l : ℕ) (op : Op) (whom : Op
       let same = eqb-true (code r s) expected ew in let m = admits.2 in
       rw (f, ew) (sym (exchanged_word r s t whom admits.0 h k hand is small (room_is (code r s) (ap (has_room a.limit k) same ∙ er)) (omega arith) ∙ ap (with_taken access.Upgradable k) same))
 
-  limited : (expected : ℕ) → s.doing t ≡ holding Upgradable k → HasLimit r s.lock → (room : Bool) → has_room a.limit k expected ≡ room → (won : Bool) → (code r s == expected) ≡ won
+  limited : (expected : ℕ) → s.role t ≡ holding Upgradable k → HasLimit r s.lock → (room : Bool) → has_room a.limit k expected ≡ room → (won : Bool) → (code r s == expected) ≡ won
       → (if room then act.HandOver l (operation.Exchange expected (with_taken access.Upgradable k expected)) else act.Word l (operation.Exchange expected (parked_as k.none_left (without access.Upgradable expected)))) ≡ act.HandOver l op
       → HasLimit r (after_all r (exchanged_deeds Upgradable k whom won room) s t).lock
   limited expected is limit false er won ew e = absurd cc
@@ -163,10 +163,10 @@ hand_overs_code r a s t l c op whom over e lt small few limit = by_place c over.
     by_place : (c : RwLockCallPlace) → IsInCall r a s t c → in_hand_of c ≡ Some k → call_act l a c ≡ act.HandOver l op → apply op (code r s) ≡ code r (behind_call r a s t c whom (reply.Value (code r s)))
     by_place (HandOver access.Exclusive b (handing.Store j)) call is e =
         let same : k ≡ j = cc in let f : op ≡ operation.Store (parked_as j.none_left (tokens j)) = cc in
-        stores r a s t l op whom call.admits call.site j (subst (λ (i : Taken). HasInHand s.lock t i whom) same over.in_hand) call.doing f (subst (λ (i : Taken). i.sharers < 2 ^ 60 - 1) same (omega arith))
+        stores r a s t l op whom call.admits call.site j (subst (λ (i : Taken). HasInHand s.lock t i whom) same over.in_hand) call.role f (subst (λ (i : Taken). i.sharers < 2 ^ 60 - 1) same (omega arith))
     by_place (HandOver access.Upgradable b (handing.Exchange j expected)) call is e =
         let same : k ≡ j = cc in
-        exchanges r a s t l op whom call.admits call.site j (subst (λ (i : Taken). HasInHand s.lock t i whom) same over.in_hand) expected call.doing small few (has_room a.limit j expected) refl (code r s == expected) refl e
+        exchanges r a s t l op whom call.admits call.site j (subst (λ (i : Taken). HasInHand s.lock t i whom) same over.in_hand) expected call.role small few (has_room a.limit j expected) refl (code r s == expected) refl e
     by_place (HandOver access.Exclusive b (handing.Exchange j expected)) call is e = absurd call.stands
     by_place (HandOver access.Upgradable b (handing.Store j)) call is e = absurd call.stands
     by_place (HandOver access.Shared b to) call is e = absurd call.stands
@@ -182,10 +182,10 @@ hand_overs_keep_limit r a s t l c op whom over e lt limit = by_place c over.call
     by_place : (c : RwLockCallPlace) → IsInCall r a s t c → in_hand_of c ≡ Some k → call_act l a c ≡ act.HandOver l op → HasLimit r (behind_call r a s t c whom (reply.Value (code r s))).lock
     by_place (HandOver access.Exclusive b (handing.Store j)) call is e =
         let same : k ≡ j = cc in let hand = subst (λ (i : Taken). HasInHand s.lock t i whom) same over.in_hand in let m = call.admits.2 in
-        rw (settled_lock r (after_hand r s t whom call.admits.0 call.site j hand Exclusive) t j.none_left) (exclusive_limit r s t whom call.admits.0 call.site j hand call.doing (subst (λ (i : Taken). i.sharers < r.limit) same (omega arith)))
+        rw (settled_lock r (after_hand r s t whom call.admits.0 call.site j hand Exclusive) t j.none_left) (exclusive_limit r s t whom call.admits.0 call.site j hand call.role (subst (λ (i : Taken). i.sharers < r.limit) same (omega arith)))
     by_place (HandOver access.Upgradable b (handing.Exchange j expected)) call is e =
         let same : k ≡ j = cc in
-        limited r a s t l op whom call.admits call.site j (subst (λ (i : Taken). HasInHand s.lock t i whom) same over.in_hand) expected call.doing limit (has_room a.limit j expected) refl (code r s == expected) refl e
+        limited r a s t l op whom call.admits call.site j (subst (λ (i : Taken). HasInHand s.lock t i whom) same over.in_hand) expected call.role limit (has_room a.limit j expected) refl (code r s == expected) refl e
     by_place (HandOver access.Exclusive b (handing.Exchange j expected)) call is e = absurd call.stands
     by_place (HandOver access.Upgradable b (handing.Store j)) call is e = absurd call.stands
     by_place (HandOver access.Shared b to) call is e = absurd call.stands

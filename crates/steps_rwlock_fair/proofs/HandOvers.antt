@@ -86,11 +86,11 @@ module _ (base : LockState) (free : HasNoWriter base) where
 
 module _ (r : Rules) (s : Site) (t : ℕ) (h : IsSite r s) where
   -- an exclusive owner had no other beside it
-  pub exclusive_gone : (s.doing t).claims ≡ Some (Has Exclusive) → HasNoWriter (sharing_handed t (without_owner t Exclusive s.lock)) × (readers s.lock ≡ 0)
+  pub exclusive_gone : (s.role t).claims ≡ Some (Has Exclusive) → HasNoWriter (sharing_handed t (without_owner t Exclusive s.lock)) × (readers s.lock ≡ 0)
   exclusive_gone claims = let alone = h.state.exclusive_alone t (h.held t (Has Exclusive) claims) in (record { exclusive = refl; pending = alone.0; upgradable = alone.1 }, alone.2)
 
   -- and an upgradable one none but those who share
-  pub upgradable_gone : (s.doing t).claims ≡ Some (Has Upgradable) → HasNoWriter (sharing_handed t (without_owner t Upgradable s.lock)) × (count s.lock ≡ readers s.lock + 1) × (rw_code s ≡ 16 * readers s.lock + 20 + (2 * bit s.aside_parked + bit s.parked))
+  pub upgradable_gone : (s.role t).claims ≡ Some (Has Upgradable) → HasNoWriter (sharing_handed t (without_owner t Upgradable s.lock)) × (count s.lock ≡ readers s.lock + 1) × (rw_code s ≡ 16 * readers s.lock + 20 + (2 * bit s.aside_parked + bit s.parked))
   upgradable_gone claims = (record { exclusive = no_writer s.lock.exclusive refl; pending = no_pending s.lock.pending refl; upgradable = refl }, rw own refl, rw (no_writer s.lock.exclusive refl, no_pending s.lock.pending refl, own) (omega arith))
     where
       own : s.lock.upgradable ≡ Some t

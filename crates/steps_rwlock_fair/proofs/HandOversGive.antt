@@ -21,7 +21,7 @@ use Rattle.steps_rwlock_fair.specs.declared.hand_over.HandOverAt.TheVariants as 
 use Rattle.steps_rwlock_fair.specs.FairSteps.{has_room, parked_as, without, with_taken, call_act}
 use Rattle.steps_rwlock_fair.specs.FairDeeds.{exchanged_deeds}
 use Rattle.steps_rwlock_fair.specs.FairCalls.{IsInCall, in_hand_of}
-use Rattle.steps_rwlock_fair.specs.FairLaws.{lock_behind, HandOversGive}
+use Rattle.steps_rwlock_fair.specs.FairLaws.{lock_slow, HandOversGive}
 use Rattle.steps_rwlock_fair.proofs.HandOverCodes.{settled_lock}
 
 module _ (r : Rules) (s : Site) (t u : ℕ) (rw_sort : has_readers r.sort ≡ true) (h : IsSite r s) (right : Want) (successor : Option Queued) (is : IsSuccessor s.lock t successor) (more : right ≢ Shared) where
@@ -69,7 +69,7 @@ hand_overs_give r a s t l u c op whom x over e won mine there = by_place c over.
     exchanged j same expected call true false eb e = absurd (let f : op ≡ operation.Exchange expected (with_taken access.Upgradable j expected) = cc in let g : (code r s == expected) ≡ true = ap (λ (y : Op). takes_effect y (code r s)) (sym f) ∙ won in let z : true ≡ false = sym g ∙ eb in cc)
     exchanged j same expected call true true eb e = rw (settled_lock r _ t j.none_left) (gives r s t u call.admits.0 call.site Upgradable (heir_of whom j.successor) (subst (λ (i : Taken). IsSuccessor s.lock t (heir_of whom i.successor)) same over.in_hand.successor) (λ f. cc) x (knows call.site) mine there)
 
-    by_place : (d : RwLockCallPlace) → IsInCall r a s t d → in_hand_of d ≡ Some k → call_act l a d ≡ act.HandOver l op → HasClaim (lock_behind r a s t d whom) u (Some (claim_handed (readers (lock_behind r a s t d whom) == 0) x))
+    by_place : (d : RwLockCallPlace) → IsInCall r a s t d → in_hand_of d ≡ Some k → call_act l a d ≡ act.HandOver l op → HasClaim (lock_slow r a s t d whom) u (Some (claim_handed (readers (lock_slow r a s t d whom) == 0) x))
     by_place (HandOver access.Exclusive b (handing.Store j)) call is e =
         let same : k ≡ j = cc in
         rw (settled_lock r _ t j.none_left) (gives r s t u call.admits.0 call.site Exclusive (heir_of whom j.successor) (subst (λ (i : Taken). IsSuccessor s.lock t (heir_of whom i.successor)) same over.in_hand.successor) (λ f. cc) x (knows call.site) mine there)

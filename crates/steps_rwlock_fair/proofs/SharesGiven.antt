@@ -22,7 +22,7 @@ use Rattle.steps_rwlock_fair.specs.declared.hand_over.HandOverAt.TheVariants as 
 use Rattle.steps_rwlock_fair.specs.FairSteps.{has_room, parked_as, without, with_taken, call_act}
 use Rattle.steps_rwlock_fair.specs.FairDeeds.{exchanged_deeds}
 use Rattle.steps_rwlock_fair.specs.FairCalls.{IsInCall, in_hand_of}
-use Rattle.steps_rwlock_fair.specs.FairLaws.{lock_behind, HandsOver}
+use Rattle.steps_rwlock_fair.specs.FairLaws.{lock_slow, HandsOver}
 use Rattle.steps_rwlock_fair.proofs.HandOverCodes.{settled_lock}
 
 -- a successor that wants more than to share changes no number of shared rights
@@ -86,7 +86,7 @@ module _ (r : Rules) (a : Admission) (s : Site) (t l : ℕ) (c : RwLockCallPlace
   exchanged j same expected true false eb f = absurd (let g : op ≡ operation.Exchange expected (with_taken access.Upgradable j expected) = cc in let h : (code r s == expected) ≡ true = ap (λ (y : Op). takes_effect y (code r s)) (sym g) ∙ won in let z : true ≡ false = sym h ∙ eb in cc)
   exchanged j same expected true true eb f = subst P (sym (settled_lock r _ t j.none_left)) (each Upgradable (heir_of whom j.successor) (named j same) (λ g. cc))
 
-  by_place : (d : RwLockCallPlace) → IsInCall r a s t d → in_hand_of d ≡ Some k → call_act l a d ≡ act.HandOver l op → P (lock_behind r a s t d whom)
+  by_place : (d : RwLockCallPlace) → IsInCall r a s t d → in_hand_of d ≡ Some k → call_act l a d ≡ act.HandOver l op → P (lock_slow r a s t d whom)
   by_place (HandOver access.Exclusive b (handing.Store j)) call is f =
       let same : k ≡ j = cc in
       subst P (sym (settled_lock r _ t j.none_left)) (each Exclusive (heir_of whom j.successor) (named j same) (λ g. cc))
@@ -97,11 +97,11 @@ module _ (r : Rules) (a : Admission) (s : Site) (t l : ℕ) (c : RwLockCallPlace
   by_place (HandOver x b (handing.Look j)) call is f = absurd cc
   by_place d call is f = absurd cc
 
-  pub over_leads : P (lock_behind r a s t c whom)
+  pub over_leads : P (lock_slow r a s t c whom)
   over_leads = by_place c over.call over.is e
 
 pub shares_given : (r : Rules) (a : Admission) (s : Site) (t l u : ℕ) (c : RwLockCallPlace) (op : Op) (whom : Option ℕ) → HandsOver r a s t c whom
     → call_act l a c ≡ act.HandOver l op → takes_effect op (code r s) ≡ true → IsTaken s.lock t u Shared → u < length s.lock.shared
-    → slice_index (lock_behind r a s t c whom).shared u ≡ slice_index s.lock.shared u + 1
+    → slice_index (lock_slow r a s t c whom).shared u ≡ slice_index s.lock.shared u + 1
 shares_given r a s t l u c op whom over e won mine there =
     over_leads r a s t l c op whom over e won (λ now. slice_index now.shared u ≡ slice_index s.lock.shared u + 1) (one_more t u s.lock mine there)

@@ -27,7 +27,7 @@ use Rattle.steps_rwlock_fair.specs.declared.hand_over.HandOverAt.{HandOverAt}
 use Rattle.steps_rwlock_fair.specs.declared.hand_over.HandOverAt.TheVariants as handing
 use Rattle.steps_rwlock_fair.specs.declared.handed.HandedAt.{HandedAt}
 use Rattle.steps_rwlock_fair.specs.declared.handed.HandedAt.TheVariants as handed
-use Rattle.steps_rwlock_fair.specs.FairDeeds.{call_doing}
+use Rattle.steps_rwlock_fair.specs.FairDeeds.{call_role}
 use Rattle.steps_rwlock_fair.specs.FairProfiles.{in_hand_at}
 
 -- ---------------------------------------------------------------- where a call may stand
@@ -72,7 +72,7 @@ pub record IsInCall (r : Rules) (a : Admission) (s : Site) (t : ℕ)
     (c : RwLockCallPlace) : Type 0 where
   pub admits : Admits r a
   pub site : IsSite r s
-  pub doing : s.doing t ≡ call_doing c
+  pub role : s.role t ≡ call_role c
   pub stands : CallStands a c
   pub there : t < length s.lock.shared
 
@@ -87,7 +87,7 @@ IsNamed None None = Unit {0}
 IsNamed (Some x) (Some u) = Unit {0}
 IsNamed x whom = ⊥
 
--- what the place says of them is so: how many want to share, and who wants more
+-- the place tells the truth of them: how many want to share, and which one wants more
 pub record HasInHand (s : LockState) (t : ℕ) (k : Taken) (whom : Option ℕ) : Type 0 where
   pub named : IsNamed k.successor whom
   pub successor : IsSuccessor s t (heir_of whom k.successor)

@@ -9,11 +9,11 @@ use Rattle.steps_base.specs.declared.acts.Next.TheVariants as next
 use Rattle.steps_base.specs.declared.acts.Reply.{Reply}
 use Rattle.steps_base.specs.declared.acts.Reply.TheVariants as reply
 use Rattle.spec_locks.specs.Locks.{Leave, TakePicked, HandOff}
-use Rattle.spec_locks.specs.Sites.{Claim, Has, Doing, idle, found, Deed, End, In, Out, Case}
+use Rattle.spec_locks.specs.Sites.{Claim, Has, Role, idle, found, Deed, End, In, Out, Case}
 use Rattle.steps_base.specs.Moves.{bit_left, claim_handed, heir_of}
 use Rattle.steps_rwlock.specs.declared.places.Admission.{Admission}
 use Rattle.steps_rwlock.specs.RwLockSteps.{wanted}
-use Rattle.steps_rwlock.specs.RwLockDeeds.{at_rest, within, rwlock_doing, rwlock_deeds, does_and_wakes}
+use Rattle.steps_rwlock.specs.RwLockDeeds.{at_rest, within, rwlock_role, rwlock_deeds, does_and_wakes}
 use Rattle.steps_rwlock_fair.specs.declared.places.RwLockCallPlace.{RwLockCallPlace}
 use Rattle.steps_rwlock_fair.specs.declared.places.RwLockCallPlace.TheVariants.{Plain, Glance, HandOver, Bump, Handed}
 use Rattle.steps_rwlock_fair.specs.declared.hand_over.Taken.{Taken}
@@ -26,7 +26,7 @@ use Rattle.steps_rwlock_fair.specs.FairSteps.{has_room, gives_way}
 -- ---------------------------------------------------------------- what a thread does, by its place
 
 -- inside, an owner still, with those in hand whom the lock lets in once it has gone
-abbrev pub holding : Want → Taken → Doing
+abbrev pub holding : Want → Taken → Role
 holding x k = record idle {
   inside = Some Main;
   carries = true;
@@ -35,31 +35,31 @@ holding x k = record idle {
   claims = Some (Has x);
 }
 
-abbrev pub hand_over_doing : Want → HandOverAt → Doing
-hand_over_doing x handing.Take = within Main None (Some (Has x))
-hand_over_doing x (handing.Store k) = holding x k
-hand_over_doing x (handing.Look k) = holding x k
-hand_over_doing x (handing.Exchange k seen) = holding x k
-hand_over_doing x (handing.Leave any handed) =
+abbrev pub hand_over_role : Want → HandOverAt → Role
+hand_over_role x handing.Take = within Main None (Some (Has x))
+hand_over_role x (handing.Store k) = holding x k
+hand_over_role x (handing.Look k) = holding x k
+hand_over_role x (handing.Exchange k seen) = holding x k
+hand_over_role x (handing.Leave any handed) =
     record idle { inside = Some Main; carries = true; covers = not handed }
-hand_over_doing x to = at_rest None (Some (Has x))
+hand_over_role x to = at_rest None (Some (Has x))
 
--- what a thread has that was handed the lock
+-- the right of a thread that was handed the lock
 abbrev pub claim_at : Want → HandedAt → Claim
 claim_at x (handed.Asleep by alone) = claim_handed alone x
 claim_at x handed.Accept = Has x
 
-abbrev pub call_doing : RwLockCallPlace → Doing
-call_doing (Plain p) = rwlock_doing p
-call_doing (Bump p) = rwlock_doing p
-call_doing (Glance x) = at_rest None (Some (Has (wanted x)))
-call_doing (HandOver x b to) = hand_over_doing (wanted x) to
-call_doing (Handed x how b to) = at_rest None (Some (claim_at (wanted x) to))
+abbrev pub call_role : RwLockCallPlace → Role
+call_role (Plain p) = rwlock_role p
+call_role (Bump p) = rwlock_role p
+call_role (Glance x) = at_rest None (Some (Has (wanted x)))
+call_role (HandOver x b to) = hand_over_role (wanted x) to
+call_role (Handed x how b to) = at_rest None (Some (claim_at (wanted x) to))
 
--- behind a step, at its next place or in no call
-abbrev pub call_doing_next : Next RwLockCallPlace → Doing
-call_doing_next (next.At c) = call_doing c
-call_doing_next (next.End answer) = idle
+-- the state after a step, at its next place or in no call
+abbrev pub call_role_next : Next RwLockCallPlace → Role
+call_role_next (next.At c) = call_role c
+call_role_next (next.End answer) = idle
 
 -- ---------------------------------------------------------------- the deeds of each step
 

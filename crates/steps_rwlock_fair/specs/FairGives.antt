@@ -15,7 +15,7 @@ use Rattle.steps_rwlock_fair.specs.declared.hand_over.Taken.{Taken}
 use Rattle.steps_rwlock_fair.specs.FairSteps.{call_act}
 use Rattle.steps_rwlock_fair.specs.FairProfiles.{call_profile}
 use Rattle.steps_rwlock_fair.specs.FairCalls.{IsInCall, HasInHand, in_hand_of}
-use Rattle.steps_rwlock_fair.specs.FairLaws.{lock_behind}
+use Rattle.steps_rwlock_fair.specs.FairLaws.{lock_slow}
 
 -- the call is to give this right up fairly, and has it still
 abbrev pub IsToGive : Purpose → Bool → Want → Type 0
@@ -61,6 +61,6 @@ FairReleasesGive =
     → s.lock.taken t ≡ None → ((k : Taken) → in_hand_of c ≡ Some k → HasInHand s.lock t k whom)
     → IsToGive ((call_profile a c).purpose l) (call_profile a c).released x → x ≢ Shared
     → (call_act l a c ≡ act.Word l op) ⊎ (call_act l a c ≡ act.HandOver l op)
-    → Owns (lock_behind r a s t c whom) t x
-    ⊎ (GivesToAll s.lock (lock_behind r a s t c whom) t
-    ⊎ (LetsGo s.lock (code r s) t ⊎ WakesThem r s.lock (lock_behind r a s t c whom) t x))
+    → Owns (lock_slow r a s t c whom) t x
+    ⊎ (GivesToAll s.lock (lock_slow r a s t c whom) t
+    ⊎ (LetsGo s.lock (code r s) t ⊎ WakesThem r s.lock (lock_slow r a s t c whom) t x))

@@ -35,13 +35,13 @@ use Rattle.steps_rwlock_fair.specs.declared.places.RwLockCallPlace.TheVariants.{
 use Rattle.steps_rwlock_fair.specs.declared.hand_over.Taken.{Taken}
 use Rattle.steps_rwlock_fair.specs.declared.hand_over.HandOverAt.{HandOverAt}
 use Rattle.steps_rwlock_fair.specs.FairSteps.{call_act, call_next, call_owners, call_shares, gives_up}
-use Rattle.steps_rwlock_fair.specs.FairDeeds.{call_deeds, call_doing_next}
+use Rattle.steps_rwlock_fair.specs.FairDeeds.{call_deeds, call_role_next}
 use Rattle.steps_rwlock_fair.specs.FairCalls.{HandsOverAt, CallStands, CallStandsNext, CallMayBeTold, IsInCall, CallMayHear, HasInHand, in_hand_of}
 
 abbrev pub CallFollowsBy : Rules → Admission → Site → ℕ → RwLockCallPlace → Option ℕ → Reply
     → Type 0
 CallFollowsBy r a s t c whom told =
-    Follows r s t (call_deeds a c whom told) (call_doing_next (call_next a c told))
+    Follows r s t (call_deeds a c whom told) (call_role_next (call_next a c told))
 
 abbrev pub behind_call : Rules → Admission → Site → ℕ → RwLockCallPlace → Option ℕ → Reply → Site
 behind_call r a s t c whom told = after_all r (call_deeds a c whom told) s t
@@ -102,8 +102,8 @@ HandOversKeepLimit =
     → HasLimit r (behind_call r a s t c whom (reply.Value (code r s))).lock
 
 -- the lock behind it
-abbrev pub lock_behind : Rules → Admission → Site → ℕ → RwLockCallPlace → Option ℕ → LockState
-lock_behind r a s t c whom = (behind_call r a s t c whom (reply.Value (code r s))).lock
+abbrev pub lock_slow : Rules → Admission → Site → ℕ → RwLockCallPlace → Option ℕ → LockState
+lock_slow r a s t c whom = (behind_call r a s t c whom (reply.Value (code r s))).lock
 
 -- ---------------------------------------------------------------- steps into a section, in it, and out of it
 
@@ -122,8 +122,8 @@ HandOversGive =
     (whom : Option ℕ) (x : Want) → HandsOver r a s t c whom
     → call_act l a c ≡ act.HandOver l op → takes_effect op (code r s) ≡ true → IsTaken s.lock t u x
     → u < length s.lock.shared
-    → HasClaim (lock_behind r a s t c whom) u
-    (Some (claim_handed (readers (lock_behind r a s t c whom) == 0) x))
+    → HasClaim (lock_slow r a s t c whom) u
+    (Some (claim_handed (readers (lock_slow r a s t c whom) == 0) x))
 
 -- ---------------------------------------------------------------- calls
 
@@ -133,13 +133,12 @@ FairCallsStand =
     (a : Admission) (c : RwLockCallPlace) (told : Reply) → CallStands a c → CallMayBeTold a c told
     → CallStandsNext a (call_next a c told)
 
--- what a call begins with: where it may stand, nowhere in the machine, and with the right that it
--- needs
+-- the begin of a call: where it may stand, nowhere in the machine, and with the right that it needs
 pub record CallOpens (a : Admission) (c : RwLockCall) : Type 0 where
   pub stands : CallStands a (call_first c)
   pub purpose : (l : ℕ) → (call_profile a (call_first c)).purpose l ≡ rwlock_purpose l c
   pub opening : IsOpening (call_profile a (call_first c))
-  -- whoever has the right has what it claims
+  -- a thread with the right has what it claims
   pub has : (t : ℕ) (shared : List ℕ) (o : Owners) (main second : List Waiter)
       (taken : ℕ → Option TakenBy)
       → call_right c t o (slice_index shared t) ≡ true
@@ -217,7 +216,7 @@ pub record CallHears (a : Admission) (l : ℕ) (c : RwLockCallPlace) : Type 0 wh
   pub late : (call_profile a c).late_line ≢ None
       → CallBecomes a l c reply.Late (λ x. record x { late = true })
   pub given : (u : ℕ) (alone : Bool) → (call_profile a c).hand ≡ hand u false
-      → (call_profile a c).doing.claims ≡ None → IsGiven a l c u alone
+      → (call_profile a c).role.claims ≡ None → IsGiven a l c u alone
   pub accepts : (u : ℕ) → (call_profile a c).hand ≡ hand u true
       → CallBecomes a l c (reply.Woken note.HandOff) (λ x. x)
 

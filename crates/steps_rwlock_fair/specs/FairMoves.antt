@@ -12,7 +12,7 @@ use Rattle.steps_base.specs.declared.acts.Act.{Act}
 use Rattle.steps_base.specs.declared.acts.Act.TheVariants as act
 use Rattle.steps_base.specs.declared.acts.Reply.TheVariants.{Late}
 use Rattle.spec_locks.specs.Sites.{Pends}
-use Rattle.steps_base.specs.Moves.{Move, Hears, Moves, GoesIn, TellsHanded, Accepts, Sleeps, IsHeld, HandsOver as Hands, IsGiven, WasGiven, row_of, station_of}
+use Rattle.steps_base.specs.Moves.{Move, Hears, Moves, GoesIn, TellsHanded, Accepts, Sleeps, IsHeld, HandsOver as Hands, IsGiven, WasGiven, row_of, location_of}
 use Rattle.steps_base.specs.Profiles.{hand}
 use Rattle.steps_rwlock.specs.declared.places.Admission.{Admission}
 use Rattle.steps_rwlock_fair.specs.declared.places.RwLockCallPlace.{RwLockCallPlace}
@@ -38,11 +38,11 @@ HandOversMove =
     → call_act l a c ≡ act.HandOver k op
     → (k ≡ l) × Hands (call_move a c) op
 
--- who is in a hand, and has nothing of the lock yet, may be handed it; and whoever was handed it
--- has it from its wake on
+-- a thread in a hand that has nothing of the lock yet may be handed it; and one that was handed it has it
+-- from its wake on
 pub record IsMoved (a : Admission) (c : RwLockCallPlace) : Type 0 where
   pub given : (u : ℕ) (alone : Bool) (x : Want) → (call_profile a c).hand ≡ hand u false
-      → (call_profile a c).doing.claims ≡ None
+      → (call_profile a c).role.claims ≡ None
       → (call_profile a c).wants ≡ Some x → IsGiven (call_move a c) u x alone
   pub was_given : (u : ℕ) → (call_profile a c).hand ≡ hand u true → WasGiven (call_move a c) u
 
@@ -51,7 +51,7 @@ HandedMove = (a : Admission) (c : RwLockCallPlace) → CallStands a c → IsMove
 
 -- ---------------------------------------------------------------- all acts
 
--- what it may hear of its lock
+-- the news that it may hear of its lock
 abbrev pub call_hears : Admission → RwLockCallPlace → Hears
 call_hears a c r s t whom told = CallMayHear r a s t c whom told
 
@@ -73,13 +73,13 @@ FairActsMove =
 
 -- ---------------------------------------------------------------- what befalls a thread asleep
 
--- who stands in a line sleeps there or is inside its section, only a pending writer stands aside,
--- and who is in a hand is so to be woken until it is handed the lock
+-- a thread in a line sleeps there or is inside its section, only a pending writer stands aside, and one in a
+-- hand is so to be woken until it is handed the lock
 pub record CallWaits (x : Move) : Type 0 where
   pub aside : x.row.stands ≡ Some Second
       → (x.row.wants ≡ Some Exclusive)
-      × ((falls_back : Bool) × (x.row.doing.claims ≡ Some (Pends falls_back)))
-  pub stands : (m : Line) → x.row.stands ≡ Some m → ((station_of x).inside ≡ Some m) ⊎ Sleeps x m
+      × ((falls_back : Bool) × (x.row.role.claims ≡ Some (Pends falls_back)))
+  pub stands : (m : Line) → x.row.stands ≡ Some m → ((location_of x).inside ≡ Some m) ⊎ Sleeps x m
   pub held : (u : ℕ) → x.row.hand ≡ hand u false → IsHeld x u
 
 abbrev pub FairSleepersMove : Type 0

@@ -24,7 +24,7 @@ use Rattle.steps_rwlock_fair.specs.declared.hand_over.HandOverAt.TheVariants as 
 use Rattle.steps_rwlock_fair.specs.declared.handed.HandedAt.{HandedAt}
 use Rattle.steps_rwlock_fair.specs.declared.handed.HandedAt.TheVariants as handed
 use Rattle.steps_rwlock_fair.specs.FairSteps.{any_taken, entering}
-use Rattle.steps_rwlock_fair.specs.FairDeeds.{call_doing, claim_at}
+use Rattle.steps_rwlock_fair.specs.FairDeeds.{call_role, claim_at}
 
 -- ---------------------------------------------------------------- bumps
 
@@ -46,7 +46,7 @@ bumping q row = record row {
 
 -- ---------------------------------------------------------------- who hands over
 
--- whom it has in hand to hand them the lock
+-- the waiters in its hand, to which it hands the lock
 abbrev pub in_hand_at : HandOverAt → Option Taken
 in_hand_at (handing.Store k) = Some k
 in_hand_at (handing.Look k) = Some k
@@ -103,9 +103,9 @@ abbrev pub call_profile : Admission → RwLockCallPlace → Profile
 call_profile a (Plain p) = rwlock_profile a p
 call_profile a (Bump p) = bumping p.purpose (rwlock_profile a p)
 call_profile a (Glance x) =
-    record blank { doing = call_doing (Glance x); purpose = λ l. Bumps l (wanted x) }
+    record blank { role = call_role (Glance x); purpose = λ l. Bumps l (wanted x) }
 call_profile a (HandOver x b to) = record blank {
-  doing = call_doing (HandOver x b to);
+  role = call_role (HandOver x b to);
   carries = carries_handing to;
   owes = in_line (owes_handing to) Main;
   purpose = release_purpose b (wanted x);
@@ -113,7 +113,7 @@ call_profile a (HandOver x b to) = record blank {
   former = before_release (has_given to) (wanted x);
 }
 call_profile a (Handed x how b to) = record blank {
-  doing = call_doing (Handed x how b to);
+  role = call_role (Handed x how b to);
   hand = hand_handed to;
   wants = Some (wanted x);
   timed = is_timed how;

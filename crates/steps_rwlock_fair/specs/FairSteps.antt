@@ -42,7 +42,7 @@ use Rattle.steps_rwlock_fair.specs.declared.handed.HandedAt.TheVariants as hande
 
 -- ---------------------------------------------------------------- words
 
--- what a successor's right adds to the word
+-- a successor's right adds this to the word
 abbrev pub token_of : Option Want → ℕ
 token_of None = 0
 token_of (Some x) = token x
@@ -54,7 +54,7 @@ is_upgradable successor = false
 abbrev pub any_taken : Taken → Bool
 any_taken k = any_picked k.sharers k.successor
 
--- what the rights of those who were taken add to the word: sums and products of words wrap
+-- the rights of those that were taken add this to the word: sums and products of words wrap
 abbrev pub tokens : Taken → ℕ
 tokens k = plus ((k.sharers * 16) % 2 ^ 64) (token_of k.successor)
 
@@ -84,7 +84,7 @@ entering bumps p = if bumps then Bump p else Plain p
 abbrev pub enters_again : Access → RwLockCallPlace
 enters_again x = Bump (rwlock_first (purpose.Enter x Patient))
 
--- behind its release a bump enters again
+-- after its release a bump enters again
 abbrev pub released : Access → Bool → Next RwLockCallPlace
 released x bumps = if bumps then At (enters_again x) else End Ok
 
@@ -150,8 +150,8 @@ gives_up to seen = false
 
 -- ---------------------------------------------------------------- bumps
 
--- who shares gives its right up where a writer stands in the way of others, and an owner who has
--- more where somebody may wait
+-- a sharer gives its right up where a writer stands in the way of others, and an owner with more where some
+-- thread may wait
 abbrev pub gives_way : Admission → Access → ℕ → Bool
 gives_way a access.Shared seen = has_writer seen && (not a.recursive || (count_in seen == 1))
 gives_way a x seen = has_parked seen
@@ -249,8 +249,8 @@ without_owned access.Shared o = o
 without_owned access.Upgradable o = record o { upgradable = None }
 without_owned access.Exclusive o = record o { exclusive = None }
 
--- who owns the lock after an operation on its word that saw this value, but for those to whom it
--- hands the lock
+-- the owners of the lock after an operation on its word that saw this value, but for those to which it hands
+-- the lock
 abbrev pub call_owners : Admission → RwLockCallPlace → ℕ → ℕ → Owners → Owners
 call_owners a (Plain p) t seen o = rwlock_owners a p t seen o
 call_owners a (Bump p) t seen o = rwlock_owners a p t seen o

@@ -15,7 +15,7 @@ use Rattle.steps_base.specs.Owners.{shares_then}
 use Rattle.spec_locks.specs.Codes.{code, has_parked}
 use Rattle.spec_locks.specs.Deeds.{after_all}
 use Rattle.spec_locks.specs.Locks.{Leave, Owns, Rules, Semaphore, readers}
-use Rattle.spec_locks.specs.Sites.{Case, Deed, Doing, End, Has, IsSite, Main, Mark, Site}
+use Rattle.spec_locks.specs.Sites.{Case, Deed, Role, End, Has, IsSite, Main, Mark, Site}
 use Rattle.steps_semaphore.specs.declared.acquire.AcquireAt.TheVariants as acquire
 use Rattle.steps_semaphore.specs.declared.tries.TryAt.TheVariants as tries
 use Rattle.steps_semaphore.specs.declared.release.ReleaseAt.TheVariants as release
@@ -23,7 +23,7 @@ use Rattle.steps_semaphore.specs.declared.places.SemaphorePlace.{SemaphorePlace}
 use Rattle.steps_semaphore.specs.declared.places.SemaphorePlace.TheVariants.{Acquire, Try, Release}
 use Rattle.steps_semaphore.specs.declared.places.TheConstants.{NOT_PARKED}
 use Rattle.steps_semaphore.specs.SemaphoreDeeds.{enters, semaphore_deeds}
-use Rattle.steps_semaphore.specs.SemaphoreLaws.{LeavesWord, MayHear, SemaphoreStepsCode, semaphore_doing}
+use Rattle.steps_semaphore.specs.SemaphoreLaws.{LeavesWord, MayHear, SemaphoreStepsCode, semaphore_role}
 use Rattle.steps_semaphore.specs.SemaphoreSteps.{decided, is_free, semaphore_act, semaphore_shares, taken_by}
 use Rattle.steps_semaphore.proofs.SemaphoreWords.{bit_few, cleared, free_in, held_few, one_less, one_more, some_free, word_of}
 
@@ -159,8 +159,8 @@ module _ (limit : ℕ) (s : Site) (t l : ℕ) (h : IsSite (record { sort = Semap
 
   -- ---------------------------------------------------------------- releases
 
-  holds : s.doing t ≡ semaphore_doing (Release release.Add) → Owns s.lock t Shared
-  holds is = h.held t (Has Shared) (ap (λ (d : Doing). d.claims) is)
+  holds : s.role t ≡ semaphore_role (Release release.Add) → Owns s.lock t Shared
+  holds is = h.held t (Has Shared) (ap (λ (d : Role). d.claims) is)
 
   given : Owns s.lock t Shared → (b : Bool) → Leaves (Case (Leave Shared) ∷ (if b then [] else End ∷ [])) (apply (op.Add 2) v) (Some (mine - 1))
   given own true = let less = one_less s.lock t own in (omega (arith, bit_few s.parked), refl)
@@ -171,7 +171,7 @@ module _ (limit : ℕ) (s : Site) (t l : ℕ) (h : IsSite (record { sort = Semap
 
   -- ---------------------------------------------------------------- each place
 
-  each_code : (p : SemaphorePlace) (whom : Option ℕ) (f : Op) → s.doing t ≡ semaphore_doing p → MayHear r s t p whom (Value v) → semaphore_act l p ≡ act.Word l f → LeavesWord r s t p whom f
+  each_code : (p : SemaphorePlace) (whom : Option ℕ) (f : Op) → s.role t ≡ semaphore_role p → MayHear r s t p whom (Value v) → semaphore_act l p ≡ act.Word l f → LeavesWord r s t p whom f
   each_code (Acquire timed retries acquire.Load) whom f is hears does = let g : op.Load ≡ f = cc in rw (← g) (leaves _ whom _ _ _ _ refl refl refl (refl, refl))
   each_code (Acquire timed retries (acquire.Decide expected)) whom f is hears does = leaves _ whom f _ _ _ refl refl refl (decides expected f does (v == expected) refl)
   each_code (Acquire timed retries acquire.Clear) whom f is hears does = let g : op.And NOT_PARKED ≡ f = cc in rw (← g) (leaves _ whom _ _ _ _ refl refl refl (unmarked, refl))
@@ -184,4 +184,4 @@ module _ (limit : ℕ) (s : Site) (t l : ℕ) (h : IsSite (record { sort = Semap
 pub semaphore_steps_code : SemaphoreStepsCode
 semaphore_steps_code r s t l p whom f a hears does =
     subst (λ x. IsSite x s → MayHear x s t p whom (Value (code x s)) → LeavesWord x s t p whom f)
-    (λ i. record { sort = sym a.sort i; limit = r.limit }) (λ h hears. each_code r.limit s t l h a.small a.few a.here p whom f a.doing hears does) a.site hears
+    (λ i. record { sort = sym a.sort i; limit = r.limit }) (λ h hears. each_code r.limit s t l h a.small a.few a.here p whom f a.role hears does) a.site hears

@@ -73,7 +73,7 @@ goes l (Release at) = release_goes l at
 abbrev Passes : ℕ → SemaphorePlace → Going → Bool
 Passes l at g = keeps_row Semaphore (semaphore_profile at) ((semaphore_profile at).purpose l) g
 
--- whatever the deadline, and whether it was woken
+-- for every deadline, woken or not
 each : (f : Bool → Bool → Bool) → (f true true && (f true false && (f false true && f false false))) ≡ true → (timed r : Bool) → f timed r ≡ true
 each f h timed r =
     let a = both (f true true) _ h in

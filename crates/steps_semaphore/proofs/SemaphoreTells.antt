@@ -7,14 +7,14 @@ use Rattle.steps_base.specs.declared.acts.Reply.TheVariants.{Done, Value, Parked
 use Rattle.steps_base.specs.Calls.{CallFollows}
 use Rattle.spec_locks.specs.Codes.{code, has_parked}
 use Rattle.spec_locks.specs.Locks.{IsBlocked, Owns, Rules, Semaphore}
-use Rattle.spec_locks.specs.Sites.{Clear as Clears, Doing, Has, In, IsSite, Main, Site}
+use Rattle.spec_locks.specs.Sites.{Clear as Clears, Role, Has, In, IsSite, Main, Site}
 use Rattle.steps_semaphore.specs.declared.acquire.AcquireAt.TheVariants as acquire
 use Rattle.steps_semaphore.specs.declared.tries.TryAt.TheVariants as tries
 use Rattle.steps_semaphore.specs.declared.release.ReleaseAt.TheVariants as release
 use Rattle.steps_semaphore.specs.declared.places.SemaphorePlace.{SemaphorePlace}
 use Rattle.steps_semaphore.specs.declared.places.SemaphorePlace.TheVariants.{Acquire, Try, Release}
 use Rattle.steps_semaphore.specs.SemaphoreDeeds.{semaphore_deeds}
-use Rattle.steps_semaphore.specs.SemaphoreLaws.{MayHear, SemaphoreStepsTell, next_row, semaphore_doing}
+use Rattle.steps_semaphore.specs.SemaphoreLaws.{MayHear, SemaphoreStepsTell, next_row, semaphore_role}
 use Rattle.steps_semaphore.specs.SemaphoreProfiles.{semaphore_profile}
 use Rattle.steps_semaphore.specs.SemaphoreSteps.{is_free, semaphore_next}
 use Rattle.steps_semaphore.proofs.SemaphoreCalls.{Tells, attempts, checks, exchanges, gives, gives_up, leaves_line, looks, quiet, removes, takes_one, wakes_taken}
@@ -24,14 +24,14 @@ module _ (limit : ℕ) (s : Site) (t l : ℕ) (h : IsSite (record { sort = Semap
   abbrev r : Rules
   r = record { sort = Semaphore; limit = limit }
 
-  holds : s.doing t ≡ semaphore_doing (Release release.Add) → Owns s.lock t Shared
-  holds is = h.held t (Has Shared) (ap (λ (d : Doing). d.claims) is)
+  holds : s.role t ≡ semaphore_role (Release release.Add) → Owns s.lock t Shared
+  holds is = h.held t (Has Shared) (ap (λ (d : Role). d.claims) is)
 
   -- no permit was free by what it saw
   blocked : (seen : ℕ) → seen ≡ code r s → is_free seen ≡ false → IsBlocked r s.lock Shared
   blocked seen f e = let none = none_free (free_in limit s) s.parked (ap is_free (sym f) ∙ e) in (tt, λ room. omega arith)
 
-  each_tells : (p : SemaphorePlace) (whom : Option ℕ) (told : Reply) → s.doing t ≡ semaphore_doing p → MayHear r s t p whom told → told ≢ Late
+  each_tells : (p : SemaphorePlace) (whom : Option ℕ) (told : Reply) → s.role t ≡ semaphore_role p → MayHear r s t p whom told → told ≢ Late
       → Tells limit l t s.lock p (semaphore_deeds p whom told) (semaphore_next p told)
   each_tells (Acquire timed again acquire.Load) whom (Value v) is f now = quiet limit l t s.lock (Acquire timed again acquire.Load) (Acquire timed again (acquire.Decide v)) [] tt refl (λ rights. refl)
   each_tells (Acquire timed again (acquire.Decide was)) whom (Value v) is f now = exchanges limit l t s.lock timed again was v (v == was) (is_free v) here
@@ -55,4 +55,4 @@ module _ (limit : ℕ) (s : Site) (t l : ℕ) (h : IsSite (record { sort = Semap
 pub semaphore_steps_tell : SemaphoreStepsTell
 semaphore_steps_tell r s t l p whom told a f now =
     subst (λ x. IsSite x s → MayHear x s t p whom told → CallFollows x s.lock t l (semaphore_profile p) (semaphore_deeds p whom told) (next_row (semaphore_next p told)))
-    (λ i. record { sort = sym a.sort i; limit = r.limit }) (λ h f. each_tells r.limit s t l h a.here p whom told a.doing f now) a.site f
+    (λ i. record { sort = sym a.sort i; limit = r.limit }) (λ h f. each_tells r.limit s t l h a.here p whom told a.role f now) a.site f

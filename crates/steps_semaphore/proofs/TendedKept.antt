@@ -129,7 +129,7 @@ all_keep permits (d ∷ ds) s t lt h n =
 
 pub steps_keep_tended : StepsKeepTended
 steps_keep_tended permits s t p whom told small h lt is hears =
-    let at : IsAt (semaphore permits) s t p = record { sort = refl; small = small; site = h.site; few = h.few; here = lt; doing = is } in
+    let at : IsAt (semaphore permits) s t p = record { sort = refl; small = small; site = h.site; few = h.few; here = lt; role = is } in
     all_keep permits (semaphore_deeds p whom told) s t lt h (semaphore_steps_follow (semaphore permits) s t p whom told at hears).needed
 
 pub words_tell : WordsTellTrue
@@ -159,7 +159,7 @@ nobody_forgotten permits s h left free = let one = looked_after (semaphore permi
     | inl wakes ↦ inl wakes
     | inr more ↦ inr (elim more [
       | inl covers ↦ inl covers
-      | inr tries ↦ inr (trying (s.doing one.0).retries tries)
+      | inr tries ↦ inr (trying (s.role one.0).retries tries)
     ])
   ],
 )

@@ -48,7 +48,7 @@ abbrev pub takes : Option ℕ → List Deed
 takes None = FindNobody Main ∷ []
 takes (Some u) = Case (TakeFirst (queued u)) ∷ []
 
--- whoever is taken, if anybody, is no part of a place: `whom`
+-- the thread that is taken, if any, is no part of a place: `whom`
 abbrev pub release_deeds : ReleaseAt → Option ℕ → Reply → List Deed
 release_deeds release.Add whom (Value seen) =
     Case (Leave Shared) ∷ (if has_parked seen then [] else End ∷ [])

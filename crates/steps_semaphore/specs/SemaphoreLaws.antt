@@ -16,7 +16,7 @@ use Rattle.steps_base.specs.Rows.{RowPromises}
 use Rattle.spec_locks.specs.Codes.{code}
 use Rattle.spec_locks.specs.Deeds.{AllNeeded, after_all}
 use Rattle.spec_locks.specs.Locks.{HasTakenNobody, Rules, Semaphore, first_thread, readers, standing}
-use Rattle.spec_locks.specs.Sites.{Doing, IsSite, Main, Site, idle, is_empty}
+use Rattle.spec_locks.specs.Sites.{Role, IsSite, Main, Site, idle, is_empty}
 use Rattle.steps_semaphore.specs.declared.acquire.AcquireAt.{AcquireAt}
 use Rattle.steps_semaphore.specs.declared.acquire.AcquireAt.TheVariants as acquire
 use Rattle.steps_semaphore.specs.declared.tries.TryAt.{TryAt}
@@ -31,13 +31,13 @@ use Rattle.steps_semaphore.specs.SemaphoreSteps.{semaphore_act, semaphore_next, 
 
 -- ---------------------------------------------------------------- a thread at a place
 
-abbrev pub semaphore_doing : SemaphorePlace → Doing
-semaphore_doing p = (semaphore_profile p).doing
+abbrev pub semaphore_role : SemaphorePlace → Role
+semaphore_role p = (semaphore_profile p).role
 
--- behind a step, at its next place or in no call
-abbrev pub doing_next : Next SemaphorePlace → Doing
-doing_next (next.At p) = semaphore_doing p
-doing_next (next.End answer) = idle
+-- the state after a step, at its next place or in no call
+abbrev pub role_next : Next SemaphorePlace → Role
+role_next (next.At p) = semaphore_role p
+role_next (next.End answer) = idle
 
 -- a thread of the lot, at a semaphore of 2 ^ 62 permits at most, of which no more are held
 pub record IsAt (r : Rules) (s : Site) (t : ℕ) (p : SemaphorePlace) : Type 0 where
@@ -46,7 +46,7 @@ pub record IsAt (r : Rules) (s : Site) (t : ℕ) (p : SemaphorePlace) : Type 0 w
   pub site : IsSite r s
   pub few : readers s.lock ≤ r.limit
   pub here : t < length s.lock.shared
-  pub doing : s.doing t ≡ semaphore_doing p
+  pub role : s.role t ≡ semaphore_role p
 
 -- ---------------------------------------------------------------- what it may be told
 
@@ -95,8 +95,8 @@ MayHear r s t (Release at) whom told = MayHearReleasing r s t at whom told
 pub record Follows (r : Rules) (s : Site) (t : ℕ) (p : SemaphorePlace) (whom : Option ℕ)
     (told : Reply) : Type 0 where
   pub needed : AllNeeded r (semaphore_deeds p whom told) s t
-  pub doing : (after_all r (semaphore_deeds p whom told) s t).doing t
-      ≡ doing_next (semaphore_next p told)
+  pub role : (after_all r (semaphore_deeds p whom told) s t).role t
+      ≡ role_next (semaphore_next p told)
 
 abbrev pub SemaphoreStepsFollow : Type 0
 SemaphoreStepsFollow =

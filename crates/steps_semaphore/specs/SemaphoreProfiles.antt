@@ -4,9 +4,11 @@ use Rattle.core_base.specs.declared.wants.Want.{Want}
 use Rattle.core_base.specs.declared.wants.Want.TheVariants.{Shared}
 use Rattle.steps_base.specs.Profiles.{hand, hand_owner, in_hand, in_line, Profile, blank}
 use Rattle.spec_locks.specs.Locks.{Rights}
-use Rattle.spec_locks.specs.Purposes.{Enters, Releases, Patience, Patient, Timed, Try as OnlyTry}
+use Rattle.spec_locks.specs.Purposes.{Enters, Releases}
+use Rattle.spec_locks.specs.declared.calls.Patience.{Patience}
+use Rattle.spec_locks.specs.declared.calls.Patience.TheVariants.{Patient, Timed, Try as OnlyTry}
 use Rattle.spec_locks.specs.Runs.{one_more_at}
-use Rattle.spec_locks.specs.Sites.{Doing, Line, Has, Main, idle}
+use Rattle.spec_locks.specs.Sites.{Role, Line, Has, Main, idle}
 use Rattle.steps_semaphore.specs.declared.acquire.AcquireAt.{AcquireAt}
 use Rattle.steps_semaphore.specs.declared.acquire.AcquireAt.TheVariants as acquire
 use Rattle.steps_semaphore.specs.declared.release.ReleaseAt.{ReleaseAt}
@@ -16,16 +18,16 @@ use Rattle.steps_semaphore.specs.declared.places.SemaphorePlace.TheVariants.{Acq
 
 -- ---------------------------------------------------------------- what a thread does about the lock
 
-abbrev pub holder : Doing
+abbrev pub holder : Role
 holder = record idle { claims = Some (Has Shared) }
 
-abbrev pub inside : Doing
+abbrev pub inside : Role
 inside = record idle { inside = Some Main }
 
-abbrev pub carrying : Doing
+abbrev pub carrying : Role
 carrying = record inside { carries = true; covers = true }
 
-abbrev pub again : Bool → Doing → Doing
+abbrev pub again : Bool → Role → Role
 again retries d = record d { retries = if retries then Some Shared else None }
 
 -- ---------------------------------------------------------------- who waits for a permit
@@ -38,13 +40,13 @@ abbrev pub late_row : Profile → Profile
 late_row row = record row { owes = Some Main; late = true }
 
 abbrev pub acquire_row : Bool → Bool → AcquireAt → Profile
-acquire_row timed retries acquire.Load = record blank { doing = again retries idle }
-acquire_row timed retries (acquire.Decide seen) = record blank { doing = again retries idle }
+acquire_row timed retries acquire.Load = record blank { role = again retries idle }
+acquire_row timed retries (acquire.Decide seen) = record blank { role = again retries idle }
 acquire_row timed retries acquire.Check =
-    record blank { doing = again retries inside; owes = Some Main }
+    record blank { role = again retries inside; owes = Some Main }
 acquire_row timed retries (acquire.Leave parked) =
     record blank {
-      doing = again (if parked then false else retries) inside;
+      role = again (if parked then false else retries) inside;
       stands = in_line parked Main;
       owes = Some Main;
     }
@@ -52,10 +54,10 @@ acquire_row timed retries acquire.Asleep =
     record blank { stands = Some Main; late_line = in_line timed Main }
 acquire_row timed retries (acquire.Taken by) = record blank { hand = hand by false }
 acquire_row timed retries acquire.Remove =
-    late_row (record blank { doing = inside; stands = Some Main })
+    late_row (record blank { role = inside; stands = Some Main })
 acquire_row timed retries acquire.Clear =
-    late_row (record blank { doing = record inside { empty = Some Main }; gave_up = true })
-acquire_row timed retries acquire.GiveUp = late_row (record blank { doing = inside; gave_up = true })
+    late_row (record blank { role = record inside { empty = Some Main }; gave_up = true })
+acquire_row timed retries acquire.GiveUp = late_row (record blank { role = inside; gave_up = true })
 
 abbrev pub acquiring : Bool → Bool → Profile → Profile
 acquiring timed retries row = record row {
@@ -67,26 +69,26 @@ acquiring timed retries row = record row {
 
 -- ---------------------------------------------------------------- who gives one back
 
--- what it held before, by what it holds now
+-- its permits before, by what it holds now
 abbrev pub before_release : ℕ → Bool → (ℕ → Rights) → ℕ → Rights
 before_release l released rights = if released then one_more_at l Shared rights else rights
 
 abbrev pub release_row : ReleaseAt → Profile
-release_row release.Add = record blank { doing = holder }
+release_row release.Add = record blank { role = holder }
 release_row release.Enter =
-    record blank { doing = record idle { wakes = Some Main }; owes = Some Main; released = true }
+    record blank { role = record idle { wakes = Some Main }; owes = Some Main; released = true }
 release_row release.Take =
-    record blank { doing = record inside { wakes = Some Main }; owes = Some Main; released = true }
+    record blank { role = record inside { wakes = Some Main }; owes = Some Main; released = true }
 release_row (release.Clear any) =
     record blank {
-      doing = record carrying { empty = Some Main };
+      role = record carrying { empty = Some Main };
       carries = in_hand any false;
       owes = Some Main;
       released = true;
     }
 release_row (release.Leave any) =
     record blank {
-      doing = carrying;
+      role = carrying;
       carries = in_hand any false;
       owes = Some Main;
       released = true;
@@ -110,7 +112,7 @@ semaphore_profile (Release at) = releasing (release_row at)
 abbrev pub semaphore_taker : SemaphorePlace → Option ℕ
 semaphore_taker at = hand_owner (semaphore_profile at).hand
 
--- what it wants, where it waits
+-- its want, where it waits
 abbrev pub semaphore_wants : SemaphorePlace → Option Want
 semaphore_wants at = (semaphore_profile at).wants
 

@@ -9,7 +9,7 @@ use Rattle.spec_locks.specs.Permits.{HasPermits}
 use Rattle.spec_locks.specs.Sites.{Site, IsSite, IsDebtor, opening_site}
 use Rattle.steps_semaphore.specs.declared.places.SemaphorePlace.{SemaphorePlace}
 use Rattle.steps_semaphore.specs.SemaphoreDeeds.{semaphore_deeds}
-use Rattle.steps_semaphore.specs.SemaphoreLaws.{MayHear, semaphore_doing}
+use Rattle.steps_semaphore.specs.SemaphoreLaws.{MayHear, semaphore_role}
 
 -- the rules of a semaphore of so many permits
 abbrev pub semaphore : ℕ → Rules
@@ -28,7 +28,7 @@ abbrev pub StepsKeepTended : Type 0
 StepsKeepTended =
     (permits : ℕ) (s : Site) (t : ℕ) (p : SemaphorePlace) (whom : Option ℕ) (told : Reply)
     → permits ≤ 2 ^ 62 → IsTended permits s → t < length s.lock.shared
-    → s.doing t ≡ semaphore_doing p → MayHear (semaphore permits) s t p whom told
+    → s.role t ≡ semaphore_role p → MayHear (semaphore permits) s t p whom told
     → IsTended permits (after_all (semaphore permits) (semaphore_deeds p whom told) s t)
 
 -- it holds of a new one, whose word says that all permits are free
@@ -41,9 +41,9 @@ NewOnesAreTended = (permits threads : ℕ) → IsTended permits (opening_site th
 abbrev pub NobodyIsForgotten : Type 0
 NobodyIsForgotten = (permits : ℕ) (s : Site) → IsTended permits s → s.lock.queue ≢ []
     → readers s.lock < permits
-    → (t : ℕ) × IsDebtor Semaphore (s.doing t)
+    → (t : ℕ) × IsDebtor Semaphore (s.role t)
 
--- what a thread reads in the word
+-- the word as a thread reads it
 pub record TellsTrue (permits : ℕ) (s : Site) : Type 0 where
   -- the free permits with those held are all permits
   pub all : code (semaphore permits) s / 2 + readers s.lock ≡ permits

@@ -4,6 +4,7 @@ mod fair;
 mod fair_unlocks;
 mod mutexes;
 mod raw;
+mod refusals;
 mod street;
 mod timed;
 

@@ -7,10 +7,10 @@ mod timed;
 
 ghost use Rattle.std.specs.Prelude.{◌≡◌, ◌<◌, ◌≤◌, All, IfSome};
 ghost use Rattle.std.specs.Arc.{arc_value};
-ghost use Rattle.run_once.specs.Users.{IsTicketOf, IsTokenOf, lot_of};
+ghost use Rattle.run_signals.specs.OnceUsers.{IsTicketOf, IsTokenOf, lot_of};
 
 use parking_lot_core::{Fault, ParkingLot, Ticket, Token};
-use run_once::{Once, OnceCell, OnceFault, OnceState};
+use run_signals::{Once, OnceCell, OnceFault, OnceState};
 use std::alloc::Global;
 use std::fmt::Debug;
 use std::process::Abort;

@@ -24,15 +24,15 @@ use Rattle.steps_base.specs.declared.acts.Whom as whoms
 use Rattle.steps_base.specs.Acts.{takes_effect, outcome_of}
 use Rattle.lot_steps.specs.Steps.{act_of, next_place, next_act}
 use Rattle.lot_machine.specs.Machine.{state_after_hand_over_by, hand_over_told, State, unlocked, place_at, word_at, owners_at, section_at, queue_at, put, state_after_operation, state_with_sections, queues_with_last, queues_without, queues_without_first, state_after_taking, state_after_reply, state_after_act, reply_to, can_do, state_after_go, go_of, is_possible, after, step_outcome, go_outcome, place_after_telling, state_after_telling, state_after_hand_over, owners_handed_over, is_there, going_outcome, state_after_going}
-use Rattle.lot_machine.specs.Fits.{IsShaped, SameSize}
+use Rattle.lot_machine.specs.Fits.{IsWellFormed, SameSize}
 use Rattle.lot_laws.proofs.machine.Parts.{IsSingle, next_single, nothing_at}
 use Rattle.lot_laws.proofs.alone.Leads.{Leads, leads_barred, leads_step}
 use Rattle.lot_laws.proofs.calls.OwnPlace.{goes_from_there, told_from_there}
 use Rattle.lot_laws.specs.Refinement.{owner_at}
 use Rattle.spec_locks.specs.Sites.{Main}
-use Rattle.lot_laws.specs.Solo.{EntersAt}
-use Rattle.lot_laws.specs.Stations.{station, station_at}
-use Rattle.lot_laws.specs.SitesOf.{AreCondvars, AreCounted, IsSteady}
+use Rattle.lot_laws.specs.Solo.{EntersSection}
+use Rattle.lot_laws.specs.Locations.{location, location_at}
+use Rattle.lot_laws.specs.SitesOf.{AreCondvars, AreCounted, IsInductive}
 use Rattle.lot_machine.proofs.Shape.{after_shaped, after_size, main_key_there, main_line_there}
 use Rattle.lot_laws.proofs.condvar.StepsKeep.{after_condvars}
 use Rattle.lot_laws.proofs.hands.CountsKept.{counted_after}
@@ -47,8 +47,8 @@ use Rattle.lot_steps.specs.Steps.{owners_after}
 
 -- where a thread stands in a call of a lock, the lock's word and owner, who is inside its section, and its queue
 pub record Facing (w : State) (t l : ℕ) (p : Place) (v : ℕ) (o : Option ℕ) (s : Option ℕ) (q : List Waiter) : Type 0 where
-  pub shape : IsShaped w
-  pub steady : IsSteady w
+  pub shape : IsWellFormed w
+  pub steady : IsInductive w
   pub counted : AreCounted w
   pub condvars : AreCondvars w
   pub thread : t < length w.places
@@ -60,7 +60,7 @@ pub record Facing (w : State) (t l : ℕ) (p : Place) (v : ℕ) (o : Option ℕ)
   pub section : section_at w (2 * l) ≡ s
   pub queue : queue_at w (2 * l) ≡ q
 
--- what a step leads to, and what the thread is told
+-- tells what a step leads to, and what the thread is told
 abbrev pub Faces : State → ℕ → ℕ → Place → Outcome → ℕ → Option ℕ → Option ℕ → List Waiter → Type 0
 Faces w t l p told v o s q = (step_outcome w (go_of t) ≡ told) × Facing (after w (go_of t)) t l p v o s q
 
@@ -78,7 +78,7 @@ module _ (w : State) (t l : ℕ) (p : Place) (v : ℕ) (o s : Option ℕ) (q : L
       → after w (go_of t) ≡ put (state_after_act w t p (act_of p)) t (next_place p (reply_to w t (act_of p)))
   act_led can = goes can ∙ ap (state_after_going w t) f.place ∙ goes_from_there w t p f.place f.single
 
-  -- what it leads to, where the act leads to b
+  -- tells what it leads to, where the act leads to b
   faces : (b : State) (p2 : Place) (v2 : ℕ) (o2 s2 : Option ℕ) (q2 : List Waiter) → can_do w (act_of p) ≡ true
       → state_after_act w t p (act_of p) ≡ b → length b.places ≡ length w.places
       → next_place p (reply_to w t (act_of p)) ≡ p2 → word_at b l ≡ v2 → owner_at b l ≡ o2 → section_at b (2 * l) ≡ s2
@@ -144,7 +144,7 @@ module _ (w : State) (t l : ℕ) (p : Place) (v : ℕ) (o s : Option ℕ) (q : L
 
   -- outside of the section it enters it, or is barred
   pub faces_into : (P : State → Outcome → Type 0) (k : ℕ) → act_of p ≡ act.TheVariants.Enter (One (2 * l))
-      → (station p).inside ≡ None → outcome_of (next_act p Done) ≡ outcome.TheVariants.Step
+      → (location p).inside ≡ None → outcome_of (next_act p Done) ≡ outcome.TheVariants.Step
       → (Facing (after w (go_of t)) t l (next_place p Done) v o (Some t) q → Leads k (after w (go_of t)) t P)
       → Leads (k + 1) w t P
   faces_into P k is outside steps on = by_who s f.section
@@ -155,10 +155,10 @@ module _ (w : State) (t l : ℕ) (p : Place) (v : ℕ) (o s : Option ℕ) (q : L
         lock = l;
         line = Main;
         other = u;
-        enters = subst (EntersAt (2 * l)) (sym (ap act_of f.place ∙ is)) refl;
+        enters = subst (EntersSection (2 * l)) (sym (ap act_of f.place ∙ is)) refl;
         inside = e;
-        another = λ mine. let within : (station_at (place_at w t) l).inside ≡ Some Main = (f.steady.stands.sections t l Main).1 (e ∙ ap Some mine) in
-            let out : (station_at (place_at w t) l).inside ≡ None = nothing_at (place_at w t) l (subst IsSingle (sym f.place) f.single) (λ x. x.inside) refl (ap (λ x. (station x).inside) f.place ∙ outside) in cc;
+        another = λ mine. let within : (location_at (place_at w t) l).inside ≡ Some Main = (f.steady.stands.sections t l Main).1 (e ∙ ap Some mine) in
+            let out : (location_at (place_at w t) l).inside ≡ None = nothing_at (place_at w t) l (subst IsSingle (sym f.place) f.single) (λ x. x.inside) refl (ap (λ x. (location x).inside) f.place ∙ outside) in cc;
       })
 
   pub leave_faces : act_of p ≡ act.TheVariants.Leave (One (2 * l)) wakes.TheVariants.Nobody
@@ -187,7 +187,7 @@ module _ (w : State) (t l : ℕ) (p : Place) (v : ℕ) (o s : Option ℕ) (q : L
       heard : reply_to w t (act_of p) ≡ Done
       heard = ap (reply_to w t) is
 
-  pub park_faces : act_of p ≡ act.TheVariants.Park l (2 * l) (WordIs 3) Exclusive → v ≡ 3 → (station p).stands ≡ None
+  pub park_faces : act_of p ≡ act.TheVariants.Park l (2 * l) (WordIs 3) Exclusive → v ≡ 3 → (location p).stands ≡ None
       → Faces w t l (next_place p (Parked true)) (outcome_of (next_act p (Parked true))) v o s
       (q ++ waiter (2 * l) t Exclusive ∷ [])
   park_faces is full nowhere = (
@@ -207,7 +207,7 @@ module _ (w : State) (t l : ℕ) (p : Place) (v : ℕ) (o s : Option ℕ) (q : L
 
       queue : get_or (queues_with_last w.queues (2 * l) t Exclusive) (2 * l) [] ≡ q ++ waiter (2 * l) t Exclusive ∷ []
       queue = get_or-set_same (map (without t) w.queues) (2 * l) _ [] (rw (length-map w.queues (without t)) (main_line_there w l f.shape f.lock))
-          ∙ ap (λ x. x ++ waiter (2 * l) t Exclusive ∷ []) (same_without w f.steady t (subst IsSingle (sym f.place) f.single) (ap (λ x. (station x).stands) f.place ∙ nowhere) l ∙ f.queue)
+          ∙ ap (λ x. x ++ waiter (2 * l) t Exclusive ∷ []) (same_without w f.steady t (subst IsSingle (sym f.place) f.single) (ap (λ x. (location x).stands) f.place ∙ nowhere) l ∙ f.queue)
 
   -- the word was another
   pub unparked_faces : act_of p ≡ act.TheVariants.Park l (2 * l) (WordIs 3) Exclusive → (v == 3) ≡ false

@@ -42,13 +42,13 @@ use Rattle.lot_steps.specs.declared.places.Place.{Place}
 use Rattle.lot_steps.specs.declared.places.Place.TheVariants.{Idle, RwLock}
 use Rattle.lot_steps.specs.Steps.{act_of, next_act, next_place, rwlock_does, rwlock_goes, shares_after}
 use Rattle.lot_machine.specs.Machine.{Alone as Ran, State, state_after_operation, after, alone_after, can_do, can_go, go_of, go_outcome, held, is_possible, owners_at, place_at, put, queue_at, queues_with_last, reply_to, runs_closure, solo, state_after_act, state_after_go, step_outcome, word_at, going_outcome, state_after_going, kind_at}
-use Rattle.lot_machine.specs.Fits.{IsShaped, SameSize, IsOfItsKind}
+use Rattle.lot_machine.specs.Fits.{IsWellFormed, SameSize, IsOfItsKind}
 use Rattle.lot_machine.proofs.Shape.{after_shaped, after_size, performed_counts, put_shaped}
 use Rattle.lot_laws.proofs.calls.OwnPlace.{goes_from_there, told_from_there}
-use Rattle.lot_laws.specs.SitesOf.{AreCondvars, AreCounted, IsSteady, rules_in}
+use Rattle.lot_laws.specs.SitesOf.{AreCondvars, AreCounted, IsInductive, rules_in}
 use Rattle.lot_laws.proofs.calls.Closures.{call_runs_none}
 use Rattle.lot_laws.proofs.once.Runs.{put_running}
-use Rattle.lot_laws.specs.Stations.{doing_on, station}
+use Rattle.lot_laws.specs.Locations.{role_on, location}
 use Rattle.lot_laws.specs.Refinement.{lock_seen, lock_state, taken_at}
 use Rattle.lot_laws.specs.Solo.{IsBarred, Rests}
 use Rattle.lot_laws.proofs.sites.ActsKept.{goes_steady, place_goes}
@@ -285,8 +285,8 @@ locks_kept w t l c d a alike is k = locks_put w t (RwLock l a c) (RwLock l a d) 
 module _ (t l : ℕ) (a : Admission) (x : Access) where
   -- in a bump that enters again
   pub record Again (w : State) (retries : Bool) (to : RwLockAt) : Type 0 where
-    pub shape : IsShaped w
-    pub steady : IsSteady w
+    pub shape : IsWellFormed w
+    pub steady : IsInductive w
     pub counted : AreCounted w
     pub condvars : AreCondvars w
     pub shares : Admits (rules_in w l) a
@@ -301,7 +301,7 @@ module _ (t l : ℕ) (a : Admission) (x : Access) where
   abbrev pub SameEnd : Ran → Ran → Type 0
   SameEnd r r2 = (r.outcome ≡ r2.outcome) × ((k : ℕ) → lock_state r.state k ≡ lock_state r2.state k) × BarredAs r.state r2.state
 
-  -- what one more step comes to
+  -- tells what one more step comes to
   ends_same : (o : Outcome) (w v w2 v2 : State) (last : Outcome) (more more2 : Ran) → ((k : ℕ) → lock_state w k ≡ lock_state w2 k)
       → ((k : ℕ) → lock_state v k ≡ lock_state v2 k) → BarredAs w w2 → BarredAs v v2 → (o ≡ outcome.Step → SameEnd more more2)
       → SameEnd (alone_after o w v last more) (alone_after o w2 v2 last more2)
@@ -363,7 +363,7 @@ module _ (t l : ℕ) (a : Admission) (x : Access) where
     outs : step_outcome plain_w (go_of t) ≡ step_outcome w (go_of t)
     outs = λ i. if possible i then told_same i else outcome.NotNow
 
-    -- what its act makes of the world, but for its own place
+    -- tells what its act makes of the world, but for its own place
     abbrev acted : State
     acted = state_after_act w t (RwLock l a (Bump p)) y
 
@@ -477,13 +477,13 @@ module _ (t l : ℕ) (a : Admission) (x : Access) where
 
 module _ (t l : ℕ) (a : Admission) where
   -- its place in a call that only enters is as good
-  plain_steady : (w : State) (p : RwLockPlace) → IsSteady w → t < length w.places → place_at w t ≡ RwLock l a (Bump p)
-      → Admits (rules_in w l) a → MayStand a p → IsSteady (put w t (RwLock l a (Plain p)))
+  plain_steady : (w : State) (p : RwLockPlace) → IsInductive w → t < length w.places → place_at w t ≡ RwLock l a (Bump p)
+      → Admits (rules_in w l) a → MayStand a p → IsInductive (put w t (RwLock l a (Plain p)))
   plain_steady w p steady there is admits stands = goes_steady w (put w t (RwLock l a (Plain p))) l [] steady
       (place_goes w t l steady (rw is refl) there (rules_in w l) refl (RwLock l a (Plain p)) refl (admits, stands) [] (λ h. tt)
       (steps_by (rules_in w l) l (parts_at w l) (parts_at w l) (place_at w) t (RwLock l a (Plain p)) [] tt tt
-      (ap (λ q. taken_at q l) is) refl refl refl refl (sym (ap (λ q. doing_on q l) is)))
-      (sym (ap station is)))
+      (ap (λ q. taken_at q l) is) refl refl refl refl (sym (ap (λ q. role_on q l) is)))
+      (sym (ap location is)))
 
   -- as a call that only enters it steps alone too
   pub plain_alone : (w : State) (p : RwLockPlace) (v : ℕ) (q : Line → List Waiter) → Shares t l a w → MayStand a p

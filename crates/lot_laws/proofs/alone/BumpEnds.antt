@@ -22,13 +22,13 @@ use Rattle.steps_rwlock.specs.RwLockSteps.{wanted}
 use Rattle.steps_rwlock_fair.specs.declared.places.RwLockCallPlace.TheVariants.{Plain, Glance}
 use Rattle.steps_rwlock_fair.specs.declared.hand_over.HandOverAt.TheVariants as handing
 use Rattle.steps_rwlock_fair.specs.FairBegins.{call_first}
-use Rattle.steps_rwlock_fair.specs.FairDeeds.{call_doing}
+use Rattle.steps_rwlock_fair.specs.FairDeeds.{call_role}
 use Rattle.steps_rwlock_fair.specs.FairSteps.{enters_again, gives_way}
 use Rattle.spec_locks.specs.Locks.{IsLockState, LockState, Rights, Sort, Mutex as Mutual, Normal, Recursive, Semaphore, Once, Rules, IsBlocked, IsFree, MayEnter, Owns, count, is_recursive, one_if_some, readers, rights_of, with_right, Condvar}
 use Rattle.spec_locks.specs.Codes.{TellsTrue, bit, code, count_in, has_parked, has_writer, writers}
 use Rattle.spec_locks.specs.Purposes.{Bumps, rwlock_purpose}
 use Rattle.spec_locks.specs.Runs.{LocksState, IsRun, one_more_at, rules_at}
-use Rattle.spec_locks.specs.Sites.{Doing, Has, IsSite, Main, has_readers}
+use Rattle.spec_locks.specs.Sites.{Role, Has, IsSite, Main, has_readers}
 use Rattle.spec_locks.proofs.CodeLaws.{rw_is, words_tell_true}
 use Rattle.spec_locks.proofs.Seen.{packed_writer}
 use Rattle.spec_locks.proofs.SiteFacts.{fewer_share}
@@ -36,11 +36,11 @@ use Rattle.lot_steps.specs.declared.places.Place.TheVariants.{RwLock}
 use Rattle.lot_steps.specs.Steps.{act_of}
 use Rattle.lot_machine.specs.Machine.{Alone as Ran, State, after, after_steps, alone_after, go_of, place_at, queue_at, section_at, solo, step_outcome, step_outcomes, word_at}
 use Rattle.lot_laws.specs.Refinement.{call_at, call_state, lock_state, locks_of}
-use Rattle.lot_laws.specs.SitesOf.{IsSteady, IsWorld, key_of, rules_in, site_of}
-use Rattle.lot_laws.specs.Stations.{doing_on}
-use Rattle.lot_laws.specs.Solo.{BumpsShared, ComesBack, EndsAlone, locks_behind, EntersAlone, GivesWay, MayEnterAtOnce, NeedsNoWay, Rests, WaitsAlone, WaitsForReaders, EntersAt, HasWhatItReads, IsBarred}
+use Rattle.lot_laws.specs.SitesOf.{IsInductive, IsWorld, key_of, rules_in, site_of}
+use Rattle.lot_laws.specs.Locations.{role_on}
+use Rattle.lot_laws.specs.Solo.{BumpsShared, ComesBack, EndsAlone, locks_behind, EntersAlone, BumpGivesWay, MayEnterAtOnce, NeedsNoWay, Rests, WaitsAlone, WaitsForReaders, EntersSection, HasWhatItReads, IsBarred}
 use Rattle.lot_laws.specs.WorldRuns.{IsWorldRun}
-use Rattle.lot_laws.proofs.machine.Parts.{doing_here, inside_is, put_here}
+use Rattle.lot_laws.proofs.machine.Parts.{role_here, inside_is, put_here}
 use Rattle.lot_laws.proofs.alone.Leads.{Leads, or_so}
 use Rattle.lot_laws.proofs.alone.TwoLines.{StepsAlone}
 use Rattle.lot_laws.proofs.alone.Answers.{HasAnswered, answered, former_kept}
@@ -84,7 +84,7 @@ solo_from (suc n) w t last last2 goes le = by_outcome (step_outcome w (go_of t))
 
 -- ---------------------------------------------------------------- what is said of the locks alone
 
--- what waits for a right comes to the same by the locks that it sees
+-- a call that waits for a right comes to the same by the locks that it sees
 module _ (before : Type 0) (w w2 v v2 : LocksState) (t l : ℕ) (o o2 : Outcome) (locks : w.locks l ≡ w2.locks l)
     (rules : rules_at w l ≡ rules_at w2 l) (locks2 : v.locks l ≡ v2.locks l) (told : o ≡ o2) where
   may_so : (x : Access) → MayEnterAtOnce ⊥ (rules_at w2 l) (w2.locks l) (wanted x) Patient
@@ -130,10 +130,10 @@ module _ (w : State) (t l : ℕ) (a : Admission) (x : Access) (holds : IsWorld w
   coded : word ≡ code (rules_in w l) (site_of w l)
   coded = holds.steady.sites.word l
 
-  doing_now : doing_on (place_at w t) l ≡ call_doing (Glance x)
-  doing_now = ap (λ p. doing_on p l) is ∙ doing_here l (RwLock l a (Glance x)) refl
+  role_now : role_on (place_at w t) l ≡ call_role (Glance x)
+  role_now = ap (λ p. role_on p l) is ∙ role_here l (RwLock l a (Glance x)) refl
 
-  -- what it owned as it began
+  -- tells what it owned as it began
   began : (call_at w t).former ≡ (λ k. rights_of (lock_state w k) t)
   began = ap (λ p. (call_state p (λ k. rights_of (lock_state w k) t)).former) is
 
@@ -149,8 +149,8 @@ module _ (w : State) (t l : ℕ) (a : Admission) (x : Access) (holds : IsWorld w
   site : IsSite (rules_in w l) (site_of w l)
   site = holds.steady.sites.site l
 
-  -- who is to set the bit of a lock that is shared has taken waiters
-  covers : (u : ℕ) → ((site_of w l).doing u).sets ≡ true → ((site_of w l).doing u).covers ≡ true
+  -- a thread that is to set the bit of a lock that is shared has taken waiters
+  covers : (u : ℕ) → ((site_of w l).role u).sets ≡ true → ((site_of w l).role u).covers ≡ true
   covers u sets = elim (site.setting u sets) [
     | inl has ↦ has
     | inr once ↦ absurd (let f : has_readers Once ≡ true = subst (λ sort. has_readers sort ≡ true) once.0 admits.0 in cc)
@@ -163,8 +163,8 @@ module _ (w : State) (t l : ℕ) (a : Admission) (x : Access) (holds : IsWorld w
     | inr h ↦ absurd (
         let covered = site.covered h.0 (covers h.0 h.1) in
         let inside : section_at w (key_of l Main) ≡ Some h.0 = (holds.steady.stands.sections h.0 l Main).0 (sym (inside_is (place_at w h.0) l) ∙ covered.0) in
-        let here : (doing_on (place_at w t) l).sets ≡ true = subst (λ u. (doing_on (place_at w u) l).sets ≡ true) (way h.0 inside) h.1 in
-        let f : false ≡ true = sym (ap (λ (d : Doing). d.sets) doing_now) ∙ here in cc)
+        let here : (role_on (place_at w t) l).sets ≡ true = subst (λ u. (role_on (place_at w u) l).sets ≡ true) (way h.0 inside) h.1 in
+        let f : false ≡ true = sym (ap (λ (d : Role). d.sets) role_now) ∙ here in cc)
   ]
 
   few_writers : writers s ≤ 1
@@ -208,7 +208,7 @@ module _ (w : State) (t l : ℕ) (a : Admission) (x : Access) (holds : IsWorld w
   writes_pending shared h = writer_beside_readers (rules_in w l) s site.state shared h
 
   gives_so : (x2 : Access) → HasWhatItReads w t (Some (Bumps l (wanted x2)))
-      → GivesWay (rules_in w l) s (wanted x2) → gives_way a x2 word ≡ true
+      → BumpGivesWay (rules_in w l) s (wanted x2) → gives_way a x2 word ≡ true
   gives_so access.Shared reads g = ap (λ b. b && (not a.recursive || (count_in word == 1))) (writer_is ∙ pending_writes g.0) ∙ last_reader g.1
   gives_so access.Upgradable reads g = has_waiter reads g
   gives_so access.Exclusive reads g = has_waiter reads g
@@ -217,7 +217,7 @@ module _ (w : State) (t l : ℕ) (a : Admission) (x : Access) (holds : IsWorld w
   some_share shares = let e : sum (slice_set s.shared t (slice_index s.shared t - 1)) + 1 ≡ sum s.shared = fewer_share s.shared t shares in omega arith
 
   shares_now : access.Shared ≡ x → 1 ≤ readers s
-  shares_now e = some_share (site.held t (Has Shared) (ap (λ (d : Doing). d.claims) doing_now ∙ ap (λ (y : Access). Some (Has (wanted y))) (sym e)))
+  shares_now e = some_share (site.held t (Has Shared) (ap (λ (d : Role). d.claims) role_now ∙ ap (λ (y : Access). Some (Has (wanted y))) (sym e)))
 
   keeps_so : (x2 : Access) → x2 ≡ x → NeedsNoWay (has_parked word ≡ false) (rules_in w l) s (wanted x2)
       → gives_way a x2 word ≡ false
@@ -247,9 +247,9 @@ module _ (w : State) (t l : ℕ) (a : Admission) (x : Access) (holds : IsWorld w
 
     -- it enters no section there
     unbarred : IsBarred between t → ⊥
-    unbarred b = by_access x (subst (λ p. EntersAt (key_of b.lock b.line) (act_of p)) e.alone.place b.enters)
+    unbarred b = by_access x (subst (λ p. EntersSection (key_of b.lock b.line) (act_of p)) e.alone.place b.enters)
       where
-        by_access : (y : Access) → EntersAt (key_of b.lock b.line) (act_of (RwLock l a (enters_again y))) → ⊥
+        by_access : (y : Access) → EntersSection (key_of b.lock b.line) (act_of (RwLock l a (enters_again y))) → ⊥
         by_access access.Exclusive h = h
         by_access access.Shared h = h
         by_access access.Upgradable h = h
@@ -309,7 +309,7 @@ module _ (w : State) (t l : ℕ) (a : Admission) (x : Access) (holds : IsWorld w
 
 -- ---------------------------------------------------------------- each call, from its beginning
 
-pub rwlock_alone : (w : State) (t l : ℕ) (a : Admission) (c : RwLockCall) (n : ℕ) (last : Outcome) → 18 ≤ n → IsSteady w
+pub rwlock_alone : (w : State) (t l : ℕ) (a : Admission) (c : RwLockCall) (n : ℕ) (last : Outcome) → 18 ≤ n → IsInductive w
     → Admits (rules_in w l) a → place_at w t ≡ RwLock l a (call_first c)
     → StepsAlone w t l (RwLock l a (call_first c)) (word_at w l) (λ m. queue_at w (key_of l m))
     → RunsAlone w t (solo n w t last).outcome (solo n w t last).state

@@ -11,7 +11,7 @@ use Rattle.steps_base.specs.declared.acts.Next.{Next}
 use Rattle.steps_base.specs.declared.acts.Next.TheVariants as next
 use Rattle.steps_base.specs.declared.acts.Reply.{Reply}
 use Rattle.steps_base.specs.Acts.{outcome_of}
-use Rattle.steps_base.specs.Stations.{Station, station_by}
+use Rattle.steps_base.specs.Locations.{Location, location_by}
 use Rattle.steps_condvar.specs.declared.places.CondvarPlace.{CondvarPlace}
 use Rattle.steps_condvar.specs.CondvarCalls.{IsReached}
 use Rattle.steps_condvar.specs.CondvarDeeds.{MayHear, after_all, condvar_deeds}
@@ -25,11 +25,11 @@ use Rattle.lot_machine.specs.Fits.{IsThere, PlaceFits, SameSize}
 use Rattle.lot_machine.specs.Machine.{State, after, can_do, go_of, go_outcome, going_outcome, is_possible, place_at, put, reply_to, section_at, state_after_act, state_after_go, state_after_going, step_outcome, unlocked, word_at}
 use Rattle.lot_machine.proofs.Shape.{after_size, performed_counts}
 use Rattle.lot_laws.specs.Refinement.{lock_state}
-use Rattle.lot_laws.specs.Stations.{station_at}
+use Rattle.lot_laws.specs.Locations.{location_at}
 use Rattle.lot_laws.specs.SitesOf.{IsWorld, condvar_of}
-use Rattle.lot_laws.specs.Solo.{EntersAt, IsBarred}
-use Rattle.lot_laws.proofs.condvar.Replies.{fits_here, may_hear, station_beside}
-use Rattle.lot_laws.proofs.condvar.Sites.{station_there}
+use Rattle.lot_laws.specs.Solo.{EntersSection, IsBarred}
+use Rattle.lot_laws.proofs.condvar.Replies.{fits_here, may_hear, location_beside}
+use Rattle.lot_laws.proofs.condvar.Sites.{location_there}
 use Rattle.lot_laws.proofs.condvar.MachineFollows.{goes_led}
 use Rattle.lot_laws.proofs.alone.Leads.{Leads, leads_more, leads_rest, leads_step}
 
@@ -41,7 +41,7 @@ pub record GoesAlone (w : State) (t l m : ℕ) (p : CondvarPlace) : Type 0 where
   pub thread : t < length w.places
   pub place : place_at w t ≡ Condvar l p
 
--- what holds of a world holds after each step of the thread
+-- a fact of a world holds after each step of the thread
 abbrev pub Keeps : ℕ → Type 0
 Keeps t = (v : State) → IsWorld v → IsWorld (after v (go_of t))
 
@@ -58,20 +58,20 @@ module _ (t l m : ℕ) (keeps : Keeps t) (w : State) (p : CondvarPlace) (g : Goe
   pub mutex_there : mutex_beside p ≡ Some m → m < length w.locks
   mutex_there beside = subst (IsThere (length w.locks)) beside fits.1
 
-  -- who is inside bars it, where it is outside and its act enters
-  barred_by : (k u : ℕ) → EntersAt (2 * k) (condvar_act l p) → (station_at (place_at w t) k).inside ≡ None
+  -- a thread that is inside bars it, where it is outside and its act enters
+  barred_by : (k u : ℕ) → EntersSection (2 * k) (condvar_act l p) → (location_at (place_at w t) k).inside ≡ None
       → section_at w (2 * k) ≡ Some u → IsBarred w t
   barred_by k u enters outside e = record {
     lock = k;
     line = Main;
     other = u;
-    enters = subst (λ x. EntersAt (2 * k) (act_of x)) (sym g.place) enters;
+    enters = subst (λ x. EntersSection (2 * k) (act_of x)) (sym g.place) enters;
     inside = e;
-    another = λ mine. let within : (station_at (place_at w t) k).inside ≡ Some Main = (g.world.steady.stands.sections t k Main).1 (e ∙ ap Some mine) in
+    another = λ mine. let within : (location_at (place_at w t) k).inside ≡ Some Main = (g.world.steady.stands.sections t k Main).1 (e ∙ ap Some mine) in
         let both : ◌≡◌ {A = Option Line} None (Some Main) = sym outside ∙ within in cc;
   }
 
-  free_or_barred : (k : ℕ) → EntersAt (2 * k) (condvar_act l p) → (station_at (place_at w t) k).inside ≡ None
+  free_or_barred : (k : ℕ) → EntersSection (2 * k) (condvar_act l p) → (location_at (place_at w t) k).inside ≡ None
       → (section_at w (2 * k) ≡ None) ⊎ IsBarred w t
   free_or_barred k enters outside = by_who (section_at w (2 * k)) refl
     where
@@ -80,13 +80,13 @@ module _ (t l m : ℕ) (keeps : Keeps t) (w : State) (p : CondvarPlace) (g : Goe
       by_who (Some u) e = inr (barred_by k u enters outside e)
 
   -- outside of a section that its act enters it finds it free, or is barred
-  pub free_here : EntersAt (2 * l) (condvar_act l p) → (station_by (condvar_profile p)).inside ≡ None
+  pub free_here : EntersSection (2 * l) (condvar_act l p) → (location_by (condvar_profile p)).inside ≡ None
       → (section_at w (2 * l) ≡ None) ⊎ IsBarred w t
-  free_here enters outside = free_or_barred l enters (ap (λ (y : Station). y.inside) (station_there w g.world.steady.stands t l p g.place) ∙ outside)
+  free_here enters outside = free_or_barred l enters (ap (λ (y : Location). y.inside) (location_there w g.world.steady.stands t l p g.place) ∙ outside)
 
-  pub free_beside : EntersAt (2 * m) (condvar_act l p) → mutex_beside p ≡ Some m → (station_by (mutex_side p)).inside ≡ None
+  pub free_beside : EntersSection (2 * m) (condvar_act l p) → mutex_beside p ≡ Some m → (location_by (mutex_side p)).inside ≡ None
       → (section_at w (2 * m) ≡ None) ⊎ IsBarred w t
-  free_beside enters beside outside = free_or_barred m enters (ap (λ (y : Station). y.inside) (station_beside w t l p g.world.steady g.place m beside) ∙ outside)
+  free_beside enters beside outside = free_or_barred m enters (ap (λ (y : Location). y.inside) (location_beside w t l p g.world.steady g.place m beside) ∙ outside)
 
   -- where it goes, at first or once its act has befallen it too
   module _ (can : can_do w (condvar_act l p) ≡ true) where
@@ -117,7 +117,7 @@ module _ (t l m : ℕ) (keeps : Keeps t) (w : State) (p : CondvarPlace) (g : Goe
     pub hears : MayHear (condvar_of w l) t p told
     hears = may_hear w t l p g.world.steady g.place can
 
-    -- behind the act it stands here
+    -- after the act it stands here
     module _ (q : CondvarPlace) (stays : place_at acted t ≡ Condvar l q) where
       led : after w (go_of t) ≡ put acted t (condvar_goes l (condvar_next q told))
       led = goes ∙ ap (λ x. put acted t (next_place x told)) stays
@@ -132,7 +132,7 @@ module _ (t l m : ℕ) (keeps : Keeps t) (w : State) (p : CondvarPlace) (g : Goe
         place = ap (λ (s : State). place_at s t) led ∙ get_or-set_same acted.places t _ Idle (rw ((performed_counts w t (Condvar l p) (condvar_act l p)).0) g.thread) ∙ ap (condvar_goes l) e;
       }
 
-  -- what is left to do behind a step: nothing where it rests, and else the rest
+  -- the steps left after a step: none where it rests, and else the rest
   abbrev pub Behind : (State → Outcome → Type 0) → ℕ → Next CondvarPlace → Type 0
   Behind P k (next.End answer) = P (after w (go_of t)) (outcome.End answer)
   Behind P k (next.At q) = GoesAlone (after w (go_of t)) t l m q

@@ -14,11 +14,11 @@ use Rattle.lot_machine.specs.Machine.{State, place_at, section_at}
 use Rattle.lot_laws.specs.Refinement.{lock_state}
 use Rattle.lot_laws.specs.SitesOf.{IsWorld}
 use Rattle.lot_laws.specs.Solo.{EndsAlone, HasWhatItReads, IsOnly, Rests}
-use Rattle.lot_laws.specs.Stations.{station_at}
-use Rattle.steps_base.specs.Stations.{Station}
+use Rattle.lot_laws.specs.Locations.{location_at}
+use Rattle.steps_base.specs.Locations.{Location}
 use Rattle.lot_laws.proofs.alone.Condvar.{GoesAlone, Keeps}
 use Rattle.lot_laws.proofs.condvar.Replies.{fits_here}
-use Rattle.lot_laws.proofs.condvar.Sites.{station_there}
+use Rattle.lot_laws.proofs.condvar.Sites.{location_there}
 use Rattle.lot_laws.proofs.alone.Leads.{Leads, leads_more}
 use Rattle.lot_laws.proofs.alone.NotifyEnds.{look_rests, notifies_alone}
 use Rattle.lot_laws.proofs.alone.Notify.{notify_rests}
@@ -53,8 +53,8 @@ module _ (t : ℕ) (keeps : Keeps t) (w : State) (world : IsWorld w) (there : t 
     where
       by_who : (o : Option ℕ) → section_at w (2 * l) ≡ o → section_at w (2 * l) ≡ None
       by_who None e = e
-      by_who (Some u) e = absurd (let within : (station_at (place_at w t) l).inside ≡ Some Main = (world.steady.stands.sections t l Main).1 (e ∙ ap Some (only u e)) in
-          let outside : (station_at (place_at w t) l).inside ≡ None = ap (λ (y : Station). y.inside) (station_there w world.steady.stands t l (Look all) is) in
+      by_who (Some u) e = absurd (let within : (location_at (place_at w t) l).inside ≡ Some Main = (world.steady.stands.sections t l Main).1 (e ∙ ap Some (only u e)) in
+          let outside : (location_at (place_at w t) l).inside ≡ None = ap (λ (y : Location). y.inside) (location_there w world.steady.stands t l (Look all) is) in
           let both : ◌≡◌ {A = Option Line} None (Some Main) = sym outside ∙ within in cc)
 
   -- from its beginning

@@ -43,7 +43,7 @@ use Rattle.lot_steps.specs.Steps.{act_of, next_act, next_place, rwlock_does, rwl
 use Rattle.lot_machine.specs.Machine.{State, after, after_steps, go_of, queue_at, queues_without_first, solo, step_outcome, step_outcomes}
 use Rattle.lot_laws.specs.SitesOf.{key_of, rules_in}
 use Rattle.lot_laws.specs.Solo.{Rests}
-use Rattle.lot_laws.specs.Stations.{station}
+use Rattle.lot_laws.specs.Locations.{location}
 use Rattle.lot_laws.proofs.machine.Parts.{same}
 use Rattle.lot_laws.proofs.machine.KindsStay.{after_kinds}
 use Rattle.lot_laws.proofs.rwlock.Rows.{of}
@@ -115,7 +115,7 @@ module _ (t l : ℕ) (a : Admission) where
 
   -- into a section, or it is barred
   enters : (b : Bool) (x : Access) (k v : ℕ) (w : State) (q : Line → List Waiter) (c to : RwLockCallPlace) (m : Line) → Shares w
-      → Alone w c v q → act_of (RwLock l a c) ≡ act.Enter (One (key_of l m)) → (station (RwLock l a c)).inside ≡ None
+      → Alone w c v q → act_of (RwLock l a c) ≡ act.Enter (One (key_of l m)) → (location (RwLock l a c)).inside ≡ None
       → next_place (RwLock l a c) Done ≡ RwLock l a to → outcome_of (next_act (RwLock l a c) Done) ≡ outcome.Step
       → (Shares (after w (go_of t)) → Alone (after w (go_of t)) to v q → Leads k (after w (go_of t)) t (Ends b x (after w (go_of t))))
       → Leads (k + 1) w t (Ends b x w)

@@ -8,7 +8,7 @@ use Rattle.spec_locks.specs.declared.outcomes.Outcome as outcome
 use Rattle.lot_steps.specs.Steps.{act_of}
 use Rattle.lot_machine.specs.Machine.{State, after, can_do, go_of, go_outcome, place_at, section_at, solo, step_outcome}
 use Rattle.lot_laws.specs.SitesOf.{key_of}
-use Rattle.lot_laws.specs.Solo.{EntersAt, IsBarred, Rests}
+use Rattle.lot_laws.specs.Solo.{EntersSection, IsBarred, Rests}
 use Rattle.lot_laws.proofs.alone.Steps.{rests_after}
 
 -- after at most k steps of the thread alone its call rests, and then this holds
@@ -23,7 +23,7 @@ OrBarred t P v x = P v x ⊎ IsBarred v t
 abbrev pub Leads : ℕ → State → ℕ → (State → Outcome → Type 0) → Type 0
 Leads k w t P = LeadsSurely k w t (OrBarred t P)
 
--- what follows of this holds, or the thread is barred
+-- the consequence of this holds, or the thread is barred
 pub or_so : {A B C : Type 0} → (A → B) → A ⊎ C → B ⊎ C
 or_so so (inl a) = inl (so a)
 or_so so (inr c) = inr c
@@ -34,7 +34,7 @@ neither : (a : Bool) {b : Bool} → b ≡ false → (a && b) ≡ false
 neither true e = e
 neither false e = refl
 
-full_cannot : (w : State) (key u : ℕ) → section_at w key ≡ Some u → (a : Act) → EntersAt key a → can_do w a ≡ false
+full_cannot : (w : State) (key u : ℕ) → section_at w key ≡ Some u → (a : Act) → EntersSection key a → can_do w a ≡ false
 full_cannot w key u inside (act.Enter (One k)) e = ap (λ n. is_none (section_at w n)) e ∙ ap is_none inside
 full_cannot w key u inside (act.Enter (Two j k)) (inl e) = ap (λ b. b && is_none (section_at w k)) (ap (λ n. is_none (section_at w n)) e ∙ ap is_none inside)
 full_cannot w key u inside (act.Enter (Two j k)) (inr e) = neither (is_none (section_at w j)) (ap (λ n. is_none (section_at w n)) e ∙ ap is_none inside)
@@ -51,7 +51,7 @@ barred_as w v t sections acts b = record {
   lock = b.lock;
   line = b.line;
   other = b.other;
-  enters = subst (EntersAt (key_of b.lock b.line)) acts b.enters;
+  enters = subst (EntersSection (key_of b.lock b.line)) acts b.enters;
   inside = ap (λ ss. slice_index_or ss (key_of b.lock b.line) None) (sym sections) ∙ b.inside;
   another = b.another;
 }

@@ -32,8 +32,8 @@ use Rattle.lot_machine.specs.Machine.{State, place_at, word_at, queue_at, go_of,
 use Rattle.lot_laws.specs.MutexPromises.{IsMutexWord}
 use Rattle.spec_locks.specs.Sites.{Site}
 use Rattle.lot_laws.specs.MutexDeeds.{acts, takes, queued}
-use Rattle.lot_laws.specs.Stations.{Station, hand}
-use Rattle.lot_laws.specs.SitesOf.{IsSteady, Goes, hand_at}
+use Rattle.lot_laws.specs.Locations.{Location, hand}
+use Rattle.lot_laws.specs.SitesOf.{IsInductive, Goes, hand_at}
 use Rattle.lot_laws.proofs.promises.ExclusiveOwners.{by_code, mutex_owner_after}
 use Rattle.spec_locks.specs.Locks.{first_thread}
 use Rattle.spec_locks.specs.Picks.{queued_of}
@@ -343,7 +343,7 @@ module _ (t l : ℕ) where
         here : Facing (after w (go_of t)) t l (Mutex l (HandOff bumps (hand_off.Store true (length rest == 0)))) v o s rest
         here = (take_faces w t l (Mutex l taking) v o s (x ∷ rest) f refl).1
 
-        steady_then : IsSteady (after w (go_of t))
+        steady_then : IsInductive (after w (go_of t))
         steady_then = here.steady
 
         goes : (whom : Option ℕ) × Goes w taken_then l (acts t (takes whom))
@@ -432,6 +432,6 @@ module _ (t l : ℕ) where
   hand_off_rests bumps hand_off.Take v o s q w f = fair_rests 9 bumps (first_of q) (drop 1 q) w (omega arith) (fair_take_leads bumps q v o s w f)
   hand_off_rests bumps (hand_off.Store false none_left) v o s q w f = fair_rests 8 bumps None q w (omega arith) (store_leads bumps none_left None q v o s w f (λ u e. absurd cc))
   hand_off_rests bumps (hand_off.Store true none_left) v o s q w f =
-      let one : (u : ℕ) × (hand_at (place_at w u) l ≡ hand t false) = f.steady.stands.hands.carried t l false (ap (λ (x : Station). x.carries) (own_stance l (place_at w t) (HandOff bumps (hand_off.Store true none_left)) f.place)) in
+      let one : (u : ℕ) × (hand_at (place_at w u) l ≡ hand t false) = f.steady.stands.hands.carried t l false (ap (λ (x : Location). x.carries) (own_stance l (place_at w t) (HandOff bumps (hand_off.Store true none_left)) f.place)) in
       fair_rests 8 bumps (Some one.0) q w (omega arith) (store_leads bumps none_left (Some one.0) q v o s w f (λ u e o2. successor_one w t l one.0 false (aparts w f.steady) f.steady.stands.hands (single_at w t l (HandOff bumps (hand_off.Store true none_left)) f.steady f.place) (of_carries l (place_at w t) (rw f.place refl)) one.1 (alone_at w t l (HandOff bumps (hand_off.Store true none_left)) f.steady f.place) (unshared_at w t l (HandOff bumps (hand_off.Store true none_left)) f.steady f.place) o2 ∙ ap (λ (z : Option ℕ). with_exclusive o2 z) e))
   hand_off_rests bumps (hand_off.Leave any) v o s q w f = fair_rests 7 bumps o q w (omega arith) (told_leads bumps any q v o s w f)

@@ -45,7 +45,7 @@ module _ (t l m : ℕ) (keeps : Keeps t) where
   Ends all number q v o = (o ≡ outcome.End (notified all number)) × ((lock_state v l).queue ≡ q)
 
   module _ (w : State) (all : Bool) (at : NotifyAt) (g : Alone w all at) where
-    -- what is left to do behind this reply
+    -- tells what is left to do behind this reply
     abbrev Left : (State → Outcome → Type 0) → ℕ → Reply → Type 0
     Left P k r = Behind t l m keeps w (Notify all m at) g P k (condvar_next (Notify all m at) r)
 

@@ -35,13 +35,13 @@ use Rattle.lot_machine.specs.Machine.{State, after, go_of, queue_at, solo, word_
 use Rattle.lot_laws.specs.Refinement.{lock_state}
 use Rattle.lot_laws.specs.SitesOf.{FitsItsLock, key_of, rules_in, site_of}
 use Rattle.lot_laws.specs.Solo.{EndsAlone, IsBarred}
-use Rattle.lot_laws.specs.Stations.{doing_on}
+use Rattle.lot_laws.specs.Locations.{role_on}
 use Rattle.lot_laws.proofs.machine.Parts.{same}
 use Rattle.lot_laws.proofs.alone.TwoLines.{Comes, StepsAlone, leads_into, leave_comes, park_comes, parks_last, word_comes}
 use Rattle.lot_laws.proofs.mutex.Words.{queued_behind}
 use Rattle.lot_laws.proofs.alone.Leads.{Leads, leads_more, leads_rest, leads_step, or_so}
 
--- who waits for a run still does so while none has ended
+-- a thread that waits for a run still does so while none has ended
 none_yet : (forced : Bool) → holds (check_of (Wait forced)) 8 ≡ true
 none_yet true = refl
 none_yet false = refl
@@ -85,7 +85,7 @@ module _ (t l : ℕ) where
 
         running : (lock_state (after w (go_of t)) l).phase ≡ InProgress t
         running = (there.steady.sites.site l).held t Running
-            (ap (λ p. (doing_on p l).claims) there.place ∙ ap (λ (z : Bool). (if z then (once_profile (Run forced (run.Closure poisoned))).doing else idle).claims) (same l))
+            (ap (λ p. (role_on p l).claims) there.place ∙ ap (λ (z : Bool). (if z then (once_profile (Run forced (run.Closure poisoned))).role else idle).claims) (same l))
 
   module _ (c : OnceCall) where
     leaves : (again : Bool) (v : ℕ) (w : State) (q q2 : Queues) → q2 Main ≡ q Main ++ waiter (2 * l) t (want_of c) ∷ []
@@ -102,7 +102,7 @@ module _ (t l : ℕ) where
         → Alone w (Look c again (look.Decide seen)) v q → Leads 3 w t (Sleeps c q)
     parks again seen v w q is h f = leads_into w t l _ v q f (Sleeps c q) 2 Main is refl refl (λ g. checks again v _ q h g)
 
-  -- what a call comes to, by how far its lock has come
+  -- tells what a call comes to, by how far its lock has come
   abbrev pub Ended : Queues → OnceCall → Phase → State → Outcome → Type 0
   Ended q (CallOnce forced) New = Starts false
   Ended q (CallOnce true) Poisoned = Starts true

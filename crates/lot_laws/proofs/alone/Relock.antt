@@ -24,7 +24,7 @@ use Rattle.lot_steps.specs.declared.places.Place.TheVariants.{Condvar}
 use Rattle.lot_machine.specs.Machine.{State, after, can_do, go_of, place_at, reply_to, state_after_act, word_at}
 use Rattle.lot_laws.specs.MutexPromises.{IsMutexWord}
 use Rattle.lot_laws.specs.Refinement.{owner_at}
-use Rattle.lot_laws.specs.Solo.{EntersAt, Rests}
+use Rattle.lot_laws.specs.Solo.{EntersSection, Rests}
 use Rattle.lot_laws.proofs.machine.AtPlaces.{coded}
 use Rattle.lot_laws.proofs.alone.Condvar.{Behind, GoesAlone, Keeps, free_beside, leads_behind, reached, so_then, word_then}
 use Rattle.lot_laws.proofs.condvar.Replies.{fits_here}
@@ -44,7 +44,7 @@ module _ (t l m : ℕ) (keeps : Keeps t) (timed late : Bool) where
   Alone w again a = GoesAlone w t l m (relocks again a)
 
   module _ (w : State) (again : Bool) (a : LockAt) (g : Alone w again a) where
-    -- what is left to do behind this reply
+    -- tells what is left to do behind this reply
     abbrev Left : ℕ → Reply → Type 0
     Left k r = Behind t l m keeps w (relocks again a) g (λ v o. Rests o) k (condvar_next (relocks again a) r)
 
@@ -75,7 +75,7 @@ module _ (t l m : ℕ) (keeps : Keeps t) (timed late : Bool) where
       → (seen == 1) ≡ false
       → (word_at (after w (go_of t)) m ≡ word_at w m → Alone (after w (go_of t)) again lock.Check → RestsIn k (after w (go_of t)))
       → RestsIn (k + 1) w
-  enters w again seen k g locked marked on = elim (free_beside t l m keeps w (relocks again (lock.Decide seen)) g (subst (EntersAt (2 * m)) (sym is) refl) refl refl) [
+  enters w again seen k g locked marked on = elim (free_beside t l m keeps w (relocks again (lock.Decide seen)) g (subst (EntersSection (2 * m)) (sym is) refl) refl refl) [
     | inl free ↦ let can : can_do w (lock_act m (lock.Decide seen)) ≡ true = rw is (ap is_none free) in
         goes w again (lock.Decide seen) g k can (subst (λ a. Left w again (lock.Decide seen) g k (reply_to w t a)) (sym is) (λ h. inr (refl, on (same_word can) h)))
     | inr barred ↦ leads_barred w t (λ v o. Rests o) (k + 1) barred

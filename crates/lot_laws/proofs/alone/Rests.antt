@@ -34,17 +34,19 @@ use Rattle.spec_locks.specs.Kinds.{is_fair}
 use Rattle.spec_locks.specs.Calls.{lock_in}
 use Rattle.lot_steps.specs.Steps.{act_of, first_place}
 use Rattle.lot_machine.specs.Machine.{State, place_at, word_at, kind_at, queue_at, section_at, go_of, after, runs_closure, solo}
-use Rattle.lot_machine.specs.Fits.{IsShaped, PlaceFits}
+use Rattle.lot_machine.specs.Fits.{IsWellFormed, PlaceFits}
 use Rattle.spec_locks.specs.Sites.{Main, has_readers}
-use Rattle.lot_laws.specs.Stations.{station, station_at}
-use Rattle.lot_laws.specs.SitesOf.{AreCondvars, AreCounted, IsSteady, IsWorld, RunsInClosures, key_of, FitsItsLock, is_mutex, rules_in}
+use Rattle.lot_laws.specs.Locations.{location, location_at}
+use Rattle.lot_laws.specs.SitesOf.{AreCondvars, AreCounted, IsInductive, IsWorld, RunsInClosures, key_of, FitsItsLock, is_mutex, rules_in}
 use Rattle.spec_locks.specs.Locks.{readers, Rules, MayEnter, IsBlocked}
 use Rattle.spec_locks.specs.Locks as locks
-use Rattle.spec_locks.specs.Purposes.{Bumps, Patience, Patient, Purpose, Releases, Timed, Try, mutex_purpose, purpose_of, rules_of, rwlock_purpose}
+use Rattle.spec_locks.specs.Purposes.{Bumps, Purpose, Releases, mutex_purpose, purpose_of, rules_of, rwlock_purpose}
+use Rattle.spec_locks.specs.declared.calls.Patience.{Patience}
+use Rattle.spec_locks.specs.declared.calls.Patience.TheVariants.{Patient, Timed, Try}
 use Rattle.spec_locks.specs.Runs.{IsFull, rules_at, purpose_at}
 use Rattle.spec_locks.specs.Picks.{queued_of}
 use Rattle.lot_laws.specs.Refinement.{lock_state, locks_of, owner_at}
-use Rattle.lot_laws.specs.Solo.{BumpsAlone, EndsAlone, EntersAlone, HasItsWay, HasWhatItReads, IsBarred, IsOnly, IsUnderWay, OnlyTries, Rests, successor}
+use Rattle.lot_laws.specs.Solo.{BumpsAlone, EndsAlone, EntersAlone, IsUnobstructed, HasWhatItReads, IsBarred, IsOnly, IsUnderWay, OnlyTries, Rests, successor}
 use Rattle.lot_laws.proofs.alone.Mutex.{LockEnds, UnlockEnds, bump_leads, bump_rests, first_leads, hand_off_rests, lock_rests, subtract_leads, try_leads, unlock_fair_leads, unlock_fair_rests, unlock_rests}
 use Rattle.lot_laws.proofs.mutex.Words.{mutex, queued_behind}
 use Rattle.lot_laws.proofs.sites.StandsMoved.{mutex_rules}
@@ -81,12 +83,12 @@ try_so : (b : Bool) (x : Outcome)
 try_so true x h = rw h tt
 try_so false x h = rw h tt
 
-module _ (w : State) (t : ℕ) (shape : IsShaped w) (steady : IsSteady w) (counted : AreCounted w) (condvars : AreCondvars w)
+module _ (w : State) (t : ℕ) (shape : IsWellFormed w) (steady : IsInductive w) (counted : AreCounted w) (condvars : AreCondvars w)
     (running : RunsInClosures w) (there : t < length w.places) where
   world : IsWorld w
   world = record { shaped = shape; steady = steady; counted = counted; condvars = condvars; running = running }
 
-  -- what holds of a world holds after each step of the thread
+  -- a fact of a world holds after each step of the thread
   stays_world : (v : State) → IsWorld v → IsWorld (after v (go_of t))
   stays_world v h = world_after v (go_of t) h
 
@@ -99,13 +101,13 @@ module _ (w : State) (t : ℕ) (shape : IsShaped w) (steady : IsSteady w) (count
   facing_now l p single is lt s e = subst (λ x. Facing w t l p (word_at w l) (owner_at w l) x (queue_at w (2 * l))) e (facing l p single is lt)
 
   -- outside its section it finds it free where nobody else is inside
-  free : (l : ℕ) (p : Place) → IsSingle p → place_at w t ≡ p → (station p).inside ≡ None → IsOnly t (section_at w (2 * l))
+  free : (l : ℕ) (p : Place) → IsSingle p → place_at w t ≡ p → (location p).inside ≡ None → IsOnly t (section_at w (2 * l))
       → (x : Option ℕ) → section_at w (2 * l) ≡ x → x ≡ None
   free l p single is outside only None e = refl
-  free l p single is outside only (Some u) e = let within : (station_at (place_at w t) l).inside ≡ Some Main = (steady.stands.sections t l Main).1 (e ∙ ap Some (only u e)) in
-      let out : (station_at (place_at w t) l).inside ≡ None = nothing_at (place_at w t) l (subst IsSingle (sym is) single) (λ y. y.inside) refl (ap (λ y. (station y).inside) is ∙ outside) in absurd cc
+  free l p single is outside only (Some u) e = let within : (location_at (place_at w t) l).inside ≡ Some Main = (steady.stands.sections t l Main).1 (e ∙ ap Some (only u e)) in
+      let out : (location_at (place_at w t) l).inside ≡ None = nothing_at (place_at w t) l (subst IsSingle (sym is) single) (λ y. y.inside) refl (ap (λ y. (location y).inside) is ∙ outside) in absurd cc
 
-  at_first : (l : ℕ) (p : Place) → IsSingle p → place_at w t ≡ p → (station p).inside ≡ None → IsOnly t (section_at w (2 * l))
+  at_first : (l : ℕ) (p : Place) → IsSingle p → place_at w t ≡ p → (location p).inside ≡ None → IsOnly t (section_at w (2 * l))
       → l < length w.locks → Facing w t l p (word_at w l) (owner_at w l) None (queue_at w (2 * l))
   at_first l p single is outside only lt = facing_now l p single is lt None (free l p single is outside only (section_at w (2 * l)) refl)
 
@@ -183,7 +185,7 @@ module _ (w : State) (t : ℕ) (shape : IsShaped w) (steady : IsSteady w) (count
     unfilled : {A : Type 0} → IsFull (locks_of w) l Exclusive → A
     unfilled h = absurd (h.0 refl)
 
-    -- what a call that waits has come to
+    -- tells what a call that waits has come to
     abbrev patience_of : Entry → Patience
     patience_of entries.LockTimed = Timed
     patience_of entry = Patient
@@ -211,7 +213,7 @@ module _ (w : State) (t : ℕ) (shape : IsShaped w) (steady : IsSteady w) (count
     succeeds [] = refl
     succeeds (y ∷ q) = refl
 
-    unlock_fair_alone : IsSingle (place_at w t) → (station (place_at w t)).stands ≡ None
+    unlock_fair_alone : IsSingle (place_at w t) → (location (place_at w t)).stands ≡ None
         → UnlockEnds l (first_of (queue_at w (2 * l))) v x → EndsAlone w t (Some (Releases l Exclusive true)) x v
     unlock_fair_alone single awake h = (h.0, other, λ mutex. h.1 ∙ succeeds (queue_at w (2 * l)))
       where
@@ -231,13 +233,13 @@ module _ (w : State) (t : ℕ) (shape : IsShaped w) (steady : IsSteady w) (count
         by_queue [] g = g
         by_queue (y ∷ q) g = (g.0, g.1, ap (map queued_of) g.2 ∙ queued_behind (2 * l) t Exclusive q)
 
-  -- what its solo run comes to, or it is barred
+  -- tells what its solo run comes to, unless it is barred
   abbrev Comes : ℕ → Outcome → Option Purpose → Type 0
   Comes n last purpose = EndsAlone w t purpose (solo n w t last).outcome (solo n w t last).state ⊎ IsBarred (solo n w t last).state t
 
   fairly : (l : ℕ) → place_at w t ≡ Mutex l UnlockFair → l < length w.locks → is_mutex (kind_at w l) ≡ true
       → IsOnly t (section_at w (2 * l)) → (n : ℕ) (last : Outcome) → 12 ≤ n → Comes n last (Some (Releases l Exclusive true))
-  fairly l is lt kind only n last le = or_so (unlock_fair_alone l kind (solo n w t last).state (solo n w t last).outcome (subst IsSingle (sym is) tt) (ap (λ p. (station p).stands) is))
+  fairly l is lt kind only n last le = or_so (unlock_fair_alone l kind (solo n w t last).state (solo n w t last).outcome (subst IsSingle (sym is) tt) (ap (λ p. (location p).stands) is))
       (unlock_fair_leads t l (queue_at w (2 * l)) (word_at w l) (owner_at w l) w (at_first l _ tt is refl only lt) n last (omega arith))
 
   call_alone : (l : ℕ) (fair : Bool) (c : MutexCall) → place_at w t ≡ Mutex l (mutex_first fair c) → l < length w.locks
@@ -329,7 +331,7 @@ module _ (w : State) (t : ℕ) (shape : IsShaped w) (steady : IsSteady w) (count
 
 -- ---------------------------------------------------------------- as the world is told them
 
-module _ (w : State) (t : ℕ) (shape : IsShaped w) (steady : IsSteady w) (counted : AreCounted w) (condvars : AreCondvars w)
+module _ (w : State) (t : ℕ) (shape : IsWellFormed w) (steady : IsInductive w) (counted : AreCounted w) (condvars : AreCondvars w)
     (running : RunsInClosures w) where
   pub rests_or_barred : IsUnderWay w t
       → Rests (solo 64 w t outcome.TheVariants.NotNow).outcome ⊎ IsBarred (solo 64 w t outcome.TheVariants.NotNow).state t
@@ -342,15 +344,15 @@ module _ (w : State) (t : ℕ) (shape : IsShaped w) (steady : IsSteady w) (count
       ⊎ IsBarred (solo 64 w t outcome.TheVariants.NotNow).state t
   ends_or_barred c is reads = solo_ends w t shape steady counted condvars running (stands_there w.places t (first_busy (kind_at w (lock_in c)) c (place_at w t) is)) c is reads
 
-  -- who has its way isn't barred
-  unless_barred : {A : Type 0} → HasItsWay w t → A ⊎ IsBarred (solo 64 w t outcome.TheVariants.NotNow).state t → A
+  -- a thread that has its way isn't barred
+  unless_barred : {A : Type 0} → IsUnobstructed w t → A ⊎ IsBarred (solo 64 w t outcome.TheVariants.NotNow).state t → A
   unless_barred way (inl a) = a
   unless_barred way (inr b) = absurd (unbarred 64 w t outcome.TheVariants.NotNow (record { shaped = shape; steady = steady; counted = counted; condvars = condvars; running = running }) way b)
 
-  pub rests_alone : IsUnderWay w t → HasItsWay w t → Rests (solo 64 w t outcome.TheVariants.NotNow).outcome
+  pub rests_alone : IsUnderWay w t → IsUnobstructed w t → Rests (solo 64 w t outcome.TheVariants.NotNow).outcome
   rests_alone up way = unless_barred way (rests_or_barred up)
 
-  pub ends_alone : (c : Call) → place_at w t ≡ first_place (kind_at w (lock_in c)) c → HasItsWay w t
+  pub ends_alone : (c : Call) → place_at w t ≡ first_place (kind_at w (lock_in c)) c → IsUnobstructed w t
       → EndsAlone w t (purpose_at (locks_of w) c) (solo 64 w t outcome.TheVariants.NotNow).outcome
       (solo 64 w t outcome.TheVariants.NotNow).state
   ends_alone c is way = unless_barred way (ends_or_barred c is (reads_its_own w t c is way))

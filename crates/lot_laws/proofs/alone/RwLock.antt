@@ -45,7 +45,7 @@ use Rattle.lot_laws.proofs.calls.PlainCalls.{plain_goes, plain_does}
 use Rattle.lot_machine.specs.Machine.{State, word_at, queue_at, queues_without_first, state_after_taking, after, go_of}
 use Rattle.steps_rwlock.specs.RwLockCalls.{IsNoRefusal, MayStand, StandsAt, IsDecided}
 use Rattle.steps_rwlock.proofs.RwLockStands.{decides_to_park, aside_set}
-use Rattle.lot_laws.specs.SitesOf.{IsSteady, key_of, rules_in, site_of}
+use Rattle.lot_laws.specs.SitesOf.{IsInductive, key_of, rules_in, site_of}
 use Rattle.spec_locks.specs.Locks.{Rules, Sort, Mutex, Normal, Recursive, Semaphore, Once, count, one_if_some, Condvar}
 use Rattle.lot_laws.specs.Solo.{Rests}
 use Rattle.lot_laws.proofs.machine.Parts.{same}
@@ -209,7 +209,7 @@ module _ (t l : ℕ) (a : Admission) where
 
   -- ---------------------------------------------------------------- from a look
 
-  -- who takes a right has it, and a writer looks for readers then
+  -- a thread that takes a right has it, and a writer looks for readers then
   abbrev pub Takes : RwLockPurpose → Bool → ℕ → (Line → List Waiter) → State → Outcome → Type 0
   Takes (purpose.Enter access.Exclusive how) retries v q s x = Settles (count_in (plus v 8) == 0) (record { purpose = purpose.Enter access.Exclusive how; retries = retries; at = at.Look }) q s x
   Takes r retries v q s x = x ≡ outcome.End (entered (patience_of r))
@@ -574,7 +574,7 @@ code_small r s readers site few top = by_sort r.sort readers
     by_sort Once h = absurd cc
     by_sort Condvar h = absurd cc
 
-pub word_small : (w : State) (l : ℕ) → IsSteady w → has_readers (rules_in w l).sort ≡ true → word_at w l < 2 ^ 64
+pub word_small : (w : State) (l : ℕ) → IsInductive w → has_readers (rules_in w l).sort ≡ true → word_at w l < 2 ^ 64
 word_small w l steady readers = let limits = steady.sites.limits l readers in
     subst (λ n. n < 2 ^ 64) (sym (steady.sites.word l)) (code_small (rules_in w l) (site_of w l) readers (steady.sites.site l) limits.0.1 limits.1.top)
 

@@ -34,7 +34,7 @@ use Rattle.steps_rwlock_fair.specs.declared.places.RwLockCallPlace.TheVariants.{
 use Rattle.steps_rwlock_fair.specs.declared.hand_over.HandOverAt.TheVariants as handing
 use Rattle.steps_rwlock_fair.specs.FairProfiles.{call_profile}
 use Rattle.steps_rwlock_fair.specs.FairBegins.{call_first}
-use Rattle.steps_rwlock.specs.RwLockDeeds.{Admits, doing_at, rwlock_doing}
+use Rattle.steps_rwlock.specs.RwLockDeeds.{Admits, role_at, rwlock_role}
 use Rattle.spec_locks.specs.Locks.{LockState, Pending, Rights, with_right, is_thread, Sort, Mutex, Normal, Recursive, Semaphore, Once, Rules, NoWriter, IsFreeAt, IsSomePending, one_if_some, IsFree, IsBlocked, MayEnter, Owns, is_recursive, count, readers, rights_of, Condvar}
 use Rattle.spec_locks.specs.Codes.{code, count_in, has_parked, is_blocked, TellsTrue}
 use Rattle.spec_locks.specs.Picks.{queued_of}
@@ -45,8 +45,8 @@ use Rattle.spec_locks.proofs.CodeLaws.{words_tell_true}
 use Rattle.lot_steps.specs.declared.places.Place.TheVariants.{RwLock}
 use Rattle.lot_machine.specs.Machine.{State, go_of, place_at, word_at, queue_at, solo}
 use Rattle.lot_laws.specs.Refinement.{lock_state, locks_of, call_at, call_state}
-use Rattle.lot_laws.specs.SitesOf.{IsSteady, key_of, rules_in, site_of}
-use Rattle.lot_laws.specs.Stations.{doing_on}
+use Rattle.lot_laws.specs.SitesOf.{IsInductive, key_of, rules_in, site_of}
+use Rattle.lot_laws.specs.Locations.{role_on}
 use Rattle.lot_laws.specs.Solo.{EntersAlone, ReleasesAlone, ConvertsAlone, MayEnterAtOnce, WaitsAlone, WaitsForReaders, entered_answer, IsBarred}
 use Rattle.lot_laws.proofs.machine.Parts.{put_here, same}
 use Rattle.lot_laws.proofs.mutex.Words.{queued_behind}
@@ -63,7 +63,7 @@ same_answer Try = refl
 
 -- ---------------------------------------------------------------- what a thread decides, by the lock as it is
 
-module _ (w : State) (l : ℕ) (a : Admission) (steady : IsSteady w) (admits : Admits (rules_in w l) a) where
+module _ (w : State) (l : ℕ) (a : Admission) (steady : IsInductive w) (admits : Admits (rules_in w l) a) where
   abbrev r : Rules
   r = rules_in w l
 
@@ -121,7 +121,7 @@ module _ (w : State) (l : ℕ) (a : Admission) (steady : IsSteady w) (admits : A
 
 -- ---------------------------------------------------------------- a call from its beginning
 
-module _ (w : State) (t l : ℕ) (a : Admission) (steady : IsSteady w) (admits : Admits (rules_in w l) a) (v2 : State) (x : Outcome)
+module _ (w : State) (t l : ℕ) (a : Admission) (steady : IsInductive w) (admits : Admits (rules_in w l) a) (v2 : State) (x : Outcome)
     (run : RunsAlone w t x v2) where
   small : word_at w l < 2 ^ 64
   small = word_small w l steady admits.0
@@ -140,7 +140,7 @@ module _ (w : State) (t l : ℕ) (a : Admission) (steady : IsSteady w) (admits :
       called : (call_at w t).purpose ≡ Some (purpose_by q l)
       called = ap (λ p. (call_state p (λ k. rights_of (lock_state w k) t)).purpose) is
 
-  -- whoever has entered owns
+  -- each thread that has entered owns
   enters_owns : (y : Access) (how : Patience) (at : RwLockAt)
       → place_at w t ≡ RwLock l a (Plain (looking (purpose.Enter y how) at)) → x ≡ outcome.End (entered how)
       → (x ≡ outcome.End (entered_answer how)) × Owns (lock_state v2 l) t (wanted y)
@@ -180,7 +180,7 @@ module _ (w : State) (t l : ℕ) (a : Admission) (steady : IsSteady w) (admits :
       either true h = (h.0, queued (wanted y) h.1)
       either false h = (h.0, queued (wanted y) h.1)
 
-  -- who is to share looks at the word
+  -- a thread that is to share looks at the word
   pub shares_alone : (y : Access) (how : Patience) → wanted y ≢ Exclusive
       → place_at w t ≡ RwLock l a (Plain (looking (purpose.Enter y how) at.Load))
       → Decides t l a (decision a (wanted y) how (word_at w l)) (looking (purpose.Enter y how) at.Load) (word_at w l) queues v2 x
@@ -278,7 +278,7 @@ module _ (w : State) (t l : ℕ) (a : Admission) (steady : IsSteady w) (admits :
   clear_free : (word_at w l == 0) ≡ true → IsBlocked (rules_in w l) (lock_state w l) Exclusive → ⊥
   clear_free e b = let z : word_at w l ≡ 0 = eqb-true (word_at w l) 0 e in let f : false ≡ true = sym (ap (is_blocked a.recursive Exclusive) z) ∙ blocked_is w l a steady admits Exclusive b in cc
 
-  -- who is to own alone tries a clear word first
+  -- a thread that is to own alone tries a clear word first
   pub writes_alone : (how : Patience) → place_at w t ≡ RwLock l a (Plain (writer how))
       → Tries t l a (word_at w l == 0) how (writer how) (word_at w l) queues v2 x
       → EntersAlone (word_at w l ≡ 0) (locks_of w) t l Exclusive how x (locks_of v2)
@@ -326,7 +326,7 @@ module _ (w : State) (t l : ℕ) (a : Admission) (steady : IsSteady w) (admits :
 
   -- ---------------------------------------------------------------- a right given up, or turned into another
 
-  -- what the thread had of the lock as its call began
+  -- tells what the thread had of the lock as its call began
   began : (q : RwLockPurpose) (at : RwLockAt) → place_at w t ≡ RwLock l a (Plain (looking q at))
       → ((rights : ℕ → Rights) → before q at l rights ≡ rights) → (call_at w t).former ≡ (λ k. rights_of (lock_state w k) t)
   began q at is same_rights = ap (λ p. (call_state p (λ k. rights_of (lock_state w k) t)).former) is ∙ same_rights (λ k. rights_of (lock_state w k) t)
@@ -394,7 +394,7 @@ module _ (w : State) (t l : ℕ) (a : Admission) (steady : IsSteady w) (admits :
       gone own = let e : is_thread t (lock_state v2 l).exclusive + 1 ≡ is_thread t (lock_state w l).exclusive = ap (λ (z : Rights). z.exclusive) (lost_from (HandOver access.Exclusive false (handing.Free 8)) Exclusive true is refl (λ rights. refl) told) in
           let one = owner_is (lock_state v2 l).exclusive own in let most = at_most (lock_state w l).exclusive in omega arith
 
-  -- what a conversion has made of its thread's rights
+  -- tells what a conversion has made of its thread's rights
   replaced : (q : RwLockPurpose) (at : RwLockAt) (y z : Want) (how : Patience) (answer : Answer)
       → place_at w t ≡ RwLock l a (Plain (looking q at)) → purpose_by q l ≡ Converts l y z how
       → ((rights : ℕ → Rights) → before q at l rights ≡ rights)
@@ -414,8 +414,8 @@ module _ (w : State) (t l : ℕ) (a : Admission) (steady : IsSteady w) (admits :
 
   -- an upgrade has the upgradable right as it begins
   upgrades_from : (how : Patience) (at : RwLockAt) → place_at w t ≡ RwLock l a (Plain (looking (purpose.Upgrade how) at))
-      → (doing_at None (purpose.Upgrade how) at).claims ≡ Some (Has Upgradable) → (lock_state w l).upgradable ≡ Some t
-  upgrades_from how at is claims = (steady.sites.site l).held t (Has Upgradable) (ap (λ p. (doing_on p l).claims) is ∙ ap (λ (b : Bool). (if b then rwlock_doing (looking (purpose.Upgrade how) at) else idle).claims) (same l) ∙ claims)
+      → (role_at None (purpose.Upgrade how) at).claims ≡ Some (Has Upgradable) → (lock_state w l).upgradable ≡ Some t
+  upgrades_from how at is claims = (steady.sites.site l).held t (Has Upgradable) (ap (λ p. (role_on p l).claims) is ∙ ap (λ (b : Bool). (if b then rwlock_role (looking (purpose.Upgrade how) at) else idle).claims) (same l) ∙ claims)
 
   readers_and_one : (lock_state w l).upgradable ≡ Some t → count_in (word_at w l) ≡ readers (lock_state w l) + 1
   readers_and_one own = counted w l a steady admits ∙ ap (λ (o : Option ℕ). readers (lock_state w l) + one_if_some o) own
@@ -488,7 +488,7 @@ module _ (w : State) (t l : ℕ) (a : Admission) (steady : IsSteady w) (admits :
 
 -- a call that waits for a right, from its beginning
 pub enters_alone : (w : State) (t l : ℕ) (a : Admission) (x : Access) (how : Patience) (n : ℕ) (last : Outcome) → 11 ≤ n
-    → IsSteady w → Admits (rules_in w l) a → place_at w t ≡ RwLock l a (call_first (call.Enter x how))
+    → IsInductive w → Admits (rules_in w l) a → place_at w t ≡ RwLock l a (call_first (call.Enter x how))
     → StepsAlone w t l (RwLock l a (call_first (call.Enter x how))) (word_at w l) (λ m. queue_at w (key_of l m))
     → RunsAlone w t (solo n w t last).outcome (solo n w t last).state
     → EntersAlone (word_at w l ≡ 0) (locks_of w) t l (wanted x) how (solo n w t last).outcome (locks_of (solo n w t last).state)

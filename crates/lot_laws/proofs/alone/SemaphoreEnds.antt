@@ -44,7 +44,7 @@ use Rattle.lot_steps.specs.declared.places.Place.TheVariants.{Semaphore}
 use Rattle.lot_steps.specs.Steps.{semaphore_does, semaphore_goes}
 use Rattle.lot_machine.specs.Machine.{State, after, go_of, place_at, queue_at, queues_without_first, solo, state_after_taking, word_at}
 use Rattle.lot_laws.specs.Refinement.{call_at, call_state, lock_state, locks_of}
-use Rattle.lot_laws.specs.SitesOf.{IsSteady, key_of, rules_in, site_of}
+use Rattle.lot_laws.specs.SitesOf.{IsInductive, key_of, rules_in, site_of}
 use Rattle.lot_laws.specs.Solo.{EndsAlone, EntersAlone, IsBarred, ReleasesAlone, SleepsLast, WaitsAlone, entered_answer}
 use Rattle.lot_laws.proofs.machine.Parts.{put_here, same}
 use Rattle.lot_laws.proofs.alone.TwoLines.{Comes, StepsAlone, leads_into, leave_comes, park_comes, parks_last, take_comes, word_comes}
@@ -62,7 +62,7 @@ taken_word b t l (Some u) = refl
 few_words : (v : ℕ) → is_free v ≡ false → v ≤ 1
 few_words v none = grind (arith, nat_tests)
 
--- what a thread does by the word that it saw
+-- tells what a thread does by the word that it saw
 pub takes_free : (l seen : ℕ) → is_free seen ≡ true → decided l seen ≡ act.Word l (op.Exchange seen (seen - 2))
 takes_free l seen free = ap (λ (b : Bool). if b then act.Word l (op.Exchange seen (seen - 2)) else if seen == 0 then act.Word l (op.Exchange 0 1) else act.Enter (One (2 * l))) free
 
@@ -76,7 +76,7 @@ sets_bit l seen none zero_is = none_is_free l seen none ∙ ap (λ (b : Bool). i
 pub goes_inside : (l seen : ℕ) → is_free seen ≡ false → (seen == 0) ≡ false → decided l seen ≡ act.Enter (One (2 * l))
 goes_inside l seen none parked = none_is_free l seen none ∙ ap (λ (b : Bool). if b then act.Word l (op.Exchange 0 1) else act.Enter (One (2 * l))) parked
 
--- whatever it does, its call goes on
+-- its call goes on, by any act
 pub steps_on : (l seen : ℕ) → outcome_of (decided l seen) ≡ outcome.Step
 steps_on l seen = either (is_free seen) (seen == 0)
   where
@@ -127,7 +127,7 @@ module _ (t l : ℕ) where
     parks : (again : Bool) (w : State) (q : Queues) → Alone w (Acquire timed again (acquire.Decide 1)) 1 q → Leads 3 w t (Sleeps q)
     parks again w q f = leads_into w t l _ 1 q f (Sleeps q) 2 Main refl refl refl (λ g. checks again _ q g)
 
-    -- what it comes to, by whether a permit is free
+    -- tells what it comes to, by whether a permit is free
     abbrev pub Ended : Queues → Bool → State → Outcome → Type 0
     Ended q true = Answers (acquired timed)
     Ended q false = Sleeps q
@@ -217,7 +217,7 @@ module _ (t l : ℕ) where
 
 -- ---------------------------------------------------------------- as the abstract locks see it
 
-module _ (w : State) (l : ℕ) (steady : IsSteady w) (sort : (rules_in w l).sort ≡ OfSemaphores) where
+module _ (w : State) (l : ℕ) (steady : IsInductive w) (sort : (rules_in w l).sort ≡ OfSemaphores) where
   abbrev s : LockState
   s = lock_state w l
 
@@ -258,7 +258,7 @@ module _ (w : State) (l : ℕ) (steady : IsSteady w) (sort : (rules_in w l).sort
   no_readers : has_readers (rules_in w l).sort ≡ true → ⊥
   no_readers h = let f : false ≡ true = sym (ap has_readers sort) ∙ h in cc
 
-module _ (w : State) (t l : ℕ) (steady : IsSteady w) (sort : (rules_in w l).sort ≡ OfSemaphores) (v2 : State) (x : Outcome)
+module _ (w : State) (t l : ℕ) (steady : IsInductive w) (sort : (rules_in w l).sort ≡ OfSemaphores) (v2 : State) (x : Outcome)
     (run : RunsAlone w t x v2) where
   abbrev queues : Line → List Waiter
   queues m = queue_at w (key_of l m)
@@ -271,7 +271,7 @@ module _ (w : State) (t l : ℕ) (steady : IsSteady w) (sort : (rules_in w l).so
       called : (call_at w t).purpose ≡ Some ((semaphore_profile p).purpose l)
       called = ap (λ q. (call_state q (λ k. rights_of (lock_state w k) t)).purpose) is
 
-  -- whoever has entered holds a permit
+  -- each thread that has entered holds a permit
   owns_then : (how : Patience) → HasAnswered t (Some (Enters l Shared how)) (call_at w t).former (entered_answer how) (locks_of v2)
       → Owns (lock_state v2 l) t Shared
   owns_then Patient h = h.holds.0
@@ -294,7 +294,7 @@ module _ (w : State) (t l : ℕ) (steady : IsSteady w) (sort : (rules_in w l).so
   asleep : Sleeps t l queues v2 x → SleepsLast (lock_state w l) t Shared x (lock_state v2 l)
   asleep h = (h.0, ap (map queued_of) h.1 ∙ queued_behind (2 * l) t Shared (queue_at w (2 * l)))
 
-  -- who gives a permit back holds one less
+  -- a thread that gives a permit back holds one less
   releases_alone : place_at w t ≡ Semaphore l (Release release.Add) → x ≡ outcome.End answer.Ok
       → ReleasesAlone (locks_of w) t l Shared false x (locks_of v2)
   releases_alone is told = let h = holds (Release release.Add) is answer.Ok told in (
@@ -305,7 +305,7 @@ module _ (w : State) (t l : ℕ) (steady : IsSteady w) (sort : (rules_in w l).so
 
 -- ---------------------------------------------------------------- each call, from its beginning
 
-pub semaphore_alone : (w : State) (t l : ℕ) (c : SemaphoreCall) (n : ℕ) (last : Outcome) → 5 ≤ n → IsSteady w
+pub semaphore_alone : (w : State) (t l : ℕ) (c : SemaphoreCall) (n : ℕ) (last : Outcome) → 5 ≤ n → IsInductive w
     → (rules_in w l).sort ≡ OfSemaphores → place_at w t ≡ Semaphore l (semaphore_first c)
     → StepsAlone w t l (Semaphore l (semaphore_first c)) (word_at w l) (λ m. queue_at w (key_of l m))
     → RunsAlone w t (solo n w t last).outcome (solo n w t last).state

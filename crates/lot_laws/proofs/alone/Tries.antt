@@ -32,7 +32,7 @@ use Rattle.lot_machine.specs.Machine.{State, after, alone_after, go_of, kind_at,
 use Rattle.lot_laws.specs.Promises.{IsTry}
 use Rattle.lot_laws.specs.Refinement.{call_state, keys_entered, locks_of}
 use Rattle.lot_laws.specs.SitesOf.{IsWorld, key_of}
-use Rattle.lot_laws.specs.Solo.{EntersAt, HasWhatItReads, IsBarred, OnlyTries}
+use Rattle.lot_laws.specs.Solo.{EntersSection, HasWhatItReads, IsBarred, OnlyTries}
 use Rattle.lot_laws.proofs.machine.Parts.{same}
 use Rattle.lot_laws.proofs.calls.TriesPass.{tries_go}
 use Rattle.lot_laws.proofs.alone.Answers.{gone, purpose_stays, woken_purpose}
@@ -84,7 +84,7 @@ module _ (t : ℕ) where
       by_outcome o is on = (world_after w (go_of t) world, trying_then w o is (λ e. cc) world h)
 
 -- a thread whose call is over rests
-rests_idle : (p : Place) (rights : ℕ → Rights) (key : ℕ) → (call_state p rights).purpose ≡ None → EntersAt key (act_of p) → ⊥
+rests_idle : (p : Place) (rights : ℕ → Rights) (key : ℕ) → (call_state p rights).purpose ≡ None → EntersSection key (act_of p) → ⊥
 rests_idle Idle rights key none h = h
 rests_idle (Mutex l at) rights key none h = cc
 rests_idle (RwLock l a c) rights key none h = cc
@@ -94,7 +94,7 @@ rests_idle (Condvar l (condvar.Wait m timed at)) rights key none h = cc
 rests_idle (Condvar l (condvar.Look all)) rights key none h = cc
 rests_idle (Condvar l (condvar.Notify all m at)) rights key none h = cc
 
-never_enters : (a : Act) (key : ℕ) → keys_entered a ≡ None → EntersAt key a → ⊥
+never_enters : (a : Act) (key : ℕ) → keys_entered a ≡ None → EntersSection key a → ⊥
 never_enters (act.Enter keys) key none h = cc
 never_enters a key none h = h
 

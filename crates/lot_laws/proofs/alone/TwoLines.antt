@@ -25,13 +25,13 @@ use Rattle.lot_steps.specs.declared.places.Place.TheVariants.{Idle}
 use Rattle.lot_steps.specs.Steps.{act_of, next_place, next_act}
 use Rattle.spec_locks.specs.Sites.{Line, Main, Second}
 use Rattle.lot_machine.specs.Machine.{State, unlocked, place_at, word_at, section_at, queue_at, put, state_after_hand_over_by, state_after_operation, state_with_sections, queues_with_last, state_after_act, state_after_take, state_after_wake, state_after_go, go_outcome, reply_to, can_do, is_possible, after, step_outcome, go_of, going_outcome, state_after_going}
-use Rattle.lot_machine.specs.Fits.{IsShaped, SameSize}
+use Rattle.lot_machine.specs.Fits.{IsWellFormed, SameSize}
 use Rattle.lot_machine.proofs.Shape.{after_shaped, after_size, main_key_there, performed_counts}
 use Rattle.lot_laws.proofs.calls.OwnPlace.{goes_from_there, told_from_there}
-use Rattle.lot_laws.specs.SitesOf.{AreCondvars, AreCounted, IsSteady, RunsInClosures, key_of, stood_in}
+use Rattle.lot_laws.specs.SitesOf.{AreCondvars, AreCounted, IsInductive, RunsInClosures, key_of, stood_in}
 use Rattle.lot_laws.proofs.once.Runs.{running_after}
-use Rattle.lot_laws.specs.Solo.{EntersAt, IsBarred}
-use Rattle.lot_laws.specs.Stations.{station, station_at}
+use Rattle.lot_laws.specs.Solo.{EntersSection, IsBarred}
+use Rattle.lot_laws.specs.Locations.{location, location_at}
 use Rattle.lot_laws.proofs.alone.Leads.{Leads, leads_barred, leads_step}
 use Rattle.lot_laws.proofs.machine.Parts.{nothing_at, next_single, IsSingle}
 use Rattle.lot_laws.proofs.hands.Counts.{without_absent}
@@ -41,8 +41,8 @@ use Rattle.lot_laws.proofs.sites.TurnsKept.{after_steady}
 
 -- how a thread stands that steps alone: its place at the lock, the word, and who waits there
 pub record StepsAlone (w : State) (t l : ℕ) (p : Place) (v : ℕ) (q : Line → List Waiter) : Type 0 where
-  pub shape : IsShaped w
-  pub steady : IsSteady w
+  pub shape : IsWellFormed w
+  pub steady : IsInductive w
   pub counted : AreCounted w
   pub condvars : AreCondvars w
   pub running : RunsInClosures w
@@ -57,7 +57,7 @@ pub record StepsAlone (w : State) (t l : ℕ) (p : Place) (v : ℕ) (q : Line �
 abbrev pub Comes : State → ℕ → ℕ → Place → Outcome → ℕ → (Line → List Waiter) → Type 0
 Comes w t l p told v q = (step_outcome w (go_of t) ≡ told) × StepsAlone (after w (go_of t)) t l p v q
 
-key_there : (w : State) (l : ℕ) (m : Line) → IsShaped w → l < length w.locks → key_of l m < length w.sections
+key_there : (w : State) (l : ℕ) (m : Line) → IsWellFormed w → l < length w.locks → key_of l m < length w.sections
 key_there w l Main s lt = main_key_there w l s lt
 key_there w l Second s lt = let n : length w.sections ≡ 2 * length w.locks = s.sections in omega arith
 
@@ -169,18 +169,18 @@ module _ (w : State) (t l : ℕ) (p : Place) (v : ℕ) (q : Line → List Waiter
   line_there : (m : Line) → key_of l m < length w.queues
   line_there m = let n : length w.queues ≡ length w.sections = f.shape.queues in let k : key_of l m < length w.sections = key_there w l m f.shape f.lock in omega arith
 
-  unmoved : (station p).stands ≡ None → (m : Line) → get_or (map (without t) w.queues) (key_of l m) [] ≡ q m
+  unmoved : (location p).stands ≡ None → (m : Line) → get_or (map (without t) w.queues) (key_of l m) [] ≡ q m
   unmoved nowhere m = get_or-map (without t) w.queues (key_of l m) [] ∙ without_absent t (queue_at w (key_of l m)) absent ∙ f.queue m
     where
       absent : times t (queue_at w (key_of l m)) ≡ 0
-      absent = f.steady.stands.lines t l m ∙ ap (λ x. stood_in x m) (nothing_at (place_at w t) l (subst IsSingle (sym f.place) f.single) (λ x. x.stands) refl (ap (λ x. (station x).stands) f.place ∙ nowhere))
+      absent = f.steady.stands.lines t l m ∙ ap (λ x. stood_in x m) (nothing_at (place_at w t) l (subst IsSingle (sym f.place) f.single) (λ x. x.stands) refl (ap (λ x. (location x).stands) f.place ∙ nowhere))
 
-  pub parks_last : (station p).stands ≡ None → (m : Line) (x : Want) → queue_at (record w { queues = queues_with_last w.queues (key_of l m) t x }) (key_of l m) ≡ q m ++ waiter (key_of l m) t x ∷ []
+  pub parks_last : (location p).stands ≡ None → (m : Line) (x : Want) → queue_at (record w { queues = queues_with_last w.queues (key_of l m) t x }) (key_of l m) ≡ q m ++ waiter (key_of l m) t x ∷ []
   parks_last nowhere m x = get_or-set_same (map (without t) w.queues) (key_of l m) _ [] (rw (length-map w.queues (without t)) (line_there m))
       ∙ ap (λ xs. xs ++ waiter (key_of l m) t x ∷ []) (unmoved nowhere m)
 
   -- outside of a section that its act enters it finds it free, or is barred
-  pub finds_free : (station p).inside ≡ None → (m : Line) → act_of p ≡ act.Enter (One (key_of l m))
+  pub finds_free : (location p).inside ≡ None → (m : Line) → act_of p ≡ act.Enter (One (key_of l m))
       → (section_at w (key_of l m) ≡ None) ⊎ IsBarred w t
   finds_free outside m is = by_who (section_at w (key_of l m)) refl
     where
@@ -190,15 +190,15 @@ module _ (w : State) (t l : ℕ) (p : Place) (v : ℕ) (q : Line → List Waiter
         lock = l;
         line = m;
         other = u;
-        enters = subst (EntersAt (key_of l m)) (sym (ap act_of f.place ∙ is)) refl;
+        enters = subst (EntersSection (key_of l m)) (sym (ap act_of f.place ∙ is)) refl;
         inside = e;
-        another = λ mine. let within : (station_at (place_at w t) l).inside ≡ Some m = (f.steady.stands.sections t l m).1 (e ∙ ap Some mine) in
-            let out : (station_at (place_at w t) l).inside ≡ None = nothing_at (place_at w t) l (subst IsSingle (sym f.place) f.single) (λ x. x.inside) refl (ap (λ x. (station x).inside) f.place ∙ outside) in cc;
+        another = λ mine. let within : (location_at (place_at w t) l).inside ≡ Some m = (f.steady.stands.sections t l m).1 (e ∙ ap Some mine) in
+            let out : (location_at (place_at w t) l).inside ≡ None = nothing_at (place_at w t) l (subst IsSingle (sym f.place) f.single) (λ x. x.inside) refl (ap (λ x. (location x).inside) f.place ∙ outside) in cc;
       })
 
   -- it goes on from there, or is barred
   pub leads_into : (P : State → Outcome → Type 0) (k : ℕ) (m : Line) → act_of p ≡ act.Enter (One (key_of l m))
-      → (station p).inside ≡ None → outcome_of (next_act p Done) ≡ outcome.Step
+      → (location p).inside ≡ None → outcome_of (next_act p Done) ≡ outcome.Step
       → (StepsAlone (after w (go_of t)) t l (next_place p Done) v q → Leads k (after w (go_of t)) t P)
       → Leads (k + 1) w t P
   leads_into P k m is outside steps on = elim (finds_free outside m is) [

@@ -59,7 +59,7 @@ module _ (t l m : ℕ) (keeps : Keeps t) (timed : Bool) where
     in_release : InRelease at (place_at (state_after_act w t (Condvar l (Wait m timed (releasing s at))) (unlock_act m at)) t)
     in_release = acted_keeps (InRelease at) w t t (Condvar l (Wait m timed (releasing s at))) (unlock_act m at) (λ loud r b q there. subst (λ x. InRelease at (next_place x r)) (sym there.1) (told_there at there.0 r b)) (s, g.place)
 
-    -- what is left to do behind this reply, whatever befell it
+    -- tells what is left to do behind this reply, whatever befell it
     abbrev LeftThere : (State → Outcome → Type 0) → ℕ → Reply → Type 0
     LeftThere P k r = (s2 : Stands) → Behind t l m keeps w (Wait m timed (releasing s at)) g P k (condvar_next (Wait m timed (releasing s2 at)) r)
 
@@ -78,7 +78,7 @@ module _ (t l m : ℕ) (keeps : Keeps t) (timed : Bool) where
 
   -- ---------------------------------------------------------------- its release
 
-  -- what holds of a state from the release on, and what it comes to behind it
+  -- tells what holds of a state from the release on, and what it comes to behind it
   module _ (P : State → Outcome → Type 0) (J : State → Type 0)
       (kept : (w : State) (s : Stands) (at : UnlockAt) → Alone w (releasing s at) → at ≢ unlock.Subtract → can_do w (unlock_act m at) ≡ true → J w → J (after w (go_of t)))
       (finish : (w : State) (s : Stands) → J w → Alone w (behind s)

@@ -27,7 +27,7 @@ use Rattle.spec_locks.specs.Locks.{Queued, times}
 use Rattle.lot_machine.specs.Machine.{State, after, can_do, go_of, queue_at, queues_without_first, reply_to, state_after_act, state_after_taking, unlocked, word_at}
 use Rattle.lot_laws.specs.Refinement.{lock_state, locks_of, owner_at}
 use Rattle.lot_laws.specs.SitesOf.{condvar_of}
-use Rattle.lot_laws.specs.Solo.{StandsAlone}
+use Rattle.lot_laws.specs.Solo.{CondvarWaitsAlone}
 use Rattle.lot_laws.proofs.alone.Condvar.{Behind, GoesAlone, Keeps, mutex_there, queue_then, so_then}
 use Rattle.lot_laws.proofs.condvar.Replies.{at_it, word_is}
 use Rattle.lot_laws.proofs.alone.Leads.{Leads, leads_more, leads_so}
@@ -132,7 +132,7 @@ module _ (t l m : ℕ) (keeps : Keeps t) (timed : Bool) where
   may_show v = (v == 0) || is_shown v m
 
   module _ (w : State) (g : Alone w wait.Show) where
-    -- what it does behind its look
+    -- tells what it does behind its look
     abbrev Shown : (State → Outcome → Type 0) → Bool → Type 0
     Shown P b = Behind t l m keeps w (Wait m timed wait.Show) g P 15 (in_wait m timed (if b then next.At wait.Stand else next.At wait.Refuse))
 
@@ -176,14 +176,14 @@ module _ (t l m : ℕ) (keeps : Keeps t) (timed : Bool) where
         → Leads 17 w t P
     enters P on = into_section t l m keeps timed w g P (λ can. goes t l m keeps timed w wait.Enter g P 16 refl can (λ h. inr (refl, on can h)))
 
-    -- what it comes to
-    pub wait_alone : Leads 17 w t (λ v o. StandsAlone (locks_of w) t l m o (locks_of v))
+    -- tells what it comes to
+    pub wait_alone : Leads 17 w t (λ v o. CondvarWaitsAlone (locks_of w) t l m o (locks_of v))
     wait_alone = either (may_show (word_of shown)) refl
       where
-        either : (b : Bool) → may_show (word_of shown) ≡ b → Leads 17 w t (λ v o. StandsAlone (locks_of w) t l m o (locks_of v))
-        either true e = enters (λ v o. StandsAlone (locks_of w) t l m o (locks_of v)) (λ can h. leads_so 16 (after w (go_of t)) t (Sleeps (behind_last (lock_state w l).queue)) (λ v o. StandsAlone (locks_of w) t l m o (locks_of v))
+        either : (b : Bool) → may_show (word_of shown) ≡ b → Leads 17 w t (λ v o. CondvarWaitsAlone (locks_of w) t l m o (locks_of v))
+        either true e = enters (λ v o. CondvarWaitsAlone (locks_of w) t l m o (locks_of v)) (λ can h. leads_so 16 (after w (go_of t)) t (Sleeps (behind_last (lock_state w l).queue)) (λ v o. CondvarWaitsAlone (locks_of w) t l m o (locks_of v))
             (λ v o x. record { other = λ other. absurd (let no : may_show (word_of shown) ≡ false = shows_other shown other in cc); own = λ own. ((x.0, x.1.0), x.1.1) })
             (shows (after w (go_of t)) h (lock_state w l).queue (queue_is w wait.Enter g can (lock_state w l).queue refl) (ap may_show (same_word can) ∙ e)))
-        either false e = enters (λ v o. StandsAlone (locks_of w) t l m o (locks_of v)) (λ can h. leads_so 16 (after w (go_of t)) t Refused (λ v o. StandsAlone (locks_of w) t l m o (locks_of v))
+        either false e = enters (λ v o. CondvarWaitsAlone (locks_of w) t l m o (locks_of v)) (λ can h. leads_so 16 (after w (go_of t)) t Refused (λ v o. CondvarWaitsAlone (locks_of w) t l m o (locks_of v))
             (λ v o x. record { other = λ other. x; own = λ own. absurd (own (refused_by shown e)) })
             (sees_other (after w (go_of t)) h (ap may_show (same_word can) ∙ e)))

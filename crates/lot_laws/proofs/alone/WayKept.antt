@@ -33,7 +33,7 @@ use Rattle.lot_machine.proofs.Acted.{acted_keeps}
 use Rattle.lot_machine.proofs.Shape.{both, performed_counts}
 use Rattle.lot_laws.specs.Refinement.{lock_state}
 use Rattle.lot_laws.specs.SitesOf.{IsWorld, key_of}
-use Rattle.lot_laws.specs.Solo.{HasItsWay, HasLine, IsBarred, IsOnly, MayEnterOf, mutex_to_come}
+use Rattle.lot_laws.specs.Solo.{IsUnobstructed, HasLine, IsBarred, IsOnly, MayEnterOf, mutex_to_come}
 use Rattle.lot_laws.proofs.condvar.Replies.{word_is}
 use Rattle.lot_laws.proofs.machine.EntersOwn.{enters_own}
 use Rattle.lot_laws.proofs.machine.KindsStay.{after_kinds}
@@ -155,7 +155,7 @@ module _ (Named : ℕ → Type 0) where
 
 -- ---------------------------------------------------------------- one step
 
-module _ (w : State) (t : ℕ) (world : IsWorld w) (way : HasItsWay w t) where
+module _ (w : State) (t : ℕ) (world : IsWorld w) (way : IsUnobstructed w t) where
   -- a lock that its call may enter
   abbrev Named : ℕ → Type 0
   Named k = MayEnterOf w (place_at w t) k
@@ -166,7 +166,7 @@ module _ (w : State) (t : ℕ) (world : IsWorld w) (way : HasItsWay w t) where
   abbrev told : Reply
   told = reply_to w t (act_of (place_at w t))
 
-  -- what it reads where it looks
+  -- tells what it reads where it looks
   look_names : (c : ℕ) (all : Bool) → place_at w t ≡ Condvar c (Look all)
       → NamesOnly Named (condvar_goes c (look_next all (word_at w c)))
   look_names c all is = by_shown (lock_state w c).shown refl
@@ -214,11 +214,11 @@ module _ (w : State) (t : ℕ) (world : IsWorld w) (way : HasItsWay w t) where
       by_place (Semaphore l at) is = otherwise (Semaphore l at) is (λ h. h)
 
   -- it has its way on
-  way_after : HasItsWay (after w (go_of t)) t
+  way_after : IsUnobstructed (after w (go_of t)) t
   way_after = either (is_possible w (go_of t)) refl
     where
-      either : (b : Bool) → is_possible w (go_of t) ≡ b → HasItsWay (after w (go_of t)) t
-      either false e = subst (λ v. HasItsWay v t) (sym (ap (λ b. if b then state_after_go w t else w) e)) way
+      either : (b : Bool) → is_possible w (go_of t) ≡ b → IsUnobstructed (after w (go_of t)) t
+      either false e = subst (λ v. IsUnobstructed v t) (sym (ap (λ b. if b then state_after_go w t else w) e)) way
       either true e = λ k u m may line inside. acted_only w t (key_of k m) (λ x f. way k x m (before k may) (subst (λ kind. HasLine (rules_of kind).sort m) (after_kinds w (go_of t) k) line) f)
           (place_at w t) (act_of (place_at w t)) u (sym (ap (λ (v : State). section_at v (key_of k m)) led) ∙ inside)
         where
@@ -246,7 +246,7 @@ module _ (w : State) (t : ℕ) (world : IsWorld w) (way : HasItsWay w t) where
 
 -- ---------------------------------------------------------------- a run
 
-pub unbarred : (n : ℕ) (w : State) (t : ℕ) (last : Outcome) → IsWorld w → HasItsWay w t → IsBarred (solo n w t last).state t → ⊥
+pub unbarred : (n : ℕ) (w : State) (t : ℕ) (last : Outcome) → IsWorld w → IsUnobstructed w t → IsBarred (solo n w t last).state t → ⊥
 unfolding solo
 unbarred zero w t last world way b = unbarred_now w t world way b
 unbarred (suc n) w t last world way b = by_outcome (step_outcome w (go_of t))
@@ -258,7 +258,7 @@ unbarred (suc n) w t last world way b = by_outcome (step_outcome w (go_of t))
     world_then : IsWorld v
     world_then = world_after w (go_of t) world
 
-    way_then : HasItsWay v t
+    way_then : IsUnobstructed v t
     way_then = way_after w t world way
 
     by_outcome : (o : Outcome) → (IsBarred (solo n v t outcome.Step).state t → ⊥)

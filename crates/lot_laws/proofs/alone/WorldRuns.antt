@@ -50,7 +50,7 @@ world_step w s h = record {
   kept = world_kept (after w s) (world_after w s h);
 }
 
--- what holds of each step of the abstract locks holds of each step of the world
+-- a fact of each step of the abstract locks is one of each step of the world
 pub of_step : {law : LocksState → LocksState → Type 0} → OfEachStep law → (w : State) (s : Step) → IsWorld w
     → law (locks_of w) (locks_of (after w s))
 of_step each w s h = each (locks_of w) (locks_of (after w s)) s (step_outcome w s) (world_kept w h).state (after_step w s h.shaped h.steady h.counted h.condvars)

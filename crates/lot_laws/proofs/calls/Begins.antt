@@ -27,9 +27,9 @@ use Rattle.lot_steps.specs.declared.places.Place.TheVariants.{Idle, Mutex, RwLoc
 use Rattle.steps_mutex.specs.MutexSteps.{mutex_first, mutex_right}
 use Rattle.lot_steps.specs.Steps.{is_idle, has_right}
 use Rattle.lot_machine.specs.Machine.{State, place_at, owners_at, kind_at, state_after_begin, can_begin, is_open_to, share_at}
-use Rattle.lot_machine.specs.Fits.{IsShaped}
+use Rattle.lot_machine.specs.Fits.{IsWellFormed}
 use Rattle.lot_machine.proofs.Shape.{both}
-use Rattle.lot_laws.specs.SitesOf.{IsSteady, is_mutex, rules_in}
+use Rattle.lot_laws.specs.SitesOf.{IsInductive, is_mutex, rules_in}
 use Rattle.spec_locks.specs.Locks.{Rights}
 use Rattle.spec_locks.specs.Runs.{LocksState, Stays, MayBegin, HasRight, purpose_at, new_call}
 use Rattle.spec_locks.specs.Purposes.{purpose_of, mutex_purpose, rwlock_purpose, once_purpose, semaphore_purpose}
@@ -138,7 +138,7 @@ module _ (w : State) (t l : ℕ) where
   untaken_first fair mutex_call.TheVariants.UnlockFair k = refl
   untaken_first fair mutex_call.TheVariants.Bump k = refl
 
--- who gives a permit back has one
+-- a thread that gives a permit back has one
 some_held : (n : ℕ) → not (n == 0) ≡ true → 1 ≤ n
 some_held n h = grind (arith, nat_tests)
 
@@ -155,7 +155,7 @@ permit_needed : (w : State) (t l : ℕ) (c : SemaphoreCall) → HasRight (locks_
 permit_needed w t l (semaphore_call.Acquire how) h = refl
 permit_needed w t l semaphore_call.Release h = held_some (share_at w l t) h
 
-pub begin_goes : (w : State) (t : ℕ) (c : Call) → IsShaped w → IsSteady w → t < length w.places → can_begin w t c ≡ true
+pub begin_goes : (w : State) (t : ℕ) (c : Call) → IsWellFormed w → IsInductive w → t < length w.places → can_begin w t c ≡ true
     → MayBegin (locks_of w) t c
     × Stays (locks_of w) t (new_call (purpose_at (locks_of w) c) (rights w t)) outcome.TheVariants.Step
     (locks_of (state_after_begin w t c))

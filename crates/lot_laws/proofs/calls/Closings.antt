@@ -9,7 +9,7 @@ use Rattle.lot_steps.specs.declared.places.Place.{Place}
 use Rattle.lot_steps.specs.declared.places.Place.TheVariants.{Once}
 use Rattle.lot_steps.specs.Steps.{next_place, or_else}
 use Rattle.lot_machine.specs.Machine.{State, can_go, close_outcome, closed_place, going_outcome, place_at, put, state_after_close, state_after_going}
-use Rattle.lot_machine.specs.Fits.{IsShaped}
+use Rattle.lot_machine.specs.Fits.{IsWellFormed}
 use Rattle.lot_machine.proofs.Shape.{closed_fits, put_shaped}
 use Rattle.lot_laws.specs.SitesOf.{AreCounted}
 use Rattle.lot_laws.proofs.calls.Closures.{RunsOne}
@@ -30,7 +30,7 @@ module _ (w : State) (t : ℕ) (there : t < length w.places) (succeeded : Bool) 
   pub closing_there : t < length closing.places
   closing_there = rw (length-set w.places t (closed_place w t succeeded)) there
 
-  pub closing_shaped : IsShaped w → IsShaped closing
+  pub closing_shaped : IsWellFormed w → IsWellFormed closing
   closing_shaped shape = put_shaped w t (closed_place w t succeeded) shape (closed_fits w t succeeded shape)
 
   pub closing_counted : AreCounted w → AreCounted closing

@@ -38,7 +38,7 @@ module _ (w : LocksState) (a c m : ℕ) (all owned : Bool) (number l : ℕ) wher
       (λ e. absurd (let none : false ≡ true = sym (ap has_readers (ap (λ k. (rules_at w k).sort) e ∙ may.sorts.1)) ∙ readers in cc))
       (λ e. absurd (let none : false ≡ true = sym (ap has_readers (ap (λ k. (rules_at w k).sort) e ∙ may.sorts.0)) ∙ readers in cc)) stays
 
--- whom a move takes, its thread does
+-- a thread that a move takes, its thread does
 taking_by : (a : ℕ) (us : List Queued) (taken : ℕ → Option Taken) (u : ℕ) (h : Taken) → taking a us taken u ≡ Some h
     → (taken u ≡ Some h) ⊎ (h.by ≡ a)
 taking_by a [] taken u h e = inl e
@@ -63,7 +63,7 @@ moves_nobody w a one c m all owned number may = subst CallsOneLock may.notifies 
 
 -- ---------------------------------------------------------------- a step
 
--- what holds of a lock before and behind each case, each move, and where nothing happens, holds of each step
+-- a fact of a lock before and after each case, each move, and where nothing happens, is one of each step
 module _ (P : LockState → LockState → Type 0) (w v : LocksState) (a l : ℕ)
     (moves : (c m : ℕ) (all owned : Bool) (number : ℕ) → MayMove w a c m all owned number → P (w.locks l) (locks_after w a (Moves c m all owned number) l)) (stays : P (w.locks l) (w.locks l))
     (goes : (c : LockCase) → Needs (rules_at w l) c (w.locks l) a → P (w.locks l) (locks.after_case (rules_at w l) c (w.locks l) a)) where

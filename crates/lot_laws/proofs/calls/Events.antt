@@ -35,7 +35,7 @@ use Rattle.spec_locks.proofs.Rights.{others_keep}
 use Rattle.lot_machine.specs.Machine.{State, place_at, kind_at}
 use Rattle.lot_laws.specs.Refinement.{lock_state, call_at, call_state, locks_of}
 use Rattle.lot_laws.specs.MutexDeeds.{Act, acts}
-use Rattle.lot_laws.specs.SitesOf.{FollowAll, IsSteady, Goes, ActsNeeded, rules_in, after_acts, site_of}
+use Rattle.lot_laws.specs.SitesOf.{FollowAll, IsInductive, Goes, ActsNeeded, rules_in, after_acts, site_of}
 use Rattle.lot_laws.proofs.sites.ActsKept.{goes_steady}
 use Rattle.lot_laws.proofs.machine.AtPlaces.{taken_nobody}
 use Rattle.lot_laws.proofs.machine.Parts.{IsSingle, put_here, put_other}
@@ -58,13 +58,13 @@ either_is : {A : Type 0} (b : Bool) (y x z : A) → (b ≡ true → y ≡ x) →
 either_is true y x z h k = h refl
 either_is false y x z h k = k refl
 
--- what a thread owns of each lock
+-- tells what a thread owns of each lock
 abbrev pub rights : State → ℕ → ℕ → Rights
 rights w t l = rights_of (lock_state w l) t
 
 -- ---------------------------------------------------------------- what happens to the locks
 
--- what an event needs of its lock; of a notification's move the call says it
+-- tells what an event needs of its lock; of a notification's move the call says it
 abbrev pub Allows : State → ℕ → Event → Type 0
 Allows w t Nothing = Unit {0}
 Allows w t (AtLock l case) = Needs (rules_in w l) case (lock_state w l) t
@@ -75,11 +75,11 @@ pub record Happens (w v : State) (t : ℕ) (e : Event) : Type 0 where
   pub led : (k : ℕ) → lock_state v k ≡ locks_after (locks_of w) t e k
   pub needs : Allows w t e
   pub kinds : (k : ℕ) → kind_at v k ≡ kind_at w k
-  pub before : IsSteady w
-  pub after : IsSteady v
+  pub before : IsInductive w
+  pub after : IsInductive v
 
 -- one lock alone goes through it
-pub happens_at : (w v : State) (t l : ℕ) (c : Option LockCase) → IsSteady w → IsSteady v → ((k : ℕ) → kind_at v k ≡ kind_at w k)
+pub happens_at : (w v : State) (t l : ℕ) (c : Option LockCase) → IsInductive w → IsInductive v → ((k : ℕ) → kind_at v k ≡ kind_at w k)
     → lock_state v l ≡ after_event (rules_in w l) (event_by l c) (lock_state w l) t
     → ((k : ℕ) → k ≢ l → lock_state v k ≡ lock_state w k)
     → EventNeeds (rules_in w l) (event_by l c) (lock_state w l) t → Happens w v t (event_by l c)
@@ -89,7 +89,7 @@ happens_at w v t l (Some case) before after kinds here other needs =
     record { led = λ k. put_is (lock_state w) l _ k (lock_state v k) (λ e. rw e here) (λ ne. other k ne); needs = needs; kinds = kinds; before = before; after = after }
 
 -- or waiters move from one to another
-pub happens_moving : (w v : State) (t c m : ℕ) (all owned : Bool) (number : ℕ) → IsSteady w → IsSteady v
+pub happens_moving : (w v : State) (t c m : ℕ) (all owned : Bool) (number : ℕ) → IsInductive w → IsInductive v
     → ((k : ℕ) → kind_at v k ≡ kind_at w k)
     → c ≢ m → lock_state v c ≡ left_behind all (lock_state w c)
     → lock_state v m ≡ joined_by owned t (moved_of all (lock_state w c).queue) (lock_state w m)
@@ -102,7 +102,7 @@ happens_moving w v t c m all owned number before after kinds apart left joined o
   after = after;
 }
 
--- whoever is handed the lock claims it
+-- each thread that is handed the lock claims it
 abbrev pub IsClaim : Deed → Type 0
 IsClaim (Begin claims) = Unit {0}
 IsClaim deed = ⊥
@@ -135,7 +135,7 @@ module _ (r : Rules) where
   needed_then t (d ∷ ds) claims s n = (n.0, needed_then t ds claims (after_deed r d s t) n.1)
 
 -- the event of deeds that a lock has been through
-pub happens : (w v : State) (t l : ℕ) (hand : Option Bool) (ds : List Deed) (claims : List Act) → IsSteady w
+pub happens : (w v : State) (t l : ℕ) (hand : Option Bool) (ds : List Deed) (claims : List Act) → IsInductive w
     → Goes w v l (acts t ds ++ claims) → AreClaims claims → AreOneCase ds
     → (hand ≢ Some false → HasTakenNobody (lock_state w l) t) → Happens w v t (event_of l hand ds)
 happens w v t l hand ds claims steady goes begin one free = happens_at w v t l (case_of hand ds) steady (goes_steady w v l (acts t ds ++ claims) steady goes) goes.follows.kinds
@@ -144,7 +144,7 @@ happens w v t l hand ds claims steady goes begin one free = happens_at w v t l (
     (deeds_need (rules_in w l) t l hand ds (site_of w l) (needed_then (rules_in w l) t ds claims (site_of w l) goes.follows.needed) one)
 
 -- or of which waiters of one go to the other
-pub happens_sending : (w v : State) (t c m : ℕ) (all owned : Bool) (number : ℕ) (ds : ℕ → List Act) → IsSteady w → IsSteady v
+pub happens_sending : (w v : State) (t c m : ℕ) (all owned : Bool) (number : ℕ) (ds : ℕ → List Act) → IsInductive w → IsInductive v
     → FollowAll w v ds → c ≢ m
     → ds c ≡ acts t (Send all ∷ [])
     → ds m
@@ -229,7 +229,7 @@ pub may_do : (w : LocksState) (t l : ℕ) (case : LockCase) (purpose : Purpose) 
     → Needs (locks_rules w l) case (w.locks l) t → IsTimely c.late case → MayHappen w t (AtLock l case)
 may_do w t l case purpose c is e made needs timely = rw (is, e) (rw is made, needs, rw is timely)
 
--- who calls no `Once` begins no run
+-- a thread that calls no `Once` begins no run
 abbrev pub RunsNothing : Purpose → Type 0
 RunsNothing (CallsOnce l forced) = ⊥
 RunsNothing (Awaits l forced timed) = ⊥
@@ -343,7 +343,7 @@ module _ (w v : State) (t l : ℕ) (c : Option LockCase) (h : Happens w v t (eve
       by_case None h = tt
       by_case (Some case) h = h.needs
 
-  -- what a thread owns then
+  -- tells what a thread owns then
   pub rights_led : (u k : ℕ)
       → rights v u k ≡ rights_where l (after_event (rules_in w l) (event_by l c) (lock_state w l) t) u (rights w u) k
   rights_led u k = put_is (rights w u) l _ k (rights v u k) (λ e. rw e (ap (λ s. rights_of s u) led_here)) (λ ne. ap (λ s. rights_of s u) (led_elsewhere k ne))

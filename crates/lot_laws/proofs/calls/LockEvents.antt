@@ -23,8 +23,8 @@ use Rattle.lot_laws.specs.MutexDeeds.{queued}
 use Rattle.lot_laws.specs.SitesOf.{rules_in}
 use Rattle.lot_laws.specs.SitesOf.{FitsItsLock}
 use Rattle.std.proofs.Common.{subst}
-use Rattle.spec_locks.specs.Sites.{Doing, Has}
-use Rattle.lot_laws.specs.Stations.{doing_on}
+use Rattle.spec_locks.specs.Sites.{Role, Has}
+use Rattle.lot_laws.specs.Locations.{role_on}
 use Rattle.lot_laws.proofs.condvar.WaiterCalls.{waiter_claims, waiter_does, waiter_handed, waiter_woken}
 use Rattle.lot_laws.proofs.mutex.Waiters.{calls_mutex_at}
 use Rattle.steps_condvar.specs.declared.places.CondvarPlace.{CondvarPlace}
@@ -69,7 +69,7 @@ untaken_by s t u none = by_hand (s.taken u) none
         either false e = refl
         either true e = absurd (other h.want (let f : h.by ≡ t = eqb-true h.by t e in λ i. Some (record { by = f i; want = h.want })))
 
--- who is taken at a lock calls it, and is in the hand of t
+-- a thread that is taken at a lock calls it, and is in the hand of t
 taken_hand : (p : Place) (t l : ℕ) → IsSingle p → is_taken_by t (taken_at p l) ≡ true
     → ((profile p).hand ≡ hand t false) × (calls p l ≡ true)
 taken_hand p t l single h = by_row (profile p).hand (profile p).wants (calls p l) (sym (ap (is_taken_by t) (single_taken p l single)) ∙ h)
@@ -197,11 +197,11 @@ module _ (w v : State) (t l : ℕ) (to : Option ℕ) (h : Happens w v t (AtLock 
         fits : FitsItsLock w (Condvar k at)
         fits = subst (FitsItsLock w) is (h.before.stands.calls u)
 
-        released : (mutex_side at).doing.claims ≡ None
+        released : (mutex_side at).role.claims ≡ None
         released = elim (waiter_claims k at t l fits.reached taken_so) [
           | inl none ↦ none
           | inr owns ↦ absurd (
-              let its : (lock_state w l).exclusive ≡ Some u = (h.before.sites.site l).held u (Has Exclusive) (ap (λ p. (doing_on p l).claims) is ∙ ap (λ (d : Doing). d.claims) (waiter_does k at t l taken_so) ∙ owns) in
+              let its : (lock_state w l).exclusive ≡ Some u = (h.before.sites.site l).held u (Has Exclusive) (ap (λ p. (role_on p l).claims) is ∙ ap (λ (d : Role). d.claims) (waiter_does k at t l taken_so) ∙ owns) in
               let own : (lock_state w l).exclusive ≡ Some t = h.needs.0 in
               ne (let both : Some u ≡ Some t = sym its ∙ own in cc))
         ]

@@ -72,22 +72,22 @@ use Rattle.steps_base.specs.Acts.{outcome_of}
 use Rattle.steps_mutex.specs.MutexSteps.{is_locked, is_parked, lock_act, unlock_act, hand_off_word, hand_off_act}
 use Rattle.lot_steps.specs.Steps.{act_of, next_place, next_act, mutex_goes, mutex_does, looking, late_key, first_place, rwlock_goes, key_in, calls}
 use Rattle.lot_machine.specs.Machine.{unshared_then, hand_over_told, State, place_at, word_at, kind_at, section_at, put, state_after_act, go_reply, state_after_operation, state_after_hand_over, state_with_sections, reply_to, can_do, state_after_look, look_outcome, state_after_go, state_after_going, go_outcome, going_outcome, state_after_late_on, is_free_under, can_turn, state_after_turn, turn_outcome, is_possible, after, step_outcome}
-use Rattle.lot_machine.specs.Fits.{IsShaped, SameSize, PlaceFits, GivesUpTimed}
+use Rattle.lot_machine.specs.Fits.{IsWellFormed, SameSize, PlaceFits, GivesUpTimed}
 use Rattle.lot_machine.proofs.Shape.{looking_shaped, after_size, both, performed_counts}
 use Rattle.lot_laws.proofs.machine.Possible.{may_go, go_possible, may_be_late, late_possible, told_gone, told_step, begins_awake, turner_there, gone_sections, late_sections, late_awake}
 use Rattle.lot_machine.proofs.Looks.{mutex_looks}
 use Rattle.lot_laws.proofs.hands.CountsPut.{looking_counted}
 use Rattle.lot_laws.proofs.calls.Looking.{here, looks_now, looking_steady, goes_as_before, stays_as_before}
 use Rattle.lot_laws.proofs.calls.Closures.{closes_one, closure_told, mutex_runs_none, runs_one}
-use Rattle.lot_laws.specs.SitesOf.{site_of, AreCondvars, AreCounted, FitsCondvar, IsSteady, Goes, FitsItsLock, rules_in, carried_at}
+use Rattle.lot_laws.specs.SitesOf.{site_of, AreCondvars, AreCounted, FitsCondvar, IsInductive, Goes, FitsItsLock, rules_in, carried_at}
 use Rattle.spec_locks.specs.Sites.{IsSite, Deed, Main, Mark, End, Case}
 use Rattle.spec_locks.specs.Locks.{LockCase, Wake, Leave as GivesBack, HandOff as HandsOff, Rights, rights_of, standing}
 use Rattle.spec_locks.specs.Runs.{GoesOn, Stays, Looks, IsOfMutex, Does, SectionChanges, MayTurn, Turned, IsStep, Nothing}
-use Rattle.lot_laws.specs.MutexDeeds.{mutex_row, mutex_station, mutex_deeds, lock_deeds, enters, hands_over, acts}
+use Rattle.lot_laws.specs.MutexDeeds.{mutex_row, mutex_location, mutex_deeds, lock_deeds, enters, hands_over, acts}
 use Rattle.lot_laws.specs.MutexDeeds as of_mutex
 use Rattle.steps_base.specs.Calls.{ComesTo}
 use Rattle.spec_locks.specs.Deeds.{AllNeeded, case_of, event_by, after_event}
-use Rattle.lot_laws.specs.Stations.{hand}
+use Rattle.lot_laws.specs.Locations.{hand}
 use Rattle.lot_laws.specs.Refinement.{owner_at, lock_state, taken_at, call_state, locks_of, sleeps}
 use Rattle.lot_laws.proofs.machine.KindsStay.{after_kinds}
 use Rattle.lot_laws.proofs.condvar.Begins.{condvar_is_late}
@@ -114,7 +114,7 @@ use Rattle.lot_laws.proofs.mutex.Words.{mutex}
 use Rattle.lot_laws.proofs.sites.StandsMoved.{mutex_rules}
 use Rattle.lot_laws.proofs.sites.SitesKept.{go_by, single_at}
 use Rattle.lot_laws.proofs.mutex.Kept.{gone_goes}
-use Rattle.lot_laws.proofs.machine.AtPlaces.{coded, in_no_hand, own_doing}
+use Rattle.lot_laws.proofs.machine.AtPlaces.{coded, in_no_hand, own_role}
 use Rattle.lot_laws.proofs.promises.PlacePromises.{standing_by}
 use Rattle.lot_laws.proofs.calls.Events.{put_is, rights, Others, OthersFollow, Happens, LeadsTo, happens, needed_then, others_follow, goes_by}
 use Rattle.lot_laws.proofs.calls.LockEvents.{Befalls, wakes_others, hands_others}
@@ -126,9 +126,9 @@ use Rattle.lot_laws.proofs.mutex.Events.{owned_word, claims_at, deeds_are, are_c
 
 -- ---------------------------------------------------------------- a thread goes on
 
-module _ (w : State) (t : ℕ) (shape : IsShaped w) (steady : IsSteady w) (there : t < length w.places) where
+module _ (w : State) (t : ℕ) (shape : IsWellFormed w) (steady : IsInductive w) (there : t < length w.places) where
   module _ (l : ℕ) (lt : l < length w.locks) (rules : rules_in w l ≡ mutex) where
-    -- what it is told of its step
+    -- tells what it is told of its step
     decided_hears : (e : Entry) (again : Bool) (x : ℕ) (a b : Bool)
         → Hears (site_of w l) t (Lock e again (Decide x))
         (reply_to w t (if not a then act.TheVariants.Word l (op.TheVariants.Exchange x (x + 1)) else if b then act.TheVariants.Word l (op.TheVariants.Exchange 1 3) else act.TheVariants.Enter (One (2 * l))))
@@ -175,7 +175,7 @@ module _ (w : State) (t : ℕ) (shape : IsShaped w) (steady : IsSteady w) (there
       abbrev told : Reply
       told = reply_to w t (mutex_act l at)
 
-      -- whom its act takes, or hands the lock
+      -- a thread that its act takes, or hands the lock
       abbrev whom : Option ℕ
       whom = (gone_goes w t steady shape there l at is lt can).0
 
@@ -186,10 +186,10 @@ module _ (w : State) (t : ℕ) (shape : IsShaped w) (steady : IsSteady w) (there
       goes = subst (Goes w behind l) (deeds_are t at whom told) (gone_goes w t steady shape there l at is lt can).1
 
       tells : Tells 0 l t (lock_state w l) at (mutex_deeds at whom told) (mutex_next at told)
-      tells = mutex_tells 0 (site_of w l) t l (subst (λ r. IsSite r (site_of w l)) rules (steady.sites.site l)) at whom told (own_doing w steady t l at is)
+      tells = mutex_tells 0 (site_of w l) t l (subst (λ r. IsSite r (site_of w l)) rules (steady.sites.site l)) at whom told (own_role w steady t l at is)
           (subst (λ r. AllNeeded r (mutex_deeds at whom told) (site_of w l) t) rules (needed_then (rules_in w l) t (mutex_deeds at whom told) (claims_at at whom told) (site_of w l) goes.follows.needed)) (hears at is can timed)
 
-      -- whom it has in hand, by its place
+      -- a thread that it has in hand, by its place
       carries : carried_at (place_at w t) l ≡ (mutex_row at).carries
       carries = ap (λ x. x.carries) (own_stance l (place_at w t) at is)
 
@@ -215,7 +215,7 @@ module _ (w : State) (t : ℕ) (shape : IsShaped w) (steady : IsSteady w) (there
             subst IsSingle (sym e) tt,
           )
             where
-              standing_then : (at2 : MutexPlace) → place_at behind t ≡ Mutex l at2 → (mutex_station at2).stands ≡ Some Main
+              standing_then : (at2 : MutexPlace) → place_at behind t ≡ Mutex l at2 → (mutex_location at2).stands ≡ Some Main
                   → 1 ≤ standing t (lock_state behind l)
               standing_then at2 e stands = rw (standing_by behind t happens_so.after l, own_stance l (place_at behind t) at2 e, stands) (omega arith)
           by_next (next.End a) e rests = (e, refl)
@@ -481,15 +481,15 @@ condvar_no_mutex w l (condvars.Look all) other r of = other of
 condvar_no_mutex w l (condvars.Notify all m at) other r of = other of
 
 -- its call goes on by what it sees there
-module _ (w : State) (t : ℕ) (shape : IsShaped w) (steady : IsSteady w) (there : t < length w.places) (q : Place)
+module _ (w : State) (t : ℕ) (shape : IsWellFormed w) (steady : IsInductive w) (there : t < length w.places) (q : Place)
     (is : looking (place_at w t) ≡ Some q) where
   abbrev moved : State
   moved = put w t q
 
-  shaped_moved : IsShaped moved
+  shaped_moved : IsWellFormed moved
   shaped_moved = looking_shaped w t q shape is
 
-  steady_moved : IsSteady moved
+  steady_moved : IsInductive moved
   steady_moved = looking_steady w t there q is steady
 
   there_moved : t < length moved.places
@@ -522,7 +522,7 @@ module _ (w : State) (t : ℕ) (shape : IsShaped w) (steady : IsSteady w) (there
 
 -- ---------------------------------------------------------------- steps
 
-module _ (w : State) (t : ℕ) (shape : IsShaped w) (steady : IsSteady w) (there : t < length w.places) where
+module _ (w : State) (t : ℕ) (shape : IsWellFormed w) (steady : IsInductive w) (there : t < length w.places) where
   -- its closure has answered, and its run ends by the next act
   closed_does : (succeeded : Bool) → can_close w t succeeded ≡ true
       → (((locks_of w).stances t).in_closure ≡ true)
@@ -548,10 +548,10 @@ module _ (w : State) (t : ℕ) (shape : IsShaped w) (steady : IsSteady w) (there
           (alike_event w t there (closed_place w t succeeded) (like w t there succeeded one) _ _ (AtLock one.lock (OfOnce (end_of succeeded)))
           (once_step v t one.lock at steady_v shape_v there_v lt is_v refl, step_event v t one.lock at steady_v shape_v there_v lt is_v refl ∙ closes_event one.lock succeeded (is_marked (word_at v one.lock)))))
         where
-          steady_v : IsSteady v
+          steady_v : IsInductive v
           steady_v = closing_steady w t there succeeded one steady
 
-          shape_v : IsShaped v
+          shape_v : IsWellFormed v
           shape_v = closing_shaped w t there succeeded one shape
 
           there_v : t < length v.places
@@ -578,8 +578,8 @@ module _ (w : State) (t : ℕ) (shape : IsShaped w) (steady : IsSteady w) (there
   turned_does counted condvars turn.TheVariants.Err can = closed_does false can
 
 -- a turn that may be taken is possible
-module _ (w : State) (t : ℕ) (steady : IsSteady w) where
-  -- behind its closure it may swap the word
+module _ (w : State) (t : ℕ) (steady : IsInductive w) where
+  -- after its closure it may swap the word
   closes_possible : (succeeded : Bool) → runs_closure (act_of (place_at w t)) ≡ true → can_close w t succeeded ≡ true
   closes_possible succeeded may = let one = runs_one (place_at w t) may in rw one.is refl
 
@@ -605,7 +605,7 @@ module _ (w : State) (t : ℕ) (there : t < length w.places) where
   told_going = let acted = state_after_act w t (place_at w t) (act_of (place_at w t)) in
       rw (put_sleeps acted (next_place (place_at acted t) (go_reply w t)) (performed_counts w t (place_at w t) (act_of (place_at w t))).0) (told_gone (place_at acted t) (go_reply w t))
 
-module _ (w : State) (t : ℕ) (shape : IsShaped w) (steady : IsSteady w) (there : t < length w.places) where
+module _ (w : State) (t : ℕ) (shape : IsWellFormed w) (steady : IsInductive w) (there : t < length w.places) where
   closed_sections : (succeeded : Bool) → can_close w t succeeded ≡ true → (key : ℕ)
       → SectionChanges (section_at w key) t (section_at (state_after_close w t succeeded) key)
   closed_sections succeeded can key = let one = closes_one w t succeeded can in inl (ap (λ (v : State). section_at v key) (goes_there w t there succeeded one))
@@ -671,7 +671,7 @@ module _ (w : State) (t : ℕ) (shape : IsShaped w) (steady : IsSteady w) (there
   turned_runs turn.TheVariants.Ok can = closing_runs true can
   turned_runs turn.TheVariants.Err can = closing_runs false can
 
-pub after_step : (w : State) (s : Step) → IsShaped w → IsSteady w → AreCounted w → AreCondvars w
+pub after_step : (w : State) (s : Step) → IsWellFormed w → IsInductive w → AreCounted w → AreCondvars w
     → IsStep (locks_of w) s (step_outcome w s) (locks_of (after w s))
 after_step w s shape steady counted condvars = (record { threads = size.threads; size = size.locks; kinds = after_kinds w s; sections = sections (is_possible w s) refl; told = told (is_possible w s) refl; runs = runs (is_possible w s) refl }, either (is_possible w s) refl)
   where

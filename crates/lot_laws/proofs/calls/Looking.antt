@@ -1,6 +1,6 @@
 -- A thread that looks at the word once more goes on from another place of its call. Standing there changes nothing that locks and calls see.
 use Rattle.std.proofs.Common.{false, ◌==◌, ◌&&◌, not, ℕ, zero, suc, List, set, true, Option, Some, None, if◌then◌else◌, ◌≡◌, ◌<◌, inl, inr, [], ◌∷◌, length, replicate, refl, sym, ◌∙◌, ap, subst, get_or-set_other, get_or-set_same, length-set, get_or}
-use Rattle.spec_locks.specs.Runs.{Event, Stance, MayHappen, Nothing, AtLock, Moves}
+use Rattle.spec_locks.specs.Runs.{Event, Status, MayHappen, Nothing, AtLock, Moves}
 use Rattle.std.proofs.Common.{Bool}
 use Rattle.steps_condvar.specs.declared.places.CondvarPlace.{CondvarPlace}
 use Rattle.steps_condvar.specs.declared.places.CondvarPlace.TheVariants.{Wait}
@@ -44,9 +44,9 @@ use Rattle.spec_locks.specs.Locks.{Rights, rights_of}
 use Rattle.spec_locks.specs.Runs.{LocksState, GoesOn, Stays}
 use Rattle.spec_locks.specs.Sites.{idle}
 use Rattle.lot_laws.specs.Refinement.{lock_state, locks_of, call_on_both, stance_of}
-use Rattle.lot_laws.specs.Stations.{nowhere, station_by}
+use Rattle.lot_laws.specs.Locations.{nowhere, location_by}
 use Rattle.lot_laws.specs.WorldRuns.{IsUntouched}
-use Rattle.lot_laws.specs.SitesOf.{FitsCondvar, FitsItsLock, Goes, IsSteady, rules_in}
+use Rattle.lot_laws.specs.SitesOf.{FitsCondvar, FitsItsLock, Goes, IsInductive, rules_in}
 use Rattle.lot_laws.proofs.calls.Beside.{looks_beside}
 use Rattle.lot_laws.proofs.machine.Parts.{parts_at}
 use Rattle.lot_laws.proofs.sites.OneStep.{steps_by}
@@ -54,7 +54,7 @@ use Rattle.lot_laws.proofs.sites.ActsAt.{place_goes}
 use Rattle.lot_laws.proofs.sites.Following.{goes_steady}
 use Rattle.lot_laws.proofs.sites.StandsKept.{Alike}
 
--- who is set as it was is seen as it was
+-- a thread that is set as it was is seen as it was
 pub set_keeps : {A B : Type 0} (f : A → B) (xs : List A) (i k : ℕ) (y d : A) → f y ≡ f (get_or xs i d)
     → f (get_or (set xs i y) k d) ≡ f (get_or xs k d)
 set_keeps f [] i k y d e = refl
@@ -187,8 +187,8 @@ module _ (w : State) (t : ℕ) (there : t < length w.places) (q : Place) (it : I
     stances = λ u. stance_of (place_at moved u);
   }
 
-  -- what may happen hangs on locks and calls alone
-  may_alike : (s : ℕ → Stance) (e : Event) → MayHappen (record (locks_of w) { stances = s }) t e → MayHappen (locks_of w) t e
+  -- the possible turns hang on locks and calls alone
+  may_alike : (s : ℕ → Status) (e : Event) → MayHappen (record (locks_of w) { stances = s }) t e → MayHappen (locks_of w) t e
   may_alike s Nothing h = h
   may_alike s (AtLock l case) h = h
   may_alike s (Moves c m all owned number) h = record { notifies = h.notifies; sorts = h.sorts; saw = h.saw; some = h.some; number = h.number; wait = h.wait; free = h.free }
@@ -214,18 +214,18 @@ module _ (w : State) (t : ℕ) (there : t < length w.places) (q : Place) (it : I
   -- each lock sees of it what it saw
   alike_at : (k : ℕ) → Alike k (place_at w t) q
   alike_at k = record {
-    station = λ i. if is_lock k (lock_stays i) then station_by (it.row i) else if is_lock k (it.beside i) then station_by (it.row_beside i) else nowhere;
-    doing = λ i. if is_lock k (lock_stays i) then (it.row i).doing else if is_lock k (it.beside i) then (it.row_beside i).doing else idle;
+    location = λ i. if is_lock k (lock_stays i) then location_by (it.row i) else if is_lock k (it.beside i) then location_by (it.row_beside i) else nowhere;
+    role = λ i. if is_lock k (lock_stays i) then (it.row i).role else if is_lock k (it.beside i) then (it.row_beside i).role else idle;
     taken = λ i. if is_lock k (it.beside i) && not (is_lock k (lock_stays i)) then taken_from (it.row_beside i).hand (it.row_beside i).wants true
         else taken_from (it.row i).hand (it.row i).wants (is_lock k (lock_stays i));
   }
 
-  pub alike_keeps : FitsItsLock w q → IsSteady w → Goes w moved it.lock []
+  pub alike_keeps : FitsItsLock w q → IsInductive w → Goes w moved it.lock []
   alike_keeps fits steady = place_goes w t it.lock steady there (rules_in w it.lock) refl q (λ k ne. alike_at k) fits [] (λ h. tt)
-      (steps_by (rules_in w it.lock) it.lock (parts_at w it.lock) (parts_at w it.lock) (place_at w) t q [] tt tt (sym (alike_at it.lock).taken) refl refl refl refl (alike_at it.lock).doing)
-      (alike_at it.lock).station
+      (steps_by (rules_in w it.lock) it.lock (parts_at w it.lock) (parts_at w it.lock) (place_at w) t q [] tt tt (sym (alike_at it.lock).taken) refl refl refl refl (alike_at it.lock).role)
+      (alike_at it.lock).location
 
-  pub alike_steady : FitsItsLock w q → IsSteady w → IsSteady moved
+  pub alike_steady : FitsItsLock w q → IsInductive w → IsInductive moved
   alike_steady fits steady = goes_steady w moved it.lock [] steady (alike_keeps fits steady)
 
 -- ---------------------------------------------------------------- a look
@@ -263,16 +263,16 @@ module _ (w : State) (t : ℕ) (there : t < length w.places) (q : Place) (is : l
       → Stays (locks_of w) t ((locks_of w).calls t) o v
   stays_as_before o v s = alike_stays w t there q alike o v s
 
-  pub looking_steady : IsSteady w → IsSteady looked
+  pub looking_steady : IsInductive w → IsInductive looked
   looking_steady steady = alike_steady w t there q alike (calls_on w (place_at w t) q is (steady.stands.calls t)) steady
 
 -- ---------------------------------------------------------------- a closure's end
 
--- behind its closure
+-- after its closure
 abbrev pub behind_closure : Bool → Place → Place
 behind_closure succeeded p = next_place p (Closed succeeded)
 
--- who runs a closure stands behind it in the same call
+-- a thread that runs a closure stands behind it in the same call
 pub closes_alike : (p : Place) (succeeded : Bool) → RunsOne p → IsAlike p (behind_closure succeeded p)
 closes_alike p succeeded one = rw one.is (record { lock = one.lock; before = refl; now = refl; row = refl; beside = refl; row_beside = refl })
 
@@ -287,7 +287,7 @@ module _ (w : State) (t : ℕ) (there : t < length w.places) (succeeded : Bool) 
   abbrev pub like : IsAlike (place_at w t) (closed_place w t succeeded)
   like = closes_alike (place_at w t) succeeded one
 
-  pub closing_steady : IsSteady w → IsSteady closing
+  pub closing_steady : IsInductive w → IsInductive closing
   closing_steady steady = alike_steady w t there (closed_place w t succeeded) like (closes_fit w (place_at w t) succeeded one (steady.stands.calls t)) steady
 
   pub closing_here : place_at closing t ≡ closed_place w t succeeded

@@ -39,7 +39,7 @@ use Rattle.lot_steps.specs.declared.places.Place.{Place}
 use Rattle.lot_steps.specs.declared.places.Place.TheVariants.{Idle, Mutex, RwLock, Once, Condvar, Semaphore}
 use Rattle.lot_steps.specs.Steps.{act_of, in_condvar, in_mutex, in_once, in_rwlock, looking, in_semaphore}
 use Rattle.lot_machine.specs.Machine.{State, place_at, kind_at}
-use Rattle.lot_laws.specs.SitesOf.{FitsItsLock, IsSteady}
+use Rattle.lot_laws.specs.SitesOf.{FitsItsLock, IsInductive}
 use Rattle.lot_laws.specs.Owing.{sort_at}
 use Rattle.lot_laws.specs.Promises.{LeadsToSleep, SetsBit}
 use Rattle.lot_laws.proofs.machine.Parts.{plain_rules}
@@ -146,5 +146,5 @@ place_looks w (Condvar l (condvar.Wait m timed (wait.Lock timed_out to))) fits h
 place_looks w (Condvar l (condvar.Wait m timed to)) fits h = absurd cc
 place_looks w (Condvar l to) fits h = absurd cc
 
-pub looks : (w : State) → IsSteady w → (t : ℕ) → is_some (looking (place_at w t)) ≡ true → Looks w (place_at w t)
+pub looks : (w : State) → IsInductive w → (t : ℕ) → is_some (looking (place_at w t)) ≡ true → Looks w (place_at w t)
 looks w steady t h = place_looks w (place_at w t) (steady.stands.calls t) h

@@ -38,8 +38,8 @@ use Rattle.spec_locks.specs.Runs.{AtLock, is_taken_by}
 use Rattle.spec_locks.specs.Deeds.{event_by}
 use Rattle.lot_machine.specs.Machine.{State, queue_at, place_at, put, state_after_act, state_after_telling, state_after_taking, state_with_sections, places_told, place_after_telling}
 use Rattle.lot_laws.specs.Refinement.{call_state, taken_at}
-use Rattle.lot_laws.specs.Stations.{hand, station, nowhere}
-use Rattle.lot_laws.specs.SitesOf.{IsSteady, carried_at, hand_at, FitsItsLock}
+use Rattle.lot_laws.specs.Locations.{hand, location, nowhere}
+use Rattle.lot_laws.specs.SitesOf.{IsInductive, carried_at, hand_at, FitsItsLock}
 use Rattle.lot_laws.proofs.machine.AtPlaces.{unless_held}
 use Rattle.std.proofs.Common.{◌+◌, ◌≤◌, arith}
 use Rattle.core_base.specs.Lines as Lines
@@ -47,8 +47,8 @@ use Rattle.core_base.specs.Picks.{lock_picker, without_lock_picked}
 use Rattle.spec_locks.specs.Locks as locks
 use Rattle.spec_locks.specs.Sites.{Line, Main, Second}
 use Rattle.lot_machine.specs.Machine.{queues_without_first, state_after_take}
-use Rattle.lot_laws.specs.Stations.{station_at}
-use Rattle.lot_laws.specs.SitesOf.{key_of, rules_in, stations_of, stood_in}
+use Rattle.lot_laws.specs.Locations.{location_at}
+use Rattle.lot_laws.specs.SitesOf.{key_of, rules_in, locations_of, stood_in}
 use Rattle.lot_laws.proofs.promises.LineActs.{TakesHere}
 use Rattle.lot_laws.proofs.sites.PicksKept.{picked_counts, under_of}
 use Rattle.lot_laws.proofs.sites.TakesAt.{at_most_one, member, member_times, told_once, told_places}
@@ -120,7 +120,7 @@ lonely_stay w t p a h = refl
 
 -- goes on in its call as it was; one that waits to be notified would know that it was moved
 taken_goes_on : (w : State) (p : Place) (t l : ℕ) (m : Line) → FitsItsLock w p → ((rules_in w l).sort ≢ locks.Condvar)
-    → (station_at p l).stands ≡ Some m → (r : ℕ → Rights) → call_state (next_place p (TakenBy t)) r ≡ call_state p r
+    → (location_at p l).stands ≡ Some m → (r : ℕ → Rights) → call_state (next_place p (TakenBy t)) r ≡ call_state p r
 taken_goes_on w (Condvar k at) t l m fits plain h r = waiter_taken k at t l m (λ e. plain (ap (λ j. (rules_in w j).sort) (sym e) ∙ fits.sort)) h r
 taken_goes_on w Idle t l m fits plain h r = refl
 taken_goes_on w (Mutex k at) t l m fits plain h r = taken_call (Mutex k at) t tt r
@@ -135,7 +135,7 @@ stands_in (Some Main) Second h = absurd (omega arith)
 stands_in (Some Second) Main h = absurd (omega arith)
 stands_in None m h = absurd (omega arith)
 
-module _ (w : State) (t l : ℕ) (m : Line) (steady : IsSteady w) (plain : (rules_in w l).sort ≢ locks.Condvar) where
+module _ (w : State) (t l : ℕ) (m : Line) (steady : IsInductive w) (plain : (rules_in w l).sort ≢ locks.Condvar) where
   -- these are of the line
   record OfLine (xs : List Waiter) : Type 0 where
     pub times : (u : ℕ) → Lines.times u xs ≤ Lines.times u (queue_at w (key_of l m))
@@ -144,17 +144,17 @@ module _ (w : State) (t l : ℕ) (m : Line) (steady : IsSteady w) (plain : (rule
       → call_state (get_or (places_told (TakenBy t) (threads_of xs) w.places) u Idle) r ≡ call_state (place_at w u) r
   told_calls xs of u r = ap (λ (f : ℕ → Place). call_state (f u) r) (told_places (TakenBy t) xs w.places) ∙ ap (λ p. call_state p r) (told_once (TakenBy t) xs (place_at w) u once) ∙ either (member u xs) refl
     where
-      stood : Lines.times u (queue_at w (key_of l m)) ≡ stood_in (station_at (place_at w u) l).stands m
+      stood : Lines.times u (queue_at w (key_of l m)) ≡ stood_in (location_at (place_at w u) l).stands m
       stood = steady.stands.lines u l m
 
       once : Lines.times u xs ≤ 1
-      once = let a : Lines.times u xs ≤ Lines.times u (queue_at w (key_of l m)) = of.times u in let b : Lines.times u (queue_at w (key_of l m)) ≡ stood_in (station_at (place_at w u) l).stands m = stood in let c : stood_in (station_at (place_at w u) l).stands m ≤ 1 = at_most_one (station_at (place_at w u) l).stands m in omega arith
+      once = let a : Lines.times u xs ≤ Lines.times u (queue_at w (key_of l m)) = of.times u in let b : Lines.times u (queue_at w (key_of l m)) ≡ stood_in (location_at (place_at w u) l).stands m = stood in let c : stood_in (location_at (place_at w u) l).stands m ≤ 1 = at_most_one (location_at (place_at w u) l).stands m in omega arith
 
       either : (b : Bool) → member u xs ≡ b
           → call_state (if b then next_place (place_at w u) (TakenBy t) else place_at w u) r ≡ call_state (place_at w u) r
       either false e = refl
-      either true e = taken_goes_on w (place_at w u) t l m (steady.stands.calls u) plain (stands_in (station_at (place_at w u) l).stands m
-          (let a : 1 ≤ Lines.times u xs = member_times u xs e in let b : Lines.times u xs ≤ Lines.times u (queue_at w (key_of l m)) = of.times u in let c : Lines.times u (queue_at w (key_of l m)) ≡ stood_in (station_at (place_at w u) l).stands m = stood in omega arith)) r
+      either true e = taken_goes_on w (place_at w u) t l m (steady.stands.calls u) plain (stands_in (location_at (place_at w u) l).stands m
+          (let a : 1 ≤ Lines.times u xs = member_times u xs e in let b : Lines.times u xs ≤ Lines.times u (queue_at w (key_of l m)) = of.times u in let c : Lines.times u (queue_at w (key_of l m)) ≡ stood_in (location_at (place_at w u) l).stands m = stood in omega arith)) r
 
 -- ---------------------------------------------------------------- a thread goes elsewhere by its act
 
@@ -169,8 +169,8 @@ module _ (w : State) (t : ℕ) (p2 : Place) where
   pub lonely : (p : Place) (a : Act) → IsLonely a → Stay (put (state_after_act w t p a) t p2)
   lonely p a h u ne r = ap (λ q. call_state q r) (stay_in (state_after_act w t p a) (lonely_stay w t p a h) u ne)
 
-  -- whoever is taken goes on in its call
-  pub takes : (steady : IsSteady w) (l : ℕ) (m : Line) (plain : (rules_in w l).sort ≢ locks.Condvar) (p : Place) (key : ℕ)
+  -- each thread that is taken goes on in its call
+  pub takes : (steady : IsInductive w) (l : ℕ) (m : Line) (plain : (rules_in w l).sort ≢ locks.Condvar) (p : Place) (key : ℕ)
       → key ≡ key_of l m → (x : Whom) → Stay (put (state_after_act w t p (act.Take key x)) t p2)
   takes steady l m plain p key is x = subst (λ k. Stay (put (state_after_act w t p (act.Take k x)) t p2)) (sym is) (by_whom x)
     where
@@ -187,7 +187,7 @@ module _ (w : State) (t : ℕ) (p2 : Place) where
       by_whom whom.First = first (queue_at w (key_of l m)) refl
       by_whom (whom.Picked start recursive) = took (state_after_take w t (key_of l m) (whom.Picked start recursive)) (lock_picked start recursive (queue_at w (key_of l m))) refl (record {
         times = λ u.
-            let a : Lines.times u (lock_picked start recursive (queue_at w (key_of l m))) + Lines.times u (without_lock_picked start recursive (key_of l m) (queue_at w (key_of l m))) ≡ Lines.times u (queue_at w (key_of l m)) = picked_counts u (key_of l m) (lock_picker start recursive) (queue_at w (key_of l m)) (under_of (stations_of (place_at w)) l m (queue_at w (key_of l m)) (steady.stands.waits l m)) in omega arith;
+            let a : Lines.times u (lock_picked start recursive (queue_at w (key_of l m))) + Lines.times u (without_lock_picked start recursive (key_of l m) (queue_at w (key_of l m))) ≡ Lines.times u (queue_at w (key_of l m)) = picked_counts u (key_of l m) (lock_picker start recursive) (queue_at w (key_of l m)) (under_of (locations_of (place_at w)) l m (queue_at w (key_of l m)) (steady.stands.waits l m)) in omega arith;
       })
       by_whom whom.All = took (state_after_take w t (key_of l m) whom.All) (queue_at w (key_of l m)) refl (record { times = λ u. omega arith })
 
@@ -209,13 +209,13 @@ pub taken_by_hand : (w : State) (p : Place) (t l : ℕ) → FitsItsLock w p → 
 taken_by_hand w (Condvar k at) t l calls h = waiter_taken_by k at t l h
 taken_by_hand w (Once k at) t l calls h = either (k == l) h
   where
-    either : (b : Bool) → (if b then station (Once k at) else nowhere).hand ≡ hand t false
+    either : (b : Bool) → (if b then location (Once k at) else nowhere).hand ≡ hand t false
         → is_taken_by t (taken_from (once_profile at).hand (once_profile at).wants b) ≡ true
     either true g = let x = (once_sleepers_move at).held t false g in ap (is_taken_by t) (λ i. taken_from (g i) (x.1.wants i) true) ∙ same t
     either false g = absurd cc
 taken_by_hand w (Semaphore k at) t l calls h = either (k == l) h
   where
-    either : (b : Bool) → (if b then station (Semaphore k at) else nowhere).hand ≡ hand t false
+    either : (b : Bool) → (if b then location (Semaphore k at) else nowhere).hand ≡ hand t false
         → is_taken_by t (taken_from (semaphore_profile at).hand (semaphore_profile at).wants b) ≡ true
     either true g = let x = (semaphore_sleepers_move at).held t false g in ap (is_taken_by t) (λ i. taken_from (g i) (x.1.wants i) true) ∙ same t
     either false g = absurd cc
@@ -226,25 +226,25 @@ taken_by_hand w (Mutex k at) t l calls h = by_place (Mutex k at) (is_taken (Mute
     by_place p there = rw (there.is, same l) (same t)
 taken_by_hand w (RwLock k a c) t l calls h = either (k == l) h
   where
-    either : (b : Bool) → (if b then station (RwLock k a c) else nowhere).hand ≡ hand t false
+    either : (b : Bool) → (if b then location (RwLock k a c) else nowhere).hand ≡ hand t false
         → is_taken_by t (taken_from (call_profile a c).hand (call_profile a c).wants b) ≡ true
     either true g = let x = (fair_sleepers_move a c calls.1).held t g in ap (is_taken_by t) (λ i. taken_from (g i) (x.wants i) true) ∙ same t
     either false g = absurd cc
 
--- who was handed the lock goes on as it was
+-- a thread that was handed the lock goes on as it was
 handed_goes : (w : State) (p : Place) (t l : ℕ) → FitsItsLock w p → hand_at p l ≡ hand t true → (r : ℕ → Rights)
     → call_state (next_place p (Woken note.HandOff)) r ≡ call_state p r
 handed_goes w Idle t l fits h r = refl
 handed_goes w (Condvar k at) t l fits h r = waiter_told k at t l h r
 handed_goes w (Once k at) t l fits h r = either (k == l) h
   where
-    either : (b : Bool) → (if b then station (Once k at) else nowhere).hand ≡ hand t true
+    either : (b : Bool) → (if b then location (Once k at) else nowhere).hand ≡ hand t true
         → call_state (next_place (Once k at) (Woken note.HandOff)) r ≡ call_state (Once k at) r
     either true g = absurd (let x : true ≡ false = ((once_sleepers_move at).held t true g).0 in cc)
     either false g = absurd cc
 handed_goes w (Semaphore k at) t l fits h r = either (k == l) h
   where
-    either : (b : Bool) → (if b then station (Semaphore k at) else nowhere).hand ≡ hand t true
+    either : (b : Bool) → (if b then location (Semaphore k at) else nowhere).hand ≡ hand t true
         → call_state (next_place (Semaphore k at) (Woken note.HandOff)) r ≡ call_state (Semaphore k at) r
     either true g = absurd (let x : true ≡ false = ((semaphore_sleepers_move at).held t true g).0 in cc)
     either false g = absurd cc
@@ -263,13 +263,13 @@ handed_goes w (RwLock k a c) t l fits h r = either (k == l) h
     by_call (Glance x) stands g = absurd cc
     by_call (HandOver x b to) stands g = absurd cc
 
-    either : (b : Bool) → (if b then station (RwLock k a c) else nowhere).hand ≡ hand t true
+    either : (b : Bool) → (if b then location (RwLock k a c) else nowhere).hand ≡ hand t true
         → call_state (next_place (RwLock k a c) (Woken note.HandOff)) r ≡ call_state (RwLock k a c) r
     either true g = by_call c fits.1 g
     either false g = absurd cc
 
-module _ (w : State) (t l : ℕ) (steady : IsSteady w) (is_of : IsOf l (place_at w t)) (p2 : Place) where
-  -- who is in its hand is so at its lock, and was handed that or not as its place says
+module _ (w : State) (t l : ℕ) (steady : IsInductive w) (is_of : IsOf l (place_at w t)) (p2 : Place) where
+  -- a thread that is in its hand is so at its lock, and was handed that or not as its place says
   in_hand_here : (h : Bool) → carried_at (place_at w t) l ≡ Some h → (u : ℕ) → is_thread t (taker (place_at w u)) ≡ true
       → hand_at (place_at w u) l ≡ hand t h
   in_hand_here h carries u e =

@@ -20,7 +20,7 @@ deaf (Semaphore l at) single loud r h = (semaphore_hears l at).deaf loud r h
 deaf (Condvar l at) single loud r h = absurd single
 
 module _ (w : State) (t : ℕ) (p : Place) (is : place_at w t ≡ p) (single : IsSingle p) where
-  -- who acts stands where it stood
+  -- a thread that acts stands where it stood
   pub stays_there : place_at (state_after_act w t p (act_of p)) t ≡ p
   stays_there = acted_keeps (λ q. q ≡ p) w t t p (act_of p) (λ loud r b q e. ap (λ x. next_place x r) e ∙ deaf p single loud r b) is
 

@@ -20,7 +20,7 @@ use Rattle.lot_steps.specs.Steps.{act_of, first_place, next_act}
 use Rattle.lot_machine.specs.Machine.{State, place_at, kind_at, word_at, can_do, reply_to, go_of, go_outcome, going_outcome, is_possible, step_outcome}
 use Rattle.lot_laws.specs.Refinement.{lock_state, owner_at}
 use Rattle.lot_laws.specs.MutexPromises.{IsMutexWord}
-use Rattle.lot_laws.specs.SitesOf.{IsSteady}
+use Rattle.lot_laws.specs.SitesOf.{IsInductive}
 use Rattle.lot_laws.specs.WorldRuns.{TriesAtOnce, tried}
 use Rattle.lot_laws.proofs.machine.AtPlaces.{coded_for}
 use Rattle.lot_laws.proofs.machine.Parts.{IsSingle}
@@ -50,7 +50,7 @@ module _ (w : State) (t : ℕ) (p : Place) (is : place_at w t ≡ p) (single : I
   told : can_do w (act_of p) ≡ true → step_outcome w (go_of t) ≡ outcome_of (next_act p (reply_to w t (act_of p)))
   told can = ap (λ b. if b then go_outcome w t else outcome.NotNow) (possible can) ∙ ap (going_outcome w t) is ∙ told_from_there w t p is single
 
-module _ (w : State) (t l : ℕ) (steady : IsSteady w) where
+module _ (w : State) (t l : ℕ) (steady : IsInductive w) where
   locks_told : place_at w t ≡ first_place (kind_at w l) (call.Mutex l TryLock) → step_outcome w (go_of t) ≡ tried (is_none (lock_state w l).exclusive)
   locks_told is = told w t (Mutex l mutex.TryLock) is tt (stands_there w.places t (first_busy (kind_at w l) (call.Mutex l TryLock) (place_at w t) is)) refl
       ∙ by_word (is_locked (word_at w l)) refl (owner_at w l) refl
@@ -75,7 +75,7 @@ module _ (w : State) (t l : ℕ) (steady : IsSteady w) where
       by_word true e = rw e refl
       by_word false e = rw e refl
 
-pub tries_at_once : (w : State) (s : Step) → IsSteady w → s.turn ≡ turn.Go → TriesAtOnce w s.thread (step_outcome w s)
+pub tries_at_once : (w : State) (s : Step) → IsInductive w → s.turn ≡ turn.Go → TriesAtOnce w s.thread (step_outcome w s)
 tries_at_once w s steady goes = subst (λ x. TriesAtOnce w s.thread (step_outcome w (record { thread = s.thread; turn = x }))) (sym goes) (record {
   locks = λ l. locks_told w s.thread l steady;
   writes = λ l. writes_told w s.thread l steady;

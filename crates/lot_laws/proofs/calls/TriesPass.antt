@@ -27,7 +27,7 @@ use Rattle.lot_steps.specs.declared.places.Place.TheVariants.{Idle, Mutex, RwLoc
 use Rattle.lot_steps.specs.Steps.{act_of}
 use Rattle.lot_machine.specs.Machine.{State, place_at}
 use Rattle.lot_laws.specs.Refinement.{call_at, call_state}
-use Rattle.lot_laws.specs.SitesOf.{FitsItsLock, IsSteady}
+use Rattle.lot_laws.specs.SitesOf.{FitsItsLock, IsInductive}
 use Rattle.lot_laws.specs.Promises.{IsTry}
 use Rattle.lot_laws.proofs.machine.PlaceTest.{IsFree, mutex_row_facts, once_facts, semaphore_facts}
 use Rattle.lot_laws.proofs.rwlock.Rows.{parks_wait}
@@ -123,5 +123,5 @@ place_free w (Condvar l (condvar.Wait m timed to)) fits rights h = absurd h
 place_free w (Condvar l (condvar.Look all)) fits rights h = absurd h
 place_free w (Condvar l (condvar.Notify all m to)) fits rights h = absurd h
 
-pub tries_go : (w : State) → IsSteady w → (t : ℕ) → IsTry (call_at w t).purpose → IsFree (act_of (place_at w t))
+pub tries_go : (w : State) → IsInductive w → (t : ℕ) → IsTry (call_at w t).purpose → IsFree (act_of (place_at w t))
 tries_go w steady t h = place_free w (place_at w t) (steady.stands.calls t) _ h

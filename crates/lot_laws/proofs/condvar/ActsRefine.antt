@@ -40,13 +40,13 @@ use Rattle.spec_locks.specs.Locks as locks
 use Rattle.spec_locks.specs.Locks.{OfCondvar, Rights, Rules}
 use Rattle.spec_locks.specs.Runs.{AtLock, CallState, GoesOn, Nothing, behind_wake, going_on, is_taken_by, woken}
 use Rattle.spec_locks.specs.Sites.{Main}
-use Rattle.lot_machine.specs.Fits.{IsOfItsKind, IsShaped, IsThere, PlaceFits, Shows}
+use Rattle.lot_machine.specs.Fits.{IsOfItsKind, IsWellFormed, IsThere, PlaceFits, Shows}
 use Rattle.lot_machine.specs.Machine.{State, can_do, going_outcome, kind_at, place_at, put, reply_to, state_after_act, state_after_going, word_at}
 use Rattle.lot_machine.proofs.Shape.{performed_counts}
 use Rattle.lot_laws.specs.MutexDeeds.{acts}
 use Rattle.lot_laws.specs.MutexDeeds as deeds
 use Rattle.lot_laws.specs.Refinement.{locks_of, taken_at}
-use Rattle.lot_laws.specs.SitesOf.{AreCondvars, FitsCondvar, FitsItsLock, Goes as GoesAt, GoesAll, IsSteady, condvar_of, key_of, rules_in, site_of}
+use Rattle.lot_laws.specs.SitesOf.{AreCondvars, FitsCondvar, FitsItsLock, Goes as GoesAt, GoesAll, IsInductive, condvar_of, key_of, rules_in, site_of}
 use Rattle.lot_laws.proofs.calls.Events.{Happens, OthersFollow}
 use Rattle.lot_laws.proofs.condvar.StepEvents.{NamesStill}
 use Rattle.lot_laws.proofs.condvar.Replies.{apart, at_it, fits_here, may_hear, taken_by_wait, word_is}
@@ -89,9 +89,9 @@ module _ (l m : ℕ) (apart_m : m ≢ l) (at_l at_m : List deeds.Act) where
   two_else : (k : ℕ) → k ≢ l → k ≢ m → two_at l m at_l at_m k ≡ []
   two_else k nl nm = ap (λ b. if b then at_l else if k == m then at_m else []) (differ k l nl) ∙ ap (λ b. if b then at_m else []) (differ k m nm)
 
-module _ (w : State) (t l : ℕ) (shape : IsShaped w) (steady : IsSteady w) (condvars : AreCondvars w)
+module _ (w : State) (t l : ℕ) (shape : IsWellFormed w) (steady : IsInductive w) (condvars : AreCondvars w)
     (there : t < length w.places) where
-  -- what a call of it says of its locks
+  -- tells what a call of it says of its locks
   module _ (at : CondvarPlace) (is : place_at w t ≡ Condvar l at) (m : ℕ) (of : mutex_beside at ≡ Some m) where
     fits : FitsCondvar w l at
     fits = fits_here w t l at steady is
@@ -406,7 +406,7 @@ module _ (w : State) (t l : ℕ) (shape : IsShaped w) (steady : IsSteady w) (con
         in_own_hand = ap (λ q. is_taken_by t (taken_at q m)) is
             ∙ ap (is_taken_by t) (taken_beside l m (apart w t l (Wait m timed (releasing (stands.InHand t) (unlock.Leave true))) steady is m refl) (At (Wait m timed (releasing (stands.InHand t) (unlock.Leave true)))) refl) ∙ same t
 
-  -- whatever its release does
+  -- for every act of its release
   module _ (m : ℕ) (timed : Bool) (s : Stands) (a : UnlockAt) (is : place_at w t ≡ Condvar l (Wait m timed (releasing s a)))
       (can : can_do w (unlock_act m a) ≡ true) where
     abbrev Released : Stands → UnlockAt → Type 0
@@ -500,7 +500,7 @@ module _ (w : State) (t l : ℕ) (shape : IsShaped w) (steady : IsSteady w) (con
 
   -- and every lock is a site again
   pub condvar_steady : (at : CondvarPlace) → place_at w t ≡ Condvar l at → can_do w (condvar_act l at) ≡ true
-      → IsSteady (state_after_going w t (Condvar l at))
+      → IsInductive (state_after_going w t (Condvar l at))
   condvar_steady (Look all) is can = goes_all_steady w _ _ steady (looks_goes all is).follows (looks_goes all is).stands
   condvar_steady (Notify all m p) is can = goes_all_steady w _ _ steady (goes all m p is can).follows (goes all m p is can).stands
   condvar_steady (Wait m timed (wait.Release s (mutex.Unlock a))) is can = let g = goes_waiting m timed (releasing s a) is can (left_fits m timed s a is can) in goes_all_steady w _ _ steady g.follows g.stands

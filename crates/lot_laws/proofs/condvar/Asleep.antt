@@ -26,7 +26,7 @@ use Rattle.spec_locks.specs.Purposes.{MayWait}
 use Rattle.spec_locks.specs.Sites.{Has, Line, Main}
 use Rattle.lot_laws.specs.Promises.{want_of}
 use Rattle.lot_laws.specs.Refinement.{taken_at}
-use Rattle.lot_laws.specs.Stations.{nowhere, station, station_at, station_by}
+use Rattle.lot_laws.specs.Locations.{nowhere, location, location_at, location_by}
 use Rattle.lot_laws.proofs.condvar.Promises.{StandsAt, stands_at}
 use Rattle.lot_laws.proofs.machine.Parts.{differ, same}
 use Rattle.lot_laws.proofs.mutex.Rows.{decided_awake, unlock_awake}
@@ -37,7 +37,7 @@ pub record WasHandedBeside (k : ℕ) (at : CondvarPlace) : Type 0 where
   pub by : ℕ
   pub beside : mutex_beside at ≡ Some mutex
   pub in_hand : (mutex_side at).hand ≡ hand by true
-  pub claims : (mutex_side at).doing.claims ≡ Some (Has Exclusive)
+  pub claims : (mutex_side at).role.claims ≡ Some (Has Exclusive)
   pub waited : MayWait (Some (condvar_purpose at k)) mutex × (want_of (Some (condvar_purpose at k)) ≡ Some Exclusive)
 
 abbrev pub IsAsleep : ℕ → CondvarPlace → Type 0
@@ -52,12 +52,12 @@ in_a_hand o x e none = let g : ◌≡◌ {A = Option Taken} None (Some x) = sym 
 module _ (k m : ℕ) (apart : k ≢ m) where
   wait_asleep : (timed : Bool) (at : WaitAt) → IsReached (Wait m timed at) → condvar_act k (Wait m timed at) ≡ Sleep
       → IsAsleep k (Wait m timed at)
-  wait_asleep timed (wait.Asleep stands.Listed) reached h = inl (k, inl (in_a_line (station_at (Condvar k (Wait m timed (wait.Asleep stands.Listed))) k).stands Main (stands_at k (Wait m timed (wait.Asleep stands.Listed)) k ∙ rw (same k) refl)))
-  wait_asleep timed (wait.Asleep stands.Moved) reached h = inl (m, inl (in_a_line (station_at (Condvar k (Wait m timed (wait.Asleep stands.Moved))) m).stands Main (stands_at k (Wait m timed (wait.Asleep stands.Moved)) m ∙ rw (differ k m apart, same m) refl)))
+  wait_asleep timed (wait.Asleep stands.Listed) reached h = inl (k, inl (in_a_line (location_at (Condvar k (Wait m timed (wait.Asleep stands.Listed))) k).stands Main (stands_at k (Wait m timed (wait.Asleep stands.Listed)) k ∙ rw (same k) refl)))
+  wait_asleep timed (wait.Asleep stands.Moved) reached h = inl (m, inl (in_a_line (location_at (Condvar k (Wait m timed (wait.Asleep stands.Moved))) m).stands Main (stands_at k (Wait m timed (wait.Asleep stands.Moved)) m ∙ rw (differ k m apart, same m) refl)))
   wait_asleep timed (wait.Asleep (stands.InHand by)) reached h = inl (m, inr (in_a_hand (taken_at (Condvar k (Wait m timed (wait.Asleep (stands.InHand by)))) m) (record { by = by; want = Exclusive }) (rw (differ k m apart, same m) refl)))
   wait_asleep timed (wait.Asleep (stands.Handed by)) reached h = inr (record { mutex = m; by = by; beside = refl; in_hand = refl; claims = refl; waited = (inr refl, refl) })
   wait_asleep timed (wait.Asleep (stands.Noted note)) reached h = absurd reached
-  wait_asleep timed (wait.Lock late (mutex.Lock entry.Lock r lock.Asleep)) reached h = inl (m, inl (in_a_line (station_at (Condvar k (Wait m timed (wait.Lock late (mutex.Lock entry.Lock r lock.Asleep)))) m).stands Main (stands_at k (Wait m timed (wait.Lock late (mutex.Lock entry.Lock r lock.Asleep))) m ∙ rw (differ k m apart, same m) refl)))
+  wait_asleep timed (wait.Lock late (mutex.Lock entry.Lock r lock.Asleep)) reached h = inl (m, inl (in_a_line (location_at (Condvar k (Wait m timed (wait.Lock late (mutex.Lock entry.Lock r lock.Asleep)))) m).stands Main (stands_at k (Wait m timed (wait.Lock late (mutex.Lock entry.Lock r lock.Asleep))) m ∙ rw (differ k m apart, same m) refl)))
   wait_asleep timed (wait.Lock late (mutex.Lock entry.Lock r (lock.Taken by))) reached h = inl (m, inr (in_a_hand (taken_at (Condvar k (Wait m timed (wait.Lock late (mutex.Lock entry.Lock r (lock.Taken by))))) m) (record { by = by; want = Exclusive }) (rw (differ k m apart, same m) refl)))
   wait_asleep timed (wait.Lock late (mutex.Lock entry.Lock r (lock.Handed by))) reached h = inr (record { mutex = m; by = by; beside = refl; in_hand = refl; claims = refl; waited = (inr refl, refl) })
   wait_asleep timed (wait.Lock late (mutex.Lock entry.Lock r (lock.Decide x))) reached h = absurd (decided_awake m x (is_locked x) (x == 1) h)
@@ -67,7 +67,7 @@ module _ (k m : ℕ) (apart : k ≢ m) where
   wait_asleep timed (wait.Release s at) reached h = absurd reached.0
   wait_asleep timed at reached h = absurd cc
 
--- who notifies is awake
+-- a thread that notifies is awake
 moving_awake : (all locked : Bool) (k m : ℕ) → move_act all locked k m ≢ Sleep
 moving_awake true locked k m h = cc
 moving_awake false true k m h = cc
@@ -104,11 +104,11 @@ hands_none (Notify all m (notify.Leave any number)) reached h = to_wake any h
 hands_none (Notify all m at) reached h = cc
 hands_none (Look all) reached h = cc
 
-pub two_hand_none : (k : ℕ) (at : CondvarPlace) → IsReached at → (l : ℕ) → (station_at (Condvar k at) l).carries ≡ Some true → ⊥
+pub two_hand_none : (k : ℕ) (at : CondvarPlace) → IsReached at → (l : ℕ) → (location_at (Condvar k at) l).carries ≡ Some true → ⊥
 two_hand_none k at reached l h = by_lock (k == l) (is_lock l (mutex_beside at)) h
   where
     by_lock : (c d : Bool)
-        → (if c then station (Condvar k at) else if d then station_by (mutex_side at) else nowhere).carries ≡ Some true → ⊥
+        → (if c then location (Condvar k at) else if d then location_by (mutex_side at) else nowhere).carries ≡ Some true → ⊥
     by_lock true d g = cc
     by_lock false true g = hands_none at reached g
     by_lock false false g = cc

@@ -63,7 +63,7 @@ module _ (w : State) (t l : ℕ) where
       let parts = both (has_mutex w (Some m)) (holds_right w t (call.Condvar l (condvar_call.Wait m timed))) h in
       ((both (nat_lt m (length w.locks)) (is_plain_mutex (kind_at w m)) parts.0).1, thread_is t (owners_at w m).exclusive parts.1)
 
-  -- whoever owns a lock owns one that is there
+  -- each thread that owns a lock owns one that is there
   owned_there : (m : ℕ) → (owners_at w m).exclusive ≡ Some t → m < length w.locks
   owned_there m owns = elim (cases_lt m (length w.locks)) [
     | inl there ↦ there

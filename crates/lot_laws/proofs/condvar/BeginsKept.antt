@@ -12,7 +12,7 @@ use Rattle.spec_locks.specs.declared.kinds.Kind.TheVariants as kind
 use Rattle.spec_locks.specs.declared.outcomes.Answer.TheVariants as answer
 use Rattle.steps_base.specs.declared.acts.Next.TheVariants.{At, End as Over}
 use Rattle.steps_base.specs.declared.acts.Reply.TheVariants.{Late}
-use Rattle.steps_base.specs.Stations.{Station, nowhere}
+use Rattle.steps_base.specs.Locations.{Location, nowhere}
 use Rattle.lot_steps.specs.declared.places.Place.{Place}
 use Rattle.lot_steps.specs.declared.places.Place.TheVariants.{Condvar, Idle}
 use Rattle.lot_steps.specs.Steps.{late_key, next_place}
@@ -23,14 +23,14 @@ use Rattle.steps_condvar.specs.declared.wait.WaitAt.TheVariants as wait
 use Rattle.steps_condvar.specs.CondvarSteps.{mutex_beside}
 use Rattle.spec_locks.specs.Locks as locks
 use Rattle.spec_locks.specs.Purposes.{rules_of}
-use Rattle.spec_locks.specs.Sites.{Begin, Deed, Doing, Has, In, Main, idle}
+use Rattle.spec_locks.specs.Sites.{Begin, Deed, Role, Has, In, Main, idle}
 use Rattle.lot_machine.specs.Machine.{State, has_mutex, holds_right, is_free_under, is_open_to, kind_at, owners_at, place_at, put, section_at, state_after_begin, state_after_late_on, state_with_sections}
 use Rattle.lot_machine.proofs.Suits.{Suits, both, call_suits}
-use Rattle.lot_machine.specs.Fits.{IsShaped, PlaceFits}
+use Rattle.lot_machine.specs.Fits.{IsWellFormed, PlaceFits}
 use Rattle.lot_laws.specs.Refinement.{taken_at}
 use Rattle.lot_laws.specs.MutexDeeds.{acts}
-use Rattle.lot_laws.specs.Stations.{doing_on, station_at}
-use Rattle.lot_laws.specs.SitesOf.{FitsCondvar, FitsItsLock, Goes, IsSteady, key_of, rules_in}
+use Rattle.lot_laws.specs.Locations.{role_on, location_at}
+use Rattle.lot_laws.specs.SitesOf.{FitsCondvar, FitsItsLock, Goes, IsInductive, key_of, rules_in}
 use Rattle.lot_laws.proofs.machine.Parts.{differ, parts_at, put_here, same, thread_is}
 use Rattle.lot_laws.proofs.sites.OneStep.{steps_by}
 use Rattle.lot_laws.proofs.sites.StandsKept.{Alike, AlikeBeside}
@@ -38,7 +38,7 @@ use Rattle.lot_laws.proofs.sites.ActsAt as acting
 use Rattle.lot_laws.proofs.mutex.Kept.{none_is}
 use Rattle.lot_laws.proofs.calls.Looking.{fits_on}
 use Rattle.lot_laws.proofs.promises.LineActs.{key_there}
-use Rattle.lot_laws.proofs.condvar.TwoParts.{doing_beside, doing_there, nothing_else, station_beside, station_there, taken_beside, taken_there}
+use Rattle.lot_laws.proofs.condvar.TwoParts.{role_beside, role_there, nothing_else, location_beside, location_there, taken_beside, taken_there}
 use Rattle.lot_laws.proofs.condvar.MutexUntouched.{enters_there}
 use Rattle.lot_laws.proofs.condvar.WaitersAside.{plain_sort}
 
@@ -49,21 +49,21 @@ apart_of w l m at f names e = let both : locks.Mutex ≡ locks.Condvar = sym (pl
 -- ---------------------------------------------------------------- a call begins
 
 -- a notification knows no mutex yet, and stands nowhere
-module _ (w : State) (t l : ℕ) (all : Bool) (steady : IsSteady w) (there : t < length w.places) (is : place_at w t ≡ Idle)
+module _ (w : State) (t l : ℕ) (all : Bool) (steady : IsInductive w) (there : t < length w.places) (is : place_at w t ≡ Idle)
     (fits : FitsItsLock w (Condvar l (Look all))) where
   looks_nowhere : (k : ℕ) → Alike k Idle (Condvar l (Look all))
   looks_nowhere k = elim (cases_eq k l) [
-    | inl e ↦ subst (λ j. Alike j Idle (Condvar l (Look all))) (sym e) (record { station = rw (same l) refl; doing = rw (same l) refl; taken = refl })
-    | inr ne ↦ record { station = rw (differ l k (λ f. ne (sym f))) refl; doing = rw (differ l k (λ f. ne (sym f))) refl; taken = refl }
+    | inl e ↦ subst (λ j. Alike j Idle (Condvar l (Look all))) (sym e) (record { location = rw (same l) refl; role = rw (same l) refl; taken = refl })
+    | inr ne ↦ record { location = rw (differ l k (λ f. ne (sym f))) refl; role = rw (differ l k (λ f. ne (sym f))) refl; taken = refl }
   ]
 
   pub notification_begins : Goes w (put w t (Condvar l (Look all))) l []
   notification_begins = acting.place_goes w t l steady there (rules_in w l) refl (Condvar l (Look all)) (λ k ne. subst (λ q. Alike k q (Condvar l (Look all))) (sym is) (looks_nowhere k)) fits [] (λ h. tt)
       (steps_by (rules_in w l) l (parts_at w l) (parts_at w l) (place_at w) t (Condvar l (Look all)) [] tt tt
-      (ap (λ q. taken_at q l) is ∙ sym (looks_nowhere l).taken) refl refl refl refl ((looks_nowhere l).doing ∙ sym (ap (λ q. doing_on q l) is)))
-      ((looks_nowhere l).station ∙ sym (ap (λ q. station_at q l) is))
+      (ap (λ q. taken_at q l) is ∙ sym (looks_nowhere l).taken) refl refl refl refl ((looks_nowhere l).role ∙ sym (ap (λ q. role_on q l) is)))
+      ((looks_nowhere l).location ∙ sym (ap (λ q. location_at q l) is))
 
-module _ (w : State) (t l m : ℕ) (timed : Bool) (steady : IsSteady w) (there : t < length w.places) (is : place_at w t ≡ Idle)
+module _ (w : State) (t l m : ℕ) (timed : Bool) (steady : IsInductive w) (there : t < length w.places) (is : place_at w t ≡ Idle)
     (apart : m ≢ l) (fits : FitsItsLock w (Condvar l (Wait m timed wait.Enter))) where
   abbrev entering : Place
   entering = Condvar l (Wait m timed wait.Enter)
@@ -71,8 +71,8 @@ module _ (w : State) (t l m : ℕ) (timed : Bool) (steady : IsSteady w) (there :
   begins_alike : AlikeBeside m Idle entering
   begins_alike k ne = elim (cases_eq k l) [
     | inl e ↦ subst (λ j. Alike j Idle entering) (sym e) (record {
-      station = station_there l m apart (At (Wait m timed wait.Enter)) refl;
-      doing = doing_there l m apart (At (Wait m timed wait.Enter)) refl;
+      location = location_there l m apart (At (Wait m timed wait.Enter)) refl;
+      role = role_there l m apart (At (Wait m timed wait.Enter)) refl;
       taken = taken_there l m apart (At (Wait m timed wait.Enter)) refl;
     })
     | inr nl ↦ nothing_else l m apart (Over answer.Ok) (At (Wait m timed wait.Enter)) tt refl k nl ne
@@ -83,8 +83,8 @@ module _ (w : State) (t l m : ℕ) (timed : Bool) (steady : IsSteady w) (there :
   wait_begins owns = acting.place_goes w t m steady there (rules_in w m) refl entering (λ k ne. subst (λ q. Alike k q entering) (sym is) (begins_alike k ne)) fits (Begin (Some (Has Exclusive)) ∷ []) (λ h. tt)
       (steps_by (rules_in w m) m (parts_at w m) (parts_at w m) (place_at w) t entering (Begin (Some (Has Exclusive)) ∷ []) (owns, tt) (tt, tt)
       (ap (λ q. taken_at q m) is ∙ sym (taken_beside l m apart (At (Wait m timed wait.Enter)) refl)) refl refl refl refl
-      (doing_beside l m apart (At (Wait m timed wait.Enter)) refl ∙ sym (put_here (λ u. doing_on (place_at w u) m) t _ ∙ ap (λ q. record (doing_on q m) { claims = Some (Has Exclusive) }) is)))
-      (station_beside l m apart (At (Wait m timed wait.Enter)) refl ∙ sym (ap (λ q. station_at q m) is))
+      (role_beside l m apart (At (Wait m timed wait.Enter)) refl ∙ sym (put_here (λ u. role_on (place_at w u) m) t _ ∙ ap (λ q. record (role_on q m) { claims = Some (Has Exclusive) }) is)))
+      (location_beside l m apart (At (Wait m timed wait.Enter)) refl ∙ sym (ap (λ q. location_at q m) is))
 
 -- the lock at which a call begins, and what it does there
 abbrev pub begins_at : ℕ → CondvarCall → ℕ
@@ -100,7 +100,7 @@ condvar_sort kind.Condvar h = refl
 condvar_sort k h = absurd cc
 
 -- it may begin where it names a plain mutex that its thread owns
-module _ (w : State) (t l : ℕ) (steady : IsSteady w) (there : t < length w.places) (is : place_at w t ≡ Idle) where
+module _ (w : State) (t l : ℕ) (steady : IsInductive w) (there : t < length w.places) (is : place_at w t ≡ Idle) where
   pub condvar_begins : (c : CondvarCall) → is_open_to w t (call.Condvar l c) ≡ true
       → Goes w (state_after_begin w t (call.Condvar l c)) (begins_at l c) (acts t (begins_by c))
   condvar_begins (condvar_call.Notify all) may = notification_begins w t l all steady there is (record { sort = condvar_sort (kind_at w l) suits.1.0; reached = tt; mutex = λ m none. absurd cc })
@@ -122,14 +122,14 @@ module _ (w : State) (t l : ℕ) (steady : IsSteady w) (there : t < length w.pla
 
 -- ---------------------------------------------------------------- its time is up
 
-module _ (w : State) (t l m : ℕ) (steady : IsSteady w) (there : t < length w.places) (apart : m ≢ l) where
+module _ (w : State) (t l m : ℕ) (steady : IsInductive w) (there : t < length w.places) (apart : m ≢ l) where
   -- it leaves the queue of the condition variable
   module _ (sort : (rules_in w l).sort ≡ locks.Condvar) (is : place_at w t ≡ Condvar l (Wait m true (wait.Asleep stands.Listed)))
       (fits : FitsItsLock w (Condvar l (Wait m true wait.Remove))) where
     same_beside : Alike m (place_at w t) (Condvar l (Wait m true wait.Remove))
     same_beside = subst (λ q. Alike m q (Condvar l (Wait m true wait.Remove))) (sym is) (record {
-      station = station_beside l m apart (At (Wait m true wait.Remove)) refl ∙ sym (station_beside l m apart (At (Wait m true (wait.Asleep stands.Listed))) refl);
-      doing = doing_beside l m apart (At (Wait m true wait.Remove)) refl ∙ sym (doing_beside l m apart (At (Wait m true (wait.Asleep stands.Listed))) refl);
+      location = location_beside l m apart (At (Wait m true wait.Remove)) refl ∙ sym (location_beside l m apart (At (Wait m true (wait.Asleep stands.Listed))) refl);
+      role = role_beside l m apart (At (Wait m true wait.Remove)) refl ∙ sym (role_beside l m apart (At (Wait m true (wait.Asleep stands.Listed))) refl);
       taken = taken_beside l m apart (At (Wait m true wait.Remove)) refl ∙ sym (taken_beside l m apart (At (Wait m true (wait.Asleep stands.Listed))) refl);
     })
 
@@ -150,8 +150,8 @@ module _ (w : State) (t l m : ℕ) (steady : IsSteady w) (there : t < length w.p
     moves_alike : AlikeBeside m (Condvar l before) (Condvar l removing)
     moves_alike k ne = elim (cases_eq k l) [
       | inl e ↦ subst (λ j. Alike j (Condvar l before) (Condvar l removing)) (sym e) (record {
-        station = station_there l m apart (At removing) refl ∙ sym (station_there l m apart (At before) refl);
-        doing = doing_there l m apart (At removing) refl ∙ sym (doing_there l m apart (At before) refl);
+        location = location_there l m apart (At removing) refl ∙ sym (location_there l m apart (At before) refl);
+        role = role_there l m apart (At removing) refl ∙ sym (role_there l m apart (At before) refl);
         taken = taken_there l m apart (At removing) refl ∙ sym (taken_there l m apart (At before) refl);
       })
       | inr nl ↦ nothing_else l m apart (At before) (At removing) refl refl k nl ne
@@ -160,23 +160,23 @@ module _ (w : State) (t l m : ℕ) (steady : IsSteady w) (there : t < length w.p
     alike : AlikeBeside m (place_at w t) (Condvar l removing)
     alike k ne = subst (λ q. Alike k q (Condvar l removing)) (sym is) (moves_alike k ne)
 
-    was : station_at (place_at w t) m ≡ record nowhere { stands = Some Main; waits = Some Exclusive }
-    was = ap (λ q. station_at q m) is ∙ station_beside l m apart (At before) refl
+    was : location_at (place_at w t) m ≡ record nowhere { stands = Some Main; waits = Some Exclusive }
+    was = ap (λ q. location_at q m) is ∙ location_beside l m apart (At before) refl
 
-    did : doing_on (place_at w t) m ≡ idle
-    did = ap (λ q. doing_on q m) is ∙ doing_beside l m apart (At before) refl
+    did : role_on (place_at w t) m ≡ idle
+    did = ap (λ q. role_on q m) is ∙ role_beside l m apart (At before) refl
 
     pub moved_late : (line : key_of m Main < length w.sections) → section_at w (key_of m Main) ≡ None
         → Goes w (put (state_with_sections w (One (key_of m Main)) (Some t)) t (Condvar l removing)) m (acts t (In Main ∷ []))
-    moved_late line free = acting.enter_goes w t m steady there (rules_in w m) refl (Condvar l removing) alike fits Main line free (ap (λ (y : Station). y.inside) was)
+    moved_late line free = acting.enter_goes w t m steady there (rules_in w m) refl (Condvar l removing) alike fits Main line free (ap (λ (y : Location). y.inside) was)
         (acting.goes_into w t m steady there (rules_in w m) refl (Condvar l removing) alike fits
         (ap (λ q. taken_at q m) is ∙ taken_beside l m apart (At before) refl ∙ sym (taken_beside l m apart (At removing) refl)) Main
-        ((acting.nobody_inside w t m steady there (rules_in w m) refl (Condvar l removing) alike fits Main free, ap (λ (d : Doing). d.inside) did, ap (λ (d : Doing). d.empty) did), tt)
-        (doing_beside l m apart (At removing) refl ∙ sym (ap (λ (d : Doing). record d { inside = Some Main }) did)))
-        (station_beside l m apart (At removing) refl ∙ sym (ap (λ (y : Station). record y { inside = Some Main }) was))
+        ((acting.nobody_inside w t m steady there (rules_in w m) refl (Condvar l removing) alike fits Main free, ap (λ (d : Role). d.inside) did, ap (λ (d : Role). d.empty) did), tt)
+        (role_beside l m apart (At removing) refl ∙ sym (ap (λ (d : Role). record d { inside = Some Main }) did)))
+        (location_beside l m apart (At removing) refl ∙ sym (ap (λ (y : Location). record y { inside = Some Main }) was))
 
 -- wherever it sleeps with a deadline
-module _ (w : State) (t l : ℕ) (shape : IsShaped w) (steady : IsSteady w) (there : t < length w.places) where
+module _ (w : State) (t l : ℕ) (shape : IsWellFormed w) (steady : IsInductive w) (there : t < length w.places) where
   abbrev LateGoes : CondvarPlace → Type 0
   LateGoes at = (k : ℕ) × Goes w (state_after_late_on w t (late_key (Condvar l at))) k (acts t (In Main ∷ []))
 

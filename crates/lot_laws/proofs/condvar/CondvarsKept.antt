@@ -6,7 +6,7 @@ use Rattle.spec_locks.specs.declared.calls.Turn.{Turn}
 use Rattle.spec_locks.specs.declared.calls.Turn as turn
 use Rattle.spec_locks.specs.declared.outcomes.Outcome.{Outcome}
 use Rattle.spec_locks.specs.declared.outcomes.Outcome as outcome
-use Rattle.steps_base.specs.Stations.{Station, nowhere, station_by}
+use Rattle.steps_base.specs.Locations.{Location, nowhere, location_by}
 use Rattle.steps_condvar.specs.declared.places.CondvarPlace.{CondvarPlace}
 use Rattle.steps_condvar.specs.declared.places.CondvarPlace.TheVariants.{Wait, Look, Notify}
 use Rattle.steps_condvar.specs.CondvarProfiles.{condvar_profile, condvar_row, mutex_side}
@@ -20,16 +20,16 @@ use Rattle.spec_locks.specs.Locks.{LockCase, LockState, Rules, SeeOwner, Wake, a
 use Rattle.spec_locks.specs.Purposes.{Purpose, Enters, Releases, Converts, Bumps, CallsOnce, Awaits, Waits, Notifies, IsMadeOf, NotifiesBeside, Recall, lock_for, rules_of}
 use Rattle.spec_locks.specs.Runs.{AtLock, CallState, Event, GoesOn, IsStep, LocksState, MayDo, MayHappen, MayTurn, Does, Moves, Nothing, SectionChanges, going_on, joined_by, locks_after, rules_at, unless_ended, woken}
 use Rattle.spec_locks.specs.Sites.{Main}
-use Rattle.lot_machine.specs.Fits.{IsShaped}
+use Rattle.lot_machine.specs.Fits.{IsWellFormed}
 use Rattle.lot_machine.specs.Machine.{State, after, kind_at, place_at, section_at, step_outcome}
 use Rattle.steps_base.specs.Rows.{KnowsRights}
 use Rattle.lot_laws.specs.Refinement.{call_at, call_state, lock_state, locks_of}
-use Rattle.lot_laws.specs.Stations.{station_at}
-use Rattle.lot_laws.specs.SitesOf.{AreCondvars, AreCounted, FitsCondvar, FitsItsLock, IsSteady, condvar_of, key_of, rules_in}
+use Rattle.lot_laws.specs.Locations.{location_at}
+use Rattle.lot_laws.specs.SitesOf.{AreCondvars, AreCounted, FitsCondvar, FitsItsLock, IsInductive, condvar_of, key_of, rules_in}
 use Rattle.lot_laws.proofs.machine.Befallen.{others_keep_it}
 use Rattle.lot_laws.proofs.calls.Events.{rights}
 use Rattle.lot_laws.proofs.condvar.Rows.{names_of, names_unmoved, stage_of, stage_unmoved}
-use Rattle.lot_laws.proofs.machine.Parts.{IsSingle, put_here, same, single_station}
+use Rattle.lot_laws.proofs.machine.Parts.{IsSingle, put_here, same, single_location}
 use Rattle.lot_laws.proofs.machine.KindsStay.{after_kinds}
 use Rattle.lot_laws.proofs.calls.LockSteps.{after_step}
 use Rattle.lot_laws.proofs.promises.PlacePromises.{row_promises}
@@ -45,7 +45,7 @@ abbrev of_purpose : Option Purpose → Option ℕ
 of_purpose None = None
 of_purpose (Some q) = Some (lock_for q)
 
-module _ (w : State) (steady : IsSteady w) (t : ℕ) where
+module _ (w : State) (steady : IsInductive w) (t : ℕ) where
   fits_at : (l : ℕ) (at : CondvarPlace) → place_at w t ≡ Condvar l at → FitsCondvar w l at
   fits_at l at is = subst (FitsItsLock w) is (steady.stands.calls t)
 
@@ -95,30 +95,30 @@ module _ (w : State) (steady : IsSteady w) (t : ℕ) where
         either false f = refl
         either true f = absurd (other (own ∙ ap Some (eqb-true l k f)))
 
-    pub not_inside : (station_at (place_at w t) k).inside ≡ None
+    pub not_inside : (location_at (place_at w t) k).inside ≡ None
     not_inside = by_place (place_at w t) refl
       where
-        single : (l : ℕ) (p : Place) → place_at w t ≡ p → IsSingle p → lock_of p ≡ Some l → (station_at p k).inside ≡ None
-        single l p is one own = ap (λ (x : Station). x.inside) (single_station p k one) ∙ ap (λ o. (if is_lock k o then station_by (profile p) else nowhere).inside) own
-            ∙ ap (λ (b : Bool). (if b then station_by (profile p) else nowhere).inside) (other_lock l (ap lock_of is ∙ own))
+        single : (l : ℕ) (p : Place) → place_at w t ≡ p → IsSingle p → lock_of p ≡ Some l → (location_at p k).inside ≡ None
+        single l p is one own = ap (λ (x : Location). x.inside) (single_location p k one) ∙ ap (λ o. (if is_lock k o then location_by (profile p) else nowhere).inside) own
+            ∙ ap (λ (b : Bool). (if b then location_by (profile p) else nowhere).inside) (other_lock l (ap lock_of is ∙ own))
 
         beside : (at : CondvarPlace) (o : Option ℕ) → ((m : ℕ) → o ≡ Some m → (rules_in w m).sort ≡ locks.Mutex)
-            → (if is_lock k o then station_by (mutex_side at) else nowhere).inside ≡ None
+            → (if is_lock k o then location_by (mutex_side at) else nowhere).inside ≡ None
         beside at None plain = refl
         beside at (Some m) plain = either (m == k) refl
           where
-            either : (b : Bool) → (m == k) ≡ b → (if b then station_by (mutex_side at) else nowhere).inside ≡ None
+            either : (b : Bool) → (m == k) ≡ b → (if b then location_by (mutex_side at) else nowhere).inside ≡ None
             either false f = refl
             either true f = absurd (let both : locks.Mutex ≡ locks.Condvar = sym (plain m refl) ∙ ap (λ j. (rules_in w j).sort) (eqb-true m k f) ∙ sort in cc)
 
-        by_place : (p : Place) → place_at w t ≡ p → (station_at p k).inside ≡ None
+        by_place : (p : Place) → place_at w t ≡ p → (location_at p k).inside ≡ None
         by_place Idle is = refl
         by_place (Mutex l at) is = single l (Mutex l at) is tt refl
         by_place (RwLock l a c) is = single l (RwLock l a c) is tt refl
         by_place (Once l at) is = single l (Once l at) is tt refl
         by_place (Semaphore l at) is = single l (Semaphore l at) is tt refl
         by_place (Condvar l at) is =
-            ap (λ (b : Bool). (if b then station_by (condvar_profile at) else if is_lock k (mutex_beside at) then station_by (mutex_side at) else nowhere).inside) (other_lock l (ap lock_of is))
+            ap (λ (b : Bool). (if b then location_by (condvar_profile at) else if is_lock k (mutex_beside at) then location_by (mutex_side at) else nowhere).inside) (other_lock l (ap lock_of is))
             ∙ beside at (mutex_beside at) (λ m e. plain_sort (kind_at w m) ((fits_at l at is).mutex m e))
 
     pub says_nothing : (stage_of (place_at w t) k ≡ None) × (names_of (place_at w t) k ≡ None)
@@ -196,7 +196,7 @@ module _ (w : LocksState) (t k : ℕ) (sort : (rules_at w k).sort ≡ locks.Cond
 
 -- ---------------------------------------------------------------- a step
 
-module _ (w : State) (s : Step) (shape : IsShaped w) (steady : IsSteady w) (counted : AreCounted w)
+module _ (w : State) (s : Step) (shape : IsWellFormed w) (steady : IsInductive w) (counted : AreCounted w)
     (condvars : AreCondvars w) where
   abbrev v : State
   v = after w s
@@ -204,7 +204,7 @@ module _ (w : State) (s : Step) (shape : IsShaped w) (steady : IsSteady w) (coun
   abbrev t : ℕ
   t = s.thread
 
-  steady_then : IsSteady v
+  steady_then : IsInductive v
   steady_then = after_steady w s shape steady counted condvars
 
   step : IsStep (locks_of w) s (step_outcome w s) (locks_of v)
@@ -281,8 +281,8 @@ module _ (w : State) (s : Step) (shape : IsShaped w) (steady : IsSteady w) (coun
         by_change : SectionChanges (section_at w (key_of k Main)) t (section_at v (key_of k Main))
             → section_at v (key_of k Main) ≡ section_at w (key_of k Main)
         by_change (inl stays) = stays
-        by_change (inr (inl enters)) = absurd (let within : (station_at (place_at v t) k).inside ≡ Some Main = (steady_then.stands.sections t k Main).1 enters.1 in let out = not_inside v steady_then t k sort_then other_then in cc)
-        by_change (inr (inr leaves)) = absurd (let within : (station_at (place_at w t) k).inside ≡ Some Main = (steady.stands.sections t k Main).1 leaves.0 in let out = not_inside w steady t k sort other in cc)
+        by_change (inr (inl enters)) = absurd (let within : (location_at (place_at v t) k).inside ≡ Some Main = (steady_then.stands.sections t k Main).1 enters.1 in let out = not_inside v steady_then t k sort_then other_then in cc)
+        by_change (inr (inr leaves)) = absurd (let within : (location_at (place_at w t) k).inside ≡ Some Main = (steady.stands.sections t k Main).1 leaves.0 in let out = not_inside w steady t k sort other in cc)
 
         says : (u : ℕ)
             → (stage_of (place_at v u) k ≡ stage_of (place_at w u) k) × (names_of (place_at v u) k ≡ names_of (place_at w u) k)

@@ -17,7 +17,7 @@ use Rattle.spec_locks.specs.Sites.{Line, Main}
 use Rattle.spec_locks.proofs.CondvarKeeps.{condvar_deed_keeps}
 use Rattle.lot_machine.specs.Machine.{State, place_at, section_at}
 use Rattle.lot_laws.specs.Refinement.{lock_state}
-use Rattle.lot_laws.specs.Stations.{station_at}
+use Rattle.lot_laws.specs.Locations.{location_at}
 use Rattle.lot_laws.specs.SitesOf.{Stands, condvar_of, inside_as, key_of, stage_or}
 use Rattle.lot_laws.proofs.condvar.Rows.{names_of, row_says, stage_of}
 use Rattle.lot_laws.proofs.condvar.Sites.{at_place}
@@ -31,7 +31,7 @@ deeds_keep [] c t h needed = h
 deeds_keep (d ∷ ds) c t h needed = deeds_keep ds (condvar_leads d c t) t (condvar_deed_keeps d c t h needed.0) needed.1
 
 module _ (t : ℕ) where
-  -- whoever else is inside stays there
+  -- each other thread inside stays there
   abbrev SameOthers : Option Inside → Option Inside → Type 0
   SameOthers x y = (i : Inside) → i.thread ≢ t → (x ≡ Some i) ↔ (y ≡ Some i)
 
@@ -116,7 +116,7 @@ module _ (w v : State) (t l : ℕ) (at : CondvarPlace) (told : Reply) (stands : 
   names_then : (u : ℕ) → u ≢ t → (profile_at (place_at v u) l).names ≡ (profile_at (place_at w u) l).names
   names_then u ne = (row_says (place_at v u) l).1 ∙ (says u ne).1 ∙ sym (row_says (place_at w u) l).1
 
-  -- whoever else is inside stays so
+  -- each other thread inside stays so
   module _ (i : Inside) (ne : i.thread ≢ t) where
     abbrev Both : Option ℕ → Option ℕ → Type 0
     Both o p = (inside_as o (λ u. (profile_at (place_at w u) l).stage) ≡ Some i) ↔ (inside_as p (λ u. (profile_at (place_at v u) l).stage) ≡ Some i)
@@ -150,8 +150,8 @@ module _ (w v : State) (t l : ℕ) (at : CondvarPlace) (told : Reply) (stands : 
           → IsInsideNot (inside_as o (λ u. (profile_at (place_at v u) l).stage)) t
       by_section None e = tt
       by_section (Some u) e = λ own.
-          let there : (station_at (place_at v t) l).inside ≡ Some Main = (stands_then.sections t l Main).1 (e ∙ ap Some own) in
-          let nowhere_now : (station_at (place_at v t) l).inside ≡ None = ap (λ p. (station_at p l).inside) idle in
+          let there : (location_at (place_at v t) l).inside ≡ Some Main = (stands_then.sections t l Main).1 (e ∙ ap Some own) in
+          let nowhere_now : (location_at (place_at v t) l).inside ≡ None = ap (λ p. (location_at p l).inside) idle in
           let both : ◌≡◌ {A = Option Line} None (Some Main) = sym nowhere_now ∙ there in cc
 
   inside_led : (condvar_of v l).inside ≡ led.inside

@@ -25,7 +25,7 @@ use Rattle.spec_locks.specs.Sites.{Line, Main, Second}
 use Rattle.lot_machine.specs.Fits.{PlaceFits}
 use Rattle.lot_laws.specs.Refinement.{call_state}
 use Rattle.lot_laws.specs.SitesOf.{key_of}
-use Rattle.lot_laws.specs.Stations.{station_at}
+use Rattle.lot_laws.specs.Locations.{location_at}
 use Rattle.lot_laws.proofs.condvar.Promises.{stands_at, two_stand_main}
 use Rattle.lot_laws.proofs.machine.Parts.{differ, same}
 use Rattle.lot_laws.proofs.mutex.Rows.{mutex_acts}
@@ -60,7 +60,7 @@ pub record IsLate (k : ℕ) (at : CondvarPlace) (key : ℕ) : Type 0 where
   pub there : (n : ℕ) → PlaceFits n (Condvar k at) → lock < n
   pub timed : (r : ℕ → Rights) → IsTimed (call_state (Condvar k at) r).purpose (call_state (Condvar k at) r).recalls lock
   pub asleep : condvar_act k at ≡ Sleep
-  pub stands : (station_at (Condvar k at) lock).stands ≡ Some Main
+  pub stands : (location_at (Condvar k at) lock).stands ≡ Some Main
   pub under : key ≡ 2 * lock
   pub awake : act_of (next_place (Condvar k at) Late) ≢ Sleep
 
@@ -95,13 +95,13 @@ module _ (k : ℕ) where
   two_late (Notify all m at) apart key h = absurd cc
   two_late (Look all) apart key h = absurd cc
 
-  -- who sleeps in a queue, in a wait with a deadline, may be late there
+  -- a thread that sleeps in a queue, in a wait with a deadline, may be late there
   module _ (m : ℕ) (timed : Bool) (at : WaitAt) (l : ℕ) (n : Line)
-      (stands : (station_at (Condvar k (Wait m timed at)) l).stands ≡ Some n) where
+      (stands : (location_at (Condvar k (Wait m timed at)) l).stands ≡ Some n) where
     main : n ≡ Main
     main = by_line n stands
       where
-        by_line : (x : Line) → (station_at (Condvar k (Wait m timed at)) l).stands ≡ Some x → x ≡ Main
+        by_line : (x : Line) → (location_at (Condvar k (Wait m timed at)) l).stands ≡ Some x → x ≡ Main
         by_line Main e = refl
         by_line Second e = absurd (two_stand_main k (Wait m timed at) l e)
 
@@ -133,7 +133,7 @@ module _ (k : ℕ) where
   asleep_late : (m : ℕ) (timed : Bool) (s : Stands) (l : ℕ) (r : ℕ → Rights)
       → IsTimed (call_state (Condvar k (Wait m timed (wait.Asleep s))) r).purpose
       (call_state (Condvar k (Wait m timed (wait.Asleep s))) r).recalls l
-      → (n : Line) → (station_at (Condvar k (Wait m timed (wait.Asleep s))) l).stands ≡ Some n
+      → (n : Line) → (location_at (Condvar k (Wait m timed (wait.Asleep s))) l).stands ≡ Some n
       → late_key (Condvar k (Wait m timed (wait.Asleep s))) ≡ Some (key_of l n)
   asleep_late m false s l r time n h = absurd (let e : false ≡ true = time.0 in cc)
   asleep_late m true stands.Listed l r time n h = elim time.1 [
@@ -150,7 +150,7 @@ module _ (k : ℕ) where
 
   pub two_may_late : (at : CondvarPlace) → IsReached at → condvar_act k at ≡ Sleep → (l : ℕ) (r : ℕ → Rights)
       → IsTimed (call_state (Condvar k at) r).purpose (call_state (Condvar k at) r).recalls l → (n : Line)
-      → (station_at (Condvar k at) l).stands ≡ Some n → late_key (Condvar k at) ≡ Some (key_of l n)
+      → (location_at (Condvar k at) l).stands ≡ Some n → late_key (Condvar k at) ≡ Some (key_of l n)
   two_may_late (Wait m timed (wait.Asleep s)) reached asleep l r time n h = asleep_late m timed s l r time n h
   two_may_late (Wait m timed (wait.Lock true at)) reached asleep l r time n h = absurd (elim time.1 [
     | inl e ↦ let f : false ≡ true = there_listed m false (wait_row m (wait.Lock true at)).moved l n (in_one m timed (wait.Lock true at) l n h) e in cc

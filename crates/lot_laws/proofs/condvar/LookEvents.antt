@@ -20,13 +20,13 @@ use Rattle.spec_locks.specs.Sites.{Site}
 use Rattle.lot_machine.specs.Machine.{State, place_at}
 use Rattle.lot_laws.specs.MutexDeeds as deeds
 use Rattle.lot_laws.specs.Refinement.{call_at, call_state, lock_state, locks_of, taken_at}
-use Rattle.lot_laws.specs.SitesOf.{FollowAll, IsSteady, after_acts, condvar_of, rules_in, site_of}
+use Rattle.lot_laws.specs.SitesOf.{FollowAll, IsInductive, after_acts, condvar_of, rules_in, site_of}
 use Rattle.lot_laws.proofs.calls.Events.{Happens, OthersFollow, happens_at, put_is, rights}
 use Rattle.lot_laws.proofs.condvar.StepEvents.{NamesStill, ToldSo, begins_two, call_led, condvar_goes_on, may_go, no_closure, unwoken}
 use Rattle.lot_laws.proofs.condvar.Replies.{fits_here}
 use Rattle.lot_laws.proofs.machine.Parts.{differ}
 
-module _ (w v : State) (t l : ℕ) (all : Bool) (steady : IsSteady w) (after : IsSteady v)
+module _ (w v : State) (t l : ℕ) (all : Bool) (steady : IsInductive w) (after : IsInductive v)
     (is : place_at w t ≡ Condvar l (places.Look all)) (done : ℕ → List deeds.Act) (f : FollowAll w v done)
     (nothing : (k : ℕ) → done k ≡ []) where
   abbrev seen : ℕ

@@ -6,7 +6,7 @@ use Rattle.std.specs.Prelude.{nat_le, ◌&&◌}
 use Rattle.core_base.specs.declared.ops.Op.TheVariants as op
 use Rattle.steps_base.specs.declared.acts.Act.TheVariants as act
 use Rattle.steps_base.specs.declared.acts.Reply.TheVariants.{Value}
-use Rattle.steps_base.specs.Stations.{nowhere}
+use Rattle.steps_base.specs.Locations.{nowhere}
 use Rattle.lot_steps.specs.declared.places.Place.{Place}
 use Rattle.lot_steps.specs.declared.places.Place.TheVariants.{Condvar}
 use Rattle.lot_steps.specs.Steps.{condvar_goes}
@@ -19,8 +19,8 @@ use Rattle.spec_locks.specs.Sites.{has_readers, idle}
 use Rattle.lot_machine.specs.Machine.{State, filled_at, place_at, put, state_after_act, word_at}
 use Rattle.lot_laws.specs.MutexDeeds.{acts}
 use Rattle.lot_laws.specs.Refinement.{taken_at}
-use Rattle.lot_laws.specs.Stations.{doing_on, station_at}
-use Rattle.lot_laws.specs.SitesOf.{FitsItsLock, Goes, IsSteady, rules_in}
+use Rattle.lot_laws.specs.Locations.{role_on, location_at}
+use Rattle.lot_laws.specs.SitesOf.{FitsItsLock, Goes, IsInductive, rules_in}
 use Rattle.lot_laws.proofs.machine.Parts.{differ, parts_at, same, seen_in}
 use Rattle.lot_laws.proofs.sites.OneStep.{steps_by, same_word}
 use Rattle.lot_laws.proofs.sites.StandsKept.{Alike}
@@ -30,7 +30,7 @@ use Rattle.spec_locks.specs.Locks.{putting}
 
 -- a place at which its thread stands nowhere
 abbrev IsOut : Place → ℕ → Type 0
-IsOut p k = (station_at p k ≡ nowhere) × (doing_on p k ≡ idle) × (taken_at p k ≡ None)
+IsOut p k = (location_at p k ≡ nowhere) × (role_on p k ≡ idle) × (taken_at p k ≡ None)
 
 module _ (l : ℕ) (all : Bool) where
   looks_out : (k : ℕ) → IsOut (Condvar l (Look all)) k
@@ -55,19 +55,19 @@ module _ (l : ℕ) (all : Bool) where
   next_out seen k true e = rw e (refl, refl, refl)
   next_out seen k false e = rw e (enters_out (mutex_shown seen) k)
 
-module _ (w : State) (t l : ℕ) (all : Bool) (steady : IsSteady w) (is_there : t < length w.places) (lock : l < length w.locks)
+module _ (w : State) (t l : ℕ) (all : Bool) (steady : IsInductive w) (is_there : t < length w.places) (lock : l < length w.locks)
     (sort : (rules_in w l).sort ≡ locks.Condvar) (is : place_at w t ≡ Condvar l (Look all)) where
   abbrev p2 : Place
   p2 = condvar_goes l (condvar_next (Look all) (Value (word_at w l)))
 
   alike : (k : ℕ) → Alike k (place_at w t) p2
-  alike k = subst (λ q. Alike k q p2) (sym is) (let a = looks_out l all k in let b = next_out l all (word_at w l) k (word_at w l == 0) refl in record { station = b.0 ∙ sym a.0; doing = b.1 ∙ sym a.1; taken = b.2 ∙ sym a.2 })
+  alike k = subst (λ q. Alike k q p2) (sym is) (let a = looks_out l all k in let b = next_out l all (word_at w l) k (word_at w l == 0) refl in record { location = b.0 ∙ sym a.0; role = b.1 ∙ sym a.1; taken = b.2 ∙ sym a.2 })
 
   -- it sees what is shown, and goes on
   pub looks : FitsItsLock w p2 → Goes w (put (state_after_act w t (Condvar l (Look all)) (act.Word l op.Load)) t p2) l (acts t [])
   looks fits = acting.word_goes w t l steady is_there (rules_in w l) refl p2 (λ k ne. alike k) fits (Condvar l (Look all)) lock (rw steady.numbers.locks lock) op.Load [] (λ h. tt)
-      (steps_by (rules_in w l) l (parts_at w l) (operated w t (Condvar l (Look all)) l op.Load) (place_at w) t p2 [] tt tt (sym (alike l).taken) refl refl refl filled_then (alike l).doing)
-      (steady.sites.word l ∙ sym (code_same)) (alike l).station
+      (steps_by (rules_in w l) l (parts_at w l) (operated w t (Condvar l (Look all)) l op.Load) (place_at w) t p2 [] tt tt (sym (alike l).taken) refl refl refl filled_then (alike l).role)
+      (steady.sites.word l ∙ sym (code_same)) (alike l).location
     where
       filled_then : (operated w t (Condvar l (Look all)) l op.Load).base.filled ≡ filled_at w l
       filled_then = ap (λ b. filled_at w l || (b && nat_le (rules_in w l).limit (count_in (word_at w l)))) (ap has_readers sort) ∙ or-false (filled_at w l)

@@ -52,9 +52,9 @@ use Rattle.spec_locks.specs.Locks as locks
 use Rattle.spec_locks.specs.Picks.{queued_of}
 use Rattle.lot_machine.specs.declared.locks.Lock.{Lock}
 use Rattle.lot_machine.proofs.Shape.{main_line_there}
-use Rattle.lot_machine.specs.Fits.{IsShaped}
+use Rattle.lot_machine.specs.Fits.{IsWellFormed}
 use Rattle.lot_machine.specs.Machine.{State, can_do, kind_at, left_behind, owners_at, place_at, queue_at, queues_with_last, queues_without, queues_without_first, reply_to, state_after_act, state_after_operation, state_after_park, state_after_requeue, state_after_take_first, state_after_taking, state_after_wake, state_with_sections, unlocked, word_at}
-use Rattle.lot_laws.specs.SitesOf.{FitsCondvar, IsSteady, condvar_of, rules_in}
+use Rattle.lot_laws.specs.SitesOf.{FitsCondvar, IsInductive, condvar_of, rules_in}
 use Rattle.lot_laws.proofs.condvar.Replies.{at_it, fits_here, word_is}
 use Rattle.lot_laws.proofs.hands.Counts.{without_absent}
 use Rattle.lot_laws.proofs.sites.OneStep.{queued_behind, queued_times, queued_without}
@@ -64,7 +64,7 @@ dropped : (q : List Waiter) → map queued_of (drop 1 q) ≡ drop 1 (map queued_
 dropped [] = refl
 dropped (x ∷ q) = refl
 
-module _ (w : State) (t l : ℕ) (at : CondvarPlace) (shape : IsShaped w) (steady : IsSteady w) (is : place_at w t ≡ Condvar l at)
+module _ (w : State) (t l : ℕ) (at : CondvarPlace) (shape : IsWellFormed w) (steady : IsInductive w) (is : place_at w t ≡ Condvar l at)
     (lt : l < length w.locks) where
   abbrev here : CondvarSite
   here = condvar_of w l
@@ -75,11 +75,11 @@ module _ (w : State) (t l : ℕ) (at : CondvarPlace) (shape : IsShaped w) (stead
   line : 2 * l < length w.queues
   line = main_line_there w l shape lt
 
-  -- behind an act these are shown and wait
+  -- after an act these are shown and wait
   abbrev Is : State → Option ℕ → List locks.Queued → Type 0
   Is b shown waiters = ((owners_at b l).shown ≡ shown) × (map queued_of (queue_at b (2 * l)) ≡ waiters)
 
-  -- what its deeds make of it
+  -- tells what its deeds make of it
   abbrev Led : CondvarPlace → Act → Type 0
   Led p a = Is (state_after_act w t (Condvar l p) a) (after_all (condvar_deeds p (reply_to w t a)) here t).shown (after_all (condvar_deeds p (reply_to w t a)) here t).waiters
 
@@ -89,7 +89,7 @@ module _ (w : State) (t l : ℕ) (at : CondvarPlace) (shape : IsShaped w) (stead
   beside : (m : ℕ) → mutex_beside at ≡ Some m → m ≢ l
   beside m names e = let both : locks.Mutex ≡ locks.Condvar = sym (plain_sort (kind_at w m) (fits.mutex m names)) ∙ ap (λ j. (rules_in w j).sort) e ∙ fits.sort in cc
 
-  -- who waits in no queue of it leaves it
+  -- a thread that waits in no queue of it leaves it
   gone : times t (queue_at w (2 * l)) ≡ 0 → get_or (map (without t) w.queues) (2 * l) [] ≡ queue_at w (2 * l)
   gone unlisted = get_or-map (without t) w.queues (2 * l) [] ∙ without_absent t (queue_at w (2 * l)) unlisted
 
@@ -223,7 +223,7 @@ module _ (w : State) (t l : ℕ) (at : CondvarPlace) (shape : IsShaped w) (stead
     sees true = refl
     sees false = refl
 
-    -- what a requeue leaves
+    -- tells what a requeue leaves
     left : (how : Requeue) → queue_at (state_after_requeue w t (2 * l) (2 * m) how) (2 * l) ≡ left_behind how (queue_at w (2 * l))
     left how = get_or-set_other (set w.queues (2 * l) (left_behind how (queue_at w (2 * l)))) (2 * m) (2 * l) _ [] (other_key m apart) ∙ get_or-set_same w.queues (2 * l) (left_behind how (queue_at w (2 * l))) [] line
 

@@ -5,7 +5,7 @@ use Rattle.core_base.specs.declared.wants.Want.TheVariants.{Exclusive}
 use Rattle.core_base.specs.Lines.{times}
 use Rattle.steps_base.specs.declared.acts.Next.TheVariants.{At}
 use Rattle.steps_base.specs.Profiles.{Profile, hand, taken_from}
-use Rattle.steps_base.specs.Stations.{Station, station_by}
+use Rattle.steps_base.specs.Locations.{Location, location_by}
 use Rattle.lot_steps.specs.declared.places.Place.TheVariants.{Condvar}
 use Rattle.lot_steps.specs.Steps.{profile_at, next_place}
 use Rattle.steps_mutex.specs.declared.places.MutexPlace.TheVariants as mutex
@@ -26,12 +26,12 @@ use Rattle.spec_locks.specs.Locks.{Taken, Rights}
 use Rattle.spec_locks.specs.Sites.{Main}
 use Rattle.lot_machine.specs.Machine.{State, place_at, queue_at, section_at}
 use Rattle.lot_laws.specs.Refinement.{lock_state, call_state}
-use Rattle.lot_laws.specs.Stations.{station_at}
-use Rattle.lot_laws.specs.SitesOf.{FitsCondvar, FitsItsLock, IsSteady, condvar_of, key_of, rules_in}
+use Rattle.lot_laws.specs.Locations.{location_at}
+use Rattle.lot_laws.specs.SitesOf.{FitsCondvar, FitsItsLock, IsInductive, condvar_of, key_of, rules_in}
 use Rattle.lot_laws.proofs.machine.Parts.{same}
 use Rattle.lot_laws.proofs.sites.OneStep.{queued_times}
 use Rattle.lot_laws.proofs.condvar.Moving.{GoesAcross, WaitsAcross}
-use Rattle.lot_laws.proofs.condvar.TwoParts.{doing_beside, doing_there, nothing_else, station_beside, station_there, taken_beside, taken_there}
+use Rattle.lot_laws.proofs.condvar.TwoParts.{role_beside, role_there, nothing_else, location_beside, location_there, taken_beside, taken_there}
 use Rattle.lot_laws.proofs.condvar.Promises.{unlisted}
 use Rattle.lot_laws.proofs.condvar.Sites.{at_place}
 use Rattle.lot_laws.proofs.condvar.WaitersAside.{waits_there}
@@ -45,24 +45,24 @@ module _ (w : State) (l m : ℕ) (apart : m ≢ l) (timed : Bool) where
   abbrev waits : WaitAt → CondvarPlace
   waits at = Wait m timed at
 
-  abbrev there_of : WaitAt → Station
-  there_of at = station_by (row_there (At (waits at)))
+  abbrev there_of : WaitAt → Location
+  there_of at = location_by (row_there (At (waits at)))
 
-  abbrev beside_of : WaitAt → Station
-  beside_of at = station_by (row_beside (At (waits at)))
+  abbrev beside_of : WaitAt → Location
+  beside_of at = location_by (row_beside (At (waits at)))
 
   abbrev taken_of : WaitAt → Option Taken
   taken_of at = taken_from (row_beside (At (waits at))).hand (row_beside (At (waits at))).wants true
 
   -- by its rows
-  goes_across : (p p2 : WaitAt) (at_m : Station → Station) (held : Option Taken) → there_of p2 ≡ record (there_of p) { stands = None; waits = None } → beside_of p2 ≡ at_m (beside_of p) → (row_there (At (waits p2))).doing ≡ (row_there (At (waits p))).doing → (row_beside (At (waits p2))).doing ≡ (row_beside (At (waits p))).doing
+  goes_across : (p p2 : WaitAt) (at_m : Location → Location) (held : Option Taken) → there_of p2 ≡ record (there_of p) { stands = None; waits = None } → beside_of p2 ≡ at_m (beside_of p) → (row_there (At (waits p2))).role ≡ (row_there (At (waits p))).role → (row_beside (At (waits p2))).role ≡ (row_beside (At (waits p))).role
       → taken_of p2 ≡ held → FitsItsLock w (Condvar l (waits p2))
       → GoesAcross w l m (Condvar l (waits p)) (Condvar l (waits p2)) at_m held
   goes_across p p2 at_m held left came did_c did_m held_m fits = record {
-    left = station_there l m apart (At (waits p2)) refl ∙ left ∙ sym (ap (λ (y : Station). record y { stands = None; waits = None }) (station_there l m apart (At (waits p)) refl));
-    came = station_beside l m apart (At (waits p2)) refl ∙ came ∙ sym (ap at_m (station_beside l m apart (At (waits p)) refl));
-    did_c = doing_there l m apart (At (waits p2)) refl ∙ did_c ∙ sym (doing_there l m apart (At (waits p)) refl);
-    did_m = doing_beside l m apart (At (waits p2)) refl ∙ did_m ∙ sym (doing_beside l m apart (At (waits p)) refl);
+    left = location_there l m apart (At (waits p2)) refl ∙ left ∙ sym (ap (λ (y : Location). record y { stands = None; waits = None }) (location_there l m apart (At (waits p)) refl));
+    came = location_beside l m apart (At (waits p2)) refl ∙ came ∙ sym (ap at_m (location_beside l m apart (At (waits p)) refl));
+    did_c = role_there l m apart (At (waits p2)) refl ∙ did_c ∙ sym (role_there l m apart (At (waits p)) refl);
+    did_m = role_beside l m apart (At (waits p2)) refl ∙ did_m ∙ sym (role_beside l m apart (At (waits p)) refl);
     free_c = taken_there l m apart (At (waits p2)) refl ∙ sym (taken_there l m apart (At (waits p)) refl);
     held_m = taken_beside l m apart (At (waits p2)) refl ∙ held_m;
     alike = nothing_else l m apart (At (waits p)) (At (waits p2)) refl refl;
@@ -79,9 +79,9 @@ module _ (w : State) (l m : ℕ) (apart : m ≢ l) (timed : Bool) where
     sleeper : FitsCondvar w l (waits (wait.Asleep stands.Listed))
         → WaitsAcross w t l m (Condvar l (waits (wait.Asleep stands.Listed)))
     sleeper fits = record {
-      stands = ap (λ (y : Station). y.stands) (station_there l m apart (At (waits p)) refl);
-      out = ap (λ (y : Station). y.stands) (station_beside l m apart (At (waits p)) refl);
-      free = ap (λ (y : Station). y.hand) (station_beside l m apart (At (waits p)) refl);
+      stands = ap (λ (y : Location). y.stands) (location_there l m apart (At (waits p)) refl);
+      out = ap (λ (y : Location). y.stands) (location_beside l m apart (At (waits p)) refl);
+      free = ap (λ (y : Location). y.hand) (location_beside l m apart (At (waits p)) refl);
       untaken = taken_beside l m apart (At (waits p)) refl;
       taken = goes_across p (wait.Asleep (stands.InHand t)) (λ y. record y { hand = hand t false }) (Some (record { by = t; want = Exclusive })) refl refl refl refl refl (comes p (wait.Asleep (stands.InHand t)) fits (λ h. tt));
       moved = goes_across p (wait.Asleep stands.Moved) (λ y. record y { stands = Some Main; waits = Some Exclusive }) None refl refl refl refl refl (comes p (wait.Asleep stands.Moved) fits (λ h. tt));
@@ -94,9 +94,9 @@ module _ (w : State) (l m : ℕ) (apart : m ≢ l) (timed : Bool) where
     releaser : (at : UnlockAt) → FitsCondvar w l (waits (wait.Release stands.Listed (mutex.Unlock at)))
         → WaitsAcross w t l m (Condvar l (waits (wait.Release stands.Listed (mutex.Unlock at))))
     releaser at fits = record {
-      stands = ap (λ (y : Station). y.stands) (station_there l m apart (At (waits p)) refl);
-      out = ap (λ (y : Station). y.stands) (station_beside l m apart (At (waits p)) refl);
-      free = ap (λ (y : Station). y.hand) (station_beside l m apart (At (waits p)) refl);
+      stands = ap (λ (y : Location). y.stands) (location_there l m apart (At (waits p)) refl);
+      out = ap (λ (y : Location). y.stands) (location_beside l m apart (At (waits p)) refl);
+      free = ap (λ (y : Location). y.hand) (location_beside l m apart (At (waits p)) refl);
       untaken = taken_beside l m apart (At (waits p)) refl;
       taken = goes_across p (wait.Release (stands.InHand t) (mutex.Unlock at)) (λ y. record y { hand = hand t false }) (Some (record { by = t; want = Exclusive })) refl refl refl refl refl (comes p (wait.Release (stands.InHand t) (mutex.Unlock at)) fits (λ h. (h.0, λ f. absurd cc)));
       moved = goes_across p (wait.Release stands.Moved (mutex.Unlock at)) (λ y. record y { stands = Some Main; waits = Some Exclusive }) None refl refl refl refl refl (comes p (wait.Release stands.Moved (mutex.Unlock at)) fits (λ h. (h.0, λ f. absurd cc)));
@@ -107,7 +107,7 @@ module _ (w : State) (l m : ℕ) (apart : m ≢ l) (timed : Bool) where
 
 -- ---------------------------------------------------------------- all of them, where a notification moves
 
-module _ (w : State) (t l m : ℕ) (steady : IsSteady w) (apart : m ≢ l) (sort_l : (rules_in w l).sort ≡ locks.Condvar)
+module _ (w : State) (t l m : ℕ) (steady : IsInductive w) (apart : m ≢ l) (sort_l : (rules_in w l).sort ≡ locks.Condvar)
     (all locked : Bool) (is : place_at w t ≡ Condvar l (Notify all m (notify.Move locked)))
     (kept : IsCondvar (condvar_of w l)) where
   abbrev this : CondvarPlace
@@ -122,7 +122,7 @@ module _ (w : State) (t l m : ℕ) (steady : IsSteady w) (apart : m ≢ l) (sort
       by_stage false h = h.2
 
   held : section_at w (key_of l Main) ≡ Some t
-  held = (steady.stands.sections t l Main).0 (ap (λ q. (station_at q l).inside) is ∙ ap (λ (y : Station). y.inside) (station_there l m apart (At this) refl))
+  held = (steady.stands.sections t l Main).0 (ap (λ q. (location_at q l).inside) is ∙ ap (λ (y : Location). y.inside) (location_there l m apart (At this) refl))
 
   module _ (u : ℕ) (some : 1 ≤ times u (queue_at w (key_of l Main))) where
     listed : 1 ≤ locks.times u (lock_state w l).queue
@@ -130,8 +130,8 @@ module _ (w : State) (t l m : ℕ) (steady : IsSteady w) (apart : m ≢ l) (sort
 
     -- nobody else is inside the section
     not_inside : (timed : Bool) (p : WaitAt) → place_at w u ≡ Condvar l (Wait m timed p)
-        → (station_by (row_there (At (Wait m timed p)))).inside ≡ Some Main → ⊥
-    not_inside timed p at within = let a : section_at w (key_of l Main) ≡ Some u = (steady.stands.sections u l Main).0 (ap (λ q. (station_at q l).inside) at ∙ ap (λ (y : Station). y.inside) (station_there l m apart (At (Wait m timed p)) refl) ∙ within) in
+        → (location_by (row_there (At (Wait m timed p)))).inside ≡ Some Main → ⊥
+    not_inside timed p at within = let a : section_at w (key_of l Main) ≡ Some u = (steady.stands.sections u l Main).0 (ap (λ q. (location_at q l).inside) at ∙ ap (λ (y : Location). y.inside) (location_there l m apart (At (Wait m timed p)) refl) ∙ within) in
         let b : Some u ≡ Some t = sym a ∙ held in let c : u ≡ t = cc in let d : Condvar l (Wait m timed p) ≡ Condvar l this = sym at ∙ ap (place_at w) c ∙ is in cc
 
     -- so it sleeps, or releases its mutex still

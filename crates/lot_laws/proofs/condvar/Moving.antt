@@ -13,8 +13,8 @@ use Rattle.spec_locks.specs.Locks.{Taken, putting}
 use Rattle.spec_locks.specs.Sites.{Line, Main, Second}
 use Rattle.lot_machine.specs.Machine.{State, moved_under, place_at, queue_at, section_at}
 use Rattle.lot_laws.specs.Refinement.{taken_at}
-use Rattle.lot_laws.specs.Stations.{Hand, Station, hand, doing_on, station_at}
-use Rattle.lot_laws.specs.SitesOf.{AreWaiting, FitsItsLock, Hands, IsSteady, Lines, Sections, TakesOne, Waits, carried_at, hand_at, key_of, stations_of, stood_in}
+use Rattle.lot_laws.specs.Locations.{Hand, Location, hand, role_on, location_at}
+use Rattle.lot_laws.specs.SitesOf.{AreWaiting, FitsItsLock, Hands, IsInductive, Lines, Sections, TakesOne, Waits, carried_at, hand_at, key_of, locations_of, stood_in}
 use Rattle.lot_laws.proofs.machine.Parts.{differ, put_here, put_other, same}
 use Rattle.lot_laws.proofs.sites.StandsKept.{Alike, hands_taken, other_key, other_line, sections_same, waiting_same}
 use Rattle.lot_laws.proofs.sites.StandsMoved.{AreThere}
@@ -23,11 +23,11 @@ use Rattle.lot_laws.proofs.sites.TakesAt.{at_most_one, member, member_times, str
 -- ---------------------------------------------------------------- a waiter that is taken or moved
 
 -- from the list of c it comes into a hand at m, or into the line there; elsewhere it is as it was
-pub record GoesAcross (w : State) (c m : ℕ) (p p2 : Place) (at_m : Station → Station) (held : Option Taken) : Type 0 where
-  pub left : station_at p2 c ≡ record (station_at p c) { stands = None; waits = None }
-  pub came : station_at p2 m ≡ at_m (station_at p m)
-  pub did_c : doing_on p2 c ≡ doing_on p c
-  pub did_m : doing_on p2 m ≡ doing_on p m
+pub record GoesAcross (w : State) (c m : ℕ) (p p2 : Place) (at_m : Location → Location) (held : Option Taken) : Type 0 where
+  pub left : location_at p2 c ≡ record (location_at p c) { stands = None; waits = None }
+  pub came : location_at p2 m ≡ at_m (location_at p m)
+  pub did_c : role_on p2 c ≡ role_on p c
+  pub did_m : role_on p2 m ≡ role_on p m
   pub free_c : taken_at p2 c ≡ taken_at p c
   pub held_m : taken_at p2 m ≡ held
   pub alike : (k : ℕ) → k ≢ c → k ≢ m → Alike k p p2
@@ -35,9 +35,9 @@ pub record GoesAcross (w : State) (c m : ℕ) (p p2 : Place) (at_m : Station →
 
 -- it stands in the list of c, and nowhere at m
 pub record WaitsAcross (w : State) (t c m : ℕ) (p : Place) : Type 0 where
-  pub stands : (station_at p c).stands ≡ Some Main
-  pub out : (station_at p m).stands ≡ None
-  pub free : (station_at p m).hand ≡ None
+  pub stands : (location_at p c).stands ≡ Some Main
+  pub out : (location_at p m).stands ≡ None
+  pub free : (location_at p m).hand ≡ None
   pub untaken : taken_at p m ≡ None
   pub taken : GoesAcross w c m p (next_place p (TakenBy t)) (λ x. record x { hand = hand t false }) (Some (record { by = t; want = Exclusive }))
   pub moved : GoesAcross w c m p (next_place p (MovedTo (key_of m Main))) (λ x. record x { stands = Some Main; waits = Some Exclusive }) None
@@ -52,13 +52,13 @@ times_both : (u : ℕ) (xs ys : List Waiter) → times u (xs ++ ys) ≡ times u 
 times_both u [] ys = omega arith
 times_both u (x ∷ xs) ys = grind (arith, times_both u xs ys)
 
-waiting_both : (at : ℕ → ℕ → Station) (l : ℕ) (n : Line) (xs ys : List Waiter) → AreWaiting at l n xs → AreWaiting at l n ys
+waiting_both : (at : ℕ → ℕ → Location) (l : ℕ) (n : Line) (xs ys : List Waiter) → AreWaiting at l n xs → AreWaiting at l n ys
     → AreWaiting at l n (xs ++ ys)
 waiting_both at l n [] ys h k = k
 waiting_both at l n (x ∷ xs) ys h k = (h.0, waiting_both at l n xs ys h.1 k)
 
--- whoever is moved waits under the key to own it
-waiting_under : (at : ℕ → ℕ → Station) (l : ℕ) (q : List Waiter) → ((u : ℕ) → member u q ≡ true → (at u l).waits ≡ Some Exclusive)
+-- each thread that is moved waits under the key to own it
+waiting_under : (at : ℕ → ℕ → Location) (l : ℕ) (q : List Waiter) → ((u : ℕ) → member u q ≡ true → (at u l).waits ≡ Some Exclusive)
     → AreWaiting at l Main (moved_under (key_of l Main) q)
 waiting_under at l [] each = tt
 waiting_under at l (x ∷ q) each = ((refl, each x.thread (ap (λ b. b || member x.thread q) (same x.thread))), waiting_under at l q (λ u h. each u (more u h (x.thread == u))))
@@ -67,12 +67,12 @@ waiting_under at l (x ∷ q) each = ((refl, each x.thread (ap (λ b. b || member
     more u h true = refl
     more u h false = h
 
-module _ (w : State) (t c m : ℕ) (apart : m ≢ c) (steady : IsSteady w) (p2 : Place) (gone moved left : List Waiter)
-    (counts : (u : ℕ) → times u gone + times u moved + times u left ≡ times u (queue_at w (key_of c Main))) (lefts : AreWaiting (stations_of (place_at w)) c Main left)
+module _ (w : State) (t c m : ℕ) (apart : m ≢ c) (steady : IsInductive w) (p2 : Place) (gone moved left : List Waiter)
+    (counts : (u : ℕ) → times u gone + times u moved + times u left ≡ times u (queue_at w (key_of c Main))) (lefts : AreWaiting (locations_of (place_at w)) c Main left)
     (waits : (u : ℕ) → 1 ≤ times u (queue_at w (key_of c Main)) → WaitsAcross w t c m (place_at w u))
     (one_gone : (u v : ℕ) → member u gone ≡ true → member v gone ≡ true → u ≡ v)
-    (out : (station_at (place_at w t) c).stands ≡ None) (bare : (station_at (place_at w t) m).carries ≡ None)
-    (now_c : station_at p2 c ≡ station_at (place_at w t) c) (any : Option Bool) (now_m : station_at p2 m ≡ record (station_at (place_at w t) m) { carries = any })
+    (out : (location_at (place_at w t) c).stands ≡ None) (bare : (location_at (place_at w t) m).carries ≡ None)
+    (now_c : location_at p2 c ≡ location_at (place_at w t) c) (any : Option Bool) (now_m : location_at p2 m ≡ record (location_at (place_at w t) m) { carries = any })
     (alike_t : (k : ℕ) → k ≢ c → k ≢ m → Alike k (place_at w t) p2) (fits : FitsItsLock w p2) where
   -- where a notification leads each
   abbrev pub goes : ℕ → Place
@@ -85,7 +85,7 @@ module _ (w : State) (t c m : ℕ) (apart : m ≢ c) (steady : IsSteady w) (p2 :
   line = queue_at w (key_of c Main)
 
   at_most : (u : ℕ) → times u line ≤ 1
-  at_most u = let a : times u line ≡ stood_in (station_at (place_at w u) c).stands Main = steady.stands.lines u c Main in let b = at_most_one (station_at (place_at w u) c).stands Main in omega arith
+  at_most u = let a : times u line ≡ stood_in (location_at (place_at w u) c).stands Main = steady.stands.lines u c Main in let b = at_most_one (location_at (place_at w u) c).stands Main in omega arith
 
   -- t isn't among them
   not_t : times t line ≡ 0
@@ -128,39 +128,39 @@ module _ (w : State) (t c m : ℕ) (apart : m ≢ c) (steady : IsSteady w) (p2 :
 
   -- elsewhere all is as it was
   pub alike_across : (k : ℕ) → k ≢ c → k ≢ m → (u : ℕ) → Alike k (place_at w u) (places_across u)
-  alike_across k nc nm = by_thread (λ u p. Alike k (place_at w u) p) (alike_t k nc nm) (λ u nu h. (waits_gone u h).taken.alike k nc nm) (λ u nu g h. (waits_moved u h).moved.alike k nc nm) (λ u nu g h. record { station = refl; doing = refl; taken = refl })
+  alike_across k nc nm = by_thread (λ u p. Alike k (place_at w u) p) (alike_t k nc nm) (λ u nu h. (waits_gone u h).taken.alike k nc nm) (λ u nu g h. (waits_moved u h).moved.alike k nc nm) (λ u nu g h. record { location = refl; role = refl; taken = refl })
 
   pub fits_across : (u : ℕ) → FitsItsLock w (places_across u)
   fits_across = by_thread (λ u p. FitsItsLock w p) fits (λ u nu h. (waits_gone u h).taken.fits) (λ u nu g h. (waits_moved u h).moved.fits) (λ u nu g h. steady.stands.calls u)
 
   -- a part of a station that none of it changes
-  part_across : {A : Type 0} (g : Station → A) → ((x : Station) → g (record x { stands = None; waits = None }) ≡ g x) → ((x : Station) (b : Option Bool) → g (record x { carries = b }) ≡ g x) → ((x : Station) (h : Option Hand) → g (record x { hand = h }) ≡ g x)
-      → ((x : Station) → g (record x { stands = Some Main; waits = Some Exclusive }) ≡ g x) → (u k : ℕ)
-      → g (station_at (places_across u) k) ≡ g (station_at (place_at w u) k)
+  part_across : {A : Type 0} (g : Location → A) → ((x : Location) → g (record x { stands = None; waits = None }) ≡ g x) → ((x : Location) (b : Option Bool) → g (record x { carries = b }) ≡ g x) → ((x : Location) (h : Option Hand) → g (record x { hand = h }) ≡ g x)
+      → ((x : Location) → g (record x { stands = Some Main; waits = Some Exclusive }) ≡ g x) → (u k : ℕ)
+      → g (location_at (places_across u) k) ≡ g (location_at (place_at w u) k)
   part_across g leaving carrying holding coming u k = elim (cases_eq k c) [
-    | inl e ↦ rw e (by_thread (λ u p. g (station_at p c) ≡ g (station_at (place_at w u) c)) (ap g now_c) (λ u nu h. ap g (waits_gone u h).taken.left ∙ leaving (station_at (place_at w u) c)) (λ u nu f h. ap g (waits_moved u h).moved.left ∙ leaving (station_at (place_at w u) c)) (λ u nu f h. refl) u)
+    | inl e ↦ rw e (by_thread (λ u p. g (location_at p c) ≡ g (location_at (place_at w u) c)) (ap g now_c) (λ u nu h. ap g (waits_gone u h).taken.left ∙ leaving (location_at (place_at w u) c)) (λ u nu f h. ap g (waits_moved u h).moved.left ∙ leaving (location_at (place_at w u) c)) (λ u nu f h. refl) u)
     | inr nc ↦ elim (cases_eq k m) [
-      | inl e ↦ rw e (by_thread (λ u p. g (station_at p m) ≡ g (station_at (place_at w u) m)) (ap g now_m ∙ carrying (station_at (place_at w t) m) any) (λ u nu h. ap g (waits_gone u h).taken.came ∙ holding (station_at (place_at w u) m) (hand t false)) (λ u nu f h. ap g (waits_moved u h).moved.came ∙ coming (station_at (place_at w u) m)) (λ u nu f h. refl) u)
-      | inr nm ↦ ap g (alike_across k nc nm u).station
+      | inl e ↦ rw e (by_thread (λ u p. g (location_at p m) ≡ g (location_at (place_at w u) m)) (ap g now_m ∙ carrying (location_at (place_at w t) m) any) (λ u nu h. ap g (waits_gone u h).taken.came ∙ holding (location_at (place_at w u) m) (hand t false)) (λ u nu f h. ap g (waits_moved u h).moved.came ∙ coming (location_at (place_at w u) m)) (λ u nu f h. refl) u)
+      | inr nm ↦ ap g (alike_across k nc nm u).location
     ]
   ]
 
   -- ---------------------------------------------------------------- sections, and hands
 
-  sections_across : Sections (stations_of places_across) (section_at w)
-  sections_across = sections_same (stations_of (place_at w)) (stations_of places_across) (section_at w) steady.stands.sections (part_across (λ y. y.inside) (λ x. refl) (λ x b. refl) (λ x h. refl) (λ x. refl))
+  sections_across : Sections (locations_of places_across) (section_at w)
+  sections_across = sections_same (locations_of (place_at w)) (locations_of places_across) (section_at w) steady.stands.sections (part_across (λ y. y.inside) (λ x. refl) (λ x b. refl) (λ x h. refl) (λ x. refl))
 
   hand_across : (u k : ℕ)
       → hand_at (places_across u) k ≡ (if member u gone && (k == m) then hand t false else hand_at (place_at w u) k)
   hand_across u k = elim (cases_eq k m) [
     | inl e ↦ rw (e, same m, and-true (member u gone)) (by_thread (λ u p. hand_at p m ≡ (if member u gone then hand t false else hand_at (place_at w u) m))
-        (ap (λ (y : Station). y.hand) now_m ∙ sym (ap (λ b. if b then hand t false else hand_at (place_at w t) m) (stays_out t (λ h. let a = in_line t (inl h) in let b = not_t in omega arith))))
-        (λ u nu h. ap (λ (y : Station). y.hand) (waits_gone u h).taken.came ∙ sym (ap (λ b. if b then hand t false else hand_at (place_at w u) m) h))
-        (λ u nu f h. ap (λ (y : Station). y.hand) (waits_moved u h).moved.came ∙ sym (ap (λ b. if b then hand t false else hand_at (place_at w u) m) f))
+        (ap (λ (y : Location). y.hand) now_m ∙ sym (ap (λ b. if b then hand t false else hand_at (place_at w t) m) (stays_out t (λ h. let a = in_line t (inl h) in let b = not_t in omega arith))))
+        (λ u nu h. ap (λ (y : Location). y.hand) (waits_gone u h).taken.came ∙ sym (ap (λ b. if b then hand t false else hand_at (place_at w u) m) h))
+        (λ u nu f h. ap (λ (y : Location). y.hand) (waits_moved u h).moved.came ∙ sym (ap (λ b. if b then hand t false else hand_at (place_at w u) m) f))
         (λ u nu f h. sym (ap (λ b. if b then hand t false else hand_at (place_at w u) m) f)) u)
     | inr nm ↦ rw (differ k m nm, and-false (member u gone)) (elim (cases_eq k c) [
-      | inl e ↦ rw e (by_thread (λ u p. hand_at p c ≡ hand_at (place_at w u) c) (ap (λ (y : Station). y.hand) now_c) (λ u nu h. ap (λ (y : Station). y.hand) (waits_gone u h).taken.left) (λ u nu f h. ap (λ (y : Station). y.hand) (waits_moved u h).moved.left) (λ u nu f h. refl) u)
-      | inr nc ↦ ap (λ (y : Station). y.hand) (alike_across k nc nm u).station
+      | inl e ↦ rw e (by_thread (λ u p. hand_at p c ≡ hand_at (place_at w u) c) (ap (λ (y : Location). y.hand) now_c) (λ u nu h. ap (λ (y : Location). y.hand) (waits_gone u h).taken.left) (λ u nu f h. ap (λ (y : Location). y.hand) (waits_moved u h).moved.left) (λ u nu f h. refl) u)
+      | inr nc ↦ ap (λ (y : Location). y.hand) (alike_across k nc nm u).location
     ])
   ]
     where
@@ -175,78 +175,78 @@ module _ (w : State) (t c m : ℕ) (apart : m ≢ c) (steady : IsSteady w) (p2 :
       → carried_at (places_across i) k ≡ (if (i == t) && (k == m) then any else carried_at (place_at w i) k)
   carries_across i k = elim (cases_eq k m) [
     | inl e ↦ rw (e, same m, and-true (i == t)) (by_thread (λ u p. carried_at p m ≡ (if u == t then any else carried_at (place_at w u) m))
-        (rw (same t) (ap (λ (y : Station). y.carries) now_m))
-        (λ u nu h. rw (differ u t nu) (ap (λ (y : Station). y.carries) (waits_gone u h).taken.came))
-        (λ u nu f h. rw (differ u t nu) (ap (λ (y : Station). y.carries) (waits_moved u h).moved.came))
+        (rw (same t) (ap (λ (y : Location). y.carries) now_m))
+        (λ u nu h. rw (differ u t nu) (ap (λ (y : Location). y.carries) (waits_gone u h).taken.came))
+        (λ u nu f h. rw (differ u t nu) (ap (λ (y : Location). y.carries) (waits_moved u h).moved.came))
         (λ u nu f h. rw (differ u t nu) refl) i)
     | inr nm ↦ rw (differ k m nm, and-false (i == t)) (elim (cases_eq k c) [
-      | inl e ↦ rw e (by_thread (λ u p. carried_at p c ≡ carried_at (place_at w u) c) (ap (λ (y : Station). y.carries) now_c) (λ u nu h. ap (λ (y : Station). y.carries) (waits_gone u h).taken.left) (λ u nu f h. ap (λ (y : Station). y.carries) (waits_moved u h).moved.left) (λ u nu f h. refl) i)
-      | inr nc ↦ ap (λ (y : Station). y.carries) (alike_across k nc nm i).station
+      | inl e ↦ rw e (by_thread (λ u p. carried_at p c ≡ carried_at (place_at w u) c) (ap (λ (y : Location). y.carries) now_c) (λ u nu h. ap (λ (y : Location). y.carries) (waits_gone u h).taken.left) (λ u nu f h. ap (λ (y : Location). y.carries) (waits_moved u h).moved.left) (λ u nu f h. refl) i)
+      | inr nc ↦ ap (λ (y : Location). y.carries) (alike_across k nc nm i).location
     ])
   ]
 
   hands_across : ((b : Bool) → any ≡ Some b → (b ≡ false) × ((u : ℕ) × (member u gone ≡ true)))
       → ((u : ℕ) → member u gone ≡ true → any ≡ Some false) → Hands (TakesOne w) places_across
-  hands_across some full = hands_taken (TakesOne w) (stations_of (place_at w)) (stations_of places_across) steady.stands.hands t m (λ u. member u gone) (λ one. one_gone) any hand_across carries_across bare (λ u h. (waits_gone u h).free) some full
+  hands_across some full = hands_taken (TakesOne w) (locations_of (place_at w)) (locations_of places_across) steady.stands.hands t m (λ u. member u gone) (λ one. one_gone) any hand_across carries_across bare (λ u h. (waits_gone u h).free) some full
 
   -- ---------------------------------------------------------------- lines
 
   -- whether a waiter is taken or moved
   stands_c : (u : ℕ)
-      → (station_at (places_across u) c).stands
-      ≡ (if member u gone || member u moved then None else (station_at (place_at w u) c).stands)
-  stands_c = by_thread (λ u p. (station_at p c).stands ≡ (if member u gone || member u moved then None else (station_at (place_at w u) c).stands))
-      (ap (λ (y : Station). y.stands) now_c ∙ out ∙ sym (nothing (member t gone || member t moved)))
-      (λ u nu h. ap (λ (y : Station). y.stands) (waits_gone u h).taken.left ∙ sym (ap (λ b. if b || member u moved then None else (station_at (place_at w u) c).stands) h))
-      (λ u nu f h. ap (λ (y : Station). y.stands) (waits_moved u h).moved.left ∙ sym (λ i. if f i || h i then None else (station_at (place_at w u) c).stands))
-      (λ u nu f h. sym (λ i. if f i || h i then None else (station_at (place_at w u) c).stands))
+      → (location_at (places_across u) c).stands
+      ≡ (if member u gone || member u moved then None else (location_at (place_at w u) c).stands)
+  stands_c = by_thread (λ u p. (location_at p c).stands ≡ (if member u gone || member u moved then None else (location_at (place_at w u) c).stands))
+      (ap (λ (y : Location). y.stands) now_c ∙ out ∙ sym (nothing (member t gone || member t moved)))
+      (λ u nu h. ap (λ (y : Location). y.stands) (waits_gone u h).taken.left ∙ sym (ap (λ b. if b || member u moved then None else (location_at (place_at w u) c).stands) h))
+      (λ u nu f h. ap (λ (y : Location). y.stands) (waits_moved u h).moved.left ∙ sym (λ i. if f i || h i then None else (location_at (place_at w u) c).stands))
+      (λ u nu f h. sym (λ i. if f i || h i then None else (location_at (place_at w u) c).stands))
     where
-      nothing : (b : Bool) → (if b then None else (station_at (place_at w t) c).stands) ≡ None
+      nothing : (b : Bool) → (if b then None else (location_at (place_at w t) c).stands) ≡ None
       nothing true = refl
       nothing false = out
 
   stands_m : (u : ℕ)
-      → (station_at (places_across u) m).stands ≡ (if member u moved then Some Main else (station_at (place_at w u) m).stands)
-  stands_m = by_thread (λ u p. (station_at p m).stands ≡ (if member u moved then Some Main else (station_at (place_at w u) m).stands))
-      (ap (λ (y : Station). y.stands) now_m ∙ sym (ap (λ b. if b then Some Main else (station_at (place_at w t) m).stands) (t_stays (member t moved) refl)))
-      (λ u nu h. ap (λ (y : Station). y.stands) (waits_gone u h).taken.came ∙ sym (ap (λ b. if b then Some Main else (station_at (place_at w u) m).stands) (gone_only u h)))
-      (λ u nu f h. ap (λ (y : Station). y.stands) (waits_moved u h).moved.came ∙ sym (ap (λ b. if b then Some Main else (station_at (place_at w u) m).stands) h))
-      (λ u nu f h. sym (ap (λ b. if b then Some Main else (station_at (place_at w u) m).stands) h))
+      → (location_at (places_across u) m).stands ≡ (if member u moved then Some Main else (location_at (place_at w u) m).stands)
+  stands_m = by_thread (λ u p. (location_at p m).stands ≡ (if member u moved then Some Main else (location_at (place_at w u) m).stands))
+      (ap (λ (y : Location). y.stands) now_m ∙ sym (ap (λ b. if b then Some Main else (location_at (place_at w t) m).stands) (t_stays (member t moved) refl)))
+      (λ u nu h. ap (λ (y : Location). y.stands) (waits_gone u h).taken.came ∙ sym (ap (λ b. if b then Some Main else (location_at (place_at w u) m).stands) (gone_only u h)))
+      (λ u nu f h. ap (λ (y : Location). y.stands) (waits_moved u h).moved.came ∙ sym (ap (λ b. if b then Some Main else (location_at (place_at w u) m).stands) h))
+      (λ u nu f h. sym (ap (λ b. if b then Some Main else (location_at (place_at w u) m).stands) h))
     where
       t_stays : (b : Bool) → member t moved ≡ b → b ≡ false
       t_stays false e = refl
       t_stays true e = absurd (let a = in_line t (inr e) in let b = not_t in omega arith)
 
   left_times : (u : ℕ)
-      → times u left ≡ stood_in (if member u gone || member u moved then None else (station_at (place_at w u) c).stands) Main
+      → times u left ≡ stood_in (if member u gone || member u moved then None else (location_at (place_at w u) c).stands) Main
   left_times u = either (member u gone) (member u moved) refl refl
     where
       either : (a b : Bool) → member u gone ≡ a → member u moved ≡ b
-          → times u left ≡ stood_in (if a || b then None else (station_at (place_at w u) c).stands) Main
+          → times u left ≡ stood_in (if a || b then None else (location_at (place_at w u) c).stands) Main
       either true b e f = let a = counts u in let k = member_times u gone e in let d = at_most u in omega arith
       either false true e f = let a = counts u in let k = member_times u moved f in let d = at_most u in omega arith
-      either false false e f = let a = counts u in let k = stranger_times u gone e in let d = stranger_times u moved f in let g : times u line ≡ stood_in (station_at (place_at w u) c).stands Main = steady.stands.lines u c Main in omega arith
+      either false false e f = let a = counts u in let k = stranger_times u gone e in let d = stranger_times u moved f in let g : times u line ≡ stood_in (location_at (place_at w u) c).stands Main = steady.stands.lines u c Main in omega arith
 
-  second_left : (u : ℕ) → 0 ≡ stood_in (station_at (place_at w u) c).stands Second ⊎ (member u gone || member u moved) ≡ false
+  second_left : (u : ℕ) → 0 ≡ stood_in (location_at (place_at w u) c).stands Second ⊎ (member u gone || member u moved) ≡ false
   second_left u = either (member u gone) (member u moved) refl refl
     where
       either : (a b : Bool) → member u gone ≡ a → member u moved ≡ b
-          → 0 ≡ stood_in (station_at (place_at w u) c).stands Second ⊎ (a || b) ≡ false
+          → 0 ≡ stood_in (location_at (place_at w u) c).stands Second ⊎ (a || b) ≡ false
       either true b e f = inl (sym (ap (λ o. stood_in o Second) (waits_gone u e).stands))
       either false true e f = inl (sym (ap (λ o. stood_in o Second) (waits_moved u f).stands))
       either false false e f = inr refl
 
-  -- who is moved stands there once
+  -- a thread that is moved stands there once
   moved_times : (u : ℕ)
       → times u (queue_at w (key_of m Main) ++ moved_under (key_of m Main) moved)
-      ≡ stood_in (if member u moved then Some Main else (station_at (place_at w u) m).stands) Main
+      ≡ stood_in (if member u moved then Some Main else (location_at (place_at w u) m).stands) Main
   moved_times u = times_both u (queue_at w (key_of m Main)) (moved_under (key_of m Main) moved) ∙ ap (λ n. times u (queue_at w (key_of m Main)) + n) (times_under u (key_of m Main) moved) ∙ either (member u moved) refl
     where
       either : (b : Bool) → member u moved ≡ b
           → times u (queue_at w (key_of m Main)) + times u moved
-          ≡ stood_in (if b then Some Main else (station_at (place_at w u) m).stands) Main
+          ≡ stood_in (if b then Some Main else (location_at (place_at w u) m).stands) Main
       either true e = let a = counts u in let k = member_times u moved e in let d = at_most u in let f : times u (queue_at w (key_of m Main)) ≡ 0 = steady.stands.lines u m Main ∙ ap (λ o. stood_in o Main) (waits_moved u e).out in omega arith
-      either false e = let k = stranger_times u moved e in let f : times u (queue_at w (key_of m Main)) ≡ stood_in (station_at (place_at w u) m).stands Main = steady.stands.lines u m Main in omega arith
+      either false e = let k = stranger_times u moved e in let f : times u (queue_at w (key_of m Main)) ≡ stood_in (location_at (place_at w u) m).stands Main = steady.stands.lines u m Main in omega arith
 
   module _ (queue : ℕ → List Waiter) (here : queue (key_of c Main) ≡ left)
       (beside : queue (key_of m Main) ≡ queue_at w (key_of m Main) ++ moved_under (key_of m Main) moved)
@@ -254,65 +254,65 @@ module _ (w : State) (t c m : ℕ) (apart : m ≢ c) (steady : IsSteady w) (p2 :
     second_differs : (l : ℕ) → key_of l Second ≢ key_of l Main
     second_differs l = other_line l Main Second (λ e. cc)
 
-    lines_across : Lines (stations_of places_across) queue
+    lines_across : Lines (locations_of places_across) queue
     lines_across u k n = elim (cases_eq k c) [
       | inl e ↦ rw e (at_c n)
       | inr nc ↦ elim (cases_eq k m) [
         | inl e ↦ rw e (at_m n)
-        | inr nm ↦ ap (times u) (others (key_of k n) (other_key c k Main n nc) (other_key m k Main n nm)) ∙ steady.stands.lines u k n ∙ sym (ap (λ (y : Station). stood_in y.stands n) (alike_across k nc nm u).station)
+        | inr nm ↦ ap (times u) (others (key_of k n) (other_key c k Main n nc) (other_key m k Main n nm)) ∙ steady.stands.lines u k n ∙ sym (ap (λ (y : Location). stood_in y.stands n) (alike_across k nc nm u).location)
       ]
     ]
       where
-        at_c : (n : Line) → times u (queue (key_of c n)) ≡ stood_in (station_at (places_across u) c).stands n
+        at_c : (n : Line) → times u (queue (key_of c n)) ≡ stood_in (location_at (places_across u) c).stands n
         at_c Main = ap (times u) here ∙ left_times u ∙ sym (ap (λ o. stood_in o Main) (stands_c u))
         at_c Second = ap (times u) (others (key_of c Second) (second_differs c) (other_key m c Main Second (λ e. apart (sym e)))) ∙ steady.stands.lines u c Second ∙ second (second_left u) ∙ sym (ap (λ o. stood_in o Second) (stands_c u))
           where
-            second : (0 ≡ stood_in (station_at (place_at w u) c).stands Second) ⊎ ((member u gone || member u moved) ≡ false)
-                → stood_in (station_at (place_at w u) c).stands Second
-                ≡ stood_in (if member u gone || member u moved then None else (station_at (place_at w u) c).stands) Second
-            second (inr e) = sym (ap (λ b. stood_in (if b then None else (station_at (place_at w u) c).stands) Second) e)
+            second : (0 ≡ stood_in (location_at (place_at w u) c).stands Second) ⊎ ((member u gone || member u moved) ≡ false)
+                → stood_in (location_at (place_at w u) c).stands Second
+                ≡ stood_in (if member u gone || member u moved then None else (location_at (place_at w u) c).stands) Second
+            second (inr e) = sym (ap (λ b. stood_in (if b then None else (location_at (place_at w u) c).stands) Second) e)
             second (inl e) = either (member u gone || member u moved)
               where
                 either : (b : Bool)
-                    → stood_in (station_at (place_at w u) c).stands Second
-                    ≡ stood_in (if b then None else (station_at (place_at w u) c).stands) Second
+                    → stood_in (location_at (place_at w u) c).stands Second
+                    ≡ stood_in (if b then None else (location_at (place_at w u) c).stands) Second
                 either true = sym e
                 either false = refl
 
-        at_m : (n : Line) → times u (queue (key_of m n)) ≡ stood_in (station_at (places_across u) m).stands n
+        at_m : (n : Line) → times u (queue (key_of m n)) ≡ stood_in (location_at (places_across u) m).stands n
         at_m Main = ap (times u) beside ∙ moved_times u ∙ sym (ap (λ o. stood_in o Main) (stands_m u))
         at_m Second = ap (times u) (others (key_of m Second) (other_key c m Main Second apart) (second_differs m)) ∙ steady.stands.lines u m Second ∙ second (member u moved) refl ∙ sym (ap (λ o. stood_in o Second) (stands_m u))
           where
             second : (b : Bool) → member u moved ≡ b
-                → stood_in (station_at (place_at w u) m).stands Second
-                ≡ stood_in (if member u moved then Some Main else (station_at (place_at w u) m).stands) Second
-            second true e = ap (λ o. stood_in o Second) (waits_moved u e).out ∙ sym (ap (λ b. stood_in (if b then Some Main else (station_at (place_at w u) m).stands) Second) e)
-            second false e = sym (ap (λ b. stood_in (if b then Some Main else (station_at (place_at w u) m).stands) Second) e)
+                → stood_in (location_at (place_at w u) m).stands Second
+                ≡ stood_in (if member u moved then Some Main else (location_at (place_at w u) m).stands) Second
+            second true e = ap (λ o. stood_in o Second) (waits_moved u e).out ∙ sym (ap (λ b. stood_in (if b then Some Main else (location_at (place_at w u) m).stands) Second) e)
+            second false e = sym (ap (λ b. stood_in (if b then Some Main else (location_at (place_at w u) m).stands) Second) e)
 
-    -- who was neither waits as before
+    -- a thread that was neither waits as before
     waits_c : (u : ℕ) → (member u gone || member u moved) ≡ false
-        → (station_at (places_across u) c).waits ≡ (station_at (place_at w u) c).waits
-    waits_c = by_thread (λ u p. (member u gone || member u moved) ≡ false → (station_at p c).waits ≡ (station_at (place_at w u) c).waits)
-        (λ h. ap (λ (y : Station). y.waits) now_c)
+        → (location_at (places_across u) c).waits ≡ (location_at (place_at w u) c).waits
+    waits_c = by_thread (λ u p. (member u gone || member u moved) ≡ false → (location_at p c).waits ≡ (location_at (place_at w u) c).waits)
+        (λ h. ap (λ (y : Location). y.waits) now_c)
         (λ u nu g h. absurd (let a : true ≡ false = sym (ap (λ b. b || member u moved) g) ∙ h in cc))
         (λ u nu f g h. absurd (let a : true ≡ false = sym ((λ i. f i || g i)) ∙ h in cc))
         (λ u nu f g h. refl)
 
-    waits_m : (u : ℕ) → member u moved ≡ false → (station_at (places_across u) m).waits ≡ (station_at (place_at w u) m).waits
-    waits_m = by_thread (λ u p. member u moved ≡ false → (station_at p m).waits ≡ (station_at (place_at w u) m).waits)
-        (λ h. ap (λ (y : Station). y.waits) now_m)
-        (λ u nu g h. ap (λ (y : Station). y.waits) (waits_gone u g).taken.came)
+    waits_m : (u : ℕ) → member u moved ≡ false → (location_at (places_across u) m).waits ≡ (location_at (place_at w u) m).waits
+    waits_m = by_thread (λ u p. member u moved ≡ false → (location_at p m).waits ≡ (location_at (place_at w u) m).waits)
+        (λ h. ap (λ (y : Location). y.waits) now_m)
+        (λ u nu g h. ap (λ (y : Location). y.waits) (waits_gone u g).taken.came)
         (λ u nu f g h. absurd (let a : true ≡ false = sym g ∙ h in cc))
         (λ u nu f g h. refl)
 
-    waits_now : (u : ℕ) → member u moved ≡ true → (station_at (places_across u) m).waits ≡ Some Exclusive
-    waits_now = by_thread (λ u p. member u moved ≡ true → (station_at p m).waits ≡ Some Exclusive)
+    waits_now : (u : ℕ) → member u moved ≡ true → (location_at (places_across u) m).waits ≡ Some Exclusive
+    waits_now = by_thread (λ u p. member u moved ≡ true → (location_at p m).waits ≡ Some Exclusive)
         (λ h. absurd (let a = in_line t (inr h) in let b = not_t in omega arith))
         (λ u nu g h. absurd (let a : true ≡ false = sym h ∙ gone_only u g in cc))
-        (λ u nu f g h. ap (λ (y : Station). y.waits) (waits_moved u g).moved.came)
+        (λ u nu f g h. ap (λ (y : Location). y.waits) (waits_moved u g).moved.came)
         (λ u nu f g h. absurd (let a : true ≡ false = sym h ∙ g in cc))
 
-    -- who stands at m before isn't moved there
+    -- a thread that stands at m before isn't moved there
     not_moved : (u : ℕ) (n : Line) → 1 ≤ times u (queue_at w (key_of m n)) → member u moved ≡ false
     not_moved u n h = either (member u moved) refl
       where
@@ -325,38 +325,38 @@ module _ (w : State) (t c m : ℕ) (apart : m ≢ c) (steady : IsSteady w) (p2 :
       where
         either : (b : Bool) → (member u gone || member u moved) ≡ b → b ≡ false
         either false e = refl
-        either true e = absurd (let a : times u left ≡ 0 = left_times u ∙ ap (λ b. stood_in (if b then None else (station_at (place_at w u) c).stands) Main) e in omega arith)
+        either true e = absurd (let a : times u left ≡ 0 = left_times u ∙ ap (λ b. stood_in (if b then None else (location_at (place_at w u) c).stands) Main) e in omega arith)
 
     stays_second : (u : ℕ) → 1 ≤ times u (queue_at w (key_of c Second)) → (member u gone || member u moved) ≡ false
     stays_second u h = by (second_left u)
       where
-        by : (0 ≡ stood_in (station_at (place_at w u) c).stands Second) ⊎ ((member u gone || member u moved) ≡ false)
+        by : (0 ≡ stood_in (location_at (place_at w u) c).stands Second) ⊎ ((member u gone || member u moved) ≡ false)
             → (member u gone || member u moved) ≡ false
         by (inr e) = e
-        by (inl e) = absurd (let a : times u (queue_at w (key_of c Second)) ≡ stood_in (station_at (place_at w u) c).stands Second = steady.stands.lines u c Second in omega arith)
+        by (inl e) = absurd (let a : times u (queue_at w (key_of c Second)) ≡ stood_in (location_at (place_at w u) c).stands Second = steady.stands.lines u c Second in omega arith)
 
-    waits_across : Waits (stations_of places_across) queue
+    waits_across : Waits (locations_of places_across) queue
     waits_across k n = elim (cases_eq k c) [
       | inl e ↦ rw e (at_c n)
       | inr nc ↦ elim (cases_eq k m) [
         | inl e ↦ rw e (at_m n)
-        | inr nm ↦ waiting_same (stations_of (place_at w)) (stations_of places_across) k n (queue (key_of k n)) (subst (AreWaiting (stations_of (place_at w)) k n) (sym (others (key_of k n) (other_key c k Main n nc) (other_key m k Main n nm))) (steady.stands.waits k n)) (λ u g. ap (λ (y : Station). y.waits) (alike_across k nc nm u).station)
+        | inr nm ↦ waiting_same (locations_of (place_at w)) (locations_of places_across) k n (queue (key_of k n)) (subst (AreWaiting (locations_of (place_at w)) k n) (sym (others (key_of k n) (other_key c k Main n nc) (other_key m k Main n nm))) (steady.stands.waits k n)) (λ u g. ap (λ (y : Location). y.waits) (alike_across k nc nm u).location)
       ]
     ]
       where
-        at_c : (n : Line) → AreWaiting (stations_of places_across) c n (queue (key_of c n))
-        at_c Main = rw here (waiting_same (stations_of (place_at w)) (stations_of places_across) c Main left lefts (λ u g. waits_c u (stays_left u g)))
+        at_c : (n : Line) → AreWaiting (locations_of places_across) c n (queue (key_of c n))
+        at_c Main = rw here (waiting_same (locations_of (place_at w)) (locations_of places_across) c Main left lefts (λ u g. waits_c u (stays_left u g)))
         at_c Second = let same_line_there = others (key_of c Second) (second_differs c) (other_key m c Main Second (λ e. apart (sym e))) in
-            rw same_line_there (waiting_same (stations_of (place_at w)) (stations_of places_across) c Second (queue_at w (key_of c Second)) (steady.stands.waits c Second) (λ u g. waits_c u (stays_second u g)))
+            rw same_line_there (waiting_same (locations_of (place_at w)) (locations_of places_across) c Second (queue_at w (key_of c Second)) (steady.stands.waits c Second) (λ u g. waits_c u (stays_second u g)))
 
-        at_m : (n : Line) → AreWaiting (stations_of places_across) m n (queue (key_of m n))
-        at_m Main = rw beside (waiting_both (stations_of places_across) m Main (queue_at w (key_of m Main)) (moved_under (key_of m Main) moved)
-            (waiting_same (stations_of (place_at w)) (stations_of places_across) m Main (queue_at w (key_of m Main)) (steady.stands.waits m Main) (λ u g. waits_m u (not_moved u Main g))) (waiting_under (stations_of places_across) m moved waits_now))
+        at_m : (n : Line) → AreWaiting (locations_of places_across) m n (queue (key_of m n))
+        at_m Main = rw beside (waiting_both (locations_of places_across) m Main (queue_at w (key_of m Main)) (moved_under (key_of m Main) moved)
+            (waiting_same (locations_of (place_at w)) (locations_of places_across) m Main (queue_at w (key_of m Main)) (steady.stands.waits m Main) (λ u g. waits_m u (not_moved u Main g))) (waiting_under (locations_of places_across) m moved waits_now))
         at_m Second = let same_line_there = others (key_of m Second) (other_key c m Main Second apart) (second_differs m) in
-            rw same_line_there (waiting_same (stations_of (place_at w)) (stations_of places_across) m Second (queue_at w (key_of m Second)) (steady.stands.waits m Second) (λ u g. waits_m u (not_moved u Second g)))
+            rw same_line_there (waiting_same (locations_of (place_at w)) (locations_of places_across) m Second (queue_at w (key_of m Second)) (steady.stands.waits m Second) (λ u g. waits_m u (not_moved u Second g)))
 
     -- the machine has all of them where their places say
     pub there_across : ((b : Bool) → any ≡ Some b → (b ≡ false) × ((u : ℕ) × (member u gone ≡ true)))
         → ((u : ℕ) → member u gone ≡ true → any ≡ Some false)
-        → AreThere (TakesOne w) (stations_of places_across) (section_at w) queue
+        → AreThere (TakesOne w) (locations_of places_across) (section_at w) queue
     there_across some full = record { sections = sections_across; lines = lines_across; waits = waits_across; hands = hands_across some full }

@@ -13,8 +13,8 @@ use Rattle.spec_locks.specs.Codes.{code}
 use Rattle.lot_machine.specs.Machine.{State, kind_at, moved_under, place_at, queue_at, unlocked}
 use Rattle.lot_laws.specs.Refinement.{taken_at}
 use Rattle.lot_laws.specs.MutexDeeds.{acts}
-use Rattle.lot_laws.specs.Stations.{doing_on, station_at}
-use Rattle.lot_laws.specs.SitesOf.{TakesOne, stood_in, ActsNeeded, AreWaiting, FitsItsLock, GoesAll, IsSteady, after_acts, key_of, rules_in, stations_of}
+use Rattle.lot_laws.specs.Locations.{role_on, location_at}
+use Rattle.lot_laws.specs.SitesOf.{TakesOne, stood_in, ActsNeeded, AreWaiting, FitsItsLock, GoesAll, IsInductive, after_acts, key_of, rules_in, locations_of}
 use Rattle.lot_laws.proofs.machine.Parts.{parts_at, put_here, put_other, seen_in}
 use Rattle.lot_laws.proofs.sites.OneStep.{same_word}
 use Rattle.lot_laws.proofs.sites.StandsKept.{Alike, calls_in, other_key, other_line}
@@ -25,7 +25,7 @@ use Rattle.lot_laws.proofs.sites.TwoLocks.{BehindIt, follow_two, two_at}
 use Rattle.lot_laws.proofs.sites.TakesAt.{AllAre, member, taking_is}
 use Rattle.lot_laws.proofs.condvar.Moving.{WaitsAcross, alike_across, by_thread, in_line, fits_across, places_across, there_across}
 
--- whoever is among waiters is among them under another key
+-- each thread that is among waiters is among them under another key
 member_under : (u key : ℕ) (q : List Waiter) → member u (moved_under key q) ≡ member u q
 member_under u key [] = refl
 member_under u key (x ∷ q) = ap (λ b. (x.thread == u) || b) (member_under u key q)
@@ -34,12 +34,12 @@ queued_both : (xs ys : List Waiter) → map queued_of (xs ++ ys) ≡ map queued_
 queued_both [] ys = refl
 queued_both (x ∷ xs) ys = ap (λ zs. queued_of x ∷ zs) (queued_both xs ys)
 
-module _ (w v : State) (t c m : ℕ) (apart : m ≢ c) (steady : IsSteady w) (p2 : Place) (gone moved left : List Waiter)
-    (counts : (u : ℕ) → times u gone + times u moved + times u left ≡ times u (queue_at w (key_of c Main))) (lefts : AreWaiting (stations_of (place_at w)) c Main left)
+module _ (w v : State) (t c m : ℕ) (apart : m ≢ c) (steady : IsInductive w) (p2 : Place) (gone moved left : List Waiter)
+    (counts : (u : ℕ) → times u gone + times u moved + times u left ≡ times u (queue_at w (key_of c Main))) (lefts : AreWaiting (locations_of (place_at w)) c Main left)
     (waits : (u : ℕ) → 1 ≤ times u (queue_at w (key_of c Main)) → WaitsAcross w t c m (place_at w u))
     (one_gone : (u v : ℕ) → member u gone ≡ true → member v gone ≡ true → u ≡ v)
-    (out : (station_at (place_at w t) c).stands ≡ None) (bare : (station_at (place_at w t) m).carries ≡ None)
-    (now_c : station_at p2 c ≡ station_at (place_at w t) c) (any : Option Bool) (now_m : station_at p2 m ≡ record (station_at (place_at w t) m) { carries = any })
+    (out : (location_at (place_at w t) c).stands ≡ None) (bare : (location_at (place_at w t) m).carries ≡ None)
+    (now_c : location_at p2 c ≡ location_at (place_at w t) c) (any : Option Bool) (now_m : location_at p2 m ≡ record (location_at (place_at w t) m) { carries = any })
     (alike_t : (k : ℕ) → k ≢ c → k ≢ m → Alike k (place_at w t) p2) (fits : FitsItsLock w p2) where
   abbrev behind : ℕ → Place
   behind = places_across w t c m apart steady p2 gone moved left counts lefts waits one_gone out bare now_c any now_m alike_t fits
@@ -47,7 +47,7 @@ module _ (w v : State) (t c m : ℕ) (apart : m ≢ c) (steady : IsSteady w) (p2
   module _ (el : v.locks ≡ w.locks) (eh : v.shares ≡ w.shares) (es : v.sections ≡ w.sections)
       (threads : length v.places ≡ length w.places) (places : place_at v ≡ behind)
       (here : queue_at v (key_of c Main) ≡ left) (beside : queue_at v (key_of m Main) ≡ queue_at w (key_of m Main) ++ moved_under (key_of m Main) moved) (others : (key : ℕ) → key ≢ key_of c Main → key ≢ key_of m Main → queue_at v key ≡ queue_at w key)
-      (same_c : (doing_on p2 c ≡ doing_on (place_at w t) c) × (taken_at p2 c ≡ taken_at (place_at w t) c)) (same_m : taken_at p2 m ≡ taken_at (place_at w t) m)
+      (same_c : (role_on p2 c ≡ role_on (place_at w t) c) × (taken_at p2 c ≡ taken_at (place_at w t) c)) (same_m : taken_at p2 m ≡ taken_at (place_at w t) m)
       (all owned : Bool) (left_is : map queued_of left ≡ (if all then [] else drop 1 (map queued_of (queue_at w (key_of c Main)))))
       (gone_is : map queued_of (moved_under (key_of m Main) gone) ≡ taken_of owned (moved_of all (map queued_of (queue_at w (key_of c Main)))))
       (moved_is : map queued_of (moved_under (key_of m Main) moved) ≡ line_of owned (moved_of all (map queued_of (queue_at w (key_of c Main))))) where
@@ -86,15 +86,15 @@ module _ (w v : State) (t c m : ℕ) (apart : m ≢ c) (steady : IsSteady w) (p2
     taken_c = by_thread w t c m apart steady p2 gone moved left counts lefts waits one_gone out bare now_c any now_m alike_t fits (λ u p. taken_at p c ≡ taken_at (place_at w u) c)
         same_c.1 (λ u nu h. (waiter_of u (inl h)).taken.free_c) (λ u nu g h. (waiter_of u (inr h)).moved.free_c) (λ u nu g h. refl)
 
-    doing_c : (u : ℕ) → doing_on (behind u) c ≡ doing_on (place_at w u) c
-    doing_c = by_thread w t c m apart steady p2 gone moved left counts lefts waits one_gone out bare now_c any now_m alike_t fits (λ u p. doing_on p c ≡ doing_on (place_at w u) c)
+    role_c : (u : ℕ) → role_on (behind u) c ≡ role_on (place_at w u) c
+    role_c = by_thread w t c m apart steady p2 gone moved left counts lefts waits one_gone out bare now_c any now_m alike_t fits (λ u p. role_on p c ≡ role_on (place_at w u) c)
         same_c.0 (λ u nu h. (waiter_of u (inl h)).taken.did_c) (λ u nu g h. (waiter_of u (inr h)).moved.did_c) (λ u nu g h. refl)
 
     -- the condition variable
     sent : seen_in (rules_in w c) c (record (parts_at w c) { main = left }) behind ≡ after_acts (rules_in w c) (acts t sends) site_c
-    sent = λ i. record site_c { lock = record site_c.lock { queue = left_is i; taken = λ u. taken_c u i }; doing = λ u. doing_c u i }
+    sent = λ i. record site_c { lock = record site_c.lock { queue = left_is i; taken = λ u. taken_c u i }; role = λ u. role_c u i }
 
-    -- who is taken there, by the threads
+    -- the waiters taken there, by the threads
     taken_m : (u : ℕ)
         → taken_at (behind u) m
         ≡ locks.taking t (map queued_of (moved_under (key_of m Main) gone)) (λ u. taken_at (place_at w u) m) u
@@ -123,13 +123,13 @@ module _ (w v : State) (t c m : ℕ) (apart : m ≢ c) (steady : IsSteady w) (p2
             either true e = absurd (never e)
 
     module _
-        (own : doing_on p2 m ≡ bringing (taken_of owned (moved_of all (map queued_of (queue_at w (key_of c Main))))) (line_of owned (moved_of all (map queued_of (queue_at w (key_of c Main))))) (doing_on (place_at w t) m)) where
-      doing_m : (u : ℕ) → doing_on (behind u) m ≡ (after_acts (rules_in w m) (acts t brings) site_m).doing u
-      doing_m = by_thread w t c m apart steady p2 gone moved left counts lefts waits one_gone out bare now_c any now_m alike_t fits (λ u p. doing_on p m ≡ (after_acts (rules_in w m) (acts t brings) site_m).doing u)
-          (own ∙ sym (put_here (λ u. doing_on (place_at w u) m) t _))
-          (λ u nu h. (waiter_of u (inl h)).taken.did_m ∙ sym (put_other (λ u. doing_on (place_at w u) m) t _ u nu))
-          (λ u nu g h. (waiter_of u (inr h)).moved.did_m ∙ sym (put_other (λ u. doing_on (place_at w u) m) t _ u nu))
-          (λ u nu g h. sym (put_other (λ u. doing_on (place_at w u) m) t _ u nu))
+        (own : role_on p2 m ≡ bringing (taken_of owned (moved_of all (map queued_of (queue_at w (key_of c Main))))) (line_of owned (moved_of all (map queued_of (queue_at w (key_of c Main))))) (role_on (place_at w t) m)) where
+      role_m : (u : ℕ) → role_on (behind u) m ≡ (after_acts (rules_in w m) (acts t brings) site_m).role u
+      role_m = by_thread w t c m apart steady p2 gone moved left counts lefts waits one_gone out bare now_c any now_m alike_t fits (λ u p. role_on p m ≡ (after_acts (rules_in w m) (acts t brings) site_m).role u)
+          (own ∙ sym (put_here (λ u. role_on (place_at w u) m) t _))
+          (λ u nu h. (waiter_of u (inl h)).taken.did_m ∙ sym (put_other (λ u. role_on (place_at w u) m) t _ u nu))
+          (λ u nu g h. (waiter_of u (inr h)).moved.did_m ∙ sym (put_other (λ u. role_on (place_at w u) m) t _ u nu))
+          (λ u nu g h. sym (put_other (λ u. role_on (place_at w u) m) t _ u nu))
 
       -- and the mutex
       brought : seen_in (rules_in w m) m (record (parts_at w m) { main = queue_at w (key_of m Main) ++ moved_under (key_of m Main) moved }) behind ≡ after_acts (rules_in w m) (acts t brings) site_m
@@ -138,7 +138,7 @@ module _ (w v : State) (t c m : ℕ) (apart : m ≢ c) (steady : IsSteady w) (p2
           queue = (queued_both (queue_at w (key_of m Main)) (moved_under (key_of m Main) moved) ∙ ap (λ zs. map queued_of (queue_at w (key_of m Main)) ++ zs) moved_is) i;
           taken = λ u. (taken_m u ∙ ap (λ zs. locks.taking t zs (λ u. taken_at (place_at w u) m) u) gone_is) i;
         };
-        doing = λ u. doing_m u i;
+        role = λ u. role_m u i;
       }
 
       word_same : (k : ℕ) (q : List Waiter) → (parts_at w k).word ≡ code (rules_in w k) (seen_in (rules_in w k) k (record (parts_at w k) { main = q }) behind)
@@ -174,7 +174,7 @@ module _ (w v : State) (t c m : ℕ) (apart : m ≢ c) (steady : IsSteady w) (p2
         same_else : (k : ℕ) → k ≢ c → k ≢ m → (parts_at v k ≡ parts_at w k) × ((u : ℕ) → AlikeAt k (place_at w u) (behind u))
         same_else k nc nm = (
           parts_by k (queue_at w (key_of k Main)) (queue_at w (key_of k Second)) (others (key_of k Main) (other_key c k Main Main nc) (other_key m k Main Main nm)) (others (key_of k Second) (other_key c k Main Second nc) (other_key m k Main Second nm)),
-          λ u. let z = alike_across w t c m apart steady p2 gone moved left counts lefts waits one_gone out bare now_c any now_m alike_t fits k nc nm u in (z.taken, z.doing),
+          λ u. let z = alike_across w t c m apart steady p2 gone moved left counts lefts waits one_gone out bare now_c any now_m alike_t fits k nc nm u in (z.taken, z.role),
         )
 
         pub moves_kept : ((b : Bool) → any ≡ Some b → (b ≡ false) × ((u : ℕ) × (member u gone ≡ true)))
@@ -182,7 +182,7 @@ module _ (w v : State) (t c m : ℕ) (apart : m ≢ c) (steady : IsSteady w) (p2
         moves_kept some full = record {
           follows = follow_two w v steady behind places kinds (record { threads = threads; locks = λ i. length (el i); shares = λ i. length (eh i) }) c m same_else (acts t sends) (acts t brings) apart behind_c behind_m;
           stands = stands_by w v behind places kinds
-              (subst (λ (f : ℕ → Option ℕ). AreThere (TakesOne w) (stations_of behind) f (queue_at v)) (λ i key. get_or (sym es i) key None)
+              (subst (λ (f : ℕ → Option ℕ). AreThere (TakesOne w) (locations_of behind) f (queue_at v)) (λ i key. get_or (sym es i) key None)
               (there_across w t c m apart steady p2 gone moved left counts lefts waits one_gone out bare now_c any now_m alike_t fits (queue_at v) here beside others some full))
               (λ u. calls_in w v (behind u) kinds (fits_across w t c m apart steady p2 gone moved left counts lefts waits one_gone out bare now_c any now_m alike_t fits u));
         }

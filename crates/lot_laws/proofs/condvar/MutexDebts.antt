@@ -29,10 +29,10 @@ use Rattle.lot_steps.specs.Steps.{is_lock, line_owed, or_else}
 use Rattle.spec_locks.specs.Locks.{Rights, Sort}
 use Rattle.spec_locks.specs.Locks as sorts
 use Rattle.spec_locks.specs.Purposes.{HasMoved, Saw}
-use Rattle.spec_locks.specs.Sites.{Doing, Has, Line, Main, Second, counts_some, idle}
+use Rattle.spec_locks.specs.Sites.{Role, Has, Line, Main, Second, counts_some, idle}
 use Rattle.lot_laws.specs.Promises.{HasReleased, WakesWaiters, mutex_seen, want_of}
 use Rattle.lot_laws.specs.Refinement.{call_state}
-use Rattle.lot_laws.specs.Stations.{doing_on}
+use Rattle.lot_laws.specs.Locations.{role_on}
 use Rattle.lot_laws.proofs.condvar.Promises.{StandsAt, neither_nowhere, notifier_nowhere}
 use Rattle.lot_laws.proofs.machine.Parts.{same}
 use Rattle.lot_laws.proofs.mutex.Rows.{decided_awake}
@@ -40,8 +40,8 @@ use Rattle.lot_laws.proofs.promises.RowPromises.{IsDebtorIn}
 
 -- ---------------------------------------------------------------- it is one at its mutex alone
 
--- who does none of this owes nothing
-pub no_debt : (sort : Sort) (d : Doing) (m : Line) → d.wakes ≡ None → d.covers ≡ false → d.retries ≡ None → IsDebtorIn sort d m
+-- a thread that does none of this owes nothing
+pub no_debt : (sort : Sort) (d : Role) (m : Line) → d.wakes ≡ None → d.covers ≡ false → d.retries ≡ None → IsDebtorIn sort d m
     → ⊥
 no_debt sort d Main wakes covers retries (inl h) = let e : ◌≡◌ {A = Option Line} None (Some Main) = sym wakes ∙ h in cc
 no_debt sort d Main wakes covers retries (inr (inl h)) = cc
@@ -51,22 +51,22 @@ no_debt sort d Second wakes covers retries h = let e : ◌≡◌ {A = Option Lin
 pub idle_owes : (sort : Sort) (m : Line) → IsDebtorIn sort idle m → ⊥
 idle_owes sort m d = no_debt sort idle m refl refl refl d
 
-pub debtor_beside : (sort : Sort) (c : ℕ) (at : CondvarPlace) (l : ℕ) (m : Line) → IsDebtorIn sort (doing_on (Condvar c at) l) m
-    → (mutex_beside at ≡ Some l) × (doing_on (Condvar c at) l ≡ (condvar_row at).doing)
+pub debtor_beside : (sort : Sort) (c : ℕ) (at : CondvarPlace) (l : ℕ) (m : Line) → IsDebtorIn sort (role_on (Condvar c at) l) m
+    → (mutex_beside at ≡ Some l) × (role_on (Condvar c at) l ≡ (condvar_row at).role)
 debtor_beside sort c at l m debt = by_lock (c == l) (mutex_beside at) refl debt
   where
-    there : Doing
-    there = (condvar_profile at).doing
+    there : Role
+    there = (condvar_profile at).role
 
     by_lock : (b : Bool) (o : Option ℕ) → mutex_beside at ≡ o
-        → IsDebtorIn sort (if b then there else if is_lock l o then (condvar_row at).doing else idle) m
-        → (o ≡ Some l) × ((if b then there else if is_lock l o then (condvar_row at).doing else idle) ≡ (condvar_row at).doing)
+        → IsDebtorIn sort (if b then there else if is_lock l o then (condvar_row at).role else idle) m
+        → (o ≡ Some l) × ((if b then there else if is_lock l o then (condvar_row at).role else idle) ≡ (condvar_row at).role)
     by_lock true o e d = absurd (no_debt sort there m refl refl refl d)
     by_lock false None e d = absurd (idle_owes sort m d)
     by_lock false (Some k) e d = by_mutex (k == l) refl d
       where
-        by_mutex : (b : Bool) → (k == l) ≡ b → IsDebtorIn sort (if b then (condvar_row at).doing else idle) m
-            → (Some k ≡ Some l) × ((if b then (condvar_row at).doing else idle) ≡ (condvar_row at).doing)
+        by_mutex : (b : Bool) → (k == l) ≡ b → IsDebtorIn sort (if b then (condvar_row at).role else idle) m
+            → (Some k ≡ Some l) × ((if b then (condvar_row at).role else idle) ≡ (condvar_row at).role)
         by_mutex true f d = (ap Some (eqb-true k l f), refl)
         by_mutex false f d = absurd (idle_owes sort m d)
 
@@ -82,9 +82,9 @@ pub record LooksBeside (c : ℕ) (at : CondvarPlace) (m : ℕ) : Type 0 where
 
 module _ (c m : ℕ) where
   abbrev IsDebtorHere : CondvarPlace → Type 0
-  IsDebtorHere at = IsDebtorIn sorts.Mutex (condvar_row at).doing Main
+  IsDebtorHere at = IsDebtorIn sorts.Mutex (condvar_row at).role Main
 
-  -- who tries to lock its mutex again stands nowhere
+  -- a thread that tries to lock its mutex again stands nowhere
   tries_nowhere : (timed late : Bool) (a : LockAt) → (mutex_profile (mutex.Lock entry.Lock true a)).stands ≡ None
       → (mutex_profile (mutex.Lock entry.Lock true a)).hand ≡ None
       → (l : ℕ) → StandsAt (Condvar c (Wait m timed (wait.Lock late (mutex.Lock entry.Lock true a)))) l → ⊥
@@ -111,7 +111,7 @@ module _ (c m : ℕ) where
   relock_looks timed late r lock.Accept of d = absurd (idle_owes sorts.Mutex Main d)
   relock_looks timed late r a of d = absurd of
 
-  -- who still releases its mutex owns it, or has released it
+  -- a thread that still releases its mutex owns it, or has released it
   owns_it : (b : Bool) → (if b then Some (Has Exclusive) else Some (Has Exclusive)) ≡ Some (Has Exclusive)
   owns_it true = refl
   owns_it false = refl
@@ -125,7 +125,7 @@ module _ (c m : ℕ) where
   asleep_none timed (stands.Handed by) reached d = idle_owes sorts.Mutex Main d
 
   wait_looks : (timed : Bool) (at : WaitAt) → IsReached (Wait m timed at) → IsDebtorHere (Wait m timed at)
-      → ((condvar_row (Wait m timed at)).doing.claims ≡ Some (Has Exclusive) → ⊥) → LooksBeside c (Wait m timed at) m
+      → ((condvar_row (Wait m timed at)).role.claims ≡ Some (Has Exclusive) → ⊥) → LooksBeside c (Wait m timed at) m
   wait_looks timed (wait.Release s (mutex.Unlock unlock.Subtract)) reached d free = absurd (free (owns_it (has_mutex s)))
   wait_looks timed (wait.Release s (mutex.Unlock unlock.Enter)) reached d free = record { debt = inl (refl, λ sort gave_up. refl); awake = λ h. cc; stands = inr ((refl, refl), refl) }
   wait_looks timed (wait.Release s (mutex.Unlock unlock.Take)) reached d free = record { debt = inl (refl, λ sort gave_up. refl); awake = λ h. cc; stands = inr ((refl, refl), refl) }
@@ -153,14 +153,14 @@ module _ (c m : ℕ) where
   notify_looks all at d = absurd (idle_owes sorts.Mutex Main d)
 
 pub looks_beside : (c : ℕ) (at : CondvarPlace) (l : ℕ) → IsReached at → mutex_beside at ≡ Some l
-    → IsDebtorIn sorts.Mutex (condvar_row at).doing Main → ((condvar_row at).doing.claims ≡ Some (Has Exclusive) → ⊥)
+    → IsDebtorIn sorts.Mutex (condvar_row at).role Main → ((condvar_row at).role.claims ≡ Some (Has Exclusive) → ⊥)
     → LooksBeside c at l
 looks_beside c (Wait m timed at) l reached names d free = let here : m ≡ l = cc in subst (LooksBeside c (Wait m timed at)) here (wait_looks c m timed at reached d free)
 looks_beside c (Look all) l reached names d free = absurd cc
 looks_beside c (Notify all m at) l reached names d free = let here : m ≡ l = cc in subst (LooksBeside c (Notify all m at)) here (notify_looks c m all at d)
 
 -- nobody is one of a second line, which a mutex lacks
-pub no_second : (at : CondvarPlace) → IsReached at → (condvar_row at).doing.wakes ≡ Some Second → ⊥
+pub no_second : (at : CondvarPlace) → IsReached at → (condvar_row at).role.wakes ≡ Some Second → ⊥
 no_second (Wait m timed (wait.Release s (mutex.Unlock unlock.Subtract))) reached h = cc
 no_second (Wait m timed (wait.Release s (mutex.Unlock unlock.Enter))) reached h = cc
 no_second (Wait m timed (wait.Release s (mutex.Unlock unlock.Take))) reached h = cc
@@ -170,7 +170,7 @@ no_second (Wait m timed (wait.Release s at)) reached h = reached.0
 no_second (Wait m timed (wait.Lock late (mutex.Lock entry.Lock r a))) reached h = by_lock a reached.1 h
   where
     by_lock : (a : LockAt) → IsLockOf a
-        → (condvar_row (Wait m timed (wait.Lock late (mutex.Lock entry.Lock r a)))).doing.wakes ≡ Some Second → ⊥
+        → (condvar_row (Wait m timed (wait.Lock late (mutex.Lock entry.Lock r a)))).role.wakes ≡ Some Second → ⊥
     by_lock lock.First of h = cc
     by_lock lock.Load of h = cc
     by_lock (lock.Decide x) of h = cc

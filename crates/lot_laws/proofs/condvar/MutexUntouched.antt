@@ -13,7 +13,7 @@ use Rattle.steps_base.specs.declared.acts.Next.TheVariants as next
 use Rattle.steps_base.specs.declared.acts.Reply.{Reply}
 use Rattle.steps_base.specs.declared.acts.Reply.TheVariants.{Value}
 use Rattle.steps_base.specs.declared.owners.Owners.{Owners}
-use Rattle.steps_base.specs.Stations.{Station}
+use Rattle.steps_base.specs.Locations.{Location}
 use Rattle.steps_base.specs.Moves.{inside_of}
 use Rattle.lot_steps.specs.declared.places.Place.{Place}
 use Rattle.lot_steps.specs.declared.places.Place.TheVariants.{Condvar}
@@ -28,12 +28,12 @@ use Rattle.spec_locks.specs.Condvars.{CondvarDeed, CondvarSite}
 use Rattle.spec_locks.specs.Condvars as condvars
 use Rattle.spec_locks.specs.Locks.{OfCondvar, Rules, Park, putting, standing, keep_from, IsBlocked, IsFreeAt, one_if_some, Knows}
 use Rattle.spec_locks.specs.Locks as locks
-use Rattle.spec_locks.specs.Sites.{Case, Deed, Doing, In, LeaveLine, Line, Main, Out, Second, Send, Site, IsSite, has_readers, idle, wakened, leaves, StandsIn}
+use Rattle.spec_locks.specs.Sites.{Case, Deed, Role, In, LeaveLine, Line, Main, Out, Second, Send, Site, IsSite, has_readers, idle, wakened, leaves, StandsIn}
 use Rattle.lot_machine.specs.Machine.{State, owners_at, place_at, put, queue_at, section_at, shares_at, state_after_operation, state_with_sections, queues_with_last, queues_without, word_at, filled_at}
 use Rattle.lot_laws.specs.Refinement.{taken_at, lock_seen}
 use Rattle.lot_laws.specs.MutexDeeds.{acts}
-use Rattle.lot_laws.specs.Stations.{doing_on, station_at, hand}
-use Rattle.lot_laws.specs.SitesOf.{ActsNeeded, FitsItsLock, Goes, IsSteady, after_acts, condvar_of, key_of, rules_in, hand_at, carried_at, stood_in}
+use Rattle.lot_laws.specs.Locations.{role_on, location_at, hand}
+use Rattle.lot_laws.specs.SitesOf.{ActsNeeded, FitsItsLock, Goes, IsInductive, after_acts, condvar_of, key_of, rules_in, hand_at, carried_at, stood_in}
 use Rattle.lot_laws.proofs.machine.Parts.{lock_in, parts_at, seen_in, LetGo, stays, put_here, put_other, same, inside_is}
 use Rattle.lot_laws.proofs.sites.OneStep.{Steps, steps_by, queued_times, queued_without, AreSingle, same_filled}
 use Rattle.lot_laws.proofs.sites.StandsKept.{Alike, AlikeBeside}
@@ -44,7 +44,7 @@ use Rattle.spec_locks.specs.Picks.{queued_of}
 use Rattle.lot_laws.proofs.machine.Parts as glue
 use Rattle.steps_condvar.proofs.CondvarFit.{condvar_owners_follow, condvar_steps_code}
 use Rattle.std.specs.Prelude.{nat_le, ◌&&◌}
-use Rattle.lot_laws.proofs.condvar.TwoParts.{Beside, doing_of_row, doing_there, nothing_else, station_there, taken_there, nothing_there}
+use Rattle.lot_laws.proofs.condvar.TwoParts.{Beside, role_of_row, role_there, nothing_else, location_there, taken_there, nothing_there}
 use Rattle.lot_laws.proofs.hands.Counts.{first_out, aside_kept}
 
 -- ---------------------------------------------------------------- deeds of the condition variable, as deeds of a site
@@ -61,7 +61,7 @@ there_deeds (condvars.MoveFirst ∷ ds) = Send false ∷ []
 there_deeds (condvars.MoveAll ∷ ds) = Send true ∷ []
 there_deeds ds = []
 
--- of a step on the word
+-- a step on the word
 abbrev pub IsOfWord : List CondvarDeed → Type 0
 IsOfWord [] = Unit {0}
 IsOfWord (condvars.Show m ∷ []) = Unit {0}
@@ -72,7 +72,7 @@ IsOfWord (condvars.Hide ∷ []) = Unit {0}
 IsOfWord (condvars.Clear ∷ []) = Unit {0}
 IsOfWord ds = ⊥
 
-module _ (w : State) (t l m : ℕ) (at : CondvarPlace) (steady : IsSteady w) (is_there : t < length w.places) (apart : m ≢ l)
+module _ (w : State) (t l m : ℕ) (at : CondvarPlace) (steady : IsInductive w) (is_there : t < length w.places) (apart : m ≢ l)
     (sort : (rules_in w l).sort ≡ locks.Condvar) (is : place_at w t ≡ Condvar l at) (of : mutex_beside at ≡ Some m) (told : Reply)
     (beside : Beside m (condvar_next at told)) where
   abbrev pub p2 : Place
@@ -84,11 +84,11 @@ module _ (w : State) (t l m : ℕ) (at : CondvarPlace) (steady : IsSteady w) (is
   abbrev pub here : Site
   here = lock_by w l r
 
-  pub was : station_at (place_at w t) l ≡ there at
-  was = ap (λ q. station_at q l) is ∙ station_there l m apart (next.At at) of
+  pub was : location_at (place_at w t) l ≡ there at
+  was = ap (λ q. location_at q l) is ∙ location_there l m apart (next.At at) of
 
-  pub then_is : station_at p2 l ≡ there_then at told
-  then_is = station_there l m apart (condvar_next at told) beside
+  pub then_is : location_at p2 l ≡ there_then at told
+  then_is = location_there l m apart (condvar_next at told) beside
 
   pub untaken : taken_at (place_at w t) l ≡ None
   untaken = ap (λ q. taken_at q l) is ∙ taken_there l m apart (next.At at) of
@@ -96,11 +96,11 @@ module _ (w : State) (t l m : ℕ) (at : CondvarPlace) (steady : IsSteady w) (is
   pub untaken_then : taken_at p2 l ≡ None
   untaken_then = taken_there l m apart (condvar_next at told) beside
 
-  pub did : doing_on (place_at w t) l ≡ record idle { inside = (there at).inside }
-  did = ap (λ q. doing_on q l) is ∙ doing_there l m apart (next.At at) of ∙ doing_of_row (next.At at)
+  pub did : role_on (place_at w t) l ≡ record idle { inside = (there at).inside }
+  did = ap (λ q. role_on q l) is ∙ role_there l m apart (next.At at) of ∙ role_of_row (next.At at)
 
-  pub does : doing_on p2 l ≡ record idle { inside = (there_then at told).inside }
-  does = doing_there l m apart (condvar_next at told) beside ∙ doing_of_row (condvar_next at told)
+  pub does : role_on p2 l ≡ record idle { inside = (there_then at told).inside }
+  does = role_there l m apart (condvar_next at told) beside ∙ role_of_row (condvar_next at told)
 
   pub unshared : has_readers r.sort ≡ false
   unshared = ap has_readers sort
@@ -111,28 +111,28 @@ module _ (w : State) (t l m : ℕ) (at : CondvarPlace) (steady : IsSteady w) (is
   pub site : IsSite r here
   site = steady.sites.site l
 
-  -- what goes into a section that is free, or out of it, makes of the lock
+  -- the lock after a thread goes into a section that is free, or out of it
   pub in_steps : section_at w (key_of l Main) ≡ None → (there at).inside ≡ None → there_then at told ≡ record (there at) { inside = Some Main } → Steps r l (parts_at w l) (parts_at w l) (place_at w) t p2 (In Main ∷ [])
-  in_steps free out goes = steps_by r l (parts_at w l) (parts_at w l) (place_at w) t p2 (In Main ∷ []) ((nobody_inside, ap (λ (d : Doing). d.inside) did ∙ out, ap (λ (d : Doing). d.empty) did), tt) (tt, tt) (untaken ∙ sym untaken_then) refl refl refl refl
-      (does ∙ ap (λ (y : Station). record idle { inside = y.inside }) goes ∙ sym (put_here here.doing t (record (here.doing t) { inside = Some Main }) ∙ ap (λ (d : Doing). record d { inside = Some Main }) did))
+  in_steps free out goes = steps_by r l (parts_at w l) (parts_at w l) (place_at w) t p2 (In Main ∷ []) ((nobody_inside, ap (λ (d : Role). d.inside) did ∙ out, ap (λ (d : Role). d.empty) did), tt) (tt, tt) (untaken ∙ sym untaken_then) refl refl refl refl
+      (does ∙ ap (λ (y : Location). record idle { inside = y.inside }) goes ∙ sym (put_here here.role t (record (here.role t) { inside = Some Main }) ∙ ap (λ (d : Role). record d { inside = Some Main }) did))
     where
-      nobody_inside : (u : ℕ) → (doing_on (place_at w u) l).inside ≢ Some Main
+      nobody_inside : (u : ℕ) → (role_on (place_at w u) l).inside ≢ Some Main
       nobody_inside u h = let a : section_at w (key_of l Main) ≡ Some u = (steady.stands.sections u l Main).0 (sym (inside_is (place_at w u) l) ∙ h) in let b : ◌≡◌ {A = Option ℕ} None (Some u) = sym free ∙ a in cc
 
   pub out_steps : (there at).inside ≡ Some Main → there_then at told ≡ record (there at) { inside = None } → Steps r l (parts_at w l) (parts_at w l) (place_at w) t p2 (Out ∷ [])
   out_steps within goes = record {
     site = leaving_by r l (parts_at w l) (place_at w) (putting (place_at w) t p2) t (ap (λ q. taken_at q l) (put_here (place_at w) t p2) ∙ untaken_then ∙ sym (ap (keep_from t) untaken))
         (λ u ne. subst (λ q. LetGo t l (place_at w u) q) (sym (put_other (place_at w) t p2 u ne)) (stays t l (place_at w u) (glue.untaken (place_at w u) t l (λ h. nobody u h))))
-        (Out ∷ []) tt (ap (λ q. doing_on q l) (put_here (place_at w) t p2) ∙ does ∙ ap (λ (y : Station). record idle { inside = y.inside }) goes ∙ sym out_doing);
-    needed = (((λ h. let a : ◌≡◌ {A = Option Line} (Some Main) None = sym within ∙ sym (ap (λ (d : Doing). d.inside) did) ∙ h in cc), ap (λ (d : Doing). d.wakes) did, ap (λ (d : Doing). d.sets) did), tt);
+        (Out ∷ []) tt (ap (λ q. role_on q l) (put_here (place_at w) t p2) ∙ does ∙ ap (λ (y : Location). record idle { inside = y.inside }) goes ∙ sym out_role);
+    needed = (((λ h. let a : ◌≡◌ {A = Option Line} (Some Main) None = sym within ∙ sym (ap (λ (d : Role). d.inside) did) ∙ h in cc), ap (λ (d : Role). d.wakes) did, ap (λ (d : Role). d.sets) did), tt);
   }
     where
       nobody : (u : ℕ) → hand_at (place_at w u) l ≡ hand t false → ⊥
-      nobody u h = let a : carried_at (place_at w t) l ≡ Some false = steady.stands.hands.taken t u l false h in let b : carried_at (place_at w t) l ≡ None = ap (λ (y : Station). y.carries) was in
+      nobody u h = let a : carried_at (place_at w t) l ≡ Some false = steady.stands.hands.taken t u l false h in let b : carried_at (place_at w t) l ≡ None = ap (λ (y : Location). y.carries) was in
           let c : ◌≡◌ {A = Option Bool} None (Some false) = sym b ∙ a in cc
 
-      out_doing : (after_acts r (acts t (Out ∷ [])) here).doing t ≡ idle
-      out_doing = ap (λ o. wakened t o (putting here.doing t (leaves (here.doing t)) t)) untaken ∙ put_here here.doing t (leaves (here.doing t)) ∙ ap leaves did
+      out_role : (after_acts r (acts t (Out ∷ [])) here).role t ≡ idle
+      out_role = ap (λ o. wakened t o (putting here.role t (leaves (here.role t)) t)) untaken ∙ put_here here.role t (leaves (here.role t)) ∙ ap leaves did
 
   module _ (fits : FitsItsLock w p2) (alike_m : Alike m (place_at w t) p2) where
     alike : AlikeBeside l (place_at w t) p2
@@ -144,31 +144,31 @@ module _ (w : State) (t l m : ℕ) (at : CondvarPlace) (steady : IsSteady w) (is
     -- it goes into the section
     pub enters_there : (line : key_of l Main < length w.sections) → section_at w (key_of l Main) ≡ None → (there at).inside ≡ None → there_then at told ≡ record (there at) { inside = Some Main }
         → Goes w (put (state_with_sections w (One (key_of l Main)) (Some t)) t p2) l (acts t (In Main ∷ []))
-    enters_there line free out goes = acting.enter_goes w t l steady is_there r refl p2 alike fits Main line free (ap (λ (y : Station). y.inside) was ∙ out) (in_steps free out goes)
-        (then_is ∙ goes ∙ sym (ap (λ (y : Station). record y { inside = Some Main }) was))
+    enters_there line free out goes = acting.enter_goes w t l steady is_there r refl p2 alike fits Main line free (ap (λ (y : Location). y.inside) was ∙ out) (in_steps free out goes)
+        (then_is ∙ goes ∙ sym (ap (λ (y : Location). record y { inside = Some Main }) was))
 
     -- and out of it, where it has nobody in hand there
     pub leaves_there : (line : key_of l Main < length w.sections) → (there at).inside ≡ Some Main → there_then at told ≡ record (there at) { inside = None }
         → Goes w (put (state_with_sections w (One (key_of l Main)) None) t p2) l (acts t (Out ∷ []))
-    leaves_there line within goes = acting.leave_goes w t l steady is_there r refl p2 alike fits Main line (ap (λ (y : Station). y.inside) was ∙ within) (Out ∷ []) (λ h. tt) (out_steps within goes)
-        (then_is ∙ goes ∙ sym (ap (λ (y : Station). record y { inside = None }) was))
+    leaves_there line within goes = acting.leave_goes w t l steady is_there r refl p2 alike fits Main line (ap (λ (y : Location). y.inside) was ∙ within) (Out ∷ []) (λ h. tt) (out_steps within goes)
+        (then_is ∙ goes ∙ sym (ap (λ (y : Location). record y { inside = None }) was))
 
     -- it stands in no line of another lock
-    module _ (out_m : (station_at (place_at w t) m).stands ≡ None) where
-      out : (k : ℕ) → k ≢ l → (station_at (place_at w t) k).stands ≡ None
+    module _ (out_m : (location_at (place_at w t) m).stands ≡ None) where
+      out : (k : ℕ) → k ≢ l → (location_at (place_at w t) k).stands ≡ None
       out k ne = elim (cases_eq k m) [
-        | inl e ↦ subst (λ j. (station_at (place_at w t) j).stands ≡ None) (sym e) out_m
-        | inr nm ↦ ap (λ q. (station_at q k).stands) is ∙ ap (λ (y : Station). y.stands) (nothing_there l m apart (next.At at) of k ne nm)
+        | inl e ↦ subst (λ j. (location_at (place_at w t) j).stands ≡ None) (sym e) out_m
+        | inr nm ↦ ap (λ q. (location_at q k).stands) is ∙ ap (λ (y : Location). y.stands) (nothing_there l m apart (next.At at) of k ne nm)
       ]
 
       -- it stands behind the last of the list
       pub stands_there : (line : key_of l Main < length w.queues) → there at ≡ inside_of Main → there_then at told ≡ record (inside_of Main) { stands = Some Main; waits = Some WaitHere }
           → Goes w (put (record w { queues = queues_with_last w.queues (key_of l Main) t WaitHere }) t p2) l
           (acts t (Case (Park WaitHere) ∷ []))
-      stands_there line was_in goes = acting.park_goes w t l steady is_there r refl p2 alike fits out Main WaitHere (Case (Park WaitHere) ∷ []) (λ h. plain h) line (ap (λ (y : Station). y.stands) (was ∙ was_in))
-          (parks r l (parts_at w l) (place_at w) t p2 site (untaken ∙ sym untaken_then) (key_of l Main) WaitHere (((blocked, alone), (ap (λ (d : Doing). d.inside) did ∙ ap (λ (y : Station). y.inside) was_in, parked, ap (λ (d : Doing). d.wakes) did, ap (λ (d : Doing). d.covers) did)), tt)
-          (does ∙ ap (λ (y : Station). record idle { inside = y.inside }) goes ∙ sym (ap (λ (d : Doing). record d { retries = None; empty = None }) (did ∙ ap (λ (y : Station). record idle { inside = y.inside }) was_in))))
-          (then_is ∙ goes ∙ sym (ap (λ (y : Station). record y { stands = Some Main; waits = Some WaitHere }) (was ∙ was_in)))
+      stands_there line was_in goes = acting.park_goes w t l steady is_there r refl p2 alike fits out Main WaitHere (Case (Park WaitHere) ∷ []) (λ h. plain h) line (ap (λ (y : Location). y.stands) (was ∙ was_in))
+          (parks r l (parts_at w l) (place_at w) t p2 site (untaken ∙ sym untaken_then) (key_of l Main) WaitHere (((blocked, alone), (ap (λ (d : Role). d.inside) did ∙ ap (λ (y : Location). y.inside) was_in, parked, ap (λ (d : Role). d.wakes) did, ap (λ (d : Role). d.covers) did)), tt)
+          (does ∙ ap (λ (y : Location). record idle { inside = y.inside }) goes ∙ sym (ap (λ (d : Role). record d { retries = None; empty = None }) (did ∙ ap (λ (y : Location). record idle { inside = y.inside }) was_in))))
+          (then_is ∙ goes ∙ sym (ap (λ (y : Location). record y { stands = Some Main; waits = Some WaitHere }) (was ∙ was_in)))
         where
           parked : here.parked ≡ true
           parked = ap (λ x. parked_in x (word_at w l)) sort
@@ -177,7 +177,7 @@ module _ (w : State) (t l m : ℕ) (at : CondvarPlace) (steady : IsSteady w) (is
           blocked = (subst (λ x. Knows x WaitHere) (sym sort) tt, λ free. let e : IsFreeAt locks.Condvar r.limit here.lock WaitHere = subst (λ x. IsFreeAt x r.limit here.lock WaitHere) sort free in e)
 
           stood : (n : Line) → times t (queue_at w (key_of l n)) ≡ 0
-          stood n = steady.stands.lines t l n ∙ ap (λ (y : Station). stood_in y.stands n) (was ∙ was_in)
+          stood n = steady.stands.lines t l n ∙ ap (λ (y : Location). stood_in y.stands n) (was ∙ was_in)
 
           alone : standing t here.lock ≡ 0
           alone = let main : locks.times t (map queued_of (queue_at w (2 * l))) ≡ 0 = queued_times t (queue_at w (2 * l)) ∙ stood Main in
@@ -188,13 +188,13 @@ module _ (w : State) (t l m : ℕ) (at : CondvarPlace) (steady : IsSteady w) (is
       -- its time is up, and it leaves the list
       pub leaves_list : there at ≡ record (inside_of Main) { stands = Some Main; waits = Some WaitHere } → there_then at told ≡ inside_of Main
           → Goes w (put (record w { queues = queues_without w.queues t }) t p2) l (acts t (LeaveLine ∷ []))
-      leaves_list was_in goes = acting.remove_goes w t l steady is_there r refl p2 alike fits out Main (LeaveLine ∷ []) (λ h. tt) (ap (λ (y : Station). y.stands) (was ∙ was_in))
-          (steps_by r l (parts_at w l) (with_line (parts_at w l) Main (without t (queue_at w (key_of l Main)))) (place_at w) t p2 (LeaveLine ∷ []) ((sort, listed, (subst (λ o. StandsIn here.lock t o) (sym (ap (λ (d : Doing). d.inside) did ∙ ap (λ (y : Station). y.inside) was_in)) not_second, ap (λ (d : Doing). d.carries) did)), tt) (tt, tt) (untaken ∙ sym untaken_then)
-          (λ i. record here.lock { queue = queued_without t (queue_at w (2 * l)) i; aside = still_aside i }) refl refl refl (does ∙ ap (λ (y : Station). record idle { inside = y.inside }) goes ∙ sym (did ∙ ap (λ (y : Station). record idle { inside = y.inside }) was_in)))
-          (then_is ∙ goes ∙ sym (ap (λ (y : Station). record y { stands = None; waits = None }) (was ∙ was_in)))
+      leaves_list was_in goes = acting.remove_goes w t l steady is_there r refl p2 alike fits out Main (LeaveLine ∷ []) (λ h. tt) (ap (λ (y : Location). y.stands) (was ∙ was_in))
+          (steps_by r l (parts_at w l) (with_line (parts_at w l) Main (without t (queue_at w (key_of l Main)))) (place_at w) t p2 (LeaveLine ∷ []) ((sort, listed, (subst (λ o. StandsIn here.lock t o) (sym (ap (λ (d : Role). d.inside) did ∙ ap (λ (y : Location). y.inside) was_in)) not_second, ap (λ (d : Role). d.carries) did)), tt) (tt, tt) (untaken ∙ sym untaken_then)
+          (λ i. record here.lock { queue = queued_without t (queue_at w (2 * l)) i; aside = still_aside i }) refl refl refl (does ∙ ap (λ (y : Location). record idle { inside = y.inside }) goes ∙ sym (did ∙ ap (λ (y : Location). record idle { inside = y.inside }) was_in)))
+          (then_is ∙ goes ∙ sym (ap (λ (y : Location). record y { stands = None; waits = None }) (was ∙ was_in)))
         where
           stood : (n : Line) → times t (queue_at w (key_of l n)) ≡ stood_in (Some Main) n
-          stood n = steady.stands.lines t l n ∙ ap (λ (y : Station). stood_in y.stands n) (was ∙ was_in)
+          stood n = steady.stands.lines t l n ∙ ap (λ (y : Location). stood_in y.stands n) (was ∙ was_in)
 
           no_first : locks.is_thread t (first_of (queue_at w (2 * l + 1))) ≡ 0
           no_first = first_out t (queue_at w (2 * l + 1)) (stood Second)
@@ -211,12 +211,12 @@ module _ (w : State) (t l m : ℕ) (at : CondvarPlace) (steady : IsSteady w) (is
 
     -- ---------------------------------------------------------------- a step on the word
 
-    -- what is shown behind it
+    -- tells what is shown behind it
     module _ (shown : Option ℕ) (op : Op) (lt : l < length w.locks) (ds : List Deed)
         (owners : condvar_owners at t (word_at w l) (owners_at w l) ≡ record (owners_at w l) { shown = shown })
         (coded : apply op (word_at w l) ≡ word_of shown) (stays_in : there_then at told ≡ there at)
         (needed : ActsNeeded r (acts t ds) here) (single : AreSingle ds) (led : (after_acts r (acts t ds) here).lock ≡ record here.lock { shown = shown }) (bits : (after_acts r (acts t ds) here).parked ≡ here.parked) (bits_aside : (after_acts r (acts t ds) here).aside_parked ≡ here.aside_parked)
-        (doing : (after_acts r (acts t ds) here).doing t ≡ here.doing t) (plain_deeds : NoHandOff ds) where
+        (role : (after_acts r (acts t ds) here).role t ≡ here.role t) (plain_deeds : NoHandOff ds) where
       abbrev before : Place
       before = Condvar l at
 
@@ -231,7 +231,7 @@ module _ (w : State) (t l m : ℕ) (at : CondvarPlace) (steady : IsSteady w) (is
           (ap (λ x. parked_in x (apply op (word_at w l))) sort ∙ sym (ap (λ x. parked_in x (word_at w l)) sort) ∙ sym bits)
           (ap (λ x. aside_in x (apply op (word_at w l))) sort ∙ sym (ap (λ x. aside_in x (word_at w l)) sort) ∙ sym bits_aside)
           filled_then
-          (does ∙ ap (λ (y : Station). record idle { inside = y.inside }) stays_in ∙ sym did ∙ sym doing)
+          (does ∙ ap (λ (y : Location). record idle { inside = y.inside }) stays_in ∙ sym did ∙ sym role)
 
       shows : (o : Option ℕ) → word_of o ≡ shown_code o
       shows None = refl
@@ -273,7 +273,7 @@ module _ (w : State) (t l m : ℕ) (at : CondvarPlace) (steady : IsSteady w) (is
         by_deeds (condvars.SeeOther k ∷ []) h n o e = works_by c.shown op lt [] o e stays_in tt tt refl refl refl refl tt
         by_deeds (condvars.SeeAgain k ∷ []) h n o e = works_by c.shown op lt [] o e stays_in tt tt refl refl refl refl tt
         by_deeds (condvars.MissIt k ∷ []) h n o e = works_by c.shown op lt [] o e stays_in tt tt refl refl refl refl tt
-        by_deeds (condvars.Show k ∷ []) h n o e = works_by (Some k) op lt (Case (OfCondvar (locks.Show k)) ∷ []) o e stays_in (((sort, n.0.2), tt), tt) (tt, tt) refl refl refl (put_here here.doing t (here.doing t)) ((λ f. f), tt)
-        by_deeds (condvars.Hide ∷ []) h n o e = works_by None op lt (Case (OfCondvar locks.Hide) ∷ []) o e stays_in (((sort, tt), tt), tt) (tt, tt) refl refl refl (put_here here.doing t (here.doing t)) ((λ f. f), tt)
-        by_deeds (condvars.Clear ∷ []) h n o e = works_by None op lt (Case (OfCondvar locks.Hide) ∷ []) o e stays_in (((sort, tt), tt), tt) (tt, tt) refl refl refl (put_here here.doing t (here.doing t)) ((λ f. f), tt)
+        by_deeds (condvars.Show k ∷ []) h n o e = works_by (Some k) op lt (Case (OfCondvar (locks.Show k)) ∷ []) o e stays_in (((sort, n.0.2), tt), tt) (tt, tt) refl refl refl (put_here here.role t (here.role t)) ((λ f. f), tt)
+        by_deeds (condvars.Hide ∷ []) h n o e = works_by None op lt (Case (OfCondvar locks.Hide) ∷ []) o e stays_in (((sort, tt), tt), tt) (tt, tt) refl refl refl (put_here here.role t (here.role t)) ((λ f. f), tt)
+        by_deeds (condvars.Clear ∷ []) h n o e = works_by None op lt (Case (OfCondvar locks.Hide) ∷ []) o e stays_in (((sort, tt), tt), tt) (tt, tt) refl refl refl (put_here here.role t (here.role t)) ((λ f. f), tt)
         by_deeds ds h n o e = absurd h

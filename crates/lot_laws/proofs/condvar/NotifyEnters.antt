@@ -5,7 +5,7 @@ use Rattle.core_base.specs.declared.keys.Keys.TheVariants.{Two}
 use Rattle.steps_base.specs.declared.acts.Next.{Next}
 use Rattle.steps_base.specs.declared.acts.Next.TheVariants.{At, End as Over}
 use Rattle.steps_base.specs.declared.acts.Reply.TheVariants.{Done}
-use Rattle.steps_base.specs.Stations.{Station, station_by}
+use Rattle.steps_base.specs.Locations.{Location, location_by}
 use Rattle.lot_steps.specs.declared.places.Place.{Place}
 use Rattle.lot_steps.specs.declared.places.Place.TheVariants.{Condvar, Idle}
 use Rattle.lot_steps.specs.Steps.{condvar_goes}
@@ -24,14 +24,14 @@ use Rattle.spec_locks.specs.Sites.{End, In, Main, Out, Site, has_readers}
 use Rattle.lot_machine.specs.Machine.{State, can_do, place_at, put, queue_at, section_at, state_with_sections}
 use Rattle.lot_laws.specs.MutexDeeds.{acts}
 use Rattle.lot_laws.specs.Refinement.{taken_at}
-use Rattle.lot_laws.specs.Stations.{doing_on, station_at}
-use Rattle.lot_laws.specs.SitesOf.{FitsItsLock, GoesAll, IsSteady, condvar_of, key_of, rules_in, site_of, stations_of, carried_at, hand_at}
+use Rattle.lot_laws.specs.Locations.{role_on, location_at}
+use Rattle.lot_laws.specs.SitesOf.{FitsItsLock, GoesAll, IsInductive, condvar_of, key_of, rules_in, site_of, locations_of, carried_at, hand_at}
 use Rattle.lot_laws.proofs.machine.Parts.{parts_at, put_here, put_other, LetGo, stays, untaken}
 use Rattle.lot_laws.proofs.sites.OneStep.{Steps, steps_by}
 use Rattle.lot_laws.proofs.sites.StandsKept.{Alike, other_key, both}
 use Rattle.lot_laws.proofs.sites.StandsMoved.{stands_put, there_in}
 use Rattle.lot_laws.proofs.sites.TwoLocks.{goes_in_two, goes_out_two, places_put, two_at, two_follow}
-use Rattle.lot_laws.proofs.condvar.TwoParts.{Beside, doing_beside, nothing_else, station_beside, taken_beside}
+use Rattle.lot_laws.proofs.condvar.TwoParts.{Beside, role_beside, nothing_else, location_beside, taken_beside}
 use Rattle.lot_laws.proofs.condvar.Replies as hears
 use Rattle.lot_laws.proofs.condvar.Replies.{notifier_hears, none_so}
 use Rattle.lot_laws.proofs.condvar.MutexUntouched.{in_steps, out_steps, then_is, was}
@@ -41,7 +41,7 @@ use Rattle.lot_laws.proofs.sites.LawsKept.{after_same, needed_same}
 use Rattle.lot_laws.proofs.sites.WakesAt.{leaving_by}
 use Rattle.steps_base.specs.Profiles.{hand}
 
-module _ (w : State) (t l m : ℕ) (all : Bool) (steady : IsSteady w) (is_there : t < length w.places) (apart : m ≢ l)
+module _ (w : State) (t l m : ℕ) (all : Bool) (steady : IsInductive w) (is_there : t < length w.places) (apart : m ≢ l)
     (sort_l : (rules_in w l).sort ≡ locks.Condvar) (sort_m : (rules_in w m).sort ≡ locks.Mutex)
     (kept : IsCondvar (condvar_of w l)) (aside : WaitsAside (condvar_of w l) (site_of w m) m)
     (section_l : key_of l Main < length w.sections) (section_m : key_of m Main < length w.sections) where
@@ -79,20 +79,20 @@ module _ (w : State) (t l m : ℕ) (all : Bool) (steady : IsSteady w) (is_there 
     else_alike k nl nm = subst (λ q. Alike k q p2) (sym is) (nothing_else l m apart (At (notifies at)) n refl beside k nl nm)
 
     still : (u k : ℕ) → (u ≡ t → k ≡ l → ⊥) → (u ≡ t → k ≡ m → ⊥)
-        → stations_of (putting (place_at w) t p2) u k ≡ stations_of (place_at w) u k
+        → locations_of (putting (place_at w) t p2) u k ≡ locations_of (place_at w) u k
     still u k nl nm = elim (cases_eq u t) [
-      | inl e ↦ rw (e, put_here (place_at w) t p2) (else_alike k (nl e) (nm e)).station
-      | inr nu ↦ ap (λ q. station_at q k) (put_other (place_at w) t p2 u nu)
+      | inl e ↦ rw (e, put_here (place_at w) t p2) (else_alike k (nl e) (nm e)).location
+      | inr nu ↦ ap (λ q. location_at q k) (put_other (place_at w) t p2 u nu)
     ]
 
-    station_m : station_at (place_at w t) m ≡ station_by (row_beside (At (notifies at)))
-    station_m = ap (λ q. station_at q m) is ∙ station_beside l m apart (At (notifies at)) refl
+    location_m : location_at (place_at w t) m ≡ location_by (row_beside (At (notifies at)))
+    location_m = ap (λ q. location_at q m) is ∙ location_beside l m apart (At (notifies at)) refl
 
     taken_m : taken_at (place_at w t) m ≡ taken_at (Condvar l (notifies at)) m
     taken_m = ap (λ q. taken_at q m) is
 
-    then_m : station_at p2 m ≡ station_by (row_beside n)
-    then_m = station_beside l m apart n beside
+    then_m : location_at p2 m ≡ location_by (row_beside n)
+    then_m = location_beside l m apart n beside
 
   -- ---------------------------------------------------------------- into both
 
@@ -107,11 +107,11 @@ module _ (w : State) (t l m : ℕ) (all : Bool) (steady : IsSteady w) (is_there 
     free_m = none_so (section_at w (2 * m)) (both (is_none (section_at w (2 * l))) (is_none (section_at w (2 * m))) can).1
 
     in_follows : FollowsBeside (rules_in w m) (site_of w m) (condvar_of w l) t m all notify.Enter Done
-    in_follows = notifiers_follow (rules_in w m) (site_of w m) (condvar_of w l) t m all notify.Enter Done sort_m (hears.doing_beside w t l (notifies notify.Enter) steady is m refl) (notifier_hears w t l m all notify.Enter steady kept aside is can)
+    in_follows = notifiers_follow (rules_in w m) (site_of w m) (condvar_of w l) t m all notify.Enter Done sort_m (hears.role_beside w t l (notifies notify.Enter) steady is m refl) (notifier_hears w t l m all notify.Enter steady kept aside is can)
 
     in_m : Steps (rules_in w m) m (parts_at w m) (parts_at w m) (place_at w) t (Condvar l (notifies notify.Again)) (In Main ∷ [])
     in_m = steps_by (rules_in w m) m (parts_at w m) (parts_at w m) (place_at w) t (Condvar l (notifies notify.Again)) (In Main ∷ []) (in_follows.needed.0, tt) (tt, tt)
-        (taken_m notify.Enter is again refl ∙ taken_beside l m apart (At (notifies notify.Enter)) refl ∙ sym (taken_beside l m apart again refl)) refl refl refl refl (doing_beside l m apart again refl ∙ sym in_follows.doing)
+        (taken_m notify.Enter is again refl ∙ taken_beside l m apart (At (notifies notify.Enter)) refl ∙ sym (taken_beside l m apart again refl)) refl refl refl refl (role_beside l m apart again refl ∙ sym in_follows.role)
 
     in_l : Steps (rules_in w l) l (parts_at w l) (parts_at w l) (place_at w) t (Condvar l (notifies notify.Again)) (In Main ∷ [])
     in_l = in_steps w t l m (notifies notify.Enter) steady is_there apart sort_l is refl Done refl free_l refl refl
@@ -122,10 +122,10 @@ module _ (w : State) (t l m : ℕ) (all : Bool) (steady : IsSteady w) (is_there 
     goes_into_both fits = record {
       follows = two_follow w v steady t is_there there_then l m apart (else_alike notify.Enter is again refl) refl refl refl refl unshared_l unshared_m (In Main ∷ []) (In Main ∷ []) in_l in_m;
       stands = stands_put w v steady.stands (λ k. refl) t there_then fits (places_put w v steady t is_there there_then l m apart (else_alike notify.Enter is again refl) refl refl refl refl unshared_l unshared_m (In Main ∷ []) (In Main ∷ []) in_l in_m)
-          (goes_in_two (stations_of (place_at w)) (stations_of (putting (place_at w) t there_then)) (section_at w) (queue_at w) (there_in w steady.stands) t l m apart (still notify.Enter is again refl) (section_at v) (elsewhere (Some t)) free_l free_m (held_l (Some t)) (held_m (Some t))
-          (ap (λ (y : Station). y.inside) (was w t l m (notifies notify.Enter) steady is_there apart sort_l is refl Done refl)) (ap (λ (y : Station). y.inside) (station_m notify.Enter is again refl))
-          (ap (λ q. station_at q l) (put_here (place_at w) t there_then) ∙ then_is w t l m (notifies notify.Enter) steady is_there apart sort_l is refl Done refl ∙ sym (ap (λ (y : Station). record y { inside = Some Main }) (was w t l m (notifies notify.Enter) steady is_there apart sort_l is refl Done refl)))
-          (ap (λ q. station_at q m) (put_here (place_at w) t there_then) ∙ then_m notify.Enter is again refl ∙ sym (ap (λ (y : Station). record y { inside = Some Main }) (station_m notify.Enter is again refl))));
+          (goes_in_two (locations_of (place_at w)) (locations_of (putting (place_at w) t there_then)) (section_at w) (queue_at w) (there_in w steady.stands) t l m apart (still notify.Enter is again refl) (section_at v) (elsewhere (Some t)) free_l free_m (held_l (Some t)) (held_m (Some t))
+          (ap (λ (y : Location). y.inside) (was w t l m (notifies notify.Enter) steady is_there apart sort_l is refl Done refl)) (ap (λ (y : Location). y.inside) (location_m notify.Enter is again refl))
+          (ap (λ q. location_at q l) (put_here (place_at w) t there_then) ∙ then_is w t l m (notifies notify.Enter) steady is_there apart sort_l is refl Done refl ∙ sym (ap (λ (y : Location). record y { inside = Some Main }) (was w t l m (notifies notify.Enter) steady is_there apart sort_l is refl Done refl)))
+          (ap (λ q. location_at q m) (put_here (place_at w) t there_then) ∙ then_m notify.Enter is again refl ∙ sym (ap (λ (y : Location). record y { inside = Some Main }) (location_m notify.Enter is again refl))));
     }
       where
         there_then : Place
@@ -137,7 +137,7 @@ module _ (w : State) (t l m : ℕ) (all : Bool) (steady : IsSteady w) (is_there 
   -- ---------------------------------------------------------------- and out of them
 
   -- it is inside the section of the mutex, whomever it has moved
-  pub inside_leave : (any : Bool) (number : ℕ) → (notify_row all m (notify.Leave any number)).doing.inside ≡ Some Main
+  pub inside_leave : (any : Bool) (number : ℕ) → (notify_row all m (notify.Leave any number)).role.inside ≡ Some Main
   inside_leave any number = by_number (number == 0)
     where
       by_number : (b : Bool) → (if b then inside else has_moved any false).inside ≡ Some Main
@@ -152,7 +152,7 @@ module _ (w : State) (t l m : ℕ) (all : Bool) (steady : IsSteady w) (is_there 
     over = Over (notified all number)
 
     out_follows : FollowsBeside (rules_in w m) (site_of w m) (condvar_of w l) t m all leaves_at Done
-    out_follows = notifiers_follow (rules_in w m) (site_of w m) (condvar_of w l) t m all leaves_at Done sort_m (hears.doing_beside w t l (notifies leaves_at) steady is m refl) (notifier_hears w t l m all leaves_at steady kept aside is refl)
+    out_follows = notifiers_follow (rules_in w m) (site_of w m) (condvar_of w l) t m all leaves_at Done sort_m (hears.role_beside w t l (notifies leaves_at) steady is m refl) (notifier_hears w t l m all leaves_at steady kept aside is refl)
 
     out_l : Steps (rules_in w l) l (parts_at w l) (parts_at w l) (place_at w) t Idle (Out ∷ [])
     out_l = out_steps w t l m (notifies leaves_at) steady is_there apart sort_l is refl Done tt refl refl
@@ -161,14 +161,14 @@ module _ (w : State) (t l m : ℕ) (all : Bool) (steady : IsSteady w) (is_there 
     untaken_m = taken_m leaves_at is over tt ∙ taken_beside l m apart (At (notifies leaves_at)) refl
 
     nobody : (u : ℕ) → hand_at (place_at w u) m ≡ hand t false → ⊥
-    nobody u h = let a : carried_at (place_at w t) m ≡ Some false = steady.stands.hands.taken t u m false h in let b : carried_at (place_at w t) m ≡ None = ap (λ (y : Station). y.carries) (station_m leaves_at is over tt) in
+    nobody u h = let a : carried_at (place_at w t) m ≡ Some false = steady.stands.hands.taken t u m false h in let b : carried_at (place_at w t) m ≡ None = ap (λ (y : Location). y.carries) (location_m leaves_at is over tt) in
         let c : ◌≡◌ {A = Option Bool} None (Some false) = sym b ∙ a in cc
 
     out_m : Steps (rules_in w m) m (parts_at w m) (parts_at w m) (place_at w) t Idle (Out ∷ End ∷ [])
     out_m = record {
       site = leaving_by (rules_in w m) m (parts_at w m) (place_at w) (putting (place_at w) t Idle) t (ap (λ q. taken_at q m) (put_here (place_at w) t Idle) ∙ sym (ap (keep_from t) untaken_m))
           (λ u ne. subst (λ q. LetGo t m (place_at w u) q) (sym (put_other (place_at w) t Idle u ne)) (stays t m (place_at w u) (untaken (place_at w u) t m (nobody u))))
-          (Out ∷ End ∷ []) tt (ap (λ q. doing_on q m) (put_here (place_at w) t Idle) ∙ sym out_follows.doing ∙ sym (ap (λ (y : Site). y.doing t) (after_same (rules_in w m) (Out ∷ End ∷ []) (site_of w m) t)));
+          (Out ∷ End ∷ []) tt (ap (λ q. role_on q m) (put_here (place_at w) t Idle) ∙ sym out_follows.role ∙ sym (ap (λ (y : Site). y.role t) (after_same (rules_in w m) (Out ∷ End ∷ []) (site_of w m) t)));
       needed = needed_same (rules_in w m) (Out ∷ End ∷ []) (site_of w m) t out_follows.needed;
     }
 
@@ -176,10 +176,10 @@ module _ (w : State) (t l m : ℕ) (all : Bool) (steady : IsSteady w) (is_there 
     goes_out_of_both = record {
       follows = two_follow w v steady t is_there Idle l m apart (else_alike leaves_at is over tt) refl refl refl refl unshared_l unshared_m (Out ∷ []) (Out ∷ End ∷ []) out_l out_m;
       stands = stands_put w v steady.stands (λ k. refl) t Idle tt (places_put w v steady t is_there Idle l m apart (else_alike leaves_at is over tt) refl refl refl refl unshared_l unshared_m (Out ∷ []) (Out ∷ End ∷ []) out_l out_m)
-          (goes_out_two (stations_of (place_at w)) (stations_of (putting (place_at w) t Idle)) (section_at w) (queue_at w) (there_in w steady.stands) t l m apart (still leaves_at is over tt) (section_at v) (elsewhere None) (held_l None) (held_m None)
-          (ap (λ (y : Station). y.inside) (was w t l m (notifies leaves_at) steady is_there apart sort_l is refl Done tt)) (ap (λ (y : Station). y.inside) (station_m leaves_at is over tt) ∙ inside_leave false number)
-          (ap (λ q. station_at q l) (put_here (place_at w) t Idle) ∙ then_is w t l m (notifies leaves_at) steady is_there apart sort_l is refl Done tt ∙ sym (ap (λ (y : Station). record y { inside = None }) (was w t l m (notifies leaves_at) steady is_there apart sort_l is refl Done tt)))
-          (ap (λ q. station_at q m) (put_here (place_at w) t Idle) ∙ then_m leaves_at is over tt ∙ sym (ap (λ (y : Station). record y { inside = None }) (station_m leaves_at is over tt))));
+          (goes_out_two (locations_of (place_at w)) (locations_of (putting (place_at w) t Idle)) (section_at w) (queue_at w) (there_in w steady.stands) t l m apart (still leaves_at is over tt) (section_at v) (elsewhere None) (held_l None) (held_m None)
+          (ap (λ (y : Location). y.inside) (was w t l m (notifies leaves_at) steady is_there apart sort_l is refl Done tt)) (ap (λ (y : Location). y.inside) (location_m leaves_at is over tt) ∙ inside_leave false number)
+          (ap (λ q. location_at q l) (put_here (place_at w) t Idle) ∙ then_is w t l m (notifies leaves_at) steady is_there apart sort_l is refl Done tt ∙ sym (ap (λ (y : Location). record y { inside = None }) (was w t l m (notifies leaves_at) steady is_there apart sort_l is refl Done tt)))
+          (ap (λ q. location_at q m) (put_here (place_at w) t Idle) ∙ then_m leaves_at is over tt ∙ sym (ap (λ (y : Location). record y { inside = None }) (location_m leaves_at is over tt))));
     }
       where
         v : State

@@ -7,7 +7,7 @@ use Rattle.std.proofs.lemmas.Bool.Decides.{nat_tests}
 use Rattle.spec_locks.specs.declared.outcomes.Outcome as outcome
 use Rattle.steps_base.specs.Acts.{outcome_of}
 use Rattle.steps_base.specs.Calls.{rights_where}
-use Rattle.steps_base.specs.Stations.{Station}
+use Rattle.steps_base.specs.Locations.{Location}
 use Rattle.steps_base.specs.Profiles.{blank, in_hand}
 use Rattle.steps_base.specs.declared.acts.Next.{Next}
 use Rattle.steps_base.specs.declared.acts.Next.TheVariants as next
@@ -41,11 +41,11 @@ use Rattle.lot_laws.specs.MutexPromises.{IsMutexWord}
 use Rattle.lot_laws.specs.MutexDeeds.{acts}
 use Rattle.lot_laws.specs.MutexDeeds as deeds
 use Rattle.lot_laws.specs.Refinement.{call_at, call_state, lock_state, locks_of, taken_at}
-use Rattle.lot_laws.specs.SitesOf.{FollowAll, IsSteady, condvar_of, rules_in, site_of}
+use Rattle.lot_laws.specs.SitesOf.{FollowAll, IsInductive, condvar_of, rules_in, site_of}
 use Rattle.lot_laws.proofs.machine.AtPlaces.{coded, in_no_hand, taken_nobody}
 use Rattle.lot_laws.proofs.calls.Events.{Happens, happens_sending, OthersFollow, deeds_by, put_is, rights}
 use Rattle.lot_laws.proofs.condvar.StepEvents.{call_named, Led, NamesStill, ToldSo, begins_two, call_led, condvar_goes_on, happens_two, led_by, locks_led, may_go, no_closure, others, unwoken}
-use Rattle.lot_laws.proofs.condvar.Replies.{apart, at_it, doing_beside, fits_here, fits_move, number_of, may_hear, notifier_hears, rules_beside, station_beside}
+use Rattle.lot_laws.proofs.condvar.Replies.{apart, at_it, role_beside, fits_here, fits_move, number_of, may_hear, notifier_hears, rules_beside, location_beside}
 use Rattle.lot_laws.proofs.condvar.MutexUntouched.{there_deeds}
 use Rattle.lot_laws.proofs.machine.Parts.{plain_rules, same}
 use Rattle.lot_laws.proofs.condvar.Promises.{unlisted}
@@ -82,7 +82,7 @@ locked_by v None (inr e) = ap is_locked e
 locked_by v (Some u) (inl e) = ap is_locked e
 locked_by v (Some u) (inr e) = ap is_locked e
 
-module _ (w v : State) (t l m : ℕ) (all : Bool) (p : NotifyAt) (steady : IsSteady w) (after : IsSteady v)
+module _ (w v : State) (t l m : ℕ) (all : Bool) (p : NotifyAt) (steady : IsInductive w) (after : IsInductive v)
     (is : place_at w t ≡ Condvar l (Notify all m p)) (done : ℕ → List deeds.Act) (f : FollowAll w v done)
     (elsewhere : (k : ℕ) → k ≢ l → k ≢ m → done k ≡ []) where
   apart_m : m ≢ l
@@ -104,7 +104,7 @@ module _ (w v : State) (t l m : ℕ) (all : Bool) (p : NotifyAt) (steady : IsSte
   nobody_there = taken_nobody w steady t l (rw (is, same l) refl)
 
   nobody_beside : notify_carries p ≢ Some false → HasTakenNobody (lock_state w m) t
-  nobody_beside none = in_no_hand w steady t m (λ h. none (sym (ap (λ (y : Station). y.carries) (station_beside w t l (Notify all m p) steady is m refl)) ∙ h))
+  nobody_beside none = in_no_hand w steady t m (λ h. none (sym (ap (λ (y : Location). y.carries) (location_beside w t l (Notify all m p) steady is m refl)) ∙ h))
 
   -- whether somebody owns the mutex
   owned_is : is_locked (word_at w m) ≡ is_some (lock_state w m).exclusive
@@ -202,7 +202,7 @@ one_first (x ∷ q) some = refl
 not_among : (u : ℕ) (all : Bool) (q : List locks.Queued) → locks.times u q ≡ 0 → is_among u (moved_of all q) ≡ false
 not_among u all q none = let few = moved_fewer all u q in grind (arith, nat_tests)
 
-module _ (w : State) (t l m : ℕ) (all : Bool) (p : NotifyAt) (steady : IsSteady w) (condvar_holds : IsCondvar (condvar_of w l))
+module _ (w : State) (t l m : ℕ) (all : Bool) (p : NotifyAt) (steady : IsInductive w) (condvar_holds : IsCondvar (condvar_of w l))
     (aside : WaitsAside (condvar_of w l) (site_of w m) m) (is : place_at w t ≡ Condvar l (Notify all m p)) where
   -- it moves waiters of this mutex, who stand nowhere there
   may_move : (owned : Bool) → p ≡ notify.Move owned → (n : ℕ) → n ≢ 0 → n ≡ length (moved_of all (lock_state w l).queue)
@@ -214,7 +214,7 @@ module _ (w : State) (t l m : ℕ) (all : Bool) (p : NotifyAt) (steady : IsStead
     some = some;
     number = number;
     wait = λ u among. by_waiter u (waits_there w steady l (fits_here w t l (Notify all m p) steady is).sort u (listed u among)) (names u among) (aside u (listed u among) (names u among)).0;
-    free = in_no_hand w steady t m (λ h. let none : ◌≡◌ {A = Option Bool} None (Some false) = sym (ap (λ (y : Station). y.carries) (station_beside w t l (Notify all m p) steady is m refl) ∙ ap notify_carries e) ∙ h in cc);
+    free = in_no_hand w steady t m (λ h. let none : ◌≡◌ {A = Option Bool} None (Some false) = sym (ap (λ (y : Location). y.carries) (location_beside w t l (Notify all m p) steady is m refl) ∙ ap notify_carries e) ∙ h in cc);
   }
     where
       fit : MoveFits (rules_in w m) all owned (condvar_of w l) (site_of w m) t m
@@ -249,7 +249,7 @@ abbrev moved_from : Event → Option ℕ
 moved_from (Moves c k all owned n) = Some c
 moved_from e = None
 
-module _ (w v : State) (t l m : ℕ) (all : Bool) (p : NotifyAt) (steady : IsSteady w) (after : IsSteady v)
+module _ (w v : State) (t l m : ℕ) (all : Bool) (p : NotifyAt) (steady : IsInductive w) (after : IsInductive v)
     (condvar_holds : IsCondvar (condvar_of w l)) (aside : WaitsAside (condvar_of w l) (site_of w m) m)
     (is : place_at w t ≡ Condvar l (Notify all m p))
     (can : can_do w (notify_act all l m p) ≡ true) (done : ℕ → List deeds.Act) (f : FollowAll w v done) (elsewhere : (k : ℕ) → k ≢ l → k ≢ m → done k ≡ []) (at_l : done l ≡ acts t (there_deeds (notify_deeds all m p (reply_to w t (notify_act all l m p)))))
@@ -290,7 +290,7 @@ module _ (w v : State) (t l m : ℕ) (all : Bool) (p : NotifyAt) (steady : IsSte
 
   follows : CallFollows l m (Notify all m p) told event shown_then (lock_state w m) behind t (condvar_next (Notify all m p) told)
   follows = notifies_tell (condvar_of w l) (rules_in w m) (site_of w m) t l m all p told (rules_beside w t l (Notify all m p) steady is m refl) condvar_holds (at_it w t l (Notify all m p) steady is)
-      (doing_beside w t l (Notify all m p) steady is m refl) (may_hear w t l (Notify all m p) steady is can) (notifier_hears w t l m all p steady condvar_holds aside is can) reached
+      (role_beside w t l (Notify all m p) steady is m refl) (may_hear w t l (Notify all m p) steady is can) (notifier_hears w t l m all p steady condvar_holds aside is can) reached
 
   -- a move is one that it may do
   move_may : (b owned : Bool) → all ≡ b → p ≡ notify.Move owned

@@ -18,7 +18,7 @@ use Rattle.spec_locks.specs.Sites.{Deed, Main, Send}
 use Rattle.lot_machine.specs.Machine.{State, can_do, place_at, put, reply_to, state_after_act}
 use Rattle.lot_laws.specs.MutexDeeds.{acts}
 use Rattle.lot_laws.specs.MutexDeeds as deeds
-use Rattle.lot_laws.specs.SitesOf.{FitsItsLock, Goes, GoesAll, IsSteady, condvar_of, key_of, rules_in, site_of}
+use Rattle.lot_laws.specs.SitesOf.{FitsItsLock, Goes, GoesAll, IsInductive, condvar_of, key_of, rules_in, site_of}
 use Rattle.lot_laws.proofs.machine.Parts as glue
 use Rattle.lot_laws.proofs.sites.TwoLocks.{two_at}
 use Rattle.lot_laws.proofs.condvar.OwnStand.{notifier_still}
@@ -29,7 +29,7 @@ use Rattle.lot_laws.proofs.condvar.NotifyWakes.{goes_out_waking_both}
 use Rattle.lot_laws.proofs.condvar.NotifyWords.{clears, hides, looks_again, marks_it, marks_moved, sets_bit}
 use Rattle.lot_laws.proofs.condvar.WaitKept.{of_one, of_other}
 
--- what it does at its move, at both
+-- tells what it does at its move, at both
 moves_deeds : (w : State) (t l m : ℕ) (all locked : Bool) → ◌≡◌ {A = List Deed × List Deed} (there_deeds (notify_deeds all m (notify.Move locked) (reply_to w t (move_act all locked l m))), beside_deeds all (condvar_of w l).waiters (notify.Move locked) (reply_to w t (move_act all locked l m)))
     (Send all ∷ [], brings all locked (condvar_of w l).waiters)
 moves_deeds w t l m true true = refl
@@ -37,7 +37,7 @@ moves_deeds w t l m true false = refl
 moves_deeds w t l m false true = refl
 moves_deeds w t l m false false = refl
 
-module _ (w : State) (t l m : ℕ) (all : Bool) (steady : IsSteady w) (is_there : t < length w.places) (apart : m ≢ l)
+module _ (w : State) (t l m : ℕ) (all : Bool) (steady : IsInductive w) (is_there : t < length w.places) (apart : m ≢ l)
     (sort_l : (rules_in w l).sort ≡ locks.Condvar) (sort_m : (rules_in w m).sort ≡ locks.Mutex)
     (plain : rules_in w m ≡ glue.mutex) (kept : IsCondvar (condvar_of w l)) (aside : WaitsAside (condvar_of w l) (site_of w m) m)
     (lock_l : l < length w.locks) (lock_m : m < length w.locks) (section_l : key_of l Main < length w.sections) (section_m : key_of m Main < length w.sections) (line_l : key_of l Main < length w.queues) (line_m : key_of m Main < length w.queues) where

@@ -13,7 +13,7 @@ use Rattle.steps_base.specs.declared.acts.Reply.{Reply}
 use Rattle.steps_base.specs.declared.acts.Reply.TheVariants.{MovedTo, TakenBy, Took}
 use Rattle.steps_base.specs.Moves.{inside_of}
 use Rattle.steps_base.specs.Profiles.{in_hand, taken_from}
-use Rattle.steps_base.specs.Stations.{Station}
+use Rattle.steps_base.specs.Locations.{Location}
 use Rattle.lot_steps.specs.declared.places.Place.{Place}
 use Rattle.lot_steps.specs.declared.places.Place.TheVariants.{Condvar, Idle}
 use Rattle.lot_steps.specs.Steps.{condvar_goes, next_place}
@@ -22,7 +22,7 @@ use Rattle.steps_condvar.specs.declared.notify.NotifyAt.TheVariants as notify
 use Rattle.steps_condvar.specs.declared.places.CondvarPlace.{CondvarPlace}
 use Rattle.steps_condvar.specs.declared.places.CondvarPlace.TheVariants.{Notify}
 use Rattle.steps_condvar.specs.CondvarMoves.{MovesWaiters, row_beside, there}
-use Rattle.steps_condvar.specs.CondvarMutex.{FollowsBeside, MayHearBeside, beside_deeds, doing_next}
+use Rattle.steps_condvar.specs.CondvarMutex.{FollowsBeside, MayHearBeside, beside_deeds, role_next}
 use Rattle.steps_condvar.specs.CondvarSteps.{condvar_next, in_notify, move_act, next_notify}
 use Rattle.steps_condvar.proofs.NotifierFit.{notifiers_follow}
 use Rattle.spec_locks.specs.Condvars.{IsCondvar, WaitsAside, in_line, line_of, moved_of, taken_of}
@@ -30,17 +30,17 @@ use Rattle.spec_locks.specs.Deeds as laws
 use Rattle.spec_locks.specs.Locks as locks
 use Rattle.spec_locks.specs.Locks.{putting, Rights}
 use Rattle.spec_locks.specs.Picks.{queued_of}
-use Rattle.spec_locks.specs.Sites.{Bring, Deed, Doing, bringing, Main, Send, has_readers, idle}
+use Rattle.spec_locks.specs.Sites.{Bring, Deed, Role, bringing, Main, Send, has_readers, idle}
 use Rattle.lot_machine.specs.Machine.{State, left_behind, listed, moved_threads, moved_under, place_at, places_told, put, queue_at, state_after_requeue, queues_without_first, state_after_taking, reply_to, state_after_act}
 use Rattle.lot_laws.specs.MutexDeeds.{acts}
 use Rattle.lot_laws.specs.Refinement.{taken_at, call_state}
-use Rattle.lot_laws.specs.Stations.{doing_on, station_at}
-use Rattle.lot_laws.specs.SitesOf.{ActsNeeded, AreWaiting, FitsItsLock, GoesAll, IsSteady, condvar_of, key_of, rules_in, site_of, stations_of, stood_in}
+use Rattle.lot_laws.specs.Locations.{role_on, location_at}
+use Rattle.lot_laws.specs.SitesOf.{ActsNeeded, AreWaiting, FitsItsLock, GoesAll, IsInductive, condvar_of, key_of, rules_in, site_of, locations_of, stood_in}
 use Rattle.lot_laws.proofs.machine.Parts.{put_here, same, put_places, put_other}
 use Rattle.lot_laws.proofs.sites.LawsKept.{needed_same}
 use Rattle.lot_laws.proofs.sites.StandsKept.{Alike, other_key}
 use Rattle.lot_laws.proofs.sites.TwoLocks.{two_at}
-use Rattle.lot_laws.proofs.condvar.TwoParts.{Beside, doing_beside, doing_of_row, doing_there, nothing_else, station_beside, station_there, taken_beside, taken_there}
+use Rattle.lot_laws.proofs.condvar.TwoParts.{Beside, role_beside, role_of_row, role_there, nothing_else, location_beside, location_there, taken_beside, taken_there}
 use Rattle.lot_laws.proofs.condvar.Replies as hears
 use Rattle.lot_laws.proofs.condvar.MovedWaiters.{waits_across, knows_moved, knows_taken}
 use Rattle.lot_laws.proofs.condvar.MovingKept.{moves_kept}
@@ -56,7 +56,7 @@ use Rattle.lot_laws.proofs.sites.OneStep.{queued_times}
 
 -- ---------------------------------------------------------------- the lists
 
--- whom a requeue takes
+-- a thread that a requeue takes
 abbrev gone_by : Requeue → List Waiter → List Waiter
 gone_by requeue.TakeOneMoveRest q = take 1 q
 gone_by how q = []
@@ -91,7 +91,7 @@ all_counted requeue.TakeOneMoveRest (x ∷ q) u = one_more (x.thread == u) (time
     one_more true n = omega arith
     one_more false n = omega arith
 
-left_waits : (at : ℕ → ℕ → Station) (l : ℕ) (how : Requeue) (q : List Waiter) → AreWaiting at l Main q
+left_waits : (at : ℕ → ℕ → Location) (l : ℕ) (how : Requeue) (q : List Waiter) → AreWaiting at l Main q
     → AreWaiting at l Main (left_behind how q)
 left_waits at l requeue.All q h = tt
 left_waits at l requeue.TakeOneMoveRest q h = tt
@@ -135,7 +135,7 @@ is_some n h = grind (arith, nat_tests)
 
 -- ---------------------------------------------------------------- a notification at its move
 
-module _ (w : State) (t l m : ℕ) (all locked : Bool) (steady : IsSteady w) (is_there : t < length w.places) (apart : m ≢ l)
+module _ (w : State) (t l m : ℕ) (all locked : Bool) (steady : IsInductive w) (is_there : t < length w.places) (apart : m ≢ l)
     (sort_l : (rules_in w l).sort ≡ locks.Condvar) (sort_m : (rules_in w m).sort ≡ locks.Mutex)
     (kept : IsCondvar (condvar_of w l))
     (is : place_at w t ≡ Condvar l (Notify all m (notify.Move locked))) where
@@ -152,68 +152,68 @@ module _ (w : State) (t l m : ℕ) (all locked : Bool) (steady : IsSteady w) (is
     abbrev p2 : Place
     p2 = condvar_goes l (condvar_next this told)
 
-    station_l : station_at (place_at w t) l ≡ there this
-    station_l = ap (λ q. station_at q l) is ∙ station_there l m apart (At this) refl
+    location_l : location_at (place_at w t) l ≡ there this
+    location_l = ap (λ q. location_at q l) is ∙ location_there l m apart (At this) refl
 
-    station_m : station_at (place_at w t) m ≡ inside_of Main
-    station_m = ap (λ q. station_at q m) is ∙ station_beside l m apart (At this) refl ∙ x.inside.1
+    location_m : location_at (place_at w t) m ≡ inside_of Main
+    location_m = ap (λ q. location_at q m) is ∙ location_beside l m apart (At this) refl ∙ x.inside.1
 
-    now_l : station_at p2 l ≡ station_at (place_at w t) l
-    now_l = station_there l m apart (condvar_next this told) beside ∙ x.stays ∙ sym station_l
+    now_l : location_at p2 l ≡ location_at (place_at w t) l
+    now_l = location_there l m apart (condvar_next this told) beside ∙ x.stays ∙ sym location_l
 
-    now_m : station_at p2 m ≡ record (station_at (place_at w t) m) { carries = in_hand (not locked) false }
-    now_m = station_beside l m apart (condvar_next this told) beside ∙ x.carries ∙ sym (ap (λ (y : Station). record y { carries = in_hand (not locked) false }) station_m)
+    now_m : location_at p2 m ≡ record (location_at (place_at w t) m) { carries = in_hand (not locked) false }
+    now_m = location_beside l m apart (condvar_next this told) beside ∙ x.carries ∙ sym (ap (λ (y : Location). record y { carries = in_hand (not locked) false }) location_m)
 
     alike_t : (k : ℕ) → k ≢ l → k ≢ m → Alike k (place_at w t) p2
     alike_t k nl nm = subst (λ q. Alike k q p2) (sym is) (nothing_else l m apart (At this) (condvar_next this told) refl beside k nl nm)
 
     -- at the condition variable it does what it did
-    same_l : (doing_on p2 l ≡ doing_on (place_at w t) l) × (taken_at p2 l ≡ taken_at (place_at w t) l)
+    same_l : (role_on p2 l ≡ role_on (place_at w t) l) × (taken_at p2 l ≡ taken_at (place_at w t) l)
     same_l = (
-      doing_there l m apart (condvar_next this told) beside ∙ doing_of_row (condvar_next this told) ∙ ap (λ (y : Station). record idle { inside = y.inside }) x.stays ∙ sym (doing_of_row (At this)) ∙ sym (ap (λ q. doing_on q l) is ∙ doing_there l m apart (At this) refl),
+      role_there l m apart (condvar_next this told) beside ∙ role_of_row (condvar_next this told) ∙ ap (λ (y : Location). record idle { inside = y.inside }) x.stays ∙ sym (role_of_row (At this)) ∙ sym (ap (λ q. role_on q l) is ∙ role_there l m apart (At this) refl),
       taken_there l m apart (condvar_next this told) beside ∙ sym (ap (λ q. taken_at q l) is ∙ taken_there l m apart (At this) refl),
     )
 
     -- and it is in nobody's hand
     same_m : taken_at p2 m ≡ taken_at (place_at w t) m
-    same_m = taken_beside l m apart (condvar_next this told) beside ∙ ap (λ h. taken_from h (row_beside (condvar_next this told)).wants true) (ap (λ (y : Station). y.hand) x.carries) ∙ sym (ap (λ q. taken_at q m) is ∙ taken_beside l m apart (At this) refl)
+    same_m = taken_beside l m apart (condvar_next this told) beside ∙ ap (λ h. taken_from h (row_beside (condvar_next this told)).wants true) (ap (λ (y : Location). y.hand) x.carries) ∙ sym (ap (λ q. taken_at q m) is ∙ taken_beside l m apart (At this) refl)
 
     needed_l : ActsNeeded (rules_in w l) (acts t (Send all ∷ [])) (site_of w l)
-    needed_l = ((sort_l, ap (λ q. (doing_on q l).inside) is ∙ ap (λ (d : Doing). d.inside) (doing_there l m apart (At this) refl) ∙ ap (λ (y : Station). y.inside) x.inside.0), tt)
+    needed_l = ((sort_l, ap (λ q. (role_on q l).inside) is ∙ ap (λ (d : Role). d.inside) (role_there l m apart (At this) refl) ∙ ap (λ (y : Location). y.inside) x.inside.0), tt)
 
     follows : FollowsBeside (rules_in w m) (site_of w m) (condvar_of w l) t m all (notify.Move locked) told
-    follows = notifiers_follow (rules_in w m) (site_of w m) (condvar_of w l) t m all (notify.Move locked) told sort_m (hears.doing_beside w t l this steady is m refl) hears_it
+    follows = notifiers_follow (rules_in w m) (site_of w m) (condvar_of w l) t m all (notify.Move locked) told sort_m (hears.role_beside w t l this steady is m refl) hears_it
 
     needed_m : ActsNeeded (rules_in w m)
         (acts t (Bring (taken_of locked (moved_of all (map queued_of line))) (line_of locked (moved_of all (map queued_of line))) ∷ []))
         (site_of w m)
     needed_m = subst (λ ds. ActsNeeded (rules_in w m) (acts t ds) (site_of w m)) x.deeds_beside (needed_same (rules_in w m) (beside_deeds all (map queued_of line) (notify.Move locked) told) (site_of w m) t follows.needed)
 
-    -- what it does about the mutex then
-    does_m : doing_on p2 m
+    -- tells what it does about the mutex then
+    does_m : role_on p2 m
         ≡ bringing (taken_of locked (moved_of all (map queued_of line))) (line_of locked (moved_of all (map queued_of line)))
-        (doing_on (place_at w t) m)
-    does_m = doing_beside l m apart (condvar_next this told) beside ∙ by_next (next_notify all m (notify.Move locked) told) ∙ sym follows.doing
-        ∙ ap (λ ds. (laws.after_all (rules_in w m) ds (site_of w m) t).doing t) x.deeds_beside ∙ put_here (λ u. doing_on (place_at w u) m) t _
+        (role_on (place_at w t) m)
+    does_m = role_beside l m apart (condvar_next this told) beside ∙ by_next (next_notify all m (notify.Move locked) told) ∙ sym follows.role
+        ∙ ap (λ ds. (laws.after_all (rules_in w m) ds (site_of w m) t).role t) x.deeds_beside ∙ put_here (λ u. role_on (place_at w u) m) t _
       where
-        by_next : (n : Next NotifyAt) → (row_beside (in_notify all m n)).doing ≡ doing_next all m n
+        by_next : (n : Next NotifyAt) → (row_beside (in_notify all m n)).role ≡ role_next all m n
         by_next (At at) = refl
         by_next (Over answer) = refl
 
     -- by whom it takes, whom it moves, and who is left
     module _ (gone moved left : List Waiter) (counts : (u : ℕ) → times u gone + times u moved + times u left ≡ times u line)
-        (lefts : AreWaiting (stations_of (place_at w)) l Main left)
+        (lefts : AreWaiting (locations_of (place_at w)) l Main left)
         (one_gone : (u v : ℕ) → member u gone ≡ true → member v gone ≡ true → u ≡ v)
         (none_gone : locked ≡ true → gone ≡ []) (some_gone : locked ≡ false → (u : ℕ) × (member u gone ≡ true))
         (left_is : map queued_of left ≡ (if all then [] else drop 1 (map queued_of line))) (gone_is : map queued_of (moved_under (key_of m Main) gone) ≡ taken_of locked (moved_of all (map queued_of line))) (moved_is : map queued_of (moved_under (key_of m Main) moved) ≡ line_of locked (moved_of all (map queued_of line))) where
       across : (u : ℕ) → 1 ≤ times u line → WaitsAcross w t l m (place_at w u)
       across = waits_across w t l m steady apart sort_l all locked is kept
 
-      out : (station_at (place_at w t) l).stands ≡ None
-      out = ap (λ (y : Station). y.stands) (station_l ∙ x.inside.0)
+      out : (location_at (place_at w t) l).stands ≡ None
+      out = ap (λ (y : Location). y.stands) (location_l ∙ x.inside.0)
 
-      bare : (station_at (place_at w t) m).carries ≡ None
-      bare = ap (λ (y : Station). y.carries) station_m
+      bare : (location_at (place_at w t) m).carries ≡ None
+      bare = ap (λ (y : Location). y.carries) location_m
 
       abbrev behind : ℕ → Place
       behind = places_across w t l m apart steady p2 gone moved left counts lefts across one_gone out bare now_l (in_hand (not locked) false) now_m alike_t fits
@@ -283,8 +283,8 @@ module _ (w : State) (t l m : ℕ) (all locked : Bool) (steady : IsSteady w) (is
       keys = other_key l m Main Main apart
 
       at_most : (u : ℕ) → times u gone + times u moved ≤ 1
-      at_most u = let a : times u gone + times u moved + times u (left_behind how line) ≡ times u line = all_counted how line u in let b : times u line ≡ stood_in (station_at (place_at w u) l).stands Main = steady.stands.lines u l Main in
-          let c : stood_in (station_at (place_at w u) l).stands Main ≤ 1 = at_most_one (station_at (place_at w u) l).stands Main in omega arith
+      at_most u = let a : times u gone + times u moved + times u (left_behind how line) ≡ times u line = all_counted how line u in let b : times u line ≡ stood_in (location_at (place_at w u) l).stands Main = steady.stands.lines u l Main in
+          let c : stood_in (location_at (place_at w u) l).stands Main ≤ 1 = at_most_one (location_at (place_at w u) l).stands Main in omega arith
 
       -- first those are told whom it takes
       abbrev taken_places : List Place
@@ -326,14 +326,14 @@ module _ (w : State) (t l m : ℕ) (all locked : Bool) (steady : IsSteady w) (is
           → u ≢ t → (r : ℕ → Rights)
           → call_state (place_at v u) r ≡ if_moved u (moved_of all (map queued_of line)) (call_state (place_at w u) r)
       requeued_calls counted u ne r = ap (λ (f : ℕ → Place). call_state (f u) r) places_now
-          ∙ knows gone moved (left_behind how line) (all_counted how line) (left_waits (stations_of (place_at w)) l how line (steady.stands.waits l Main)) (one_taken how line) none_gone some_gone left_is gone_is moved_is counted u ne r
+          ∙ knows gone moved (left_behind how line) (all_counted how line) (left_waits (locations_of (place_at w)) l how line (steady.stands.waits l Main)) (one_taken how line) none_gone some_gone left_is gone_is moved_is counted u ne r
 
       abbrev others_left : List (List Waiter)
       others_left = set w.queues (2 * l) (left_behind how line)
 
       pub requeues : GoesAll w v
           (two_at l m (acts t (Send all ∷ [])) (acts t (Bring (taken_of locked (moved_of all (map queued_of line))) (line_of locked (moved_of all (map queued_of line))) ∷ [])))
-      requeues = moves_so gone moved (left_behind how line) (all_counted how line) (left_waits (stations_of (place_at w)) l how line (steady.stands.waits l Main)) (one_taken how line) none_gone some_gone left_is gone_is moved_is v refl refl refl
+      requeues = moves_so gone moved (left_behind how line) (all_counted how line) (left_waits (locations_of (place_at w)) l how line (steady.stands.waits l Main)) (one_taken how line) none_gone some_gone left_is gone_is moved_is v refl refl refl
           (length-set requeued.places t p2 ∙ told_length)
           places_now
           (get_or-set_other others_left (2 * m) (2 * l) _ [] (λ e. keys (sym e)) ∙ get_or-set_same w.queues (2 * l) (left_behind how line) [] line_l)
@@ -384,8 +384,8 @@ module _ (w : State) (t l m : ℕ) (all locked : Bool) (steady : IsSteady w) (is
       counted : (q : List Waiter) (u : ℕ) → times u (take 1 q) + 0 + times u (drop 1 q) ≡ times u q
       counted q u = let a = all_counted requeue.TakeOneMoveRest q u in omega arith
 
-      left_lined : (q : List Waiter) → AreWaiting (stations_of (place_at w)) l Main q
-          → AreWaiting (stations_of (place_at w)) l Main (drop 1 q)
+      left_lined : (q : List Waiter) → AreWaiting (locations_of (place_at w)) l Main q
+          → AreWaiting (locations_of (place_at w)) l Main (drop 1 q)
       left_lined [] h = tt
       left_lined (x ∷ q) h = h.1
 
@@ -423,7 +423,7 @@ module _ (w : State) (t l m : ℕ) (all locked : Bool) (steady : IsSteady w) (is
 
 -- ---------------------------------------------------------------- whichever it is
 
-module _ (w : State) (t l m : ℕ) (steady : IsSteady w) (is_there : t < length w.places) (apart : m ≢ l)
+module _ (w : State) (t l m : ℕ) (steady : IsInductive w) (is_there : t < length w.places) (apart : m ≢ l)
     (sort_l : (rules_in w l).sort ≡ locks.Condvar) (sort_m : (rules_in w m).sort ≡ locks.Mutex)
     (kept : IsCondvar (condvar_of w l)) (aside : WaitsAside (condvar_of w l) (site_of w m) m)
     (line_l : key_of l Main < length w.queues) (line_m : key_of m Main < length w.queues) where
@@ -485,7 +485,7 @@ module _ (w : State) (t l m : ℕ) (steady : IsSteady w) (is_there : t < length 
   first_counted [] u = refl
   first_counted (x ∷ q) u = refl
 
-  -- whoever is moved or taken knows it
+  -- each thread that is moved or taken knows it
   pub moves_calls : (all locked : Bool) → place_at w t ≡ Condvar l (moves_at all locked) → FitsItsLock w (next_of all locked)
       → (u : ℕ) → u ≢ t → (r : ℕ → Rights)
       → call_state

@@ -4,7 +4,7 @@ use Rattle.std.proofs.Common.{ℕ, Bool, true, false, None, if◌then◌else◌,
 use Rattle.std.proofs.lemmas.Bool.{cases_eq}
 use Rattle.core_base.specs.declared.keys.Keys.TheVariants.{Two}
 use Rattle.steps_base.specs.declared.acts.Next.TheVariants.{At}
-use Rattle.steps_base.specs.Stations.{Station}
+use Rattle.steps_base.specs.Locations.{Location}
 use Rattle.lot_steps.specs.declared.places.Place.{Place}
 use Rattle.lot_steps.specs.declared.places.Place.TheVariants.{Condvar}
 use Rattle.lot_steps.specs.Steps.{condvar_goes}
@@ -22,10 +22,10 @@ use Rattle.spec_locks.specs.Runs.{AtLock, Event, Moves, Nothing, if_moved}
 use Rattle.spec_locks.specs.Sites.{Main}
 use Rattle.lot_machine.specs.Machine.{State, place_at, put, reply_to, state_after_act, state_with_sections, word_at}
 use Rattle.lot_laws.specs.Refinement.{call_state, lock_state}
-use Rattle.lot_laws.specs.SitesOf.{FitsItsLock, IsSteady, carried_at, condvar_of, key_of, rules_in, site_of}
+use Rattle.lot_laws.specs.SitesOf.{FitsItsLock, IsInductive, carried_at, condvar_of, key_of, rules_in, site_of}
 use Rattle.lot_laws.proofs.calls.Events.{Happens, OthersFollow, rights}
 use Rattle.lot_laws.proofs.condvar.OtherCalls.{IsCalmEvent, calm_follow, condvar_carries, wake_follows}
-use Rattle.lot_laws.proofs.condvar.TwoParts.{station_beside}
+use Rattle.lot_laws.proofs.condvar.TwoParts.{location_beside}
 use Rattle.lot_laws.proofs.machine.Parts.{put_here, put_other}
 use Rattle.lot_laws.proofs.hands.Handed.{CarriesAt}
 use Rattle.lot_laws.proofs.condvar.NotifyMoves.{moves_calls}
@@ -57,10 +57,10 @@ module _ (w : State) (t l m : ℕ) (all : Bool) where
   alone : (p : NotifyAt) (p2 : Place) → IsLonely (notify_act all l m p) → IsCalmEvent (event p) → Follow p p2
   alone p p2 h calm happens = calm_follow w (behind p p2) t (event p) happens calm (lonely w t p2 (Condvar l (notifies p)) (notify_act all l m p) h)
 
-  module _ (steady : IsSteady w) (apart : m ≢ l) where
+  module _ (steady : IsInductive w) (apart : m ≢ l) where
     wakes : (number : ℕ) → place_at w t ≡ Condvar l (notifies (notify.Leave true number)) → (p2 : Place)
         → Follow (notify.Leave true number) p2
-    wakes number is p2 h = wake_follows w t m steady (subst (CarriesAt m) (sym is) (condvar_carries l m apart this refl)) (ap (λ q. carried_at q m) is ∙ ap (λ (y : Station). y.carries) (station_beside l m apart (At this) refl)) p2 (state_with_sections w (Two (2 * l) (2 * m)) None) refl h
+    wakes number is p2 h = wake_follows w t m steady (subst (CarriesAt m) (sym is) (condvar_carries l m apart this refl)) (ap (λ q. carried_at q m) is ∙ ap (λ (y : Location). y.carries) (location_beside l m apart (At this) refl)) p2 (state_with_sections w (Two (2 * l) (2 * m)) None) refl h
       where
         this : CondvarPlace
         this = notifies (notify.Leave true number)
@@ -89,7 +89,7 @@ module _ (w v : State) (t l m : ℕ) (all owned : Bool) (number : ℕ) (h : Happ
 
 -- ---------------------------------------------------------------- whichever it is
 
--- what its move is to the abstract locks
+-- tells what its move is to the abstract locks
 moves_event : (w : State) (t l m : ℕ) (all locked : Bool)
     → (number : ℕ)
     × (notify_event l all m (notify.Move locked) (reply_to w t (move_act all locked l m)) ≡ Moves l m all locked number)
@@ -98,7 +98,7 @@ moves_event w t l m true false = (_, refl)
 moves_event w t l m false true = (_, refl)
 moves_event w t l m false false = (_, refl)
 
-module _ (w : State) (t l m : ℕ) (all : Bool) (steady : IsSteady w) (is_there : t < length w.places) (apart : m ≢ l)
+module _ (w : State) (t l m : ℕ) (all : Bool) (steady : IsInductive w) (is_there : t < length w.places) (apart : m ≢ l)
     (sort_l : (rules_in w l).sort ≡ locks.Condvar) (sort_m : (rules_in w m).sort ≡ locks.Mutex)
     (kept : IsCondvar (condvar_of w l)) (aside : WaitsAside (condvar_of w l) (site_of w m) m)
     (line_l : key_of l Main < length w.queues) (line_m : key_of m Main < length w.queues) where

@@ -7,7 +7,7 @@ use Rattle.steps_base.specs.declared.acts.Next.TheVariants.{At, End as Over}
 use Rattle.steps_base.specs.declared.acts.Reply.TheVariants.{Done, Woken}
 use Rattle.steps_base.specs.Owners.{is_thread}
 use Rattle.steps_base.specs.Profiles.{hand, Hand}
-use Rattle.steps_base.specs.Stations.{Station, nowhere, station_by}
+use Rattle.steps_base.specs.Locations.{Location, nowhere, location_by}
 use Rattle.lot_steps.specs.declared.places.Place.{Place}
 use Rattle.lot_steps.specs.declared.places.Place.TheVariants.{Condvar, Idle}
 use Rattle.lot_steps.specs.Steps.{taker}
@@ -26,8 +26,8 @@ use Rattle.spec_locks.specs.Sites.{End, Main, Out, Site, has_readers}
 use Rattle.lot_machine.specs.Machine.{State, place_after_telling, place_at, put, queue_at, section_at, state_after_telling}
 use Rattle.lot_laws.specs.MutexDeeds.{acts}
 use Rattle.lot_laws.specs.Refinement.{taken_at}
-use Rattle.lot_laws.specs.Stations.{doing_on, station_at}
-use Rattle.lot_laws.specs.SitesOf.{GoesAll, IsSteady, Sections, carried_at, condvar_of, hand_at, key_of, rules_in, site_of, stations_of}
+use Rattle.lot_laws.specs.Locations.{role_on, location_at}
+use Rattle.lot_laws.specs.SitesOf.{GoesAll, IsInductive, Sections, carried_at, condvar_of, hand_at, key_of, rules_in, site_of, locations_of}
 use Rattle.lot_laws.proofs.machine.Parts as glue
 use Rattle.lot_laws.proofs.machine.Parts.{LetGo, parts_at, put_here, put_other, stays, untaken}
 use Rattle.lot_laws.proofs.hands.Handed.{CarriesAt}
@@ -39,7 +39,7 @@ use Rattle.lot_laws.proofs.sites.StandsMoved.{stands_by, there_in}
 use Rattle.lot_laws.proofs.sites.ToldAt.{HoldsHere, SameHands, by_told, calls_then, other_parts, places_are}
 use Rattle.lot_laws.proofs.sites.ToldAt as told
 use Rattle.lot_laws.proofs.sites.TwoLocks.{BehindIt, follow_two, goes_out_two, two_at}
-use Rattle.lot_laws.proofs.condvar.TwoParts.{nothing_there, station_beside, station_there, taken_beside, nothing_else}
+use Rattle.lot_laws.proofs.condvar.TwoParts.{nothing_there, location_beside, location_there, taken_beside, nothing_else}
 use Rattle.lot_laws.proofs.condvar.Replies as hears
 use Rattle.lot_laws.proofs.condvar.Replies.{notifier_hears}
 use Rattle.lot_laws.proofs.condvar.MutexUntouched as condvar
@@ -50,7 +50,7 @@ use Rattle.lot_laws.proofs.sites.WakesAt as waking
 use Rattle.lot_laws.proofs.sites.WakesAt.{IsWokenAt, leaving_by}
 use Rattle.steps_condvar.specs.CondvarSteps.{notified}
 
-module _ (w : State) (t l m : ℕ) (all : Bool) (steady : IsSteady w) (is_there : t < length w.places) (apart : m ≢ l)
+module _ (w : State) (t l m : ℕ) (all : Bool) (steady : IsInductive w) (is_there : t < length w.places) (apart : m ≢ l)
     (sort_l : (rules_in w l).sort ≡ locks.Condvar) (sort_m : (rules_in w m).sort ≡ locks.Mutex)
     (plain : rules_in w m ≡ glue.mutex) (kept : IsCondvar (condvar_of w l)) (aside : WaitsAside (condvar_of w l) (site_of w m) m)
     (section_l : key_of l Main < length w.sections) (section_m : key_of m Main < length w.sections) (number : ℕ) (is : place_at w t ≡ Condvar l (Notify all m (notify.Leave true number))) where
@@ -60,26 +60,26 @@ module _ (w : State) (t l m : ℕ) (all : Bool) (steady : IsSteady w) (is_there 
   abbrev this : CondvarPlace
   this = Notify all m leaving
 
-  abbrev side : Station
-  side = station_by (mutex_side this)
+  abbrev side : Location
+  side = location_by (mutex_side this)
 
-  station_m : station_at (place_at w t) m ≡ side
-  station_m = ap (λ q. station_at q m) is ∙ station_beside l m apart (At this) refl
+  location_m : location_at (place_at w t) m ≡ side
+  location_m = ap (λ q. location_at q m) is ∙ location_beside l m apart (At this) refl
 
-  station_l : station_at (place_at w t) l ≡ station_by (condvar_profile this)
-  station_l = ap (λ q. station_at q l) is ∙ station_there l m apart (At this) refl
+  location_l : location_at (place_at w t) l ≡ location_by (condvar_profile this)
+  location_l = ap (λ q. location_at q l) is ∙ location_there l m apart (At this) refl
 
-  station_else : (k : ℕ) → k ≢ l → k ≢ m → station_at (place_at w t) k ≡ nowhere
-  station_else k nl nm = ap (λ q. station_at q k) is ∙ nothing_there l m apart (At this) refl k nl nm
+  location_else : (k : ℕ) → k ≢ l → k ≢ m → location_at (place_at w t) k ≡ nowhere
+  location_else k nl nm = ap (λ q. location_at q k) is ∙ nothing_there l m apart (At this) refl k nl nm
 
   -- by which lock is looked at
-  by_lock : (P : ℕ → Station → Type 0) → P l (station_by (condvar_profile this)) → P m side → ((k : ℕ) → P k nowhere) → (k : ℕ)
-      → P k (station_at (place_at w t) k)
+  by_lock : (P : ℕ → Location → Type 0) → P l (location_by (condvar_profile this)) → P m side → ((k : ℕ) → P k nowhere) → (k : ℕ)
+      → P k (location_at (place_at w t) k)
   by_lock P here beside nothing k = elim (cases_eq k l) [
-    | inl e ↦ rw e (subst (P l) (sym station_l) here)
+    | inl e ↦ rw e (subst (P l) (sym location_l) here)
     | inr nl ↦ elim (cases_eq k m) [
-      | inl e ↦ rw e (subst (P m) (sym station_m) beside)
-      | inr nm ↦ subst (P k) (sym (station_else k nl nm)) (nothing k)
+      | inl e ↦ rw e (subst (P m) (sym location_m) beside)
+      | inr nm ↦ subst (P k) (sym (location_else k nl nm)) (nothing k)
     ]
   ]
 
@@ -97,11 +97,11 @@ module _ (w : State) (t l m : ℕ) (all : Bool) (steady : IsSteady w) (is_there 
   holds = holds_here w t m steady carries_here
 
   woken : (u : ℕ) (b : Bool) → hand_at (place_at w u) m ≡ hand t b → IsWokenAt w t m Normal (place_at w u)
-  woken u b held = by_hand b held (sym (ap (λ (y : Station). y.carries) station_m) ∙ steady.stands.hands.taken t u m b held)
+  woken u b held = by_hand b held (sym (ap (λ (y : Location). y.carries) location_m) ∙ steady.stands.hands.taken t u m b held)
     where
       by_hand : (b : Bool) → hand_at (place_at w u) m ≡ hand t b → Some false ≡ Some b → IsWokenAt w t m Normal (place_at w u)
       by_hand false held e = let k : IsHeldThere m t (place_at w u) = held_there (place_at w u) t m (calls_mutex_at w m (place_at w u) (steady.stands.calls u) plain) held in
-          record { lets = tries m t (place_at w u) k; goes = k.woken.station; alike = k.woken.others; fits = k.woken.fits tt w (steady.stands.calls u) }
+          record { lets = tries m t (place_at w u) k; goes = k.woken.location; alike = k.woken.others; fits = k.woken.fits tt w (steady.stands.calls u) }
       by_hand true held e = absurd cc
 
   abbrev behind : ℕ → Place
@@ -134,11 +134,11 @@ module _ (w : State) (t l m : ℕ) (all : Bool) (steady : IsSteady w) (is_there 
 
   lets_there : (u : ℕ) → u ≢ t → LetGo t l (place_at w u) (behind u)
   lets_there u ne = subst (LetGo t l (place_at w u)) (sym (put_other told_then t Idle u ne)) (by_told w t m steady Idle same_hands tt holds (Woken Normal) None all_told (LetGo t l (place_at w u)) u
-      (λ held. let z = (all_told u held.handed held.hand).alike l (λ e. apart (sym e)) in let k = stays t l (place_at w u) (untaken (place_at w u) t l (nobody_there u)) in record { taken = z.taken ∙ k.taken; doing = z.doing ∙ k.doing })
+      (λ held. let z = (all_told u held.handed held.hand).alike l (λ e. apart (sym e)) in let k = stays t l (place_at w u) (untaken (place_at w u) t l (nobody_there u)) in record { taken = z.taken ∙ k.taken; role = z.role ∙ k.role })
       (λ h. stays t l (place_at w u) (untaken (place_at w u) t l (nobody_there u))))
 
   follows_m : FollowsBeside (rules_in w m) (site_of w m) (condvar_of w l) t m all leaving Done
-  follows_m = notifiers_follow (rules_in w m) (site_of w m) (condvar_of w l) t m all leaving Done sort_m (hears.doing_beside w t l this steady is m refl) (notifier_hears w t l m all leaving steady kept aside is refl)
+  follows_m = notifiers_follow (rules_in w m) (site_of w m) (condvar_of w l) t m all leaving Done sort_m (hears.role_beside w t l this steady is m refl) (notifier_hears w t l m all leaving steady kept aside is refl)
 
   untaken_m : taken_at (place_at w t) m ≡ None
   untaken_m = ap (λ q. taken_at q m) is ∙ taken_beside l m apart (At this) refl
@@ -151,7 +151,7 @@ module _ (w : State) (t l m : ℕ) (all : Bool) (steady : IsSteady w) (is_there 
     parts = parts_at w l;
     here = λ i. record (parts_at w l) { base = record { shared = get_or w.shares l (replicate (threads i) 0); filled = (parts_at w l).base.filled } };
     led = leaving_by (rules_in w l) l (parts_at w l) (place_at w) behind t (ap (λ q. taken_at q l) own_then ∙ sym (ap (keep_from t) (condvar.untaken w t l m this steady is_there apart sort_l is refl Done tt))) lets_there (Out ∷ []) tt
-        (ap (λ q. doing_on q l) (own_then ∙ sym (put_here (place_at w) t Idle)) ∙ ap (λ (y : Site). y.doing t) (condvar.out_steps w t l m this steady is_there apart sort_l is refl Done tt refl refl).site);
+        (ap (λ q. role_on q l) (own_then ∙ sym (put_here (place_at w) t Idle)) ∙ ap (λ (y : Site). y.role t) (condvar.out_steps w t l m this steady is_there apart sort_l is refl Done tt refl refl).site);
     needed = (condvar.out_steps w t l m this steady is_there apart sort_l is refl Done tt refl refl).needed;
     coded = same_word_of l;
     sharers = refl;
@@ -164,7 +164,7 @@ module _ (w : State) (t l m : ℕ) (all : Bool) (steady : IsSteady w) (is_there 
     parts = parts_at w m;
     here = λ i. record (parts_at w m) { base = record { shared = get_or w.shares m (replicate (threads i) 0); filled = (parts_at w m).base.filled } };
     led = leaving_by (rules_in w m) m (parts_at w m) (place_at w) behind t (ap (λ q. taken_at q m) own_then ∙ sym (ap (keep_from t) untaken_m)) (waking.lets w t m steady is_there Idle same_hands tt holds Normal woken) (Out ∷ End ∷ []) tt
-        (ap (λ q. doing_on q m) own_then ∙ sym follows_m.doing ∙ sym (ap (λ (y : Site). y.doing t) (after_same (rules_in w m) (Out ∷ End ∷ []) (site_of w m) t)));
+        (ap (λ q. role_on q m) own_then ∙ sym follows_m.role ∙ sym (ap (λ (y : Site). y.role t) (after_same (rules_in w m) (Out ∷ End ∷ []) (site_of w m) t)));
     needed = needed_same (rules_in w m) (Out ∷ End ∷ []) (site_of w m) t follows_m.needed;
     coded = same_word_of m;
     sharers = refl;
@@ -175,32 +175,32 @@ module _ (w : State) (t l m : ℕ) (all : Bool) (steady : IsSteady w) (is_there 
   -- ---------------------------------------------------------------- how the threads stand then
 
   -- but for whom it has in hand
-  abbrev outside : ℕ → ℕ → Station
-  outside u k = if u == t then record (station_at (place_at w u) k) { inside = None } else station_at (place_at w u) k
+  abbrev outside : ℕ → ℕ → Location
+  outside u k = if u == t then record (location_at (place_at w u) k) { inside = None } else location_at (place_at w u) k
 
-  own_outside : (k : ℕ) → outside t k ≡ record (station_at (place_at w t) k) { inside = None }
-  own_outside k = ap (λ b. if b then record (station_at (place_at w t) k) { inside = None } else station_at (place_at w t) k) (glue.same t)
+  own_outside : (k : ℕ) → outside t k ≡ record (location_at (place_at w t) k) { inside = None }
+  own_outside k = ap (λ b. if b then record (location_at (place_at w t) k) { inside = None } else location_at (place_at w t) k) (glue.same t)
 
-  other_outside : (u k : ℕ) → u ≢ t → outside u k ≡ station_at (place_at w u) k
-  other_outside u k ne = ap (λ b. if b then record (station_at (place_at w u) k) { inside = None } else station_at (place_at w u) k) (glue.differ u t ne)
+  other_outside : (u k : ℕ) → u ≢ t → outside u k ≡ location_at (place_at w u) k
+  other_outside u k ne = ap (λ b. if b then record (location_at (place_at w u) k) { inside = None } else location_at (place_at w u) k) (glue.differ u t ne)
 
-  else_outside : (u k : ℕ) → (u ≡ t → k ≡ l → ⊥) → (u ≡ t → k ≡ m → ⊥) → outside u k ≡ station_at (place_at w u) k
+  else_outside : (u k : ℕ) → (u ≡ t → k ≡ l → ⊥) → (u ≡ t → k ≡ m → ⊥) → outside u k ≡ location_at (place_at w u) k
   else_outside u k nl nm = elim (cases_eq u t) [
-    | inl e ↦ rw e (own_outside k ∙ ap (λ (y : Station). record y { inside = None }) (station_else k (nl e) (nm e)) ∙ sym (station_else k (nl e) (nm e)))
+    | inl e ↦ rw e (own_outside k ∙ ap (λ (y : Location). record y { inside = None }) (location_else k (nl e) (nm e)) ∙ sym (location_else k (nl e) (nm e)))
     | inr nu ↦ other_outside u k nu
   ]
 
-  inside_then : (u k : ℕ) → (station_at (behind u) k).inside ≡ (outside u k).inside
+  inside_then : (u k : ℕ) → (location_at (behind u) k).inside ≡ (outside u k).inside
   inside_then u k = elim (cases_eq u t) [
-    | inl e ↦ rw e (ap (λ q. (station_at q k).inside) own_then ∙ sym (ap (λ (y : Station). y.inside) (own_outside k)))
-    | inr nu ↦ other_parts w t m steady Idle same_hands tt holds (Woken Normal) None all_told (λ y. y.inside) (λ y h. refl) u k nu ∙ sym (ap (λ (y : Station). y.inside) (other_outside u k nu))
+    | inl e ↦ rw e (ap (λ q. (location_at q k).inside) own_then ∙ sym (ap (λ (y : Location). y.inside) (own_outside k)))
+    | inr nu ↦ other_parts w t m steady Idle same_hands tt holds (Woken Normal) None all_told (λ y. y.inside) (λ y h. refl) u k nu ∙ sym (ap (λ (y : Location). y.inside) (other_outside u k nu))
   ]
 
-  sections : Sections (stations_of behind) (section_at v)
-  sections = sections_same outside (stations_of behind) (section_at v)
-      (goes_out_two (stations_of (place_at w)) outside (section_at w) (queue_at w) (there_in w steady.stands) t l m apart else_outside (section_at v) (both.elsewhere w t l m all steady is_there apart sort_l sort_m kept aside section_l section_m None)
+  sections : Sections (locations_of behind) (section_at v)
+  sections = sections_same outside (locations_of behind) (section_at v)
+      (goes_out_two (locations_of (place_at w)) outside (section_at w) (queue_at w) (there_in w steady.stands) t l m apart else_outside (section_at v) (both.elsewhere w t l m all steady is_there apart sort_l sort_m kept aside section_l section_m None)
       (both.held_l w t l m all steady is_there apart sort_l sort_m kept aside section_l section_m None) (both.held_m w t l m all steady is_there apart sort_l sort_m kept aside section_l section_m None)
-      (ap (λ (y : Station). y.inside) station_l) (ap (λ (y : Station). y.inside) station_m ∙ both.inside_leave w t l m all steady is_there apart sort_l sort_m kept aside section_l section_m true number) (own_outside l) (own_outside m)).sections
+      (ap (λ (y : Location). y.inside) location_l) (ap (λ (y : Location). y.inside) location_m ∙ both.inside_leave w t l m all steady is_there apart sort_l sort_m kept aside section_l section_m true number) (own_outside l) (own_outside m)).sections
       inside_then
 
   own_hand : None ≡ (if is_thread t (taker (place_at w t)) then None else hand_at (place_at w t) m)
@@ -221,7 +221,7 @@ module _ (w : State) (t l m : ℕ) (all : Bool) (steady : IsSteady w) (is_there 
       others : (k : ℕ) → k ≢ l → k ≢ m → (parts_at v k ≡ parts_at w k) × ((u : ℕ) → AlikeAt k (place_at w u) (behind u))
       others k nl nm = (
         λ i. record (parts_at w k) { base = record { shared = get_or w.shares k (replicate (threads i) 0); filled = (parts_at w k).base.filled } },
-        told.alike w t m steady Idle same_hands tt holds (Woken Normal) None all_told k nm (own_alike.taken, own_alike.doing),
+        told.alike w t m steady Idle same_hands tt holds (Woken Normal) None all_told k nm (own_alike.taken, own_alike.role),
       )
         where
           own_alike : Alike k (place_at w t) Idle

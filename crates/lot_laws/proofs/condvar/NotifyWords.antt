@@ -12,7 +12,7 @@ use Rattle.steps_base.specs.declared.acts.Reply.TheVariants.{Value}
 use Rattle.steps_base.specs.Owners.{with_exclusive}
 use Rattle.steps_base.specs.Moves.{inside_of}
 use Rattle.steps_base.specs.Profiles.{taken_from}
-use Rattle.steps_base.specs.Stations.{station_by}
+use Rattle.steps_base.specs.Locations.{location_by}
 use Rattle.lot_steps.specs.declared.places.Place.{Place}
 use Rattle.lot_steps.specs.declared.places.Place.TheVariants.{Condvar}
 use Rattle.lot_steps.specs.Steps.{condvar_goes}
@@ -23,7 +23,7 @@ use Rattle.steps_condvar.specs.declared.places.CondvarPlace.{CondvarPlace}
 use Rattle.steps_condvar.specs.declared.places.CondvarPlace.TheVariants.{Notify}
 use Rattle.steps_condvar.specs.CondvarDeeds.{MayHear, condvar_deeds}
 use Rattle.steps_condvar.specs.CondvarMoves.{row_beside, row_there, there}
-use Rattle.steps_condvar.specs.CondvarMutex.{FollowsBeside, MayHearBeside, beside_deeds, doing_next}
+use Rattle.steps_condvar.specs.CondvarMutex.{FollowsBeside, MayHearBeside, beside_deeds, role_next}
 use Rattle.steps_condvar.specs.CondvarSteps.{condvar_next, condvar_owners, in_notify, is_shown, marks, next_notify, notify_act}
 use Rattle.steps_condvar.proofs.CondvarFit.{condvar_steps_follow}
 use Rattle.steps_condvar.proofs.NotifierFit.{notifiers_code, notifiers_follow}
@@ -37,18 +37,18 @@ use Rattle.spec_locks.specs.Sites.{Deed, Main, MarkOwned, Site}
 use Rattle.lot_machine.specs.Machine.{State, can_do, owners_at, place_at, put, reply_to, state_after_act, word_at}
 use Rattle.lot_laws.specs.MutexDeeds.{acts}
 use Rattle.lot_laws.specs.Refinement.{taken_at}
-use Rattle.lot_laws.specs.Stations.{station_at}
-use Rattle.lot_laws.specs.SitesOf.{FitsItsLock, Goes, IsSteady, condvar_of, rules_in, site_of}
+use Rattle.lot_laws.specs.Locations.{location_at}
+use Rattle.lot_laws.specs.SitesOf.{FitsItsLock, Goes, IsInductive, condvar_of, rules_in, site_of}
 use Rattle.lot_laws.proofs.machine.Parts.{differ}
 use Rattle.lot_laws.proofs.sites.StandsKept.{Alike, AlikeBeside}
-use Rattle.lot_laws.proofs.condvar.TwoParts.{Beside, SameBeside, alike_beside, alike_there, doing_beside, nothing_else, station_beside, taken_beside}
+use Rattle.lot_laws.proofs.condvar.TwoParts.{Beside, SameBeside, alike_beside, alike_there, role_beside, nothing_else, location_beside, taken_beside}
 use Rattle.lot_laws.proofs.condvar.Replies as hears
 use Rattle.lot_laws.proofs.condvar.Replies.{at_it, may_hear, notifier_hears, word_is}
 use Rattle.lot_laws.proofs.condvar.MutexUntouched as condvar
 use Rattle.lot_laws.proofs.condvar.MutexUntouched.{there_deeds, works_there}
 use Rattle.lot_laws.proofs.mutex.Acts.{IsOfWord, works_at}
 
-module _ (w : State) (t l m : ℕ) (all : Bool) (steady : IsSteady w) (is_there : t < length w.places) (apart : m ≢ l)
+module _ (w : State) (t l m : ℕ) (all : Bool) (steady : IsInductive w) (is_there : t < length w.places) (apart : m ≢ l)
     (sort_l : (rules_in w l).sort ≡ locks.Condvar) (sort_m : (rules_in w m).sort ≡ locks.Mutex)
     (kept : IsCondvar (condvar_of w l)) where
   abbrev notifies : NotifyAt → CondvarPlace
@@ -71,7 +71,7 @@ module _ (w : State) (t l m : ℕ) (all : Bool) (steady : IsSteady w) (is_there 
       can : can_do w (notify_act all l m at) ≡ true
       can = subst (λ a. can_do w a ≡ true) (sym acts_so) refl
 
-      works : Beside m next → SameBeside (At (notifies at)) next → station_by (row_there next) ≡ there (notifies at)
+      works : Beside m next → SameBeside (At (notifies at)) next → location_by (row_there next) ≡ there (notifies at)
           → condvar.IsOfWord (condvar_deeds (notifies at) (Value (word_at w l))) → FitsItsLock w (condvar_goes l next)
           → KeptThere at f
       works beside same stays of_word fits = works_there w t l m (notifies at) steady is_there apart sort_l is refl (Value (word_at w l)) beside fits
@@ -96,12 +96,12 @@ module _ (w : State) (t l m : ℕ) (all : Bool) (steady : IsSteady w) (is_there 
         by_all true = (refl, refl, refl)
         by_all false = (refl, refl, refl)
 
-    again_there : (shown : Bool) → station_by (row_there (seen_again shown)) ≡ there (notifies notify.Again)
+    again_there : (shown : Bool) → location_by (row_there (seen_again shown)) ≡ there (notifies notify.Again)
     again_there false = refl
     again_there true = by_all all
       where
         by_all : (b : Bool)
-            → station_by (row_there (At (notifies (if b then notify.Hide else notify.Mark)))) ≡ there (notifies notify.Again)
+            → location_by (row_there (At (notifies (if b then notify.Hide else notify.Mark)))) ≡ there (notifies notify.Again)
         by_all true = refl
         by_all false = refl
 
@@ -151,23 +151,23 @@ module _ (w : State) (t l m : ℕ) (all : Bool) (steady : IsSteady w) (is_there 
       hears_it = subst (λ a. MayHearBeside r here (condvar_of w l) t m all at (reply_to w t a)) acts_so (notifier_hears w t l m all at steady kept aside is (subst (λ a. can_do w a ≡ true) (sym acts_so) refl))
 
       follows : FollowsBeside r here (condvar_of w l) t m all at (Value seen)
-      follows = notifiers_follow r here (condvar_of w l) t m all at (Value seen) sort_m (hears.doing_beside w t l (notifies at) steady is m refl) hears_it
+      follows = notifiers_follow r here (condvar_of w l) t m all at (Value seen) sort_m (hears.role_beside w t l (notifies at) steady is m refl) hears_it
 
       coded : apply f seen ≡ code r (laws.after_all r (does at) here t)
       coded = subst (λ v. apply f v ≡ code r (laws.after_all r (beside_deeds all (condvar_of w l).waiters at (Value v)) here t)) (sym (steady.sites.word m))
           (notifiers_code r here (condvar_of w l) t l m all at f sort_m (λ e. apart (sym e)) (subst (λ v. MayHearBeside r here (condvar_of w l) t m all at (Value v)) (steady.sites.word m) hears_it) acts_so)
 
-      works_beside : Beside m then_there → station_by (row_there then_there) ≡ there (notifies at)
-          → station_by (row_beside then_there) ≡ station_by (row_beside (At (notifies at)))
+      works_beside : Beside m then_there → location_by (row_there then_there) ≡ there (notifies at)
+          → location_by (row_beside then_there) ≡ location_by (row_beside (At (notifies at)))
           → taken_from (row_beside then_there).hand (row_beside then_there).wants true
           ≡ taken_from (row_beside (At (notifies at))).hand (row_beside (At (notifies at))).wants true
-          → (row_beside then_there).doing ≡ doing_next all m next_at
+          → (row_beside then_there).role ≡ role_next all m next_at
           → condvar_owners (notifies at) t seen (owners_at w m) ≡ owners_at w m → IsOfWord (does at)
           → (laws.after_all r (does at) here t).lock.exclusive ≡ here.lock.exclusive → FitsItsLock w (condvar_goes l then_there)
           → KeptBeside at f
       works_beside beside stays same same_taken does_next unowned of_word keeps fits = works_at w t m steady is_there sort_m (condvar_goes l then_there) alike fits (Condvar l (notifies at)) f lock (does at) of_word refl follows.needed
-          (follows.doing ∙ sym does_next ∙ sym (doing_beside l m apart then_there beside)) (unowned ∙ sym (ap (with_exclusive (owners_at w m)) keeps)) coded
-          (station_beside l m apart then_there beside ∙ same ∙ sym (station_beside l m apart (At (notifies at)) refl) ∙ sym (ap (λ q. station_at q m) is))
+          (follows.role ∙ sym does_next ∙ sym (role_beside l m apart then_there beside)) (unowned ∙ sym (ap (with_exclusive (owners_at w m)) keeps)) coded
+          (location_beside l m apart then_there beside ∙ same ∙ sym (location_beside l m apart (At (notifies at)) refl) ∙ sym (ap (λ q. location_at q m) is))
           (ap (λ q. taken_at q m) is ∙ taken_beside l m apart (At (notifies at)) refl ∙ sym same_taken ∙ sym (taken_beside l m apart then_there beside))
         where
           alike : AlikeBeside m (place_at w t) (condvar_goes l then_there)
@@ -180,11 +180,11 @@ module _ (w : State) (t l m : ℕ) (all : Bool) (steady : IsSteady w) (is_there 
     abbrev marked : Bool → ℕ → Next CondvarPlace
     marked b v = At (notifies (if b then notify.Set v else notify.Move false))
 
-    marked_there : (b : Bool) (v : ℕ) → station_by (row_there (marked b v)) ≡ inside_of Main
+    marked_there : (b : Bool) (v : ℕ) → location_by (row_there (marked b v)) ≡ inside_of Main
     marked_there true v = refl
     marked_there false v = refl
 
-    marked_beside : (b : Bool) (v : ℕ) → station_by (row_beside (marked b v)) ≡ inside_of Main
+    marked_beside : (b : Bool) (v : ℕ) → location_by (row_beside (marked b v)) ≡ inside_of Main
     marked_beside true v = refl
     marked_beside false v = refl
 
@@ -204,11 +204,11 @@ module _ (w : State) (t l m : ℕ) (all : Bool) (steady : IsSteady w) (is_there 
     set_beside true = refl
     set_beside false = refl
 
-    set_stays : (b : Bool) → station_by (row_there (in_notify all m (set_next b))) ≡ inside_of Main
+    set_stays : (b : Bool) → location_by (row_there (in_notify all m (set_next b))) ≡ inside_of Main
     set_stays true = refl
     set_stays false = marked_there (is_locked seen) seen
 
-    set_side : (b : Bool) → station_by (row_beside (in_notify all m (set_next b))) ≡ inside_of Main
+    set_side : (b : Bool) → location_by (row_beside (in_notify all m (set_next b))) ≡ inside_of Main
     set_side true = refl
     set_side false = marked_beside (is_locked seen) seen
 
@@ -218,7 +218,7 @@ module _ (w : State) (t l m : ℕ) (all : Bool) (steady : IsSteady w) (is_there 
     set_taken true = refl
     set_taken false = marked_taken (is_locked seen) seen
 
-    set_does : (b : Bool) → (row_beside (in_notify all m (set_next b))).doing ≡ doing_next all m (set_next b)
+    set_does : (b : Bool) → (row_beside (in_notify all m (set_next b))).role ≡ role_next all m (set_next b)
     set_does true = refl
     set_does false = refl
 

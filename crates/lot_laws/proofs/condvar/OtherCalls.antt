@@ -32,7 +32,7 @@ use Rattle.spec_locks.specs.Runs.{AtLock, CallState, Event, LocksState, Moves, N
 use Rattle.spec_locks.specs.Sites.{Case, End, Main, Mark}
 use Rattle.lot_machine.specs.Machine.{State, can_do, place_at, put, reply_to, state_after_act, word_at, place_after_telling, state_after_telling, state_with_sections}
 use Rattle.lot_laws.specs.Refinement.{call_state, taken_at}
-use Rattle.lot_laws.specs.SitesOf.{IsSteady, rules_in, carried_at, hand_at}
+use Rattle.lot_laws.specs.SitesOf.{IsInductive, rules_in, carried_at, hand_at}
 use Rattle.lot_laws.proofs.machine.AtPlaces.{unless_held}
 use Rattle.lot_laws.proofs.calls.Events.{Happens, Others, OthersFollow, others_follow}
 use Rattle.lot_laws.proofs.condvar.Replies.{taken_by_wait, decided_by}
@@ -44,11 +44,11 @@ use Rattle.std.proofs.lemmas.Bool.{cases_eq}
 use Rattle.core_base.specs.declared.notes.Note.TheVariants.{Normal}
 use Rattle.steps_base.specs.Owners.{is_thread}
 use Rattle.steps_base.specs.Profiles.{hand}
-use Rattle.steps_base.specs.Stations.{Station}
+use Rattle.steps_base.specs.Locations.{Location}
 use Rattle.lot_steps.specs.Steps.{next_place, taker}
 use Rattle.lot_laws.proofs.machine.Parts.{IsInHandOf, aparts, held_tells, in_hand_where}
 use Rattle.lot_laws.proofs.hands.Handed.{CarriesAt, in_hand_here}
-use Rattle.lot_laws.proofs.condvar.TwoParts.{nothing_there, station_there, station_beside}
+use Rattle.lot_laws.proofs.condvar.TwoParts.{nothing_there, location_there, location_beside}
 use Rattle.lot_laws.proofs.calls.LockEvents.{Befalls, wakes_others}
 use Rattle.steps_condvar.specs.declared.wait.Stands.{Stands}
 
@@ -58,7 +58,7 @@ IsCalmEvent Nothing = Unit {0}
 IsCalmEvent (AtLock l case) = IsCalm (Some case)
 IsCalmEvent (Moves c m all owned number) = ⊥
 
--- behind it they follow, where they are as they were
+-- after it they follow, where they are as they were
 pub calm_follow : (w v : State) (t : ℕ) (e : Event) → Happens w v t e → IsCalmEvent e
     → ((u : ℕ) → u ≢ t → (r : ℕ → Rights) → call_state (place_at v u) r ≡ call_state (place_at w u) r) → OthersFollow w v t e
 calm_follow w v t Nothing h calm stay = others_follow w v t 0 None h tt stay
@@ -81,21 +81,21 @@ calm_unwoken w t (AtLock l case) u c calm = by_case case calm
     by_case (locks.HandOff x y) calm = absurd calm
     by_case case calm = refl
 
--- of two cases of which each is calm
+-- for two cases of which each is calm
 two_calm : (m l : ℕ) (x y : Option LockCase) → IsCalm x → IsCalm y → IsCalmEvent (or_else (event_by m x) (event_by l y))
 two_calm m l None None h g = tt
 two_calm m l None (Some b) h g = g
 two_calm m l (Some a) y h g = h
 
--- whoever calls a condition variable has somebody in hand at its mutex alone
+-- each thread that calls a condition variable has somebody in hand at its mutex alone
 pub condvar_carries : (l m : ℕ) → m ≢ l → (at : CondvarPlace) → mutex_beside at ≡ Some m → CarriesAt m (Condvar l at)
 condvar_carries l m apart at of k ne = elim (cases_eq k l) [
-  | inl e ↦ subst (λ j. carried_at (Condvar l at) j ≡ None) (sym e) (ap (λ (y : Station). y.carries) (station_there l m apart (At at) of))
-  | inr nl ↦ ap (λ (y : Station). y.carries) (nothing_there l m apart (At at) of k nl ne)
+  | inl e ↦ subst (λ j. carried_at (Condvar l at) j ≡ None) (sym e) (ap (λ (y : Location). y.carries) (location_there l m apart (At at) of))
+  | inr nl ↦ ap (λ (y : Location). y.carries) (nothing_there l m apart (At at) of k nl ne)
 ]
 
--- whom it took there is woken
-module _ (w : State) (t m : ℕ) (steady : IsSteady w) (carries : CarriesAt m (place_at w t))
+-- a thread that it took there is woken
+module _ (w : State) (t m : ℕ) (steady : IsInductive w) (carries : CarriesAt m (place_at w t))
     (took : carried_at (place_at w t) m ≡ Some false) (p2 : Place) where
   in_hand : (u : ℕ) → is_thread t (taker (place_at w u)) ≡ true → hand_at (place_at w u) m ≡ hand t false
   in_hand u e =
@@ -123,7 +123,7 @@ module _ (w : State) (t m : ℕ) (steady : IsSteady w) (carries : CarriesAt m (p
       v : State
       v = put (state_after_telling b t (Woken Normal)) t p2
 
-module _ (w : State) (t l m : ℕ) (timed : Bool) (steady : IsSteady w) (plain : (rules_in w m).sort ≡ locks.Mutex) where
+module _ (w : State) (t l m : ℕ) (timed : Bool) (steady : IsInductive w) (plain : (rules_in w m).sort ≡ locks.Mutex) where
   abbrev waits : WaitAt → CondvarPlace
   waits at = Wait m timed at
 
@@ -167,7 +167,7 @@ module _ (w : State) (t l m : ℕ) (timed : Bool) (steady : IsSteady w) (plain :
   abbrev relocks : Bool → Bool → LockAt → WaitAt
   relocks late again at = wait.Lock late (mutex.Lock entry.Lock again at)
 
-  -- of a place where it locks its mutex again, by what it does there
+  -- for a place where it locks its mutex again, by what it does there
   locks_quiet : (late again : Bool) (at : LockAt) → IsLonely (lock_act m at)
       → IsCalm (case_of None (lock_deeds at (reply_to w t (lock_act m at)))) → IsQuiet (relocks late again at)
   locks_quiet late again at h calm = alone (relocks late again at) h (two_calm m l _ _ calm (relocked (mutex_next (mutex.Lock entry.Lock again at) (reply_to w t (lock_act m at)))))
@@ -242,7 +242,7 @@ module _ (w : State) (t l m : ℕ) (timed : Bool) (steady : IsSteady w) (plain :
     wakes : (s : Stands) → place_at w t ≡ Condvar l (waits (wait.Release s (mutex.Unlock (unlock.Leave true)))) → (p2 : Place)
         → Happens w (behind (wait.Release s (mutex.Unlock (unlock.Leave true))) p2) t (AtLock m locks.Wake)
         → OthersFollow w (behind (wait.Release s (mutex.Unlock (unlock.Leave true))) p2) t (AtLock m locks.Wake)
-    wakes s is p2 h = wake_follows w t m steady (subst (CarriesAt m) (sym is) (condvar_carries l m apart this refl)) (ap (λ q. carried_at q m) is ∙ ap (λ (y : Station). y.carries) (station_beside l m apart (At this) refl)) p2 (state_with_sections w (One (2 * m)) None) refl h
+    wakes s is p2 h = wake_follows w t m steady (subst (CarriesAt m) (sym is) (condvar_carries l m apart this refl)) (ap (λ q. carried_at q m) is ∙ ap (λ (y : Location). y.carries) (location_beside l m apart (At this) refl)) p2 (state_with_sections w (One (2 * m)) None) refl h
       where
         this : CondvarPlace
         this = waits (wait.Release s (mutex.Unlock (unlock.Leave true)))

@@ -37,7 +37,7 @@ use Rattle.spec_locks.specs.Runs.{CallState}
 use Rattle.spec_locks.specs.Sites.{Line, Main, has_readers}
 use Rattle.lot_machine.specs.Machine.{State, going_outcome, place_at, reply_to, state_after_act, state_after_going, word_at}
 use Rattle.lot_laws.specs.Refinement.{call_at, call_state}
-use Rattle.lot_laws.specs.SitesOf.{FitsCondvar, IsSteady, key_of}
+use Rattle.lot_laws.specs.SitesOf.{FitsCondvar, IsInductive, key_of}
 use Rattle.lot_laws.specs.Owing.{IsInside, IsWait, LetsOthersIn, LooksFirst, OnlyLooks, Owes, SeesWaiters, line_let_in, sort_at, tells_by, tells_of}
 use Rattle.lot_laws.proofs.calls.Events.{rights}
 use Rattle.lot_laws.proofs.condvar.Replies.{fits_here, rules_beside}
@@ -63,7 +63,7 @@ abbrev EntersNext : Next CondvarPlace → ℕ → Line → Type 0
 EntersNext (At p) l m = EntersAt p l m
 EntersNext (Over answer) l m = ⊥
 
--- who notifies never does, nor who locks its mutex again, nor who sleeps behind its release
+-- a notifier never does, nor a thread that locks its mutex again, nor one that sleeps after its release
 notifier_stays : (all : Bool) (n : ℕ) (x : Next NotifyAt) (l : ℕ) (m : Line) → EntersNext (in_notify all n x) l m → ⊥
 notifier_stays all n (At at) l m e = e.2
 notifier_stays all n (Over answer) l m e = e
@@ -198,7 +198,7 @@ module _ (w : State) (t k n : ℕ) (timed : Bool) (r : ℕ → Rights) where
 
 -- ---------------------------------------------------------------- a step
 
-module _ (w : State) (t k : ℕ) (at : CondvarPlace) (steady : IsSteady w) (is : place_at w t ≡ Condvar k at)
+module _ (w : State) (t k : ℕ) (at : CondvarPlace) (steady : IsInductive w) (is : place_at w t ≡ Condvar k at)
     (there : t < length w.places) where
   abbrev fits : FitsCondvar w k at
   fits = fits_here w t k at steady is
@@ -220,7 +220,7 @@ module _ (w : State) (t k : ℕ) (at : CondvarPlace) (steady : IsSteady w) (is :
   tells = ap (λ p. outcome_of (next_act p (reply_to w t (condvar_act k at)))) still.1
 
   module _ (l : ℕ) (m : Line) where
-    -- what it sees there, its call does
+    -- its call does what it sees there
     sees_by : (o : Outcome) → SeesAt w at l m → o ≡ told.Step → (call_at v t).released ≡ true
         → ((j : ℕ) → LooksFirst (call_at v t).purpose j → ⊥) → SeesBy w t l m o v (call_state (Condvar k at) (rights w t))
     sees_by o sees step released looks = by_place at refl sees
@@ -273,7 +273,7 @@ module _ (w : State) (t k : ℕ) (at : CondvarPlace) (steady : IsSteady w) (is :
         ]
 
   -- it owes what it is inside, and what it has seen
-  pub went_owing : IsSteady v → (l : ℕ) (m : Line)
+  pub went_owing : IsInductive v → (l : ℕ) (m : Line)
       → Owes v t l m ↔ (IsInside v t l m ⊎ SeesWaiters w t l m (going_outcome w t (Condvar k at)) v)
   went_owing behind l m = subst (λ o. Owes v t l m ↔ (IsInside v t l m ⊎ SeesWaiters w t l m o v)) (sym tells) (by_next n refl goes)
     where
@@ -310,7 +310,7 @@ module _ (w : State) (t k : ℕ) (at : CondvarPlace) (steady : IsSteady w) (is :
 
 -- ---------------------------------------------------------------- where a call begins, and where its time is up
 
--- whose time is up has released its mutex, and enters the section of the queue where it slept
+-- a thread whose time is up has released its mutex, and enters the section of the queue where it slept
 pub record GoesLate (k : ℕ) (at : CondvarPlace) : Type 0 where
   pub next : CondvarPlace
   pub goes : condvar_next at Late ≡ At next
@@ -339,8 +339,8 @@ pub first_calm : (c : CondvarCall) → IsEntering (condvar_first c) → ⊥
 first_calm (call.Wait j timed) e = e
 first_calm (call.Notify all) e = e
 
--- who lets nobody in and isn't on its way owes what it is inside
-pub calm_owing : (w v : State) (t k : ℕ) (at : CondvarPlace) → IsSteady v → place_at v t ≡ Condvar k at → (IsEntering at → ⊥)
+-- a thread that lets nobody in and isn't on its way owes what it is inside
+pub calm_owing : (w v : State) (t k : ℕ) (at : CondvarPlace) → IsInductive v → place_at v t ≡ Condvar k at → (IsEntering at → ⊥)
     → ((l : ℕ) → LetsOthersIn w t l → ⊥)
     → (l : ℕ) (m : Line) (o : Outcome) → Owes v t l m ↔ (IsInside v t l m ⊎ SeesWaiters w t l m o v)
 calm_owing w v t k at behind is calm shut l m o = (

@@ -34,7 +34,7 @@ use Rattle.lot_laws.proofs.condvar.FollowsDeeds.{Alike}
 use Rattle.lot_laws.proofs.promises.RowPromises.{Befalls}
 use Rattle.lot_machine.proofs.Shape.{performed_counts}
 
--- whatever befell it while it released its mutex
+-- for all that befell it while it released its mutex
 abbrev pub IsStill : CondvarPlace → CondvarPlace → Type 0
 IsStill (Wait m timed (wait.Release s a)) q = (s2 : Stands) × (q ≡ Wait m timed (wait.Release s2 a))
 IsStill p q = q ≡ p
@@ -58,7 +58,7 @@ module _ (l : ℕ) where
       told s2 (Woken n) h = (Wait m timed (wait.Release (stands_after s2 (Woken n)) a), refl, (stands_after s2 (Woken n), refl))
       told s2 r h = absurd h
 
-  -- who notifies is deaf
+  -- a thread that notifies is deaf
   notifies : (all : Bool) (m : ℕ) (at : NotifyAt) (r : Reply) → Befalls r → Keeps (Notify all m at) r
   notifies all m at r h p stood = subst (λ x. StandsAt l (Notify all m at) (next_place x r)) (sym (stood.1 ∙ ap (Condvar l) stood.2)) (Notify all m at, ap (condvar_goes l) (deaf at r h), refl)
     where
@@ -70,7 +70,7 @@ module _ (l : ℕ) where
       deaf at (Woken n) h = refl
       deaf at r h = absurd h
 
-  -- who locks its mutex again tells nobody anything
+  -- a thread that locks its mutex again tells nobody anything
   quietly : (m : ℕ) (a : LockAt) → IsLockOf a → tells (lock_act m a) ≡ false
   quietly m (lock.Decide seen) of = decides (is_locked seen) (seen == 1)
     where
@@ -153,13 +153,13 @@ module _ (w : State) (t l : ℕ) (at : CondvarPlace) (is : place_at w t ≡ Cond
   unfolding went
   went_alike = still_alike at own_place.0 (reply_to w t (condvar_act l at)) own_place.2
 
--- who notifies stands where it stood
+-- a thread that notifies stands where it stood
 pub notifier_still : (w : State) (t l m : ℕ) (all : Bool) (p : NotifyAt) (is : place_at w t ≡ Condvar l (Notify all m p))
     (reached : IsReached (Notify all m p)) (there : t < length w.places)
     → place_at (state_after_act w t (Condvar l (Notify all m p)) (condvar_act l (Notify all m p))) t ≡ Condvar l (Notify all m p)
 notifier_still w t l m all p is reached there = let own = own_place w t l (Notify all m p) is reached there in own.1 ∙ ap (Condvar l) own.2
 
--- who notifies, or looks, goes on from where it stood
+-- a thread that notifies, or looks, goes on from where it stood
 pub notify_place : (w : State) (t l m : ℕ) (all : Bool) (p : NotifyAt) (is : place_at w t ≡ Condvar l (Notify all m p))
     (reached : IsReached (Notify all m p)) (there : t < length w.places)
     → place_at (state_after_going w t (Condvar l (Notify all m p))) t

@@ -22,7 +22,7 @@ use Rattle.spec_locks.specs.Purposes.{MayWait}
 use Rattle.spec_locks.specs.Sites.{Main, Second}
 use Rattle.lot_machine.specs.Machine.{State, kind_at}
 use Rattle.lot_laws.specs.Refinement.{call_state, taken_at}
-use Rattle.lot_laws.specs.Stations.{nowhere, station, station_at, station_by}
+use Rattle.lot_laws.specs.Locations.{nowhere, location, location_at, location_by}
 use Rattle.lot_laws.specs.SitesOf.{FitsItsLock}
 use Rattle.lot_laws.specs.Owing.{sort_at}
 use Rattle.steps_base.specs.Rows.{KnowsRights}
@@ -34,9 +34,9 @@ use Rattle.lot_laws.proofs.mutex.Waiters.{notifier_stands}
 pub record IsAside (m : ℕ) (at : WaitAt) : Type 0 where
   pub moved : (wait_row m at).moved ≡ false
   pub hand : (wait_row m at).hand ≡ None
-  pub retries : (wait_row m at).doing.retries ≡ None
+  pub retries : (wait_row m at).role.retries ≡ None
 
--- who stands in the queue of the condition variable has nothing at the mutex yet
+-- a thread that stands in the queue of the condition variable has nothing at the mutex yet
 pub aside : (m : ℕ) (timed : Bool) (at : WaitAt) → IsReached (Wait m timed at) → (wait_row m at).listed ≡ true → IsAside m at
 aside m timed wait.Leave reached listed = record { moved = refl; hand = refl; retries = refl }
 aside m timed wait.Remove reached listed = record { moved = refl; hand = refl; retries = refl }
@@ -51,7 +51,7 @@ aside m timed (wait.Release stands.Listed at) reached listed = absurd reached.0
 aside m timed (wait.Release s at) reached listed = absurd cc
 aside m timed at reached listed = absurd cc
 
--- who notifies stands nowhere
+-- a thread that notifies stands nowhere
 pub unlisted : (all : Bool) (m : ℕ) (at : NotifyAt) → (notify_row all m at).listed ≡ false
 unlisted all m notify.Enter = refl
 unlisted all m notify.Again = refl
@@ -67,7 +67,7 @@ unlisted all m (notify.Leave any number) = refl
 
 -- it stands in a line of the lock, or was taken from one
 abbrev pub StandsAt : Place → ℕ → Type 0
-StandsAt p l = ((station_at p l).stands ≢ None) ⊎ (taken_at p l ≢ None)
+StandsAt p l = ((location_at p l).stands ≢ None) ⊎ (taken_at p l ≢ None)
 
 module _ (k : ℕ) where
   -- it tries its mutex again, and nothing else
@@ -102,18 +102,18 @@ module _ (k : ℕ) where
 
   -- where it stands
   pub stands_at : (at : CondvarPlace) (l : ℕ)
-      → (station_at (Condvar k at) l).stands
+      → (location_at (Condvar k at) l).stands
       ≡ (if k == l then in_line (condvar_row at).listed Main else if is_lock l (mutex_beside at) then in_line (condvar_row at).moved Main else None)
   stands_at at l = by_lock (k == l) (is_lock l (mutex_beside at))
     where
       by_lock : (c d : Bool)
-          → (if c then station (Condvar k at) else if d then station_by (mutex_side at) else nowhere).stands
+          → (if c then location (Condvar k at) else if d then location_by (mutex_side at) else nowhere).stands
           ≡ (if c then in_line (condvar_row at).listed Main else if d then in_line (condvar_row at).moved Main else None)
       by_lock true d = refl
       by_lock false true = refl
       by_lock false false = refl
 
-  pub two_stand_main : (at : CondvarPlace) (l : ℕ) → (station_at (Condvar k at) l).stands ≡ Some Second → ⊥
+  pub two_stand_main : (at : CondvarPlace) (l : ℕ) → (location_at (Condvar k at) l).stands ≡ Some Second → ⊥
   two_stand_main at l h = by_lock (k == l) (is_lock l (mutex_beside at)) (condvar_row at).listed (condvar_row at).moved (sym (stands_at at l) ∙ h)
     where
       by_lock : (c d a b : Bool) → (if c then in_line a Main else if d then in_line b Main else None) ≡ Some Second → ⊥
@@ -136,7 +136,7 @@ module _ (k : ℕ) where
       either false true e f = inr (eqb-true m l f)
       either false false e f = absurd (out_of_both (Wait m timed at) l e f s)
 
-  -- who is in neither line, and in no hand, stands nowhere
+  -- a thread that is in neither line, and in no hand, stands nowhere
   pub neither_nowhere : (at : CondvarPlace) (l : ℕ) → (condvar_row at).listed ≡ false → (condvar_row at).moved ≡ false
       → (condvar_row at).hand ≡ None → StandsAt (Condvar k at) l → ⊥
   neither_nowhere at l listed moved hand (inl stands) = stands (stands_at at l ∙ by_lock (k == l) (is_lock l (mutex_beside at)))
@@ -170,7 +170,7 @@ module _ (k : ℕ) where
       by_lock false = refl
   two_wait (Look all) l (inr taken) = absurd (taken refl)
 
--- what its call is for
+-- tells what its call is for
 pub two_purpose : (k : ℕ) (at : CondvarPlace) (r : ℕ → Rights)
     → (call_state (Condvar k at) r).purpose ≡ Some (condvar_purpose at k)
 two_purpose k (Wait m timed at) r = refl

@@ -24,7 +24,7 @@ use Rattle.lot_steps.specs.Steps.{next_place}
 use Rattle.spec_locks.specs.Locks as locks
 use Rattle.spec_locks.specs.Sites.{Main}
 use Rattle.lot_machine.specs.Machine.{State, is_there, place_after_telling, place_at, queue_at, queues_without_first, reply_to, state_after_act, state_after_taking}
-use Rattle.lot_laws.specs.SitesOf.{IsSteady, key_of, rules_in}
+use Rattle.lot_laws.specs.SitesOf.{IsInductive, key_of, rules_in}
 use Rattle.lot_laws.proofs.machine.Parts as glue
 use Rattle.lot_laws.proofs.machine.Parts.{differ, same}
 use Rattle.lot_laws.proofs.condvar.WaitTakes.{moved_first}
@@ -51,7 +51,7 @@ pub record WokeItself (t : ℕ) (s s2 : Stands) (at : UnlockAt) : Type 0 where
   pub in_hand : s ≡ stands.InHand t
   pub noted : s2 ≡ stands.Noted note.Normal
 
-module _ (w : State) (t l m : ℕ) (timed : Bool) (steady : IsSteady w) (here : t < length w.places) (apart : m ≢ l)
+module _ (w : State) (t l m : ℕ) (timed : Bool) (steady : IsInductive w) (here : t < length w.places) (apart : m ≢ l)
     (sort : (rules_in w m).sort ≡ locks.Mutex) (plain : rules_in w m ≡ glue.mutex)
     (line : key_of m Main < length w.queues) (section : key_of m Main < length w.sections) where
   abbrev pub place_of : Stands → UnlockAt → Place
@@ -116,7 +116,7 @@ module _ (w : State) (t l m : ℕ) (timed : Bool) (steady : IsSteady w) (here : 
         | inr ne ↦ record { now = stands.InHand u; place = told ∙ ap (λ (b : Bool). if b then place_of (stands.Noted note.Normal) (unlock.Leave true) else place_of (stands.InHand u) (unlock.Leave true)) (differ u t ne); how = inl (refl, λ e. differ u t ne) }
       ]
 
-  -- whatever its act is
+  -- for every act
   pub left_at : (s : Stands) (at : UnlockAt) → place_at w t ≡ place_of s at → LeftAt s at
   left_at s unlock.Subtract is = record { now = s; place = is; how = inl (refl, λ e. absurd cc) }
   left_at s unlock.Enter is = record { now = s; place = is; how = inl (refl, λ e. absurd cc) }

@@ -10,7 +10,7 @@ use Rattle.core_base.specs.Requeues.{moved_by, taken_by}
 use Rattle.steps_base.specs.declared.acts.Act.{Act}
 use Rattle.steps_base.specs.declared.acts.Act.TheVariants as act
 use Rattle.steps_base.specs.Profiles.{taken_from}
-use Rattle.steps_base.specs.Stations.{Station, station_by}
+use Rattle.steps_base.specs.Locations.{Location, location_by}
 use Rattle.steps_mutex.specs.declared.lock.LockAt.{LockAt}
 use Rattle.steps_mutex.specs.declared.lock.LockAt.TheVariants as lock
 use Rattle.steps_mutex.specs.declared.lock.Entry.TheVariants as entry
@@ -45,8 +45,8 @@ use Rattle.spec_locks.specs.Sites.{Line, Main, Second, Site, is_empty}
 use Rattle.steps_base.specs.Moves.{IsFree}
 use Rattle.lot_machine.specs.Machine.{State, is_there, kind_at, listed, can_do, is_free, place_at, queue_at, reply_to, section_at, word_at}
 use Rattle.lot_laws.specs.Refinement.{lock_state, taken_at}
-use Rattle.lot_laws.specs.Stations.{station_at}
-use Rattle.lot_laws.specs.SitesOf.{carried_at, FitsCondvar, FitsItsLock, IsSteady, condvar_of, inside_as, key_of, rules_in, site_of, stood_in}
+use Rattle.lot_laws.specs.Locations.{location_at}
+use Rattle.lot_laws.specs.SitesOf.{carried_at, FitsCondvar, FitsItsLock, IsInductive, condvar_of, inside_as, key_of, rules_in, site_of, stood_in}
 use Rattle.lot_laws.proofs.machine.Parts.{differ, inside_is, plain_rules, same, untaken}
 use Rattle.lot_laws.proofs.sites.OneStep.{empty_line, queued_times, queued_without}
 use Rattle.lot_laws.proofs.condvar.Sites.{at_place}
@@ -70,7 +70,7 @@ length_queued : (q : List Waiter) → length q ≡ length (map queued_of q)
 length_queued [] = refl
 length_queued (x ∷ q) = ap suc (length_queued q)
 
--- whom a requeue takes and moves are all that stood there
+-- a thread that a requeue takes and moves are all that stood there
 pub number_of : (locked : Bool) (q : List Waiter)
     → length (listed (taken_by (if locked then requeue.All else requeue.TakeOneMoveRest) q)) + length
     (moved_by (if locked then requeue.All else requeue.TakeOneMoveRest) q)
@@ -81,12 +81,12 @@ number_of false (x ∷ q) = let e : length q ≡ length (map queued_of q) = leng
 
 -- ---------------------------------------------------------------- a thread at a place of a condition variable
 
--- whom a release of the mutex takes
+-- a thread that a release of the mutex takes
 abbrev pub taken_first : State → ℕ → UnlockAt → Option ℕ
 taken_first w m unlock.Take = first_thread (lock_state w m).queue
 taken_first w m p = None
 
--- what a thread does about the word that it saw, by its two tests
+-- tells what a thread does about the word that it saw, by its two tests
 abbrev pub decided_by : ℕ → ℕ → Bool → Bool → Act
 decided_by m x a b =
     if not a then act.Word m (op.Exchange x (x + 1))
@@ -98,7 +98,7 @@ abbrev lock_out : LockAt → Type 0
 lock_out lock.Check = Unit {0}
 lock_out p = ⊥
 
-module _ (w : State) (t l : ℕ) (at : CondvarPlace) (steady : IsSteady w) (is : place_at w t ≡ Condvar l at) where
+module _ (w : State) (t l : ℕ) (at : CondvarPlace) (steady : IsInductive w) (is : place_at w t ≡ Condvar l at) where
   pub fits_here : FitsCondvar w l at
   fits_here = subst (FitsItsLock w) is (steady.stands.calls t)
 
@@ -191,11 +191,11 @@ module _ (w : State) (t l : ℕ) (at : CondvarPlace) (steady : IsSteady w) (is :
     pub apart : m ≢ l
     apart e = let both : locks.Mutex ≡ locks.Condvar = sym rules_beside ∙ ap (λ n. (rules_in w n).sort) e ∙ fits_here.sort in cc
 
-    pub station_beside : station_at (place_at w t) m ≡ station_by (mutex_side at)
-    station_beside = rw (is, differ l m (λ e. apart (sym e)), beside, same m) refl
+    pub location_beside : location_at (place_at w t) m ≡ location_by (mutex_side at)
+    location_beside = rw (is, differ l m (λ e. apart (sym e)), beside, same m) refl
 
-    pub doing_beside : there.doing t ≡ (condvar_row at).doing
-    doing_beside = rw (is, differ l m (λ e. apart (sym e)), beside, same m) refl
+    pub role_beside : there.role t ≡ (condvar_row at).role
+    role_beside = rw (is, differ l m (λ e. apart (sym e)), beside, same m) refl
 
     pub taken_beside : taken_at (place_at w t) m ≡ taken_from (mutex_side at).hand (mutex_side at).wants true
     taken_beside = rw (is, differ l m (λ e. apart (sym e)), beside, same m) refl
@@ -207,7 +207,7 @@ module _ (w : State) (t l : ℕ) (at : CondvarPlace) (steady : IsSteady w) (is :
     free_beside free u h = let a : section_at w (2 * m) ≡ Some u = (steady.stands.sections u m Main).0 (sym (inside_is (place_at w u) m) ∙ h) in
         let none : section_at w (2 * m) ≡ None = none_so (section_at w (2 * m)) free in let b : ◌≡◌ {A = Option ℕ} None (Some u) = sym none ∙ a in cc
 
-    -- who has nobody in hand has taken nobody
+    -- a thread that has nobody in hand has taken nobody
     taken_nobody : carried_at (place_at w t) m ≡ None → HasTakenNobody there.lock t
     taken_nobody none u x h = let kept : keep_from t (taken_at (place_at w u) m) ≡ taken_at (place_at w u) m = untaken (place_at w u) t m (λ e. let a : carried_at (place_at w t) m ≡ Some false = steady.stands.hands.taken t u m false e in let b : ◌≡◌ {A = Option Bool} None (Some false) = sym none ∙ a in cc) in
         let gone : keep_from t (Some (record { by = t; want = x })) ≡ Some (record { by = t; want = x }) = subst (λ o. keep_from t o ≡ o) h kept in
@@ -230,15 +230,15 @@ module _ (w : State) (t l : ℕ) (at : CondvarPlace) (steady : IsSteady w) (is :
         omega arith
       where
         stood : (n : Line) → times t (queue_at w (key_of m n)) ≡ 0
-        stood n = steady.stands.lines t m n ∙ ap (λ (y : Station). stood_in y.stands n) station_beside ∙ ap (λ o. stood_in o n) out
+        stood n = steady.stands.lines t m n ∙ ap (λ (y : Location). stood_in y.stands n) location_beside ∙ ap (λ o. stood_in o n) out
 
     stands_beside : (mutex_side at).stands ≡ Some Main → 1 ≤ locks.times t there.lock.queue
-    stands_beside stands = let a : locks.times t there.lock.queue ≡ 1 = queued_times t (queue_at w (2 * m)) ∙ steady.stands.lines t m Main ∙ ap (λ (y : Station). stood_in y.stands Main) station_beside ∙ ap (λ o. stood_in o Main) stands in omega arith
+    stands_beside stands = let a : locks.times t there.lock.queue ≡ 1 = queued_times t (queue_at w (2 * m)) ∙ steady.stands.lines t m Main ∙ ap (λ (y : Location). stood_in y.stands Main) location_beside ∙ ap (λ o. stood_in o Main) stands in omega arith
 
     left_beside : (length (without t (queue_at w (2 * m))) == 0) ≡ is_empty (locks.without t there.lock.queue)
     left_beside = sym (empty_line (without t (queue_at w (2 * m)))) ∙ ap is_empty (queued_without t (queue_at w (2 * m)))
 
-    releasing_hears : (s : Stands) (p : UnlockAt) → (has_mutex s ≡ true → (mutex_profile (mutex.Unlock p)).doing.claims ≡ None)
+    releasing_hears : (s : Stands) (p : UnlockAt) → (has_mutex s ≡ true → (mutex_profile (mutex.Unlock p)).role.claims ≡ None)
         → carried_at (place_at w t) m ≡ (mutex_profile (mutex.Unlock p)).carries → can_do w (unlock_act m p) ≡ true
         → MayHearReleasing rules there t s p (taken_first w m p) (reply_to w t (unlock_act m p))
     releasing_hears s unlock.Subtract free carried can = (word_beside, unowned (has_mutex s) refl)
@@ -274,12 +274,12 @@ module _ (w : State) (t l : ℕ) (at : CondvarPlace) (steady : IsSteady w) (is :
 
 -- ---------------------------------------------------------------- a wait, at its mutex
 
--- whom its step takes, if it is a release
+-- a thread that its step takes, if it is a release
 abbrev pub taken_by_wait : State → ℕ → WaitAt → Option ℕ
 taken_by_wait w m (wait.Release s (mutex.Unlock p)) = taken_first w m p
 taken_by_wait w m p = None
 
-module _ (w : State) (t l m : ℕ) (timed : Bool) (at : WaitAt) (steady : IsSteady w)
+module _ (w : State) (t l m : ℕ) (timed : Bool) (at : WaitAt) (steady : IsInductive w)
     (is : place_at w t ≡ Condvar l (Wait m timed at)) where
   abbrev site_m : Site
   site_m = site_of w m
@@ -292,7 +292,7 @@ module _ (w : State) (t l m : ℕ) (timed : Bool) (at : WaitAt) (steady : IsStea
   out_of_line = nowhere_beside w t l (Wait m timed at) steady is m refl
 
   carried : carried_at (place_at w t) m ≡ (mutex_side (Wait m timed at)).carries
-  carried = ap (λ (y : Station). y.carries) (station_beside w t l (Wait m timed at) steady is m refl)
+  carried = ap (λ (y : Location). y.carries) (location_beside w t l (Wait m timed at) steady is m refl)
 
   pub waiter_hears : can_do w (wait_act l m at) ≡ true
       → MayHearWaiter (rules_in w m) site_m t at (taken_by_wait w m at) (reply_to w t (wait_act l m at))
@@ -325,7 +325,7 @@ module _ (w : State) (t l m : ℕ) (timed : Bool) (at : WaitAt) (steady : IsStea
 
 -- ---------------------------------------------------------------- a notification, at the mutex
 
-module _ (w : State) (t l m : ℕ) (all : Bool) (at : NotifyAt) (steady : IsSteady w) (condvars : IsCondvar (condvar_of w l))
+module _ (w : State) (t l m : ℕ) (all : Bool) (at : NotifyAt) (steady : IsInductive w) (condvars : IsCondvar (condvar_of w l))
     (aside : WaitsAside (condvar_of w l) (site_of w m) m) (is : place_at w t ≡ Condvar l (Notify all m at)) where
   abbrev beside_site : Site
   beside_site = site_of w m
@@ -338,7 +338,7 @@ module _ (w : State) (t l m : ℕ) (all : Bool) (at : NotifyAt) (steady : IsStea
 
   pub fits_move : (locked : Bool) → at ≡ notify.Move locked → MoveFits (rules_in w m) all locked (condvar_of w l) beside_site t m
   fits_move locked e = condvar_moves_fit (rules_in w m) all locked (condvar_of w l) beside_site t m (rules_beside w t l this steady is m refl) condvars aside
-      (subst (λ q. IsAt (condvar_of w l) t (Notify all m q)) e (at_it w t l this steady is)) (doing_beside w t l this steady is m refl ∙ ap (λ q. (notify_row all m q).doing) e)
+      (subst (λ q. IsAt (condvar_of w l) t (Notify all m q)) e (at_it w t l this steady is)) (role_beside w t l this steady is m refl ∙ ap (λ q. (notify_row all m q).role) e)
 
   -- somebody waits, so that the first of them is there
   any_waits : (q : List Waiter) → moved_of false (map queued_of q) ≢ [] → is_there (first_of q) ≡ true

@@ -48,7 +48,7 @@ same_condvar w v k lock section says = λ i. record {
     names_now : (u : ℕ) → (profile_at (place_at v u) k).names ≡ (profile_at (place_at w u) k).names
     names_now u = (row_says (place_at v u) k).1 ∙ (says u).1 ∙ sym (row_says (place_at w u) k).1
 
--- who stands elsewhere, where its place says the same of it, leaves each as it was
+-- a thread that stands elsewhere, where its place says the same of it, leaves each as it was
 pub put_condvars : (w : State) (t : ℕ) (q : Place) → t < length w.places
     → ((k : ℕ) → (stage_of q k ≡ stage_of (place_at w t) k) × (names_of q k ≡ names_of (place_at w t) k)) → AreCondvars w
     → AreCondvars (put w t q)

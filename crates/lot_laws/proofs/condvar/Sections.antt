@@ -9,7 +9,7 @@ use Rattle.core_base.specs.Lines.{without, times}
 use Rattle.steps_base.specs.declared.acts.Act.{Act}
 use Rattle.steps_base.specs.declared.acts.Act.TheVariants as act
 use Rattle.steps_base.specs.Profiles.{in_line}
-use Rattle.steps_base.specs.Stations.{Station}
+use Rattle.steps_base.specs.Locations.{Location}
 use Rattle.steps_mutex.specs.declared.places.MutexPlace.TheVariants as mutex
 use Rattle.steps_mutex.specs.declared.lock.Entry.TheVariants as entry
 use Rattle.steps_mutex.specs.declared.lock.LockAt.{LockAt}
@@ -30,14 +30,14 @@ use Rattle.lot_steps.specs.declared.places.Place.TheVariants.{Condvar}
 use Rattle.lot_steps.specs.Steps.{is_lock}
 use Rattle.spec_locks.specs.Sites.{Line, Main, Second}
 use Rattle.lot_machine.specs.Machine.{State, place_at, queue_at, section_at}
-use Rattle.lot_laws.specs.Stations.{station_at}
-use Rattle.lot_laws.specs.SitesOf.{FitsItsLock, IsSteady, key_of, stood_in}
+use Rattle.lot_laws.specs.Locations.{location_at}
+use Rattle.lot_laws.specs.SitesOf.{FitsItsLock, IsInductive, key_of, stood_in}
 use Rattle.lot_laws.proofs.condvar.Promises.{stands_at, two_stand_main}
-use Rattle.lot_laws.proofs.condvar.Sites.{station_there}
+use Rattle.lot_laws.proofs.condvar.Sites.{location_there}
 use Rattle.lot_laws.proofs.hands.Counts.{without_absent}
 use Rattle.lot_laws.proofs.machine.Parts.{condvar_apart}
 use Rattle.lot_laws.proofs.promises.LineActs.{line_of_key}
-use Rattle.lot_laws.proofs.mutex.Waiters.{station_beside}
+use Rattle.lot_laws.proofs.mutex.Waiters.{location_beside}
 
 -- the key of the main line of one of its locks, and of one whose section its row says it is in
 abbrev pub IsItsKey : ℕ → CondvarPlace → ℕ → Type 0
@@ -46,7 +46,7 @@ IsItsKey c at key = (key ≡ 2 * c) ⊎ ((m : ℕ) × (mutex_beside at ≡ Some 
 abbrev pub IsInsideKey : ℕ → CondvarPlace → ℕ → Type 0
 IsInsideKey c at key =
     ((key ≡ 2 * c) × (section_in (condvar_row at).stage ≡ Some Main))
-    ⊎ ((m : ℕ) × (mutex_beside at ≡ Some m) × (key ≡ 2 * m) × ((condvar_row at).doing.inside ≡ Some Main))
+    ⊎ ((m : ℕ) × (mutex_beside at ≡ Some m) × (key ≡ 2 * m) × ((condvar_row at).role.inside ≡ Some Main))
 
 -- where its row says that it stands, it does so under this key
 abbrev pub StandsUnder : ℕ → CondvarPlace → ℕ → Type 0
@@ -135,13 +135,13 @@ condvar_lines c (Notify all m at) reached = notify_lines c m all at
 
 -- ---------------------------------------------------------------- the sections and queues that it touches
 
-module _ (w : State) (t c : ℕ) (at : CondvarPlace) (steady : IsSteady w) (is : place_at w t ≡ Condvar c at)
+module _ (w : State) (t c : ℕ) (at : CondvarPlace) (steady : IsInductive w) (is : place_at w t ≡ Condvar c at)
     (fits : FitsItsLock w (Condvar c at)) where
   -- it holds each section in which its row has it
   pub holds_key : (key : ℕ) → IsInsideKey c at key → section_at w key ≡ Some t
-  holds_key key (inl h) = ap (section_at w) h.0 ∙ (steady.stands.sections t c Main).0 (ap (λ (s : Station). s.inside) (station_there w steady.stands t c at is) ∙ h.1)
+  holds_key key (inl h) = ap (section_at w) h.0 ∙ (steady.stands.sections t c Main).0 (ap (λ (s : Location). s.inside) (location_there w steady.stands t c at is) ∙ h.1)
   holds_key key (inr h) = ap (section_at w) h.2 ∙ (steady.stands.sections t h.0 Main).0
-      (ap (λ p. (station_at p h.0).inside) is ∙ ap (λ (s : Station). s.inside) (station_beside c h.0 (condvar_apart w c at fits h.0 h.1) at h.1) ∙ h.3)
+      (ap (λ p. (location_at p h.0).inside) is ∙ ap (λ (s : Location). s.inside) (location_beside c h.0 (condvar_apart w c at fits h.0 h.1) at h.1) ∙ h.3)
 
   -- in no queue but that one it stands
   module _ (key : ℕ) (under : StandsUnder c at key) where
@@ -169,14 +169,14 @@ module _ (w : State) (t c : ℕ) (at : CondvarPlace) (steady : IsSteady w) (is :
         by_lock false None f g = refl
         by_lock false (Some m) f g = moved m g (condvar_row at).moved (m == k) refl refl
 
-    second_out : (k : ℕ) (o : Option Line) → (station_at (Condvar c at) k).stands ≡ o → stood_in o Second ≡ 0
+    second_out : (k : ℕ) (o : Option Line) → (location_at (Condvar c at) k).stands ≡ o → stood_in o Second ≡ 0
     second_out k None e = refl
     second_out k (Some Main) e = refl
     second_out k (Some Second) e = absurd (two_stand_main c at k e)
 
     stood_out : (k : ℕ) (n : Line) → key_of k n ≢ key → times t (queue_at w (key_of k n)) ≡ 0
-    stood_out k Main ne = steady.stands.lines t k Main ∙ ap (λ p. stood_in (station_at p k).stands Main) is ∙ main_out k ne (station_at (Condvar c at) k).stands (stands_at c at k)
-    stood_out k Second ne = steady.stands.lines t k Second ∙ ap (λ p. stood_in (station_at p k).stands Second) is ∙ second_out k (station_at (Condvar c at) k).stands refl
+    stood_out k Main ne = steady.stands.lines t k Main ∙ ap (λ p. stood_in (location_at p k).stands Main) is ∙ main_out k ne (location_at (Condvar c at) k).stands (stands_at c at k)
+    stood_out k Second ne = steady.stands.lines t k Second ∙ ap (λ p. stood_in (location_at p k).stands Second) is ∙ second_out k (location_at (Condvar c at) k).stands refl
 
     -- so where it leaves the queues, only that one changes
     pub left_at : IsInsideKey c at key → (k : ℕ)

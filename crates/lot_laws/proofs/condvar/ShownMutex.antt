@@ -18,7 +18,7 @@ use Rattle.lot_laws.specs.SitesOf.{condvar_of, inside_as, key_of}
 use Rattle.lot_laws.proofs.calls.Events.{rights}
 use Rattle.lot_laws.proofs.condvar.Rows.{names_of, row_says}
 
--- whoever notifies names no mutex to wait with
+-- each thread that notifies names no mutex to wait with
 notifier_names : (all : Bool) (m : ℕ) (p : NotifyAt) → (notify_row all m p).waits_with ≡ None
 notifier_names all m notify.Enter = refl
 notifier_names all m notify.Again = refl

@@ -32,14 +32,14 @@ use Rattle.spec_locks.proofs.Deeds.{deeds_lead, deeds_need}
 use Rattle.lot_machine.specs.Machine.{State, kind_at, place_at}
 use Rattle.lot_laws.specs.MutexDeeds.{Act, acts}
 use Rattle.lot_laws.specs.Refinement.{call_at, call_on_both, call_state, lock_state, locks_of, taken_at}
-use Rattle.lot_laws.specs.SitesOf.{ActsNeeded, FollowAll, IsSteady, after_acts, rules_in, site_of}
+use Rattle.lot_laws.specs.SitesOf.{ActsNeeded, FollowAll, IsInductive, after_acts, rules_in, site_of}
 use Rattle.lot_laws.proofs.calls.Events.{CallLed, GoesAs, Happens, RunsNothing, never_starts, OthersFollow, deeds_by, goes_with, happens_at, may_do, needed_then, rights}
 use Rattle.lot_laws.proofs.calls.Closures.{closure_told, condvar_runs_none}
 use Rattle.lot_laws.proofs.condvar.MutexUntouched.{there_deeds}
 
 -- ---------------------------------------------------------------- an event of one of two locks
 
-module _ (w v : State) (t c m : ℕ) (apart : m ≢ c) (before : IsSteady w) (after : IsSteady v)
+module _ (w v : State) (t c m : ℕ) (apart : m ≢ c) (before : IsInductive w) (after : IsInductive v)
     (kinds : (k : ℕ) → kind_at v k ≡ kind_at w k)
     (others : (k : ℕ) → k ≢ c → k ≢ m → lock_state v k ≡ lock_state w k) where
   abbrev pub Led : ℕ → Option LockCase → Type 0
@@ -70,7 +70,7 @@ there_case (d ∷ ds) = refl
 
 -- ---------------------------------------------------------------- a step of both locks
 
-module _ (w v : State) (t c m : ℕ) (apart : m ≢ c) (before : IsSteady w) (after : IsSteady v) (all : ℕ → List Act)
+module _ (w v : State) (t c m : ℕ) (apart : m ≢ c) (before : IsInductive w) (after : IsInductive v) (all : ℕ → List Act)
     (f : FollowAll w v all) (elsewhere : (k : ℕ) → k ≢ c → k ≢ m → all k ≡ []) where
   pub locks_led : (k : ℕ) (ds : List Act) → all k ≡ ds → lock_state v k ≡ (after_acts (rules_in w k) ds (site_of w k)).lock
   locks_led k ds is = ap (λ (s : Site). s.lock) (f.site k) ∙ ap (λ done. (after_acts (rules_in w k) done (site_of w k)).lock) is
@@ -86,7 +86,7 @@ module _ (w v : State) (t c m : ℕ) (apart : m ≢ c) (before : IsSteady w) (af
     deeds_need (rules_in w l) t l hand ds (site_of w l) (needed_then (rules_in w l) t ds [] (site_of w l) (subst (λ done. ActsNeeded (rules_in w l) done (site_of w l)) (is ∙ sym (append-nil (acts t ds))) (f.needed l))) one,
   )
 
-  -- what happens in a step of a wait
+  -- tells what happens in a step of a wait
   pub wait_happens : (p : WaitAt) (whom : Option ℕ) (told : Reply) → all c ≡ acts t (there_deeds (wait_deeds m p told))
       → all m ≡ acts t (waiter_deeds p whom told)
       → AreOneCase (there_deeds (wait_deeds m p told)) → AreOneCase (waiter_deeds p whom told) → HasTakenNobody (lock_state w c) t
@@ -124,7 +124,7 @@ module _ (w v : State) (t l m : ℕ) (p : CondvarPlace) (call_is : call_at w t �
       → call_state (place_at v t) (rights v t) ≡ calls.call_at l m q (rights v t)
   call_then q there named = ap (λ x. call_state x (rights v t)) there ∙ ap (λ o. call_on_both o (Some l) (condvar_profile q) (mutex_side q) (rights v t)) named
 
-  -- what it is made of
+  -- tells what it is made of
   pub may_go : MayComeOfTwo l (condvar_profile p) e
       → ((c k : ℕ) (all owned : Bool) (n : ℕ) → e ≡ Moves c k all owned n → MayMove (locks_of w) t c k all owned n)
       → MayHappen (locks_of w) t e

@@ -20,12 +20,12 @@ use Rattle.lot_steps.specs.Steps.{condvar_does, condvar_goes, is_lock}
 use Rattle.spec_locks.specs.Condvars.{IsCondvar}
 use Rattle.spec_locks.specs.Locks.{Rights}
 use Rattle.spec_locks.specs.Runs.{CallState, Event, GoesOn, going_on, is_taken_by, woken}
-use Rattle.lot_machine.specs.Fits.{IsShaped}
+use Rattle.lot_machine.specs.Fits.{IsWellFormed}
 use Rattle.lot_machine.specs.Machine.{State, can_do, place_at, reply_to, state_after_going, word_at}
 use Rattle.lot_laws.specs.MutexDeeds.{acts}
 use Rattle.lot_laws.specs.MutexDeeds as deeds
 use Rattle.lot_laws.specs.Refinement.{lock_state, locks_of, taken_at}
-use Rattle.lot_laws.specs.SitesOf.{GoesAll, IsSteady, condvar_of}
+use Rattle.lot_laws.specs.SitesOf.{GoesAll, IsInductive, condvar_of}
 use Rattle.lot_laws.proofs.calls.Events.{OthersFollow, rights}
 use Rattle.lot_laws.proofs.condvar.Replies.{fits_here, taken_by_wait, word_is}
 use Rattle.lot_laws.proofs.condvar.OwnStand.{look_place, notify_place}
@@ -39,7 +39,7 @@ use Rattle.lot_laws.proofs.condvar.WaitSleeps.{IsSettled, wait_rests}
 use Rattle.lot_laws.proofs.condvar.WaitSettles.{wait_settles}
 use Rattle.lot_laws.proofs.condvar.WaitersAside.{waits_aside}
 
--- who notifies is in nobody's hand
+-- a thread that notifies is in nobody's hand
 no_hand : (all : Bool) (m : ℕ) (p : NotifyAt) → (notify_row all m p).hand ≡ None
 no_hand all m notify.Enter = refl
 no_hand all m notify.Again = refl
@@ -62,9 +62,9 @@ own_call w t l m timed p = call_at l m (Wait m timed p) (rights w t)
 abbrev pub IsUnwoken : State → ℕ → ℕ → ℕ → Bool → WaitAt → Type 0
 IsUnwoken w t l m timed p = woken (locks_of w) t (own_event w t l m p) t (going_on (own_event w t l m p) (own_call w t l m timed p)) ≡ going_on (own_event w t l m p) (own_call w t l m timed p)
 
-module _ (w v : State) (t l : ℕ) (shape : IsShaped w) (steady : IsSteady w) (condvar : IsCondvar (condvar_of w l))
+module _ (w v : State) (t l : ℕ) (shape : IsWellFormed w) (steady : IsInductive w) (condvar : IsCondvar (condvar_of w l))
     (there : t < length w.places) (lt : l < length w.locks) (all_deeds : ℕ → List deeds.Act) (goes : GoesAll w v all_deeds) where
-  after : IsSteady v
+  after : IsInductive v
   after = goes_all_steady w v all_deeds steady goes.follows goes.stands
 
   -- a wait that goes on from where it stood

@@ -29,12 +29,12 @@ use Rattle.spec_locks.specs.Purposes.{rules_of}
 use Rattle.spec_locks.proofs.CondvarKeeps.{condvar_deed_keeps}
 use Rattle.spec_locks.specs.Runs.{IsStep, SectionChanges}
 use Rattle.spec_locks.specs.Sites.{Line, Main, has_readers}
-use Rattle.lot_machine.specs.Fits.{IsShaped, PlaceFits}
+use Rattle.lot_machine.specs.Fits.{IsWellFormed, PlaceFits}
 use Rattle.lot_machine.specs.Machine.{State, after, can_do, can_turn, is_free_under, is_open_to, is_possible, kind_at, place_at, put, queue_at, reply_to, runs_closure, section_at, state_after_going, state_after_late_on, state_after_look, state_after_turn, step_outcome}
 use Rattle.lot_machine.proofs.Shape.{both, looking_shaped}
 use Rattle.lot_laws.specs.Refinement.{lock_state, locks_of}
-use Rattle.lot_laws.specs.Stations.{station_at}
-use Rattle.lot_laws.specs.SitesOf.{AreCondvars, AreCounted, FitsCondvar, FitsItsLock, IsSteady, Stands, condvar_of, inside_as, key_of, rules_in, stood_in}
+use Rattle.lot_laws.specs.Locations.{location_at}
+use Rattle.lot_laws.specs.SitesOf.{AreCondvars, AreCounted, FitsCondvar, FitsItsLock, IsInductive, Stands, condvar_of, inside_as, key_of, rules_in, stood_in}
 use Rattle.lot_laws.proofs.machine.Befallen.{others_keep_it}
 use Rattle.lot_laws.proofs.calls.Closures.{condvar_runs_none}
 use Rattle.lot_laws.proofs.condvar.Replies.{free_inside, may_hear}
@@ -56,7 +56,7 @@ use Rattle.lot_laws.proofs.sites.TurnsKept.{after_steady}
 abbrev OthersSay : State → State → ℕ → ℕ → Type 0
 OthersSay w v t l = (u : ℕ) → u ≢ t → (stage_of (place_at v u) l ≡ stage_of (place_at w u) l) × (names_of (place_at v u) l ≡ names_of (place_at w u) l)
 
-module _ (w v : State) (t l : ℕ) (at : CondvarPlace) (shape : IsShaped w) (steady : IsSteady w) (stands_then : Stands v)
+module _ (w v : State) (t l : ℕ) (at : CondvarPlace) (shape : IsWellFormed w) (steady : IsInductive w) (stands_then : Stands v)
     (is : place_at w t ≡ Condvar l at) (there : t < length w.places) (lt : l < length w.locks)
     (condvar : IsCondvar (condvar_of w l)) (says : OthersSay w v t l) (section : SectionChanges (section_at w (key_of l Main)) t (section_at v (key_of l Main))) where
   fits : FitsCondvar w l at
@@ -118,7 +118,7 @@ looks_from l (Wait m timed p) q is = absurd cc
 looks_from l (Look all) q is = absurd cc
 looks_from l (Notify all m p) q is = absurd cc
 
-module _ (w : State) (s : Step) (shape : IsShaped w) (steady : IsSteady w) (counted : AreCounted w) (condvars : AreCondvars w)
+module _ (w : State) (s : Step) (shape : IsWellFormed w) (steady : IsInductive w) (counted : AreCounted w) (condvars : AreCondvars w)
     (l : ℕ) (at : CondvarPlace) (is : place_at w s.thread ≡ Condvar l at) (lt : l < length w.locks)
     (condvar : IsCondvar (condvar_of w l)) where
   abbrev v : State
@@ -183,10 +183,10 @@ module _ (w : State) (s : Step) (shape : IsShaped w) (steady : IsSteady w) (coun
 
 -- ---------------------------------------------------------------- a call begins
 
-module _ (w : State) (t l : ℕ) (steady : IsSteady w) (idle : place_at w t ≡ Idle) (there : t < length w.places)
+module _ (w : State) (t l : ℕ) (steady : IsInductive w) (idle : place_at w t ≡ Idle) (there : t < length w.places)
     (condvar : IsCondvar (condvar_of w l)) where
   unlisted : times t (condvar_of w l).waiters ≡ 0
-  unlisted = queued_times t (queue_at w (2 * l)) ∙ steady.stands.lines t l Main ∙ ap (λ p. stood_in (station_at p l).stands Main) idle
+  unlisted = queued_times t (queue_at w (2 * l)) ∙ steady.stands.lines t l Main ∙ ap (λ p. stood_in (location_at p l).stands Main) idle
 
   not_inside_yet : IsInsideNot (condvar_of w l).inside t
   not_inside_yet = by_section (section_at w (key_of l Main)) refl
@@ -195,8 +195,8 @@ module _ (w : State) (t l : ℕ) (steady : IsSteady w) (idle : place_at w t ≡ 
           → IsInsideNot (inside_as o (λ u. (profile_at (place_at w u) l).stage)) t
       by_section None e = tt
       by_section (Some u) e = λ own.
-          let in_it : (station_at (place_at w t) l).inside ≡ Some Main = (steady.stands.sections t l Main).1 (e ∙ ap Some own) in
-          let out : (station_at (place_at w t) l).inside ≡ None = ap (λ p. (station_at p l).inside) idle in
+          let in_it : (location_at (place_at w t) l).inside ≡ Some Main = (steady.stands.sections t l Main).1 (e ∙ ap Some own) in
+          let out : (location_at (place_at w t) l).inside ≡ None = ap (λ p. (location_at p l).inside) idle in
           let never : ◌≡◌ {A = Option Line} None (Some Main) = sym out ∙ in_it in cc
 
   begun : (c : CondvarCall) → IsCondvar (condvar_of (put w t (Condvar l (condvar_first c))) l)
@@ -247,8 +247,8 @@ is_or_not : (o : Option ℕ) (k : ℕ) → (o ≡ Some k) ⊎ (o ≢ Some k)
 is_or_not None k = inr (λ e. cc)
 is_or_not (Some j) k = elim (cases_eq j k) [ inl e ↦ inl (ap Some e) | inr ne ↦ inr (λ e. ne cc) ]
 
--- who calls a condition variable is at a place of its calls
-condvar_place : (w : State) → IsSteady w → (t l : ℕ) → (rules_in w l).sort ≡ locks.Condvar → lock_of (place_at w t) ≡ Some l
+-- a thread that calls a condition variable is at a place of its calls
+condvar_place : (w : State) → IsInductive w → (t l : ℕ) → (rules_in w l).sort ≡ locks.Condvar → lock_of (place_at w t) ≡ Some l
     → (at : CondvarPlace) × (place_at w t ≡ Condvar l at)
 condvar_place w steady t l sort own = by_place (place_at w t) refl (steady.stands.calls t) own
   where
@@ -261,7 +261,7 @@ condvar_place w steady t l sort own = by_place (place_at w t) refl (steady.stand
     by_place (Semaphore k at) is fits own = absurd (let here : k ≡ l = cc in let both : locks.Semaphore ≡ locks.Condvar = sym fits.0 ∙ ap (λ j. (rules_in w j).sort) here ∙ sort in cc)
     by_place (Condvar k at) is fits own = (at, is ∙ ap (λ j. Condvar j at) (let here : k ≡ l = cc in here))
 
-pub after_condvars : (w : State) (s : Step) → IsShaped w → IsSteady w → AreCounted w → AreCondvars w → AreCondvars (after w s)
+pub after_condvars : (w : State) (s : Step) → IsWellFormed w → IsInductive w → AreCounted w → AreCondvars w → AreCondvars (after w s)
 after_condvars w s shape steady counted condvars l sort_then = by_lock (is_or_not (lock_of (place_at w s.thread)) l) (is_or_not (lock_of (place_at (after w s) s.thread)) l)
   where
     sort : (rules_in w l).sort ≡ locks.Condvar

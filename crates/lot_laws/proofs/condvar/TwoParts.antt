@@ -4,7 +4,7 @@ use Rattle.std.proofs.Common.{ℕ, true, false, Some, None, ◌==◌, ◌≡◌,
 use Rattle.steps_base.specs.declared.acts.Next.{Next}
 use Rattle.steps_base.specs.declared.acts.Next.TheVariants.{At, End as Over}
 use Rattle.steps_base.specs.Profiles.{taken_from}
-use Rattle.steps_base.specs.Stations.{Station, nowhere, station_by}
+use Rattle.steps_base.specs.Locations.{Location, nowhere, location_by}
 use Rattle.lot_steps.specs.declared.places.Place.{Place}
 use Rattle.lot_steps.specs.Steps.{condvar_goes}
 use Rattle.steps_condvar.specs.declared.places.CondvarPlace.{CondvarPlace}
@@ -12,7 +12,7 @@ use Rattle.steps_condvar.specs.CondvarSteps.{mutex_beside}
 use Rattle.steps_condvar.specs.CondvarMoves.{row_beside, row_there}
 use Rattle.spec_locks.specs.Sites.{idle}
 use Rattle.lot_laws.specs.Refinement.{taken_at}
-use Rattle.lot_laws.specs.Stations.{doing_on, station_at}
+use Rattle.lot_laws.specs.Locations.{role_on, location_at}
 use Rattle.lot_laws.proofs.machine.Parts.{differ, same}
 use Rattle.lot_laws.proofs.sites.StandsKept.{Alike}
 
@@ -29,17 +29,17 @@ module _ (l m : ℕ) (apart : m ≢ l) where
     abbrev pub place : Place
     place = condvar_goes l n
 
-    pub station_there : station_at place l ≡ station_by (row_there n)
-    station_there = by_next n
+    pub location_there : location_at place l ≡ location_by (row_there n)
+    location_there = by_next n
       where
-        by_next : (n : Next CondvarPlace) → station_at (condvar_goes l n) l ≡ station_by (row_there n)
+        by_next : (n : Next CondvarPlace) → location_at (condvar_goes l n) l ≡ location_by (row_there n)
         by_next (At p) = rw (same l) refl
         by_next (Over answer) = refl
 
-    pub doing_there : doing_on place l ≡ (row_there n).doing
-    doing_there = by_next n
+    pub role_there : role_on place l ≡ (row_there n).role
+    role_there = by_next n
       where
-        by_next : (n : Next CondvarPlace) → doing_on (condvar_goes l n) l ≡ (row_there n).doing
+        by_next : (n : Next CondvarPlace) → role_on (condvar_goes l n) l ≡ (row_there n).role
         by_next (At p) = rw (same l) refl
         by_next (Over answer) = refl
 
@@ -50,17 +50,17 @@ module _ (l m : ℕ) (apart : m ≢ l) where
         by_next (At p) e = rw (same l, e, differ m l apart) refl
         by_next (Over answer) e = refl
 
-    pub station_beside : station_at place m ≡ station_by (row_beside n)
-    station_beside = by_next n beside
+    pub location_beside : location_at place m ≡ location_by (row_beside n)
+    location_beside = by_next n beside
       where
-        by_next : (n : Next CondvarPlace) → Beside m n → station_at (condvar_goes l n) m ≡ station_by (row_beside n)
+        by_next : (n : Next CondvarPlace) → Beside m n → location_at (condvar_goes l n) m ≡ location_by (row_beside n)
         by_next (At p) e = rw (there_differ, e, same m) refl
         by_next (Over answer) e = refl
 
-    pub doing_beside : doing_on place m ≡ (row_beside n).doing
-    doing_beside = by_next n beside
+    pub role_beside : role_on place m ≡ (row_beside n).role
+    role_beside = by_next n beside
       where
-        by_next : (n : Next CondvarPlace) → Beside m n → doing_on (condvar_goes l n) m ≡ (row_beside n).doing
+        by_next : (n : Next CondvarPlace) → Beside m n → role_on (condvar_goes l n) m ≡ (row_beside n).role
         by_next (At p) e = rw (there_differ, e, same m) refl
         by_next (Over answer) e = refl
 
@@ -73,45 +73,45 @@ module _ (l m : ℕ) (apart : m ≢ l) where
         by_next (Over answer) e = refl
 
   -- elsewhere it stands nowhere
-  pub nothing_there : (n : Next CondvarPlace) → Beside m n → (k : ℕ) → k ≢ l → k ≢ m → station_at (condvar_goes l n) k ≡ nowhere
+  pub nothing_there : (n : Next CondvarPlace) → Beside m n → (k : ℕ) → k ≢ l → k ≢ m → location_at (condvar_goes l n) k ≡ nowhere
   nothing_there (At p) e k nl nm = rw (differ l k (λ f. nl (sym f)), e, differ m k (λ f. nm (sym f))) refl
   nothing_there (Over answer) e k nl nm = refl
 
   -- another lock sees nothing of it
   pub nothing_else : (n n2 : Next CondvarPlace) → Beside m n → Beside m n2 → (k : ℕ) → k ≢ l → k ≢ m
       → Alike k (condvar_goes l n) (condvar_goes l n2)
-  nothing_else n n2 h h2 k nl nm = let a = nothing n h in let b = nothing n2 h2 in record { station = b.0 ∙ sym a.0; doing = b.1 ∙ sym a.1; taken = b.2 ∙ sym a.2 }
+  nothing_else n n2 h h2 k nl nm = let a = nothing n h in let b = nothing n2 h2 in record { location = b.0 ∙ sym a.0; role = b.1 ∙ sym a.1; taken = b.2 ∙ sym a.2 }
     where
       nothing : (n : Next CondvarPlace) → Beside m n
-          → (station_at (condvar_goes l n) k ≡ nowhere) × (doing_on (condvar_goes l n) k ≡ idle)
+          → (location_at (condvar_goes l n) k ≡ nowhere) × (role_on (condvar_goes l n) k ≡ idle)
           × (taken_at (condvar_goes l n) k ≡ None)
       nothing (At p) e = (rw (differ l k (λ f. nl (sym f)), e, differ m k (λ f. nm (sym f))) refl, rw (differ l k (λ f. nl (sym f)), e, differ m k (λ f. nm (sym f))) refl, rw (differ l k (λ f. nl (sym f)), e, differ m k (λ f. nm (sym f))) refl)
       nothing (Over answer) e = (refl, refl, refl)
 
--- what a row there says of the thread's doing is where it is inside
-pub doing_of_row : (n : Next CondvarPlace) → (row_there n).doing ≡ record idle { inside = (station_by (row_there n)).inside }
-doing_of_row (At p) = refl
-doing_of_row (Over answer) = refl
+-- the row there says of the thread's doing where it is inside
+pub role_of_row : (n : Next CondvarPlace) → (row_there n).role ≡ record idle { inside = (location_by (row_there n)).inside }
+role_of_row (At p) = refl
+role_of_row (Over answer) = refl
 
 -- ---------------------------------------------------------------- what a step leaves as it was
 
 -- one row and the next say the same of the thread at the mutex
 abbrev pub SameBeside : Next CondvarPlace → Next CondvarPlace → Type 0
 SameBeside n n2 =
-    (station_by (row_beside n2) ≡ station_by (row_beside n)) × ((row_beside n2).doing ≡ (row_beside n).doing)
+    (location_by (row_beside n2) ≡ location_by (row_beside n)) × ((row_beside n2).role ≡ (row_beside n).role)
     × (taken_from (row_beside n2).hand (row_beside n2).wants true ≡ taken_from (row_beside n).hand (row_beside n).wants true)
 
 module _ (l m : ℕ) (apart : m ≢ l) (n n2 : Next CondvarPlace) (beside : Beside m n) (beside2 : Beside m n2) where
   pub alike_beside : SameBeside n n2 → Alike m (condvar_goes l n) (condvar_goes l n2)
   alike_beside e = record {
-    station = station_beside l m apart n2 beside2 ∙ e.0 ∙ sym (station_beside l m apart n beside);
-    doing = doing_beside l m apart n2 beside2 ∙ e.1 ∙ sym (doing_beside l m apart n beside);
+    location = location_beside l m apart n2 beside2 ∙ e.0 ∙ sym (location_beside l m apart n beside);
+    role = role_beside l m apart n2 beside2 ∙ e.1 ∙ sym (role_beside l m apart n beside);
     taken = taken_beside l m apart n2 beside2 ∙ e.2 ∙ sym (taken_beside l m apart n beside);
   }
 
-  pub alike_there : station_by (row_there n2) ≡ station_by (row_there n) → Alike l (condvar_goes l n) (condvar_goes l n2)
+  pub alike_there : location_by (row_there n2) ≡ location_by (row_there n) → Alike l (condvar_goes l n) (condvar_goes l n2)
   alike_there e = record {
-    station = station_there l m apart n2 beside2 ∙ e ∙ sym (station_there l m apart n beside);
-    doing = doing_there l m apart n2 beside2 ∙ doing_of_row n2 ∙ ap (λ (y : Station). record idle { inside = y.inside }) e ∙ sym (doing_of_row n) ∙ sym (doing_there l m apart n beside);
+    location = location_there l m apart n2 beside2 ∙ e ∙ sym (location_there l m apart n beside);
+    role = role_there l m apart n2 beside2 ∙ role_of_row n2 ∙ ap (λ (y : Location). record idle { inside = y.inside }) e ∙ sym (role_of_row n) ∙ sym (role_there l m apart n beside);
     taken = taken_there l m apart n2 beside2 ∙ sym (taken_there l m apart n beside);
   }

@@ -22,13 +22,13 @@ use Rattle.spec_locks.specs.Locks as locks
 use Rattle.spec_locks.specs.Sites.{Main}
 use Rattle.lot_machine.specs.Machine.{State, can_do, place_at, put, queue_at, reply_to, section_at, state_after_act, word_at}
 use Rattle.lot_laws.specs.MutexDeeds.{acts}
-use Rattle.lot_laws.specs.Stations.{station_at}
-use Rattle.lot_laws.specs.SitesOf.{FitsItsLock, Goes, IsSteady, condvar_of, key_of, rules_in}
+use Rattle.lot_laws.specs.Locations.{location_at}
+use Rattle.lot_laws.specs.SitesOf.{FitsItsLock, Goes, IsInductive, condvar_of, key_of, rules_in}
 use Rattle.lot_laws.proofs.sites.StandsKept.{Alike}
-use Rattle.lot_laws.proofs.condvar.TwoParts.{Beside, SameBeside, alike_beside, station_beside}
+use Rattle.lot_laws.proofs.condvar.TwoParts.{Beside, SameBeside, alike_beside, location_beside}
 use Rattle.lot_laws.proofs.condvar.Replies.{at_it, may_hear, word_is, none_so}
 use Rattle.lot_laws.proofs.condvar.MutexUntouched.{IsOfWord, enters_there, leaves_list, leaves_there, stands_there, there_deeds, works_there}
-use Rattle.steps_base.specs.Stations.{Station, station_by}
+use Rattle.steps_base.specs.Locations.{Location, location_by}
 
 -- the places of a wait whose act is at the condition variable alone
 abbrev pub IsAtCondvar : WaitAt → Type 0
@@ -41,7 +41,7 @@ IsAtCondvar wait.Hide = Unit {0}
 IsAtCondvar wait.GiveUp = Unit {0}
 IsAtCondvar at = ⊥
 
-module _ (w : State) (t l m : ℕ) (timed : Bool) (steady : IsSteady w) (is_there : t < length w.places) (apart : m ≢ l)
+module _ (w : State) (t l m : ℕ) (timed : Bool) (steady : IsInductive w) (is_there : t < length w.places) (apart : m ≢ l)
     (sort : (rules_in w l).sort ≡ locks.Condvar) (condvar : IsCondvar (condvar_of w l))
     (lock : l < length w.locks) (section : key_of l Main < length w.sections) (line : key_of l Main < length w.queues) where
   abbrev waits : WaitAt → CondvarPlace
@@ -54,15 +54,15 @@ module _ (w : State) (t l m : ℕ) (timed : Bool) (steady : IsSteady w) (is_ther
   abbrev FitsNext : WaitAt → Type 0
   FitsNext at = FitsItsLock w (condvar_goes l (condvar_next (waits at) (reply_to w t (wait_act l m at))))
 
-  -- what a step leaves as it was at the mutex
+  -- tells what a step leaves as it was at the mutex
   same_beside : (at : WaitAt) → place_at w t ≡ Condvar l (waits at) → (n : Next CondvarPlace) → Beside m n
       → SameBeside (At (waits at)) n → Alike m (place_at w t) (condvar_goes l n)
   same_beside at is n beside e = subst (λ q. Alike m q (condvar_goes l n)) (sym is) (alike_beside l m apart (At (waits at)) n refl beside e)
 
   -- it stands in no line there
-  outside : (at : WaitAt) → place_at w t ≡ Condvar l (waits at) → (station_by (row_beside (At (waits at)))).stands ≡ None
-      → (station_at (place_at w t) m).stands ≡ None
-  outside at is e = ap (λ q. (station_at q m).stands) is ∙ ap (λ (y : Station). y.stands) (station_beside l m apart (At (waits at)) refl) ∙ e
+  outside : (at : WaitAt) → place_at w t ≡ Condvar l (waits at) → (location_by (row_beside (At (waits at)))).stands ≡ None
+      → (location_at (place_at w t) m).stands ≡ None
+  outside at is e = ap (λ q. (location_at q m).stands) is ∙ ap (λ (y : Location). y.stands) (location_beside l m apart (At (waits at)) refl) ∙ e
 
   enters : place_at w t ≡ Condvar l (waits wait.Enter) → can_do w (wait_act l m wait.Enter) ≡ true → FitsNext wait.Enter
       → Kept wait.Enter
@@ -88,7 +88,7 @@ module _ (w : State) (t l m : ℕ) (timed : Bool) (steady : IsSteady w) (is_ther
   removed_same false = (refl, refl, refl)
 
   removed_there : (b : Bool)
-      → station_by (row_there (in_wait m timed (if b then At wait.Hide else At wait.GiveUp))) ≡ inside_of Main
+      → location_by (row_there (in_wait m timed (if b then At wait.Hide else At wait.GiveUp))) ≡ inside_of Main
   removed_there true = refl
   removed_there false = refl
 
@@ -109,7 +109,7 @@ module _ (w : State) (t l m : ℕ) (timed : Bool) (steady : IsSteady w) (is_ther
   shows_same false = (refl, refl, refl)
 
   shows_there : (b : Bool)
-      → station_by (row_there (in_wait m timed (if b then At wait.Stand else At wait.Refuse))) ≡ there (waits wait.Show)
+      → location_by (row_there (in_wait m timed (if b then At wait.Stand else At wait.Refuse))) ≡ there (waits wait.Show)
   shows_there true = refl
   shows_there false = refl
 

@@ -37,17 +37,17 @@ use Rattle.spec_locks.specs.Runs.{CallState, Event, GoesOn, MayHappen, Moves, go
 use Rattle.spec_locks.specs.Sites.{End, Main, Mark, Site}
 use Rattle.lot_machine.specs.Machine.{State, can_do, place_at, reply_to, word_at}
 use Rattle.steps_base.specs.Calls.{rights_where}
-use Rattle.steps_base.specs.Stations.{Station}
+use Rattle.steps_base.specs.Locations.{Location}
 use Rattle.lot_steps.specs.declared.places.Place.TheVariants.{Condvar}
 use Rattle.lot_steps.specs.Steps.{condvar_does, condvar_goes}
 use Rattle.lot_laws.specs.MutexDeeds.{acts}
 use Rattle.lot_laws.specs.MutexDeeds as deeds
 use Rattle.lot_laws.specs.Refinement.{call_at, call_state, lock_state, locks_of}
-use Rattle.lot_laws.specs.SitesOf.{FollowAll, IsSteady, condvar_of, rules_in, site_of}
+use Rattle.lot_laws.specs.SitesOf.{FollowAll, IsInductive, condvar_of, rules_in, site_of}
 use Rattle.lot_laws.proofs.machine.AtPlaces.{in_no_hand, taken_nobody}
 use Rattle.lot_laws.proofs.calls.Events.{GoesAs, Happens, OthersFollow, deeds_by, put_is, rights}
 use Rattle.lot_laws.proofs.condvar.StepEvents.{call_named, call_then, NamesStill, ToldSo, begins_two, call_led, condvar_goes_on, locks_led, may_go, no_closure, others, wait_happens}
-use Rattle.lot_laws.proofs.condvar.Replies.{apart, at_it, doing_beside, fits_here, may_hear, rules_beside, station_beside, taken_by_wait, waiter_hears}
+use Rattle.lot_laws.proofs.condvar.Replies.{apart, at_it, role_beside, fits_here, may_hear, rules_beside, location_beside, taken_by_wait, waiter_hears}
 use Rattle.lot_laws.proofs.machine.Parts.{same}
 use Rattle.lot_laws.proofs.condvar.MutexUntouched.{there_deeds}
 
@@ -150,7 +150,7 @@ module _ (w : State) (t l m : ℕ) where
 
 -- ---------------------------------------------------------------- the step
 
--- what it does at the condition variable changes nobody's rights
+-- its deed at the condition variable changes nobody's rights
 pub there_rights : (ds : List CondvarDeed) (r : Rules) (s : Site) (t : ℕ)
     → rights_of (after_all r (there_deeds ds) s t).lock t ≡ rights_of s.lock t
 there_rights [] r s t = refl
@@ -163,7 +163,7 @@ never_moves m l None None c k n all owned e = cc
 never_moves m l None (Some b) c k n all owned e = cc
 never_moves m l (Some a) y c k n all owned e = cc
 
-module _ (w v : State) (t l m : ℕ) (timed : Bool) (p : WaitAt) (steady : IsSteady w) (after : IsSteady v)
+module _ (w v : State) (t l m : ℕ) (timed : Bool) (p : WaitAt) (steady : IsInductive w) (after : IsInductive v)
     (condvar_holds : IsCondvar (condvar_of w l)) (is : place_at w t ≡ Condvar l (Wait m timed p))
     (can : can_do w (wait_act l m p) ≡ true)
     (all : ℕ → List deeds.Act) (f : FollowAll w v all) (elsewhere : (k : ℕ) → k ≢ l → k ≢ m → all k ≡ []) (at_l : all l ≡ acts t (there_deeds (wait_deeds m p (reply_to w t (wait_act l m p)))))
@@ -191,7 +191,7 @@ module _ (w v : State) (t l m : ℕ) (timed : Bool) (p : WaitAt) (steady : IsSte
   nobody_there = taken_nobody w steady t l (rw (is, same l) refl)
 
   nobody_beside : wait_carries p ≢ Some false → HasTakenNobody (lock_state w m) t
-  nobody_beside none = in_no_hand w steady t m (λ h. none (sym (ap (λ (y : Station). y.carries) (station_beside w t l (Wait m timed p) steady is m refl)) ∙ h))
+  nobody_beside none = in_no_hand w steady t m (λ h. none (sym (ap (λ (y : Location). y.carries) (location_beside w t l (Wait m timed p) steady is m refl)) ∙ h))
 
   pub wait_happened : Happens w v t event
   wait_happened = wait_happens w v t l m apart_m steady after all f elsewhere p whom told at_l at_m one.there one.beside nobody_there nobody_beside one.alone
@@ -218,7 +218,7 @@ module _ (w v : State) (t l m : ℕ) (timed : Bool) (p : WaitAt) (steady : IsSte
 
   follows : CallFollows l m (Wait m timed p) told event shown_then (lock_state w m) behind t (condvar_next (Wait m timed p) told)
   follows = waits_tell (condvar_of w l) (rules_in w m) (site_of w m) t l m timed p whom told (rules_beside w t l (Wait m timed p) steady is m refl) condvar_holds (at_it w t l (Wait m timed p) steady is) (steady.sites.site m)
-      (doing_beside w t l (Wait m timed p) steady is m refl) (may_hear w t l (Wait m timed p) steady is can) (waiter_hears w t l m timed p steady is can) reached
+      (role_beside w t l (Wait m timed p) steady is m refl) (may_hear w t l (Wait m timed p) steady is can) (waiter_hears w t l m timed p steady is can) reached
 
   -- its call
   abbrev pub call : CallState

@@ -33,7 +33,7 @@ use Rattle.spec_locks.specs.Sites.{Main}
 use Rattle.lot_machine.specs.Machine.{State, can_do, place_at, put, reply_to, state_after_act, queues_with_last, word_at}
 use Rattle.lot_laws.specs.MutexDeeds.{acts}
 use Rattle.lot_laws.specs.MutexDeeds as deeds
-use Rattle.lot_laws.specs.SitesOf.{FitsItsLock, Goes, GoesAll, IsSteady, condvar_of, key_of, rules_in}
+use Rattle.lot_laws.specs.SitesOf.{FitsItsLock, Goes, GoesAll, IsInductive, condvar_of, key_of, rules_in}
 use Rattle.lot_laws.proofs.sites.Following.{goes_all, only_at}
 use Rattle.lot_laws.proofs.machine.Parts as glue
 use Rattle.lot_laws.proofs.sites.TwoLocks.{two_at}
@@ -51,7 +51,7 @@ use Rattle.steps_base.specs.Acts.{holds}
 use Rattle.core_base.specs.declared.wants.Want.TheVariants.{Exclusive}
 
 -- a step of one of two locks
-module _ (w v : State) (l m : ℕ) (apart : m ≢ l) (steady : IsSteady w) where
+module _ (w v : State) (l m : ℕ) (apart : m ≢ l) (steady : IsInductive w) where
   pub of_one : (ds none : List deeds.Act) → none ≡ [] → Goes w v l ds → GoesAll w v (two_at l m ds none)
   of_one ds none e g = subst (λ x. GoesAll w v (two_at l m ds x)) (sym e) (subst (GoesAll w v) (λ i k. at_lock k i) (goes_all w v l ds steady g))
     where
@@ -74,7 +74,7 @@ module _ (w v : State) (l m : ℕ) (apart : m ≢ l) (steady : IsSteady w) where
           either true false e f = refl
           either false b e f = refl
 
-module _ (w : State) (t l m : ℕ) (timed : Bool) (steady : IsSteady w) (is_there : t < length w.places) (apart : m ≢ l)
+module _ (w : State) (t l m : ℕ) (timed : Bool) (steady : IsInductive w) (is_there : t < length w.places) (apart : m ≢ l)
     (sort_l : (rules_in w l).sort ≡ locks.Condvar) (sort_m : (rules_in w m).sort ≡ locks.Mutex)
     (plain : rules_in w m ≡ glue.mutex) (condvar : IsCondvar (condvar_of w l))
     (lock_l : l < length w.locks) (lock_m : m < length w.locks) (section_l : key_of l Main < length w.sections) (section_m : key_of m Main < length w.sections) (line_l : key_of l Main < length w.queues) (line_m : key_of m Main < length w.queues) where
@@ -93,7 +93,7 @@ module _ (w : State) (t l m : ℕ) (timed : Bool) (steady : IsSteady w) (is_ther
       → GoesAll w (put (after at a) t (next_place (place_at (after at a) t) (told a)))
       (two_at l m (acts t (there_deeds (wait_deeds m at (told a)))) (acts t (waiter_deeds at (taken_by_wait w m at) (told a))))
 
-  -- of an act that befalls nobody, it goes on from where it stands
+  -- after an act that befalls nobody, it goes on from where it stands
   module _ (at : WaitAt) (a : Act) (is : place_at w t ≡ Condvar l (waits at))
       (still : place_at (after at a) t ≡ place_at w t) where
     abbrev next : Place

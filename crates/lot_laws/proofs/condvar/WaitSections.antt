@@ -11,7 +11,7 @@ use Rattle.steps_base.specs.declared.acts.Reply.{Reply}
 use Rattle.steps_base.specs.declared.acts.Reply.TheVariants.{Done, Parked}
 use Rattle.steps_base.specs.declared.acts.Wakes.TheVariants.{Nobody}
 use Rattle.steps_base.specs.Profiles.{taken_from}
-use Rattle.steps_base.specs.Stations.{Station, station_by}
+use Rattle.steps_base.specs.Locations.{Location, location_by}
 use Rattle.lot_steps.specs.declared.places.Place.{Place}
 use Rattle.lot_steps.specs.declared.places.Place.TheVariants.{Condvar}
 use Rattle.lot_steps.specs.Steps.{condvar_goes}
@@ -33,12 +33,12 @@ use Rattle.steps_condvar.specs.CondvarWaits.{MayHearWaiter, WaiterFollows, itsel
 use Rattle.spec_locks.specs.Deeds as laws
 use Rattle.spec_locks.specs.Locks as locks
 use Rattle.spec_locks.specs.Locks.{Park, Rules, keep_from}
-use Rattle.spec_locks.specs.Sites.{Case, Deed, Doing, End, In, Main, Out, Site, wakened}
+use Rattle.spec_locks.specs.Sites.{Case, Deed, Role, End, In, Main, Out, Site, wakened}
 use Rattle.lot_machine.specs.Machine.{State, can_do, place_at, put, reply_to, section_at, state_after_act, word_at, queues_with_last}
 use Rattle.lot_laws.specs.MutexDeeds.{acts}
 use Rattle.lot_laws.specs.Refinement.{taken_at}
-use Rattle.lot_laws.specs.Stations.{doing_on, station_at}
-use Rattle.lot_laws.specs.SitesOf.{FitsItsLock, Goes, IsSteady, key_of, rules_in, site_of}
+use Rattle.lot_laws.specs.Locations.{role_on, location_at}
+use Rattle.lot_laws.specs.SitesOf.{FitsItsLock, Goes, IsInductive, key_of, rules_in, site_of}
 use Rattle.lot_laws.proofs.sites.StandsKept.{AlikeBeside}
 use Rattle.lot_laws.proofs.condvar.Replies as hears
 use Rattle.lot_laws.proofs.condvar.Replies.{taken_by_wait, waiter_hears, none_so}
@@ -50,9 +50,9 @@ use Rattle.steps_base.specs.Acts.{holds}
 use Rattle.lot_laws.proofs.sites.ActsAt.{place_goes}
 use Rattle.lot_laws.proofs.sites.OneStep.{steps_by}
 use Rattle.lot_laws.proofs.machine.Parts.{parts_at}
-use Rattle.lot_laws.proofs.condvar.TwoParts.{nothing_there, station_there}
+use Rattle.lot_laws.proofs.condvar.TwoParts.{nothing_there, location_there}
 
-module _ (w : State) (t l m : ℕ) (timed : Bool) (steady : IsSteady w) (is_there : t < length w.places) (apart : m ≢ l)
+module _ (w : State) (t l m : ℕ) (timed : Bool) (steady : IsInductive w) (is_there : t < length w.places) (apart : m ≢ l)
     (sort : (rules_in w m).sort ≡ locks.Mutex) (section : key_of m Main < length w.sections)
     (line : key_of m Main < length w.queues) where
   abbrev waits : WaitAt → CondvarPlace
@@ -70,7 +70,7 @@ module _ (w : State) (t l m : ℕ) (timed : Bool) (steady : IsSteady w) (is_ther
   abbrev FitsNext : WaitAt → Act → Type 0
   FitsNext at a = FitsItsLock w (condvar_goes l (condvar_next (waits at) (reply_to w t a)))
 
-  -- what it does, by the laws of its place, where it takes nobody
+  -- tells what it does, by the laws of its place, where it takes nobody
   module _ (at : WaitAt) (is : place_at w t ≡ Condvar l (waits at)) (a : Act) (acts_so : wait_act l m at ≡ a)
       (can : can_do w a ≡ true) (nobody : taken_by_wait w m at ≡ None) (ds : List Deed)
       (does : waiter_deeds at None (reply_to w t a) ≡ ds) where
@@ -87,8 +87,8 @@ module _ (w : State) (t l m : ℕ) (timed : Bool) (steady : IsSteady w) (is_ther
     needed : laws.AllNeeded r ds here t
     needed = subst (λ ds. laws.AllNeeded r ds here t) does followed.needed
 
-    behind : (laws.after_all r ds here t).doing t ≡ itself_woken t here ds (waiter_next m next)
-    behind = subst (λ ds. (laws.after_all r ds here t).doing t ≡ itself_woken t here ds (waiter_next m next)) does followed.doing
+    behind : (laws.after_all r ds here t).role t ≡ itself_woken t here ds (waiter_next m next)
+    behind = subst (λ ds. (laws.after_all r ds here t).role t ≡ itself_woken t here ds (waiter_next m next)) does followed.role
 
     module _ (stays : StaysThere w t l m timed steady is_there apart sort at (in_wait m timed next)) where
       abbrev p2 : Place
@@ -97,14 +97,14 @@ module _ (w : State) (t l m : ℕ) (timed : Bool) (steady : IsSteady w) (is_ther
       abbrev pub alike : AlikeBeside m (place_at w t) p2
       alike = beside.alike w t l m timed steady is_there apart sort at is (in_wait m timed next) stays
 
-      abbrev was : Station
-      was = station_by (row_beside (At (waits at)))
+      abbrev was : Location
+      was = location_by (row_beside (At (waits at)))
 
-      pub station_was : station_at (place_at w t) m ≡ was
-      station_was = beside.station_was w t l m timed steady is_there apart sort at is (in_wait m timed next) stays
+      pub location_was : location_at (place_at w t) m ≡ was
+      location_was = beside.location_was w t l m timed steady is_there apart sort at is (in_wait m timed next) stays
 
-      pub station_then : station_at p2 m ≡ station_by (row_beside (in_wait m timed next))
-      station_then = beside.station_then w t l m timed steady is_there apart sort at is (in_wait m timed next) stays
+      pub location_then : location_at p2 m ≡ location_by (row_beside (in_wait m timed next))
+      location_then = beside.location_then w t l m timed steady is_there apart sort at is (in_wait m timed next) stays
 
       abbrev SameTaken : Type 0
       SameTaken = taken_from (row_beside (in_wait m timed next)).hand (row_beside (in_wait m timed next)).wants true ≡ taken_from (row_beside (At (waits at))).hand (row_beside (At (waits at))).wants true
@@ -115,7 +115,7 @@ module _ (w : State) (t l m : ℕ) (timed : Bool) (steady : IsSteady w) (is_ther
       same_taken : SameTaken → taken_at (place_at w t) m ≡ taken_at p2 m
       same_taken e = taken_was ∙ sym e ∙ sym (beside.taken_then w t l m timed steady is_there apart sort at is (in_wait m timed next) stays)
 
-      does_next : doing_on p2 m ≡ waiter_next m next
+      does_next : role_on p2 m ≡ waiter_next m next
       does_next = beside.does_next w t l m timed steady is_there apart sort next stays.0
 
   abbrev enter : Act
@@ -124,8 +124,8 @@ module _ (w : State) (t l m : ℕ) (timed : Bool) (steady : IsSteady w) (is_ther
   abbrev leave : Act
   leave = act.Leave (One (2 * m)) Nobody
 
-  abbrev is_beside : WaitAt → Station
-  is_beside at = station_by (row_beside (At (waits at)))
+  abbrev is_beside : WaitAt → Location
+  is_beside at = location_by (row_beside (At (waits at)))
 
   abbrev releasing : Stands → UnlockAt → WaitAt
   releasing s at = wait.Release s (mutex.Unlock at)
@@ -139,9 +139,9 @@ module _ (w : State) (t l m : ℕ) (timed : Bool) (steady : IsSteady w) (is_ther
   pub enters_to_release : (s : Stands) → place_at w t ≡ Condvar l (waits (releasing s unlock.Enter)) → can_do w enter ≡ true
       → FitsNext (releasing s unlock.Enter) enter → Kept (releasing s unlock.Enter) enter
   enters_to_release s is can fits = goes_in_at w t m steady is_there sort (condvar_goes l (condvar_next (waits at) Done)) (alike at is enter refl can refl (In Main ∷ []) refl (refl, refl)) fits section (none_so (section_at w (2 * m)) can)
-      (ap (λ (y : Station). y.inside) (station_was at is enter refl can refl (In Main ∷ []) refl (refl, refl))) (needed at is enter refl can refl (In Main ∷ []) refl)
+      (ap (λ (y : Location). y.inside) (location_was at is enter refl can refl (In Main ∷ []) refl (refl, refl))) (needed at is enter refl can refl (In Main ∷ []) refl)
       (behind at is enter refl can refl (In Main ∷ []) refl ∙ sym (does_next at is enter refl can refl (In Main ∷ []) refl (refl, refl)))
-      (station_then at is enter refl can refl (In Main ∷ []) refl (refl, refl) ∙ sym (ap (λ (y : Station). record y { inside = Some Main }) (station_was at is enter refl can refl (In Main ∷ []) refl (refl, refl))))
+      (location_then at is enter refl can refl (In Main ∷ []) refl (refl, refl) ∙ sym (ap (λ (y : Location). record y { inside = Some Main }) (location_was at is enter refl can refl (In Main ∷ []) refl (refl, refl))))
       (same_taken at is enter refl can refl (In Main ∷ []) refl (refl, refl) refl)
     where
       at : WaitAt
@@ -152,9 +152,9 @@ module _ (w : State) (t l m : ℕ) (timed : Bool) (steady : IsSteady w) (is_ther
       → wait_act l m (relocks late retries (lock.Decide x)) ≡ enter → can_do w enter ≡ true
       → FitsNext (relocks late retries (lock.Decide x)) enter → Kept (relocks late retries (lock.Decide x)) enter
   enters_to_park late retries x is acts_so can fits = goes_in_at w t m steady is_there sort (condvar_goes l (condvar_next (waits at) Done)) (alike at is enter acts_so can refl (In Main ∷ []) refl (refl, refl)) fits section (none_so (section_at w (2 * m)) can)
-      (ap (λ (y : Station). y.inside) (station_was at is enter acts_so can refl (In Main ∷ []) refl (refl, refl))) (needed at is enter acts_so can refl (In Main ∷ []) refl)
+      (ap (λ (y : Location). y.inside) (location_was at is enter acts_so can refl (In Main ∷ []) refl (refl, refl))) (needed at is enter acts_so can refl (In Main ∷ []) refl)
       (behind at is enter acts_so can refl (In Main ∷ []) refl ∙ sym (does_next at is enter acts_so can refl (In Main ∷ []) refl (refl, refl)))
-      (station_then at is enter acts_so can refl (In Main ∷ []) refl (refl, refl) ∙ sym (ap (λ (y : Station). record y { inside = Some Main }) (station_was at is enter acts_so can refl (In Main ∷ []) refl (refl, refl))))
+      (location_then at is enter acts_so can refl (In Main ∷ []) refl (refl, refl) ∙ sym (ap (λ (y : Location). record y { inside = Some Main }) (location_was at is enter acts_so can refl (In Main ∷ []) refl (refl, refl))))
       (same_taken at is enter acts_so can refl (In Main ∷ []) refl (refl, refl) refl)
     where
       at : WaitAt
@@ -170,7 +170,7 @@ module _ (w : State) (t l m : ℕ) (timed : Bool) (steady : IsSteady w) (is_ther
     parked_there true = (refl, refl)
     parked_there false = (refl, refl)
 
-    parked_beside : (b : Bool) → station_by (row_beside (parked_next b)) ≡ record (is_beside (relocks late retries (lock.Leave b))) { inside = None }
+    parked_beside : (b : Bool) → location_by (row_beside (parked_next b)) ≡ record (is_beside (relocks late retries (lock.Leave b))) { inside = None }
     parked_beside true = refl
     parked_beside false = refl
 
@@ -181,10 +181,10 @@ module _ (w : State) (t l m : ℕ) (timed : Bool) (steady : IsSteady w) (is_ther
     pub leaves_parked : (b : Bool) → place_at w t ≡ Condvar l (waits (relocks late retries (lock.Leave b)))
         → FitsNext (relocks late retries (lock.Leave b)) leave → Kept (relocks late retries (lock.Leave b)) leave
     leaves_parked b is fits = goes_out_at w t m steady is_there sort (condvar_goes l (condvar_next (waits at) Done)) (alike at is leave refl refl refl (Out ∷ []) refl (parked_there b)) fits section
-        (ap (λ (y : Station). y.inside) (station_was at is leave refl refl refl (Out ∷ []) refl (parked_there b))) (ap (λ (y : Station). y.carries) (station_was at is leave refl refl refl (Out ∷ []) refl (parked_there b)))
+        (ap (λ (y : Location). y.inside) (location_was at is leave refl refl refl (Out ∷ []) refl (parked_there b))) (ap (λ (y : Location). y.carries) (location_was at is leave refl refl refl (Out ∷ []) refl (parked_there b)))
         (Out ∷ []) tt (needed at is leave refl refl refl (Out ∷ []) refl)
         (behind at is leave refl refl refl (Out ∷ []) refl ∙ ap (λ o. wakened t o (waiter_next m (next_wait m timed at Done))) untaken ∙ sym (does_next at is leave refl refl refl (Out ∷ []) refl (parked_there b)))
-        (station_then at is leave refl refl refl (Out ∷ []) refl (parked_there b) ∙ parked_beside b ∙ sym (ap (λ (y : Station). record y { inside = None }) (station_was at is leave refl refl refl (Out ∷ []) refl (parked_there b))))
+        (location_then at is leave refl refl refl (Out ∷ []) refl (parked_there b) ∙ parked_beside b ∙ sym (ap (λ (y : Location). record y { inside = None }) (location_was at is leave refl refl refl (Out ∷ []) refl (parked_there b))))
         (same_taken at is leave refl refl refl (Out ∷ []) refl (parked_there b) (parked_taken b)) (ap (keep_from t) untaken ∙ sym untaken)
       where
         at : WaitAt
@@ -197,10 +197,10 @@ module _ (w : State) (t l m : ℕ) (timed : Bool) (steady : IsSteady w) (is_ther
   pub leaves_late : (none_left : Bool) → place_at w t ≡ Condvar l (waits (wait.GiveUpMoved none_left))
       → FitsNext (wait.GiveUpMoved none_left) leave → Kept (wait.GiveUpMoved none_left) leave
   leaves_late none_left is fits = goes_out_at w t m steady is_there sort (condvar_goes l (condvar_next (waits at) Done)) (alike at is leave refl refl refl (Out ∷ []) refl (refl, refl)) fits section
-      (ap (λ (y : Station). y.inside) (station_was at is leave refl refl refl (Out ∷ []) refl (refl, refl))) (ap (λ (y : Station). y.carries) (station_was at is leave refl refl refl (Out ∷ []) refl (refl, refl)))
+      (ap (λ (y : Location). y.inside) (location_was at is leave refl refl refl (Out ∷ []) refl (refl, refl))) (ap (λ (y : Location). y.carries) (location_was at is leave refl refl refl (Out ∷ []) refl (refl, refl)))
       (Out ∷ []) tt (needed at is leave refl refl refl (Out ∷ []) refl)
       (behind at is leave refl refl refl (Out ∷ []) refl ∙ ap (λ o. wakened t o (waiter_next m (next_wait m timed at Done))) untaken ∙ sym (does_next at is leave refl refl refl (Out ∷ []) refl (refl, refl)))
-      (station_then at is leave refl refl refl (Out ∷ []) refl (refl, refl) ∙ sym (ap (λ (y : Station). record y { inside = None }) (station_was at is leave refl refl refl (Out ∷ []) refl (refl, refl))))
+      (location_then at is leave refl refl refl (Out ∷ []) refl (refl, refl) ∙ sym (ap (λ (y : Location). record y { inside = None }) (location_was at is leave refl refl refl (Out ∷ []) refl (refl, refl))))
       (same_taken at is leave refl refl refl (Out ∷ []) refl (refl, refl) refl) (ap (keep_from t) untaken ∙ sym untaken)
     where
       at : WaitAt
@@ -214,7 +214,7 @@ module _ (w : State) (t l m : ℕ) (timed : Bool) (steady : IsSteady w) (is_ther
       → FitsNext (relocks late retries lock.Accept) act.Accept → Kept (relocks late retries lock.Accept) act.Accept
   accepts late retries is fits = accepts_at w t m steady is_there sort (condvar_goes l (condvar_next (waits at) Done)) (alike at is act.Accept refl refl refl (End ∷ []) refl (tt, refl)) fits
       (needed at is act.Accept refl refl refl (End ∷ []) refl) (behind at is act.Accept refl refl refl (End ∷ []) refl ∙ sym (does_next at is act.Accept refl refl refl (End ∷ []) refl (tt, refl)))
-      (station_then at is act.Accept refl refl refl (End ∷ []) refl (tt, refl) ∙ sym (station_was at is act.Accept refl refl refl (End ∷ []) refl (tt, refl)))
+      (location_then at is act.Accept refl refl refl (End ∷ []) refl (tt, refl) ∙ sym (location_was at is act.Accept refl refl refl (End ∷ []) refl (tt, refl)))
       (same_taken at is act.Accept refl refl refl (End ∷ []) refl (tt, refl) refl)
     where
       at : WaitAt
@@ -224,19 +224,19 @@ module _ (w : State) (t l m : ℕ) (timed : Bool) (steady : IsSteady w) (is_ther
 
   -- it stands in no other line
   stands_out : (at : WaitAt) → place_at w t ≡ Condvar l (waits at) → (there (waits at)).stands ≡ None → (k : ℕ) → k ≢ m
-      → (station_at (place_at w t) k).stands ≡ None
-  stands_out at is out k ne = ap (λ q. (station_at q k).stands) is ∙ elim (cases_eq k l) [
-    | inl e ↦ subst (λ j. (station_at (Condvar l (waits at)) j).stands ≡ None) (sym e) (ap (λ (y : Station). y.stands) (station_there l m apart (At (waits at)) refl) ∙ out)
-    | inr nl ↦ ap (λ (y : Station). y.stands) (nothing_there l m apart (At (waits at)) refl k nl ne)
+      → (location_at (place_at w t) k).stands ≡ None
+  stands_out at is out k ne = ap (λ q. (location_at q k).stands) is ∙ elim (cases_eq k l) [
+    | inl e ↦ subst (λ j. (location_at (Condvar l (waits at)) j).stands ≡ None) (sym e) (ap (λ (y : Location). y.stands) (location_there l m apart (At (waits at)) refl) ∙ out)
+    | inr nl ↦ ap (λ (y : Location). y.stands) (nothing_there l m apart (At (waits at)) refl k nl ne)
   ]
 
   -- its time is up, and it leaves the line to which it was moved
   pub leaves_line : place_at w t ≡ Condvar l (waits wait.RemoveMoved) → FitsNext wait.RemoveMoved (act.Remove (2 * m))
       → Kept wait.RemoveMoved (act.Remove (2 * m))
   leaves_line is fits = leaves_line_at w t m steady is_there sort (condvar_goes l (condvar_next (waits at) told_it)) (alike at is remove refl refl refl gives_up refl (refl, refl)) fits line (stands_out at is refl)
-      (ap (λ (y : Station). y.stands) (station_was at is remove refl refl refl gives_up refl (refl, refl))) (needed at is remove refl refl refl gives_up refl)
+      (ap (λ (y : Location). y.stands) (location_was at is remove refl refl refl gives_up refl (refl, refl))) (needed at is remove refl refl refl gives_up refl)
       (behind at is remove refl refl refl gives_up refl ∙ sym (does_next at is remove refl refl refl gives_up refl (refl, refl)))
-      (station_then at is remove refl refl refl gives_up refl (refl, refl) ∙ sym (ap (λ (y : Station). record y { stands = None; waits = None }) (station_was at is remove refl refl refl gives_up refl (refl, refl))))
+      (location_then at is remove refl refl refl gives_up refl (refl, refl) ∙ sym (ap (λ (y : Location). record y { stands = None; waits = None }) (location_was at is remove refl refl refl gives_up refl (refl, refl))))
       (same_taken at is remove refl refl refl gives_up refl (refl, refl) refl)
     where
       at : WaitAt
@@ -251,7 +251,7 @@ module _ (w : State) (t l m : ℕ) (timed : Bool) (steady : IsSteady w) (is_ther
       told_it : Reply
       told_it = reply_to w t remove
 
-  -- behind the last of its line, where the bit still stands
+  -- after the last of its line, where the bit still stands
   module _ (late retries : Bool) (is : place_at w t ≡ Condvar l (waits (relocks late retries lock.Check))) where
     abbrev check : WaitAt
     check = relocks late retries lock.Check
@@ -271,10 +271,10 @@ module _ (w : State) (t l m : ℕ) (timed : Bool) (steady : IsSteady w) (is_ther
 
     stands_last : ParkedSo true → FitsItsLock w (condvar_goes l (checks true)) → Goes w (put (record w { queues = queues_with_last w.queues (2 * m) t Exclusive }) t (condvar_goes l (checks true))) m (acts t (Case (Park Exclusive) ∷ []))
     stands_last e fits = stands_at w t m steady is_there sort (condvar_goes l (checks true)) (beside.alike w t l m timed steady is_there apart sort check is (checks true) (refl, refl)) fits line (stands_out check is refl)
-        (ap (λ (y : Station). y.stands) (beside.station_was w t l m timed steady is_there apart sort check is (checks true) (refl, refl))) (park_follows true e).needed
+        (ap (λ (y : Location). y.stands) (beside.location_was w t l m timed steady is_there apart sort check is (checks true) (refl, refl))) (park_follows true e).needed
         (beside.does_next w t l m timed steady is_there apart sort (relocked timed late (in_lock entry.Lock (still_retries retries (Parked true)) (At (lock.Leave true)))) refl
-        ∙ sym (ap (λ (d : Doing). record d { retries = None; empty = None }) (hears.doing_beside w t l (waits check) steady is m refl)))
-        (beside.station_then w t l m timed steady is_there apart sort check is (checks true) (refl, refl) ∙ sym (ap (λ (y : Station). record y { stands = Some Main; waits = Some Exclusive }) (beside.station_was w t l m timed steady is_there apart sort check is (checks true) (refl, refl))))
+        ∙ sym (ap (λ (d : Role). record d { retries = None; empty = None }) (hears.role_beside w t l (waits check) steady is m refl)))
+        (beside.location_then w t l m timed steady is_there apart sort check is (checks true) (refl, refl) ∙ sym (ap (λ (y : Location). record y { stands = Some Main; waits = Some Exclusive }) (beside.location_was w t l m timed steady is_there apart sort check is (checks true) (refl, refl))))
         (beside.taken_was w t l m timed steady is_there apart sort check is (checks true) (refl, refl) ∙ sym (beside.taken_then w t l m timed steady is_there apart sort check is (checks true) (refl, refl)))
 
     turns : ParkedSo false → FitsItsLock w (condvar_goes l (checks false))
@@ -283,8 +283,8 @@ module _ (w : State) (t l m : ℕ) (timed : Bool) (steady : IsSteady w) (is_ther
         (steps_by r m (parts_at w m) (parts_at w m) (place_at w) t (condvar_goes l (checks false)) [] tt tt
         (beside.taken_was w t l m timed steady is_there apart sort check is (checks false) (refl, refl) ∙ sym (beside.taken_then w t l m timed steady is_there apart sort check is (checks false) (refl, refl)))
         refl refl refl refl
-        (beside.does_next w t l m timed steady is_there apart sort (relocked timed late (in_lock entry.Lock (still_retries retries (Parked false)) (At (lock.Leave false)))) refl ∙ sym (park_follows false e).doing))
-        (beside.station_then w t l m timed steady is_there apart sort check is (checks false) (refl, refl) ∙ sym (beside.station_was w t l m timed steady is_there apart sort check is (checks false) (refl, refl)))
+        (beside.does_next w t l m timed steady is_there apart sort (relocked timed late (in_lock entry.Lock (still_retries retries (Parked false)) (At (lock.Leave false)))) refl ∙ sym (park_follows false e).role))
+        (beside.location_then w t l m timed steady is_there apart sort check is (checks false) (refl, refl) ∙ sym (beside.location_was w t l m timed steady is_there apart sort check is (checks false) (refl, refl)))
 
     pub parks : FitsNext check park → Kept check park
     parks fits = either (holds (WordIs 3) (word_at w m)) refl fits

@@ -5,7 +5,7 @@ use Rattle.core_base.specs.declared.keys.Keys.TheVariants.{One}
 use Rattle.core_base.specs.declared.notes.Note.TheVariants as note
 use Rattle.core_base.specs.declared.ops.Op as op
 use Rattle.steps_base.specs.Profiles.{hand}
-use Rattle.steps_base.specs.Stations.{Station, nowhere, station_by}
+use Rattle.steps_base.specs.Locations.{Location, nowhere, location_by}
 use Rattle.steps_base.specs.declared.acts.Act.TheVariants as act
 use Rattle.spec_locks.specs.declared.outcomes.Answer.TheVariants as answer
 use Rattle.steps_base.specs.declared.acts.Next.{Next}
@@ -35,9 +35,9 @@ use Rattle.lot_steps.specs.Steps.{is_lock}
 use Rattle.spec_locks.specs.Locks as locks
 use Rattle.spec_locks.specs.Sites.{Main, has_readers}
 use Rattle.lot_machine.specs.Machine.{State, can_do, place_at, reply_to, section_at, word_at}
-use Rattle.lot_laws.specs.Stations.{station, station_at}
-use Rattle.lot_laws.specs.SitesOf.{FitsItsLock, IsSteady, carried_at, key_of, rules_in}
-use Rattle.lot_laws.proofs.condvar.Replies.{rules_beside, station_beside}
+use Rattle.lot_laws.specs.Locations.{location, location_at}
+use Rattle.lot_laws.specs.SitesOf.{FitsItsLock, IsInductive, carried_at, key_of, rules_in}
+use Rattle.lot_laws.proofs.condvar.Replies.{rules_beside, location_beside}
 use Rattle.lot_laws.proofs.machine.Parts.{same}
 use Rattle.lot_laws.proofs.condvar.WaitSleeps.{IsSettled, IsSettledNext}
 
@@ -79,7 +79,7 @@ hands_none (Notify all m (notify.Leave true number)) reached h = cc
 hands_none (Notify all m (notify.Leave false number)) reached h = cc
 hands_none (Notify all m p) reached h = cc
 
-module _ (w : State) (steady : IsSteady w) (u m : ℕ) (sort : (rules_in w m).sort ≡ locks.Mutex) where
+module _ (w : State) (steady : IsInductive w) (u m : ℕ) (sort : (rules_in w m).sort ≡ locks.Mutex) where
   has_handed : carried_at (place_at w u) m ≡ Some true
       → (b : Bool) × (place_at w u ≡ Mutex m (mutex.HandOff b (hand_off.Leave true)))
   has_handed h = by_place (place_at w u) refl (steady.stands.calls u) h
@@ -89,49 +89,49 @@ module _ (w : State) (steady : IsSteady w) (u m : ℕ) (sort : (rules_in w m).so
       by_place Idle is fits h = absurd cc
       by_place (Mutex k at) is fits h = either (k == m) refl h
         where
-          either : (b : Bool) → (k == m) ≡ b → (if b then station (Mutex k at) else nowhere).carries ≡ Some true
+          either : (b : Bool) → (k == m) ≡ b → (if b then location (Mutex k at) else nowhere).carries ≡ Some true
               → (b : Bool) × (place_at w u ≡ Mutex m (mutex.HandOff b (hand_off.Leave true)))
           either true e g = let x = handed_mutex at g in (x.0, is ∙ ap (λ j. Mutex j at) (eqb-true k m e) ∙ ap (Mutex m) x.1)
           either false e g = absurd cc
       by_place (RwLock k a c) is fits h = either (k == m) refl h
         where
-          either : (b : Bool) → (k == m) ≡ b → (if b then station (RwLock k a c) else nowhere).carries ≡ Some true
+          either : (b : Bool) → (k == m) ≡ b → (if b then location (RwLock k a c) else nowhere).carries ≡ Some true
               → (b : Bool) × (place_at w u ≡ Mutex m (mutex.HandOff b (hand_off.Leave true)))
           either true e g = absurd (let both : false ≡ true = sym (ap has_readers (ap (λ j. (rules_in w j).sort) (eqb-true k m e) ∙ sort)) ∙ fits.0.0 in cc)
           either false e g = absurd cc
       by_place (Once k at) is fits h = either (k == m) refl h
         where
-          either : (b : Bool) → (k == m) ≡ b → (if b then station (Once k at) else nowhere).carries ≡ Some true
+          either : (b : Bool) → (k == m) ≡ b → (if b then location (Once k at) else nowhere).carries ≡ Some true
               → (b : Bool) × (place_at w u ≡ Mutex m (mutex.HandOff b (hand_off.Leave true)))
           either true e g = absurd (let both : locks.Once ≡ locks.Mutex = sym fits ∙ ap (λ j. (rules_in w j).sort) (eqb-true k m e) ∙ sort in cc)
           either false e g = absurd cc
       by_place (Semaphore k at) is fits h = either (k == m) refl h
         where
-          either : (b : Bool) → (k == m) ≡ b → (if b then station (Semaphore k at) else nowhere).carries ≡ Some true
+          either : (b : Bool) → (k == m) ≡ b → (if b then location (Semaphore k at) else nowhere).carries ≡ Some true
               → (b : Bool) × (place_at w u ≡ Mutex m (mutex.HandOff b (hand_off.Leave true)))
           either true e g = absurd (let both : locks.Semaphore ≡ locks.Mutex = sym fits.0 ∙ ap (λ j. (rules_in w j).sort) (eqb-true k m e) ∙ sort in cc)
           either false e g = absurd cc
       by_place (Condvar k at) is fits h = either (k == m) (is_lock m (mutex_beside at)) refl h
         where
           either : (b there : Bool) → (k == m) ≡ b
-              → (if b then station_by (condvar_profile at) else if there then station_by (mutex_side at) else nowhere).carries
+              → (if b then location_by (condvar_profile at) else if there then location_by (mutex_side at) else nowhere).carries
               ≡ Some true
               → (b : Bool) × (place_at w u ≡ Mutex m (mutex.HandOff b (hand_off.Leave true)))
           either true there e g = absurd (let both : locks.Condvar ≡ locks.Mutex = sym fits.sort ∙ ap (λ j. (rules_in w j).sort) (eqb-true k m e) ∙ sort in cc)
           either false true e g = absurd (hands_none at fits.reached g)
           either false false e g = absurd cc
 
--- who is inside the section of its mutex, and releases it, was not handed it meanwhile
-module _ (w : State) (t l m : ℕ) (timed : Bool) (steady : IsSteady w) where
+-- a thread that is inside the section of its mutex, and releases it, was not handed it meanwhile
+module _ (w : State) (t l m : ℕ) (timed : Bool) (steady : IsInductive w) where
   never_handed : (u : ℕ) (any : Bool)
       → place_at w t ≡ Condvar l (Wait m timed (wait.Release (stands.Handed u) (mutex.Unlock (unlock.Leave any)))) → ⊥
   never_handed u any is =
-      let here = station_beside w t l (Wait m timed (wait.Release (stands.Handed u) (mutex.Unlock (unlock.Leave any)))) steady is m refl in
-      let in_hand_of : (station_at (place_at w t) m).hand ≡ hand u true = ap (λ (y : Station). y.hand) here in
+      let here = location_beside w t l (Wait m timed (wait.Release (stands.Handed u) (mutex.Unlock (unlock.Leave any)))) steady is m refl in
+      let in_hand_of : (location_at (place_at w t) m).hand ≡ hand u true = ap (λ (y : Location). y.hand) here in
       let giver = has_handed w steady u m (rules_beside w t l (Wait m timed (wait.Release (stands.Handed u) (mutex.Unlock (unlock.Leave any)))) steady is m refl) (steady.stands.hands.taken u t m true in_hand_of) in
-      let giver_inside : (station_at (place_at w u) m).inside ≡ Some Main = ap (λ p. (station_at p m).inside) giver.1 ∙ ap (λ (b : Bool). (if b then station (Mutex m (mutex.HandOff giver.0 (hand_off.Leave true))) else nowhere).inside) (same m) in
+      let giver_inside : (location_at (place_at w u) m).inside ≡ Some Main = ap (λ p. (location_at p m).inside) giver.1 ∙ ap (λ (b : Bool). (if b then location (Mutex m (mutex.HandOff giver.0 (hand_off.Leave true))) else nowhere).inside) (same m) in
       let by_giver : section_at w (key_of m Main) ≡ Some u = (steady.stands.sections u m Main).0 giver_inside in
-      let by_own : section_at w (key_of m Main) ≡ Some t = (steady.stands.sections t m Main).0 (ap (λ (y : Station). y.inside) here) in
+      let by_own : section_at w (key_of m Main) ≡ Some t = (steady.stands.sections t m Main).0 (ap (λ (y : Location). y.inside) here) in
       let both : Some u ≡ Some t = sym by_giver ∙ by_own in
       let one : u ≡ t = cc in
       let places : Mutex m (mutex.HandOff giver.0 (hand_off.Leave true)) ≡ Condvar l (Wait m timed (wait.Release (stands.Handed u) (mutex.Unlock (unlock.Leave any)))) = sym giver.1 ∙ ap (place_at w) one ∙ is in cc

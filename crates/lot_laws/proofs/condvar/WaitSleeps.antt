@@ -4,7 +4,7 @@ use Rattle.core_base.specs.declared.keys.Keys.TheVariants.{One}
 use Rattle.core_base.specs.declared.ops.Op as op
 use Rattle.spec_locks.specs.declared.outcomes.Outcome as outcome
 use Rattle.steps_base.specs.Acts.{outcome_of}
-use Rattle.steps_base.specs.Stations.{Station}
+use Rattle.steps_base.specs.Locations.{Location}
 use Rattle.steps_base.specs.declared.acts.Act.TheVariants as act
 use Rattle.steps_base.specs.declared.acts.Next.{Next}
 use Rattle.steps_base.specs.declared.acts.Next.TheVariants as next
@@ -26,12 +26,12 @@ use Rattle.spec_locks.specs.Locks.{one_if_some, standing}
 use Rattle.spec_locks.specs.Sites.{Main}
 use Rattle.lot_machine.specs.Machine.{State, place_at}
 use Rattle.lot_laws.specs.Refinement.{lock_state, taken_at}
-use Rattle.lot_laws.specs.Stations.{station_at}
-use Rattle.lot_laws.specs.SitesOf.{IsSteady, stood_in}
+use Rattle.lot_laws.specs.Locations.{location_at}
+use Rattle.lot_laws.specs.SitesOf.{IsInductive, stood_in}
 use Rattle.lot_laws.proofs.calls.Events.{GoesAs}
 use Rattle.lot_laws.proofs.condvar.StepEvents.{ToldSo}
-use Rattle.lot_laws.proofs.condvar.Replies.{fits_here, station_beside, taken_beside}
-use Rattle.lot_laws.proofs.condvar.Sites.{station_there}
+use Rattle.lot_laws.proofs.condvar.Replies.{fits_here, location_beside, taken_beside}
+use Rattle.lot_laws.proofs.condvar.Sites.{location_there}
 use Rattle.lot_laws.proofs.promises.PlacePromises.{standing_by}
 
 -- its own step leads to no sleep of one that was handed its mutex, or told so
@@ -45,16 +45,16 @@ abbrev pub IsSettledNext : Next WaitAt → Type 0
 IsSettledNext (next.At q) = IsSettled q
 IsSettledNext (next.End answer) = Unit {0}
 
-module _ (v : State) (t l m : ℕ) (timed : Bool) (steady : IsSteady v) where
+module _ (v : State) (t l m : ℕ) (timed : Bool) (steady : IsInductive v) where
   module _ (q : WaitAt) (there : place_at v t ≡ Condvar l (Wait m timed q)) where
     listed : (wait_row m q).listed ≡ true → 1 ≤ standing t (lock_state v l)
-    listed e = let a : (station_at (place_at v t) l).stands ≡ Some Main = ap (λ (y : Station). y.stands) (station_there v steady.stands t l (Wait m timed q) there) ∙ ap (λ (b : Bool). if b then Some Main else None) e in
-        let one : stood_in (station_at (place_at v t) l).stands Main ≡ 1 = ap (λ o. stood_in o Main) a in
+    listed e = let a : (location_at (place_at v t) l).stands ≡ Some Main = ap (λ (y : Location). y.stands) (location_there v steady.stands t l (Wait m timed q) there) ∙ ap (λ (b : Bool). if b then Some Main else None) e in
+        let one : stood_in (location_at (place_at v t) l).stands Main ≡ 1 = ap (λ o. stood_in o Main) a in
         let by = standing_by v t steady l in omega arith
 
     moved : (wait_row m q).moved ≡ true → 1 ≤ standing t (lock_state v m)
-    moved e = let a : (station_at (place_at v t) m).stands ≡ Some Main = ap (λ (y : Station). y.stands) (station_beside v t l (Wait m timed q) steady there m refl) ∙ ap (λ (b : Bool). if b then Some Main else None) e in
-        let one : stood_in (station_at (place_at v t) m).stands Main ≡ 1 = ap (λ o. stood_in o Main) a in
+    moved e = let a : (location_at (place_at v t) m).stands ≡ Some Main = ap (λ (y : Location). y.stands) (location_beside v t l (Wait m timed q) steady there m refl) ∙ ap (λ (b : Bool). if b then Some Main else None) e in
+        let one : stood_in (location_at (place_at v t) m).stands Main ≡ 1 = ap (λ o. stood_in o Main) a in
         let by = standing_by v t steady m in omega arith
 
     held : one_if_some (taken_at (place_at v t) m) ≡ 1 → 1 ≤ standing t (lock_state v m)
@@ -102,7 +102,7 @@ module _ (v : State) (t l m : ℕ) (timed : Bool) (steady : IsSteady v) where
   rests_at (wait.Lock late (mutex.Lock entry.Lock again a)) there reached settled = absurd reached.1
   rests_at (wait.Lock late a) there reached settled = absurd reached.1
 
-  -- what it is told of its step
+  -- tells what it is told of its step
   pub wait_rests : (n : Next WaitAt) → place_at v t ≡ condvar_goes l (in_wait m timed n) → IsSettledNext n
       → ToldSo v t (in_wait m timed n) (outcome_of (condvar_does l (in_wait m timed n)))
   wait_rests (next.At q) there settled = rests_at q there (fits_here v t l (Wait m timed q) steady there).reached settled

@@ -8,7 +8,7 @@ use Rattle.steps_base.specs.declared.acts.Next.TheVariants.{At}
 use Rattle.steps_base.specs.declared.acts.Reply.{Reply}
 use Rattle.steps_base.specs.declared.acts.Reply.TheVariants.{Took, TakenBy}
 use Rattle.steps_base.specs.Profiles.{taken_from}
-use Rattle.steps_base.specs.Stations.{Station, station_by}
+use Rattle.steps_base.specs.Locations.{Location, location_by}
 use Rattle.lot_steps.specs.declared.places.Place.{Place}
 use Rattle.lot_steps.specs.declared.places.Place.TheVariants.{Condvar, Idle}
 use Rattle.lot_steps.specs.Steps.{next_place}
@@ -33,13 +33,13 @@ use Rattle.spec_locks.specs.Sites.{Case, Deed, IsSite, Main, Site}
 use Rattle.lot_machine.specs.Machine.{State, is_there, place_at, put, queue_at, queues_without_first, section_at, state_after_taking}
 use Rattle.lot_laws.specs.MutexDeeds.{acts, queued}
 use Rattle.lot_laws.specs.Refinement.{taken_at}
-use Rattle.lot_laws.specs.Stations.{doing_on, station_at}
-use Rattle.lot_laws.specs.SitesOf.{ActsNeeded, FitsItsLock, Goes, IsSteady, after_acts, key_of, rules_in, site_of, stood_in}
+use Rattle.lot_laws.specs.Locations.{role_on, location_at}
+use Rattle.lot_laws.specs.SitesOf.{ActsNeeded, FitsItsLock, Goes, IsInductive, after_acts, key_of, rules_in, site_of, stood_in}
 use Rattle.lot_laws.proofs.machine.Parts as glue
 use Rattle.lot_laws.proofs.machine.Parts.{differ, parts_at, same, seen_in}
 use Rattle.lot_laws.proofs.sites.Following.{lock_by}
 use Rattle.lot_laws.proofs.sites.LawsKept.{after_same, needed_same}
-use Rattle.lot_laws.proofs.condvar.TwoParts.{station_beside, taken_beside}
+use Rattle.lot_laws.proofs.condvar.TwoParts.{location_beside, taken_beside}
 use Rattle.lot_laws.proofs.condvar.Replies.{waiter_hears}
 use Rattle.lot_laws.proofs.mutex.Acts.{finds_nobody_at}
 use Rattle.lot_laws.proofs.mutex.Hands.{first_goes}
@@ -49,7 +49,7 @@ use Rattle.lot_laws.proofs.sites.TakesAt.{behind_take, member, member_times}
 use Rattle.lot_laws.proofs.mutex.Waiters.{SleepsAt, calls_mutex_at, release_sleeps, stands_or_sleeps}
 use Rattle.lot_laws.proofs.condvar.WaitWords as beside
 
-module _ (w : State) (t l m : ℕ) (timed : Bool) (steady : IsSteady w) (here : t < length w.places) (apart : m ≢ l)
+module _ (w : State) (t l m : ℕ) (timed : Bool) (steady : IsInductive w) (here : t < length w.places) (apart : m ≢ l)
     (sort : (rules_in w m).sort ≡ locks.Mutex) (plain : rules_in w m ≡ glue.mutex) (line : key_of m Main < length w.queues) where
   abbrev waits : WaitAt → CondvarPlace
   waits at = Wait m timed at
@@ -63,13 +63,13 @@ module _ (w : State) (t l m : ℕ) (timed : Bool) (steady : IsSteady w) (here : 
   abbrev taking : Stands → WaitAt
   taking s = releasing s unlock.Take
 
-  abbrev beside_of : WaitAt → Station
-  beside_of at = station_by (row_beside (At (waits at)))
+  abbrev beside_of : WaitAt → Location
+  beside_of at = location_by (row_beside (At (waits at)))
 
   abbrev taken_of : WaitAt → Option Taken
   taken_of at = taken_from (row_beside (At (waits at))).hand (row_beside (At (waits at))).wants true
 
-  -- behind it the bit goes, where nobody is left
+  -- after it the bit goes, where nobody is left
   abbrev goes_to : Stands → Bool → Bool → WaitAt
   goes_to s any none_left = released s (in_unlock (if none_left then At (unlock.Clear any) else At (unlock.Leave any)))
 
@@ -90,8 +90,8 @@ module _ (w : State) (t l m : ℕ) (timed : Bool) (steady : IsSteady w) (here : 
   FitsBy q = FitsItsLock w (next_place (place_at (after q) t) (told q))
 
   module _ (s : Stands) (is : place_at w t ≡ Condvar l (waits (taking s))) where
-    station_was : station_at (place_at w t) m ≡ beside_of (taking s)
-    station_was = ap (λ q. station_at q m) is ∙ station_beside l m apart (At (waits (taking s))) refl
+    location_was : location_at (place_at w t) m ≡ beside_of (taking s)
+    location_was = ap (λ q. location_at q m) is ∙ location_beside l m apart (At (waits (taking s))) refl
 
     taken_was : taken_at (place_at w t) m ≡ taken_of (taking s)
     taken_was = ap (λ q. taken_at q m) is ∙ taken_beside l m apart (At (waits (taking s))) refl
@@ -106,30 +106,30 @@ module _ (w : State) (t l m : ℕ) (timed : Bool) (steady : IsSteady w) (here : 
 
     -- where it goes on, as it stands then
     module _ (s2 : Stands) (any none_left : Bool)
-        (stays : station_by (row_there (At (waits (goes_to s2 any none_left)))) ≡ there (waits (taking s))) where
+        (stays : location_by (row_there (At (waits (goes_to s2 any none_left)))) ≡ there (waits (taking s))) where
       abbrev then_at : Place
       then_at = Condvar l (waits (goes_to s2 any none_left))
 
       alike : AlikeBeside m (place_at w t) then_at
       alike = beside.alike w t l m timed steady here apart sort (taking s) is (At (waits (goes_to s2 any none_left))) (refl, stays)
 
-      station_then : station_at then_at m ≡ beside_of (goes_to s2 any none_left)
-      station_then = station_beside l m apart (At (waits (goes_to s2 any none_left))) refl
+      location_then : location_at then_at m ≡ beside_of (goes_to s2 any none_left)
+      location_then = location_beside l m apart (At (waits (goes_to s2 any none_left))) refl
 
       taken_then : taken_at then_at m ≡ taken_of (goes_to s2 any none_left)
       taken_then = taken_beside l m apart (At (waits (goes_to s2 any none_left))) refl
 
-      does_then : doing_on then_at m ≡ (wait_row m (goes_to s2 any none_left)).doing
+      does_then : role_on then_at m ≡ (wait_row m (goes_to s2 any none_left)).role
       does_then = beside.does_next w t l m timed steady here apart sort (At (goes_to s2 any none_left)) refl
 
-    next_there : (any none_left : Bool) → station_by (row_there (At (waits (goes_to s any none_left)))) ≡ there (waits (taking s))
+    next_there : (any none_left : Bool) → location_by (row_there (At (waits (goes_to s any none_left)))) ≡ there (waits (taking s))
     next_there any true = refl
     next_there any false = refl
 
     -- nobody stands there
     finds_nobody : queue_at w (2 * m) ≡ [] → FitsBy [] → KeptBy [] s
     finds_nobody empty fits = subst (λ p. FitsItsLock w (next_place p (told [])) → Goes w (put (after []) t (next_place p (told []))) m (acts t (deeds_of [] s))) (sym is) (λ fits. finds_nobody_at w t m steady here sort then_there (alike s false true refl) fits line empty
-        (follows_by [] empty).needed ((follows_by [] empty).doing ∙ sym (does_then s false true refl)) (station_then s false true refl ∙ sym station_was) (taken_was ∙ sym (taken_then s false true refl))) fits
+        (follows_by [] empty).needed ((follows_by [] empty).role ∙ sym (does_then s false true refl)) (location_then s false true refl ∙ sym location_was) (taken_was ∙ sym (taken_then s false true refl))) fits
       where
         then_there : Place
         then_there = Condvar l (waits (releasing s (unlock.Clear false)))
@@ -149,26 +149,26 @@ module _ (w : State) (t l m : ℕ) (timed : Bool) (steady : IsSteady w) (here : 
       needed : ActsNeeded glue.mutex (acts t takes_it) (lock_by w m glue.mutex)
       needed = subst (λ y. ActsNeeded y (acts t takes_it) (lock_by w m y)) plain (needed_same (rules_in w m) takes_it lock t follows_first.needed)
 
-      does : (after_acts glue.mutex (acts t takes_it) (lock_by w m glue.mutex)).doing t
-          ≡ (wait_row m (goes_to s true none_left)).doing
-      does = subst (λ y. (after_acts y (acts t takes_it) (lock_by w m y)).doing t ≡ (wait_row m (goes_to s true none_left)).doing) plain (ap (λ (y : Site). y.doing t) (after_same (rules_in w m) takes_it lock t) ∙ follows_first.doing)
+      does : (after_acts glue.mutex (acts t takes_it) (lock_by w m glue.mutex)).role t
+          ≡ (wait_row m (goes_to s true none_left)).role
+      does = subst (λ y. (after_acts y (acts t takes_it) (lock_by w m y)).role t ≡ (wait_row m (goes_to s true none_left)).role) plain (ap (λ (y : Site). y.role t) (after_same (rules_in w m) takes_it lock t) ∙ follows_first.role)
 
       wants : x.want ≡ Exclusive
       wants = exclusive_wanted x.want (subst (λ q. IsSite glue.mutex (seen_in glue.mutex m (record (parts_at w m) { main = q }) (place_at w))) first (subst (λ y. IsSite y (lock_by w m y)) plain (steady.sites.site m))).state.known_queue.0
 
-      stood : (station_at (place_at w x.thread) m).stands ≡ Some Main
-      stood = in_main (station_at (place_at w x.thread) m).stands (let a : 1 ≤ times x.thread (queue_at w (2 * m)) = subst (λ q. 1 ≤ times x.thread q) (sym first) (member_times x.thread (x ∷ rest) (ap (λ b. b || member x.thread rest) (same x.thread))) in
-          let c : times x.thread (queue_at w (2 * m)) ≡ stood_in (station_at (place_at w x.thread) m).stands Main = steady.stands.lines x.thread m Main in omega arith)
+      stood : (location_at (place_at w x.thread) m).stands ≡ Some Main
+      stood = in_main (location_at (place_at w x.thread) m).stands (let a : 1 ≤ times x.thread (queue_at w (2 * m)) = subst (λ q. 1 ≤ times x.thread q) (sym first) (member_times x.thread (x ∷ rest) (ap (λ b. b || member x.thread rest) (same x.thread))) in
+          let c : times x.thread (queue_at w (2 * m)) ≡ stood_in (location_at (place_at w x.thread) m).stands Main = steady.stands.lines x.thread m Main in omega arith)
 
-      bare : (station_at (place_at w t) m).carries ≡ None
-      bare = ap (λ (y : Station). y.carries) station_was
+      bare : (location_at (place_at w t) m).carries ≡ None
+      bare = ap (λ (y : Location). y.carries) location_was
 
       -- another thread
       module _ (other : x.thread ≢ t) where
         sleeps : SleepsAt m (place_at w x.thread)
         sleeps = elim (stands_or_sleeps (place_at w x.thread) m (calls_mutex_at w m (place_at w x.thread) (steady.stands.calls x.thread) plain) stood) [
           | inl within ↦ absurd (other (let a : section_at w (2 * m) ≡ Some x.thread = (steady.stands.sections x.thread m Main).0 within in
-              let b : section_at w (2 * m) ≡ Some t = (steady.stands.sections t m Main).0 (ap (λ (y : Station). y.inside) station_was) in let c : Some x.thread ≡ Some t = sym a ∙ b in cc))
+              let b : section_at w (2 * m) ≡ Some t = (steady.stands.sections t m Main).0 (ap (λ (y : Location). y.inside) location_was) in let c : Some x.thread ≡ Some t = sym a ∙ b in cc))
           | inr asleep ↦ asleep
         ]
 
@@ -189,13 +189,13 @@ module _ (w : State) (t l m : ℕ) (timed : Bool) (steady : IsSteady w) (here : 
         takes_another : FitsBy (x ∷ rest) → KeptBy (x ∷ rest) s
         takes_another fits = subst (λ p. FitsItsLock w (next_place p (Took true none_left)) → Goes w (put (after (x ∷ rest)) t (next_place p (Took true none_left))) m (acts t takes_it)) (sym place_then)
             (λ fits. first_goes w t m steady here (then_at s true none_left (next_there true none_left)) (alike s true none_left (next_there true none_left)) fits plain line x rest first wants stood sleeps bare
-            (station_then s true none_left (next_there true none_left) ∙ next_beside none_left ∙ sym (ap (λ (y : Station). record y { carries = Some false }) station_was) ∙ sym (ap (λ b. record (behind_take t b (station_at (place_at w t) m)) { carries = Some false }) not_self))
+            (location_then s true none_left (next_there true none_left) ∙ next_beside none_left ∙ sym (ap (λ (y : Location). record y { carries = Some false }) location_was) ∙ sym (ap (λ b. record (behind_take t b (location_at (place_at w t) m)) { carries = Some false }) not_self))
             (taken_then s true none_left (next_there true none_left) ∙ next_taken none_left ∙ sym taken_was ∙ sym (ap (λ b. if b then taken_at (next_place (place_at w t) (TakenBy t)) m else taken_at (place_at w t) m) not_self))
             needed (does_then s true none_left (next_there true none_left) ∙ sym does)) fits
 
   -- ---------------------------------------------------------------- it takes itself
 
-  -- who stands in the line of the mutex was moved there
+  -- a thread that stands in the line of the mutex was moved there
   moved_so : (s : Stands) → (beside_of (taking s)).stands ≡ Some Main → s ≡ stands.Moved
   moved_so stands.Moved h = refl
   moved_so stands.Listed h = absurd cc
@@ -221,7 +221,7 @@ module _ (w : State) (t l m : ℕ) (timed : Bool) (steady : IsSteady w) (here : 
     own_member = rw (itself, same t) refl
 
     own_there : (b : Bool)
-        → station_by (row_there (At (waits (goes_to (stands.InHand t) true b)))) ≡ there (waits (taking stands.Moved))
+        → location_by (row_there (At (waits (goes_to (stands.InHand t) true b)))) ≡ there (waits (taking stands.Moved))
     own_there true = refl
     own_there false = refl
 
@@ -234,7 +234,7 @@ module _ (w : State) (t l m : ℕ) (timed : Bool) (steady : IsSteady w) (here : 
     own_taken false = refl
 
     own_does : (b : Bool)
-        → (wait_row m (goes_to (stands.InHand t) true b)).doing ≡ (wait_row m (goes_to stands.Moved true b)).doing
+        → (wait_row m (goes_to (stands.InHand t) true b)).role ≡ (wait_row m (goes_to stands.Moved true b)).role
     own_does true = refl
     own_does false = refl
 
@@ -242,15 +242,15 @@ module _ (w : State) (t l m : ℕ) (timed : Bool) (steady : IsSteady w) (here : 
     takes_itself fits = subst (λ p. FitsItsLock w (next_place p (Took true nobody_left)) → Goes w (put (after (x ∷ rest)) t (next_place p (Took true nobody_left))) m (acts t (takes_it stands.Moved is x rest first))) (sym own_place)
         (λ fits. first_goes w t m steady here (then_at stands.Moved is (stands.InHand t) true nobody_left (own_there nobody_left)) (alike stands.Moved is (stands.InHand t) true nobody_left (own_there nobody_left)) fits plain line x rest first
         (wants stands.Moved is x rest first) (stood stands.Moved is x rest first) own_sleeps (bare stands.Moved is x rest first)
-        (station_then stands.Moved is (stands.InHand t) true nobody_left (own_there nobody_left) ∙ own_beside nobody_left ∙ sym (ap (λ (y : Station). record (behind_take t true y) { carries = Some false }) (station_was stands.Moved is))
-        ∙ sym (ap (λ b. record (behind_take t b (station_at (place_at w t) m)) { carries = Some false }) own_member))
+        (location_then stands.Moved is (stands.InHand t) true nobody_left (own_there nobody_left) ∙ own_beside nobody_left ∙ sym (ap (λ (y : Location). record (behind_take t true y) { carries = Some false }) (location_was stands.Moved is))
+        ∙ sym (ap (λ b. record (behind_take t b (location_at (place_at w t) m)) { carries = Some false }) own_member))
         (taken_then stands.Moved is (stands.InHand t) true nobody_left (own_there nobody_left) ∙ own_taken nobody_left ∙ sym (taken_beside l m apart (At (waits (taking (stands.InHand t)))) refl)
         ∙ sym (ap (λ q. taken_at q m) taken_place) ∙ sym (ap (λ b. if b then taken_at (next_place (place_at w t) (TakenBy t)) m else taken_at (place_at w t) m) own_member))
         (needed stands.Moved is x rest first) (does_then stands.Moved is (stands.InHand t) true nobody_left (own_there nobody_left) ∙ own_does nobody_left ∙ sym (does stands.Moved is x rest first))) fits
 
   pub moved_first : (s : Stands) → place_at w t ≡ Condvar l (waits (taking s)) → (x : Waiter) (rest : List Waiter)
       → queue_at w (2 * m) ≡ x ∷ rest → x.thread ≡ t → s ≡ stands.Moved
-  moved_first s is x rest e itself = moved_so s (sym (ap (λ (y : Station). y.stands) (station_was s is)) ∙ sym (ap (λ u. (station_at (place_at w u) m).stands) itself) ∙ stood s is x rest e)
+  moved_first s is x rest e itself = moved_so s (sym (ap (λ (y : Location). y.stands) (location_was s is)) ∙ sym (ap (λ u. (location_at (place_at w u) m).stands) itself) ∙ stood s is x rest e)
 
   -- ---------------------------------------------------------------- whoever it takes
 

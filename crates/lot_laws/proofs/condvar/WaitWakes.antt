@@ -12,7 +12,7 @@ use Rattle.steps_base.specs.declared.acts.Reply.TheVariants.{Done, Woken}
 use Rattle.steps_base.specs.Acts.{wakes_taken}
 use Rattle.steps_base.specs.Owners.{is_thread}
 use Rattle.steps_base.specs.Profiles.{hand, taken_from, in_hand}
-use Rattle.steps_base.specs.Stations.{Station, station_by}
+use Rattle.steps_base.specs.Locations.{Location, location_by}
 use Rattle.lot_steps.specs.declared.places.Place.{Place}
 use Rattle.lot_steps.specs.declared.places.Place.TheVariants.{Condvar, Idle}
 use Rattle.lot_steps.specs.Steps.{next_place, taker}
@@ -31,16 +31,16 @@ use Rattle.steps_condvar.specs.CondvarWaits.{WaiterFollows}
 use Rattle.spec_locks.specs.Deeds as laws
 use Rattle.spec_locks.specs.Locks as locks
 use Rattle.spec_locks.specs.Locks.{Taken, keep_from}
-use Rattle.spec_locks.specs.Sites.{Doing, Main, Out, Site, wakened}
+use Rattle.spec_locks.specs.Sites.{Role, Main, Out, Site, wakened}
 use Rattle.lot_machine.specs.Machine.{State, place_after_telling, place_at, put, state_after_act, state_after_telling, state_with_sections}
 use Rattle.lot_laws.specs.MutexDeeds.{acts}
 use Rattle.lot_laws.specs.Refinement.{taken_at}
-use Rattle.lot_laws.specs.Stations.{doing_on, station_at}
-use Rattle.lot_laws.specs.SitesOf.{FitsItsLock, Goes, IsSteady, carried_at, hand_at, key_of, rules_in, site_of}
+use Rattle.lot_laws.specs.Locations.{role_on, location_at}
+use Rattle.lot_laws.specs.SitesOf.{FitsItsLock, Goes, IsInductive, carried_at, hand_at, key_of, rules_in, site_of}
 use Rattle.lot_laws.proofs.machine.Parts as glue
 use Rattle.lot_laws.proofs.machine.Parts.{differ, untaken}
 use Rattle.lot_laws.proofs.hands.Handed.{CarriesAt}
-use Rattle.lot_laws.proofs.condvar.TwoParts.{nothing_there, station_there, station_beside, taken_beside}
+use Rattle.lot_laws.proofs.condvar.TwoParts.{nothing_there, location_there, location_beside, taken_beside}
 use Rattle.lot_laws.proofs.condvar.Replies.{waiter_hears}
 use Rattle.lot_laws.proofs.mutex.Acts.{goes_out_at, goes_out_waking}
 use Rattle.lot_laws.proofs.mutex.Hands.{tries}
@@ -50,8 +50,8 @@ use Rattle.lot_laws.proofs.condvar.WaitWords.{StaysThere}
 use Rattle.lot_laws.proofs.sites.WakesAt.{IsWokenAt}
 use Rattle.lot_laws.proofs.sites.StandsKept.{AlikeBeside}
 
--- who is in nobody's hand, or in another's, isn't woken
-unwoken : (t : ℕ) (o : Option Taken) (d : Doing) → keep_from t o ≡ o → wakened t o d ≡ d
+-- a thread that is in nobody's hand, or in another's, isn't woken
+unwoken : (t : ℕ) (o : Option Taken) (d : Role) → keep_from t o ≡ o → wakened t o d ≡ d
 unwoken t None d h = refl
 unwoken t (Some x) d h = either (x.by == t) h
   where
@@ -59,7 +59,7 @@ unwoken t (Some x) d h = either (x.by == t) h
     either true e = absurd cc
     either false e = refl
 
-module _ (w : State) (t l m : ℕ) (timed : Bool) (steady : IsSteady w) (is_there : t < length w.places) (apart : m ≢ l)
+module _ (w : State) (t l m : ℕ) (timed : Bool) (steady : IsInductive w) (is_there : t < length w.places) (apart : m ≢ l)
     (sort : (rules_in w m).sort ≡ locks.Mutex) (plain : rules_in w m ≡ glue.mutex)
     (section : key_of m Main < length w.sections) where
   abbrev waits : WaitAt → CondvarPlace
@@ -84,39 +84,39 @@ module _ (w : State) (t l m : ℕ) (timed : Bool) (steady : IsSteady w) (is_ther
   abbrev taken_of : WaitAt → Option Taken
   taken_of at = taken_from (row_beside (At (waits at))).hand (row_beside (At (waits at))).wants true
 
-  abbrev beside_of : WaitAt → Station
-  beside_of at = station_by (row_beside (At (waits at)))
+  abbrev beside_of : WaitAt → Location
+  beside_of at = location_by (row_beside (At (waits at)))
 
-  -- what leaving makes of how it stands
+  -- tells what leaving makes of how it stands
   record GoesOn (any : Bool) (s s2 : Stands) : Type 0 where
-    stays : station_by (row_there (At (waits (behind s2)))) ≡ there (waits (leaving any s))
+    stays : location_by (row_there (At (waits (behind s2)))) ≡ there (waits (leaving any s))
     side : beside_of (behind s2) ≡ record (beside_of (leaving any s)) { inside = None; carries = None; hand = (if is_thread t (taker_of s) then None else hand_of s) }
     taken : taken_of (behind s2) ≡ keep_from t (taken_of (leaving any s))
-    doing : (wait_row m (behind s2)).doing ≡ wakened t (taken_of (leaving any s)) (wait_row m (behind s)).doing
+    role : (wait_row m (behind s2)).role ≡ wakened t (taken_of (leaving any s)) (wait_row m (behind s)).role
     told : next_place (place_after_telling t (Woken note.Normal) (Condvar l (waits (leaving any s)))) Done
         ≡ Condvar l (waits (behind s2))
 
   goes_on : (any : Bool) (s : Stands) → (hand_of s ≡ hand t true → ⊥) → (s2 : Stands) × GoesOn any s s2
-  goes_on any stands.Listed h = (stands.Listed, record { stays = refl; side = refl; taken = refl; doing = refl; told = refl })
-  goes_on any stands.Moved h = (stands.Moved, record { stays = refl; side = refl; taken = refl; doing = refl; told = refl })
+  goes_on any stands.Listed h = (stands.Listed, record { stays = refl; side = refl; taken = refl; role = refl; told = refl })
+  goes_on any stands.Moved h = (stands.Moved, record { stays = refl; side = refl; taken = refl; role = refl; told = refl })
   goes_on any (stands.InHand u) h = either (u == t) refl
     where
       either : (b : Bool) → (u == t) ≡ b → (s2 : Stands) × GoesOn any (stands.InHand u) s2
-      either true e = (stands.Noted note.Normal, record { stays = refl; side = rw e refl; taken = rw e refl; doing = rw e refl; told = rw e refl })
-      either false e = (stands.InHand u, record { stays = refl; side = rw e refl; taken = rw e refl; doing = rw e refl; told = rw e refl })
+      either true e = (stands.Noted note.Normal, record { stays = refl; side = rw e refl; taken = rw e refl; role = rw e refl; told = rw e refl })
+      either false e = (stands.InHand u, record { stays = refl; side = rw e refl; taken = rw e refl; role = rw e refl; told = rw e refl })
   goes_on any (stands.Handed u) h = either (cases_eq u t)
     where
       either : ((u ≡ t) ⊎ (u ≢ t)) → (s2 : Stands) × GoesOn any (stands.Handed u) s2
       either (inl e) = absurd (h (ap (λ x. hand x true) e))
-      either (inr ne) = let f : (u == t) ≡ false = differ u t ne in (stands.Handed u, record { stays = refl; side = rw f refl; taken = refl; doing = refl; told = rw f refl })
-  goes_on any (stands.Noted note.Normal) h = (stands.Noted note.Normal, record { stays = refl; side = refl; taken = refl; doing = refl; told = refl })
-  goes_on any (stands.Noted note.HandOff) h = (stands.Noted note.HandOff, record { stays = refl; side = refl; taken = refl; doing = refl; told = refl })
+      either (inr ne) = let f : (u == t) ≡ false = differ u t ne in (stands.Handed u, record { stays = refl; side = rw f refl; taken = refl; role = refl; told = rw f refl })
+  goes_on any (stands.Noted note.Normal) h = (stands.Noted note.Normal, record { stays = refl; side = refl; taken = refl; role = refl; told = refl })
+  goes_on any (stands.Noted note.HandOff) h = (stands.Noted note.HandOff, record { stays = refl; side = refl; taken = refl; role = refl; told = refl })
 
   -- ---------------------------------------------------------------- it goes out
 
   module _ (any : Bool) (s : Stands) (is : place_at w t ≡ Condvar l (waits (leaving any s))) where
-    station_was : station_at (place_at w t) m ≡ beside_of (leaving any s)
-    station_was = ap (λ q. station_at q m) is ∙ station_beside l m apart (At (waits (leaving any s))) refl
+    location_was : location_at (place_at w t) m ≡ beside_of (leaving any s)
+    location_was = ap (λ q. location_at q m) is ∙ location_beside l m apart (At (waits (leaving any s))) refl
 
     taken_was : taken_at (place_at w t) m ≡ taken_of (leaving any s)
     taken_was = ap (λ q. taken_at q m) is ∙ taken_beside l m apart (At (waits (leaving any s))) refl
@@ -127,13 +127,13 @@ module _ (w : State) (t l m : ℕ) (timed : Bool) (steady : IsSteady w) (is_ther
     -- it has nobody in hand elsewhere
     carries_here : CarriesAt m (place_at w t)
     carries_here k ne = ap (λ q. carried_at q k) is ∙ elim (cases_eq k l) [
-      | inl e ↦ subst (λ j. carried_at (Condvar l (waits (leaving any s))) j ≡ None) (sym e) (ap (λ (y : Station). y.carries) (station_there l m apart (At (waits (leaving any s))) refl))
-      | inr nl ↦ ap (λ (y : Station). y.carries) (nothing_there l m apart (At (waits (leaving any s))) refl k nl ne)
+      | inl e ↦ subst (λ j. carried_at (Condvar l (waits (leaving any s))) j ≡ None) (sym e) (ap (λ (y : Location). y.carries) (location_there l m apart (At (waits (leaving any s))) refl))
+      | inr nl ↦ ap (λ (y : Location). y.carries) (nothing_there l m apart (At (waits (leaving any s))) refl k nl ne)
     ]
 
     -- and whom it has there it has taken
     pub not_given : hand_of s ≡ hand t true → ⊥
-    not_given e = by_any any (ap (λ (y : Station). y.carries) station_was) (steady.stands.hands.taken t t m true (ap (λ (y : Station). y.hand) station_was ∙ e))
+    not_given e = by_any any (ap (λ (y : Location). y.carries) location_was) (steady.stands.hands.taken t t m true (ap (λ (y : Location). y.hand) location_was ∙ e))
       where
         by_any : (b : Bool) → carried_at (place_at w t) m ≡ in_hand b false → carried_at (place_at w t) m ≡ Some true → ⊥
         by_any true a b = let c : Some false ≡ Some true = sym a ∙ b in cc
@@ -151,21 +151,21 @@ module _ (w : State) (t l m : ℕ) (timed : Bool) (steady : IsSteady w) (is_ther
     abbrev alike : AlikeBeside m (place_at w t) p2
     alike = beside.alike w t l m timed steady is_there apart sort (leaving any s) is (At (waits (behind goes.0))) stays
 
-    station_then : station_at p2 m ≡ beside_of (behind goes.0)
-    station_then = station_beside l m apart (At (waits (behind goes.0))) refl
+    location_then : location_at p2 m ≡ beside_of (behind goes.0)
+    location_then = location_beside l m apart (At (waits (behind goes.0))) refl
 
     -- how it stands then, but for whom it has in hand
-    side : station_at p2 m ≡ record (station_at (place_at w t) m) { inside = None; carries = None; hand = (if is_thread t (taker_of s) then None else hand_of s) }
-    side = station_then ∙ goes.1.side ∙ sym (ap (λ (y : Station). record y { inside = None; carries = None; hand = (if is_thread t (taker_of s) then None else hand_of s) }) station_was)
+    side : location_at p2 m ≡ record (location_at (place_at w t) m) { inside = None; carries = None; hand = (if is_thread t (taker_of s) then None else hand_of s) }
+    side = location_then ∙ goes.1.side ∙ sym (ap (λ (y : Location). record y { inside = None; carries = None; hand = (if is_thread t (taker_of s) then None else hand_of s) }) location_was)
 
-    -- what it does then
-    doing : (laws.after_all (rules_in w m) (Out ∷ []) here t).doing t ≡ doing_on p2 m
-    doing = follows.doing ∙ ap (λ o. wakened t o (wait_row m (behind s)).doing) taken_was ∙ sym goes.1.doing ∙ sym (beside.does_next w t l m timed steady is_there apart sort (At (behind goes.0)) refl)
+    -- tells what it does then
+    role : (laws.after_all (rules_in w m) (Out ∷ []) here t).role t ≡ role_on p2 m
+    role = follows.role ∙ ap (λ o. wakened t o (wait_row m (behind s)).role) taken_was ∙ sym goes.1.role ∙ sym (beside.does_next w t l m timed steady is_there apart sort (At (behind goes.0)) refl)
 
     taken_then : taken_at p2 m ≡ keep_from t (taken_at (place_at w t) m)
     taken_then = taken_beside l m apart (At (waits (behind goes.0))) refl ∙ goes.1.taken ∙ sym (ap (keep_from t) taken_was)
 
-  -- whom it has in hand tries again
+  -- a thread that it has in hand tries again
   module _ (s : Stands) (is : place_at w t ≡ Condvar l (waits (leaving true s))) where
     abbrev then_at : Place
     then_at = Condvar l (waits (behind (goes true s is).0))
@@ -174,12 +174,12 @@ module _ (w : State) (t l m : ℕ) (timed : Bool) (steady : IsSteady w) (is_ther
     woken u b held = by_hand b held taken_only
       where
         taken_only : Some false ≡ Some b
-        taken_only = sym (ap (λ (y : Station). y.carries) (station_was true s is)) ∙ steady.stands.hands.taken t u m b held
+        taken_only = sym (ap (λ (y : Location). y.carries) (location_was true s is)) ∙ steady.stands.hands.taken t u m b held
 
         by_hand : (b : Bool) → hand_at (place_at w u) m ≡ hand t b → Some false ≡ Some b
             → IsWokenAt w t m note.Normal (place_at w u)
         by_hand false held e = let k : IsHeldThere m t (place_at w u) = held_there (place_at w u) t m (calls_mutex_at w m (place_at w u) (steady.stands.calls u) plain) held in
-            record { lets = tries m t (place_at w u) k; goes = k.woken.station; alike = k.woken.others; fits = k.woken.fits tt w (steady.stands.calls u) }
+            record { lets = tries m t (place_at w u) k; goes = k.woken.location; alike = k.woken.others; fits = k.woken.fits tt w (steady.stands.calls u) }
         by_hand true held e = absurd cc
 
     abbrev told_state : State
@@ -188,10 +188,10 @@ module _ (w : State) (t l m : ℕ) (timed : Bool) (steady : IsSteady w) (is_ther
     told_place : next_place (place_at told_state t) Done ≡ then_at
     told_place = ap (λ q. next_place q Done) (get_or-map (place_after_telling t (Woken note.Normal)) w.places t Idle ∙ ap (place_after_telling t (Woken note.Normal)) is) ∙ (goes true s is).1.told
 
-    own_hand : (station_at then_at m).hand
-        ≡ (if is_thread t (taker (place_at w t)) then None else (station_at (place_at w t) m).hand)
-    own_hand = ap (λ (y : Station). y.hand) (side true s is) ∙ sym (ap (λ q. if is_thread t (taker q) then None else (station_at (place_at w t) m).hand) is ∙ ap (λ o. if is_thread t o then None else (station_at (place_at w t) m).hand) (taker_is s)
-        ∙ ap (λ (y : Station). if is_thread t (taker_of s) then None else y.hand) (station_was true s is))
+    own_hand : (location_at then_at m).hand
+        ≡ (if is_thread t (taker (place_at w t)) then None else (location_at (place_at w t) m).hand)
+    own_hand = ap (λ (y : Location). y.hand) (side true s is) ∙ sym (ap (λ q. if is_thread t (taker q) then None else (location_at (place_at w t) m).hand) is ∙ ap (λ o. if is_thread t o then None else (location_at (place_at w t) m).hand) (taker_is s)
+        ∙ ap (λ (y : Location). if is_thread t (taker_of s) then None else y.hand) (location_was true s is))
       where
         taker_is : (s : Stands) → taker (Condvar l (waits (leaving true s))) ≡ taker_of s
         taker_is stands.Listed = refl
@@ -203,8 +203,8 @@ module _ (w : State) (t l m : ℕ) (timed : Bool) (steady : IsSteady w) (is_ther
     pub leaves_waking : FitsNext true s → Kept true s
     leaves_waking fits = subst (λ q. Goes w (put told_state t q) m (acts t (Out ∷ []))) (sym told_place)
         (goes_out_waking w t m steady is_there sort then_at (alike true s is) (subst (FitsItsLock w) told_place fits) section (holds_here w t m steady (carries_here true s is)) woken
-        (ap (λ (y : Station). y.inside) (station_was true s is)) (ap (λ (y : Station). y.inside) (side true s is)) (ap (λ (y : Station). y.carries) (side true s is)) (ap (λ (y : Station). y.stands) (side true s is)) (ap (λ (y : Station). y.waits) (side true s is))
-        own_hand (taken_then true s is) (Out ∷ []) tt (follows true s is).needed (doing true s is))
+        (ap (λ (y : Location). y.inside) (location_was true s is)) (ap (λ (y : Location). y.inside) (side true s is)) (ap (λ (y : Location). y.carries) (side true s is)) (ap (λ (y : Location). y.stands) (side true s is)) (ap (λ (y : Location). y.waits) (side true s is))
+        own_hand (taken_then true s is) (Out ∷ []) tt (follows true s is).needed (role true s is))
 
   -- ---------------------------------------------------------------- it has nobody in hand
 
@@ -212,7 +212,7 @@ module _ (w : State) (t l m : ℕ) (timed : Bool) (steady : IsSteady w) (is_ther
     abbrev out_at : Place
     out_at = Condvar l (waits (behind s))
 
-    out_there : (s : Stands) → station_by (row_there (At (waits (behind s)))) ≡ there (waits (leaving false s))
+    out_there : (s : Stands) → location_by (row_there (At (waits (behind s)))) ≡ there (waits (leaving false s))
     out_there stands.Listed = refl
     out_there stands.Moved = refl
     out_there (stands.InHand by) = refl
@@ -242,12 +242,12 @@ module _ (w : State) (t l m : ℕ) (timed : Bool) (steady : IsSteady w) (is_ther
     -- nor is it in its own
     unheld : keep_from t (taken_at (place_at w t) m) ≡ taken_at (place_at w t) m
     unheld = untaken (place_at w t) t m (λ h. let a : carried_at (place_at w t) m ≡ Some false = steady.stands.hands.taken t t m false h in
-        let b : carried_at (place_at w t) m ≡ None = ap (λ (y : Station). y.carries) (station_was false s is) in let c : ◌≡◌ {A = Option Bool} None (Some false) = sym b ∙ a in cc)
+        let b : carried_at (place_at w t) m ≡ None = ap (λ (y : Location). y.carries) (location_was false s is) in let c : ◌≡◌ {A = Option Bool} None (Some false) = sym b ∙ a in cc)
 
     pub leaves_nobody : FitsNext false s → Kept false s
     leaves_nobody fits = subst (λ p. FitsItsLock w (next_place p Done) → Goes w (put (state_with_sections w (One (2 * m)) None) t (next_place p Done)) m (acts t (Out ∷ []))) (sym is)
         (λ fits. goes_out_at w t m steady is_there sort out_at (beside.alike w t l m timed steady is_there apart sort (leaving false s) is (At (waits (behind s))) out_stays) fits section
-        (ap (λ (y : Station). y.inside) (station_was false s is)) (ap (λ (y : Station). y.carries) (station_was false s is)) (Out ∷ []) tt (follows false s is).needed
-        ((follows false s is).doing ∙ unwoken t (taken_at (place_at w t) m) (wait_row m (behind s)).doing unheld ∙ sym (beside.does_next w t l m timed steady is_there apart sort (At (behind s)) refl))
-        (station_beside l m apart (At (waits (behind s))) refl ∙ out_beside s ∙ sym (ap (λ (y : Station). record y { inside = None }) (station_was false s is)))
+        (ap (λ (y : Location). y.inside) (location_was false s is)) (ap (λ (y : Location). y.carries) (location_was false s is)) (Out ∷ []) tt (follows false s is).needed
+        ((follows false s is).role ∙ unwoken t (taken_at (place_at w t) m) (wait_row m (behind s)).role unheld ∙ sym (beside.does_next w t l m timed steady is_there apart sort (At (behind s)) refl))
+        (location_beside l m apart (At (waits (behind s))) refl ∙ out_beside s ∙ sym (ap (λ (y : Location). record y { inside = None }) (location_was false s is)))
         (taken_was false s is ∙ sym (out_taken s) ∙ sym (taken_beside l m apart (At (waits (behind s))) refl)) unheld) fits

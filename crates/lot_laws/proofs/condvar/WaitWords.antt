@@ -14,7 +14,7 @@ use Rattle.steps_base.specs.declared.acts.Reply.TheVariants.{Value}
 use Rattle.steps_base.specs.declared.owners.Owners.{Owners}
 use Rattle.steps_base.specs.Owners.{with_exclusive}
 use Rattle.steps_base.specs.Profiles.{taken_from}
-use Rattle.steps_base.specs.Stations.{nowhere, station_by}
+use Rattle.steps_base.specs.Locations.{nowhere, location_by}
 use Rattle.lot_steps.specs.declared.places.Place.TheVariants.{Condvar}
 use Rattle.lot_steps.specs.Steps.{condvar_goes}
 use Rattle.steps_mutex.specs.declared.lock.Entry.TheVariants as entry
@@ -40,20 +40,20 @@ use Rattle.spec_locks.specs.Codes.{code}
 use Rattle.spec_locks.specs.Deeds as laws
 use Rattle.spec_locks.specs.Locks as locks
 use Rattle.spec_locks.specs.Locks.{Enter, Leave, Rules}
-use Rattle.spec_locks.specs.Sites.{Case, Clear, Deed, Doing, End, Main, Mark, MarkBrought, MarkOwned, Site}
+use Rattle.spec_locks.specs.Sites.{Case, Clear, Deed, Role, End, Main, Mark, MarkBrought, MarkOwned, Site}
 use Rattle.lot_machine.specs.Machine.{State, can_do, owners_at, place_at, put, reply_to, state_after_operation, word_at, state_after_act}
 use Rattle.lot_laws.specs.MutexDeeds.{acts}
 use Rattle.lot_laws.specs.Refinement.{taken_at}
-use Rattle.lot_laws.specs.Stations.{doing_on, station_at}
-use Rattle.lot_laws.specs.SitesOf.{FitsItsLock, Goes, IsSteady, rules_in, site_of}
+use Rattle.lot_laws.specs.Locations.{role_on, location_at}
+use Rattle.lot_laws.specs.SitesOf.{FitsItsLock, Goes, IsInductive, rules_in, site_of}
 use Rattle.lot_laws.proofs.sites.StandsKept.{Alike, AlikeBeside}
-use Rattle.lot_laws.proofs.condvar.TwoParts.{Beside, alike_there, doing_beside, nothing_else, station_beside, taken_beside}
+use Rattle.lot_laws.proofs.condvar.TwoParts.{Beside, alike_there, role_beside, nothing_else, location_beside, taken_beside}
 use Rattle.lot_laws.proofs.condvar.Replies as hears
 use Rattle.lot_laws.proofs.condvar.Replies.{taken_by_wait, waiter_hears}
 use Rattle.lot_laws.proofs.mutex.Acts.{IsOfWord, works_at}
 use Rattle.steps_base.specs.declared.acts.Act.{Act}
 
-module _ (w : State) (t l m : ℕ) (timed : Bool) (steady : IsSteady w) (is_there : t < length w.places) (apart : m ≢ l)
+module _ (w : State) (t l m : ℕ) (timed : Bool) (steady : IsInductive w) (is_there : t < length w.places) (apart : m ≢ l)
     (sort : (rules_in w m).sort ≡ locks.Mutex) where
   abbrev waits : WaitAt → CondvarPlace
   waits at = Wait m timed at
@@ -68,7 +68,7 @@ module _ (w : State) (t l m : ℕ) (timed : Bool) (steady : IsSteady w) (is_ther
 
   -- the condition variable sees no change
   abbrev pub StaysThere : WaitAt → Next CondvarPlace → Type 0
-  StaysThere at n = Beside m n × (station_by (row_there n) ≡ there (waits at))
+  StaysThere at n = Beside m n × (location_by (row_there n) ≡ there (waits at))
 
   module _ (at : WaitAt) (is : place_at w t ≡ Condvar l (waits at)) (n : Next CondvarPlace) (stays : StaysThere at n) where
     pub alike : AlikeBeside m (place_at w t) (condvar_goes l n)
@@ -77,11 +77,11 @@ module _ (w : State) (t l m : ℕ) (timed : Bool) (steady : IsSteady w) (is_ther
       | inr nl ↦ nothing_else l m apart (At (waits at)) n refl stays.0 k nl ne
     ])
 
-    pub station_was : station_at (place_at w t) m ≡ station_by (row_beside (At (waits at)))
-    station_was = ap (λ q. station_at q m) is ∙ station_beside l m apart (At (waits at)) refl
+    pub location_was : location_at (place_at w t) m ≡ location_by (row_beside (At (waits at)))
+    location_was = ap (λ q. location_at q m) is ∙ location_beside l m apart (At (waits at)) refl
 
-    pub station_then : station_at (condvar_goes l n) m ≡ station_by (row_beside n)
-    station_then = station_beside l m apart n stays.0
+    pub location_then : location_at (condvar_goes l n) m ≡ location_by (row_beside n)
+    location_then = location_beside l m apart n stays.0
 
     pub taken_was : taken_at (place_at w t) m
         ≡ taken_from (row_beside (At (waits at))).hand (row_beside (At (waits at))).wants true
@@ -90,23 +90,23 @@ module _ (w : State) (t l m : ℕ) (timed : Bool) (steady : IsSteady w) (is_ther
     pub taken_then : taken_at (condvar_goes l n) m ≡ taken_from (row_beside n).hand (row_beside n).wants true
     taken_then = taken_beside l m apart n stays.0
 
-  -- what it does about the mutex at the next place
+  -- tells what it does about the mutex at the next place
   pub does_next : (n : Next WaitAt) → (beside : Beside m (in_wait m timed n))
-      → doing_on (condvar_goes l (in_wait m timed n)) m ≡ waiter_next m n
-  does_next n beside = doing_beside l m apart (in_wait m timed n) beside ∙ by_next n
+      → role_on (condvar_goes l (in_wait m timed n)) m ≡ waiter_next m n
+  does_next n beside = role_beside l m apart (in_wait m timed n) beside ∙ by_next n
     where
-      by_next : (n : Next WaitAt) → (row_beside (in_wait m timed n)).doing ≡ waiter_next m n
+      by_next : (n : Next WaitAt) → (row_beside (in_wait m timed n)).role ≡ waiter_next m n
       by_next (At at) = refl
       by_next (Over answer) = refl
 
   pub follows : (at : WaitAt) → place_at w t ≡ Condvar l (waits at) → (whom : Option ℕ) (told : Reply)
       → MayHearWaiter r here t at whom told → WaiterFollows r here t m timed at whom told
-  follows at is whom told may = waiters_follow r here t m timed at whom told sort (steady.sites.site m) (hears.doing_beside w t l (waits at) steady is m refl) may
+  follows at is whom told may = waiters_follow r here t m timed at whom told sort (steady.sites.site m) (hears.role_beside w t l (waits at) steady is m refl) may
 
   -- ---------------------------------------------------------------- the word
 
   -- nobody is woken by it
-  unwoken : (ds : List Deed) (d : Doing) → IsOfWord ds → itself_woken t here ds d ≡ d
+  unwoken : (ds : List Deed) (d : Role) → IsOfWord ds → itself_woken t here ds d ≡ d
   unwoken [] d h = refl
   unwoken (End ∷ []) d h = refl
   unwoken (Mark Main ∷ []) d h = refl
@@ -125,7 +125,7 @@ module _ (w : State) (t l m : ℕ) (timed : Bool) (steady : IsSteady w) (is_ther
   -- it stays in its line, its section and its hand
   abbrev pub StaysBeside : WaitAt → Next CondvarPlace → Type 0
   StaysBeside at n =
-      (station_by (row_beside n) ≡ station_by (row_beside (At (waits at))))
+      (location_by (row_beside n) ≡ location_by (row_beside (At (waits at))))
       × (taken_from (row_beside n).hand (row_beside n).wants true ≡ taken_from (row_beside (At (waits at))).hand (row_beside (At (waits at))).wants true)
 
   module _ (at : WaitAt) (is : place_at w t ≡ Condvar l (waits at)) (op : Op) (acts_so : wait_act l m at ≡ act.Word m op)
@@ -143,7 +143,7 @@ module _ (w : State) (t l m : ℕ) (timed : Bool) (steady : IsSteady w) (is_ther
     f = follows at is None (Value (word_at w m)) may_hear
 
     leaves : LeavesMutex r here t m timed at op (owners_at w m)
-    leaves = waiters_code r here t l m timed at op (owners_at w m) sort (λ e. apart (sym e)) (steady.sites.site m) (hears.doing_beside w t l (waits at) steady is m refl)
+    leaves = waiters_code r here t l m timed at op (owners_at w m) sort (λ e. apart (sym e)) (steady.sites.site m) (hears.role_beside w t l (waits at) steady is m refl)
         (subst (λ v. MayHearWaiter r here t at None (Value v)) (steady.sites.word m) may_hear) acts_so refl
 
     pub works : StaysThere at (in_wait m timed next) → StaysBeside at (in_wait m timed next)
@@ -151,10 +151,10 @@ module _ (w : State) (t l m : ℕ) (timed : Bool) (steady : IsSteady w) (is_ther
         → Goes w (put (state_after_operation w t (Condvar l (waits at)) m op) t (condvar_goes l (in_wait m timed next))) m
         (acts t does)
     works stays same fits of_word others = works_at w t m steady is_there sort (condvar_goes l (in_wait m timed next)) (alike at is (in_wait m timed next) stays) fits (Condvar l (waits at)) op lt does of_word refl f.needed
-        (f.doing ∙ unwoken does (waiter_next m next) of_word ∙ sym (does_next next stays.0))
+        (f.role ∙ unwoken does (waiter_next m next) of_word ∙ sym (does_next next stays.0))
         (others ∙ ap (with_exclusive (owners_at w m)) (subst (λ v. (condvar_owners (waits at) t v (owners_at w m)).exclusive ≡ (laws.after_all r (waiter_deeds at None (Value v)) here t).lock.exclusive) (sym (steady.sites.word m)) leaves.owner))
         (subst (λ v. apply op v ≡ code r (laws.after_all r (waiter_deeds at None (Value v)) here t)) (sym (steady.sites.word m)) leaves.word)
-        (station_then at is (in_wait m timed next) stays ∙ same.0 ∙ sym (station_was at is (in_wait m timed next) stays))
+        (location_then at is (in_wait m timed next) stays ∙ same.0 ∙ sym (location_was at is (in_wait m timed next) stays))
         (taken_was at is (in_wait m timed next) stays ∙ sym same.1 ∙ sym (taken_then at is (in_wait m timed next) stays))
 
   -- ---------------------------------------------------------------- each place that works on the word

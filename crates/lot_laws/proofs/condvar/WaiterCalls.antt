@@ -25,7 +25,7 @@ use Rattle.steps_mutex.specs.declared.unlock.UnlockAt.TheVariants as unlock
 use Rattle.spec_locks.specs.Runs.{behind_wake, is_taken_by, one_more_at}
 use Rattle.lot_laws.specs.Refinement.{call_state, taken_at}
 use Rattle.spec_locks.specs.Sites.{Has, Line, Main, idle}
-use Rattle.lot_laws.specs.Stations.{doing_on, nowhere, station, station_at, station_by}
+use Rattle.lot_laws.specs.Locations.{role_on, nowhere, location, location_at, location_by}
 use Rattle.lot_laws.specs.SitesOf.{hand_at}
 use Rattle.lot_laws.proofs.machine.Parts.{differ, same}
 use Rattle.lot_laws.proofs.mutex.Waiters.{notifier_stands, side_wanted}
@@ -77,7 +77,7 @@ pub waiter_taken_by : (k : ℕ) (at : CondvarPlace) (t l : ℕ) → hand_at (Con
 waiter_taken_by k at t l h = by_lock (k == l) (is_lock l (mutex_beside at)) h
   where
     by_lock : (c d : Bool)
-        → (if c then station (Condvar k at) else if d then station_by (mutex_side at) else nowhere).hand ≡ hand t false
+        → (if c then location (Condvar k at) else if d then location_by (mutex_side at) else nowhere).hand ≡ hand t false
         → is_taken_by t (if d && not c then taken_from (mutex_side at).hand (mutex_side at).wants true else None) ≡ true
     by_lock true d g = absurd cc
     by_lock false true g = ap (is_taken_by t) (λ i. taken_from (g i) (side_wanted at t false g i) true) ∙ same t
@@ -103,7 +103,7 @@ waiter_woken k at t l e r = let b = taken_beside k at t l e in
 
 -- handed its mutex, once it has released that, it owns it
 wait_handed : (k l t : ℕ) (alone timed : Bool) (at : WaitAt) → (mutex_side (Wait l timed at)).hand ≡ hand t false
-    → (mutex_side (Wait l timed at)).doing.claims ≡ None → (r : ℕ → Rights)
+    → (mutex_side (Wait l timed at)).role.claims ≡ None → (r : ℕ → Rights)
     → call_state (next_place (Condvar k (Wait l timed at)) (HandedBy t alone)) (one_more_at l Exclusive r)
     ≡ record
     (call_state (Condvar k (Wait l timed at)) r) { retries = None; recalls = behind_wake (call_state (Condvar k (Wait l timed at)) r).recalls }
@@ -117,7 +117,7 @@ wait_handed k l t alone timed at h free r = absurd cc
 -- it claims nothing where it has released its mutex, or owns that
 wait_claims : (l t : ℕ) (timed : Bool) (at : WaitAt) → IsReached (Wait l timed at)
     → (mutex_side (Wait l timed at)).hand ≡ hand t false
-    → ((mutex_side (Wait l timed at)).doing.claims ≡ None) ⊎ ((mutex_side (Wait l timed at)).doing.claims ≡ Some (Has Exclusive))
+    → ((mutex_side (Wait l timed at)).role.claims ≡ None) ⊎ ((mutex_side (Wait l timed at)).role.claims ≡ Some (Has Exclusive))
 wait_claims l t timed (wait.Release (stands.InHand by) (Unlock unlock.Subtract)) reached h = inr refl
 wait_claims l t timed (wait.Release (stands.InHand by) (Unlock at)) reached h = inl refl
 wait_claims l t timed (wait.Release (stands.InHand by) at) reached h = absurd reached.0
@@ -128,29 +128,29 @@ wait_claims l t timed (wait.Lock late (Lock e again (lock.Taken by))) reached h 
 wait_claims l t timed at reached h = absurd cc
 
 pub waiter_claims : (k : ℕ) (at : CondvarPlace) (t l : ℕ) → IsReached at → is_taken_by t (taken_at (Condvar k at) l) ≡ true
-    → ((mutex_side at).doing.claims ≡ None) ⊎ ((mutex_side at).doing.claims ≡ Some (Has Exclusive))
+    → ((mutex_side at).role.claims ≡ None) ⊎ ((mutex_side at).role.claims ≡ Some (Has Exclusive))
 waiter_claims k at t l reached e = let b = taken_beside k at t l e in
-    subst (λ q. ((mutex_side q).doing.claims ≡ None) ⊎ ((mutex_side q).doing.claims ≡ Some (Has Exclusive))) (sym b.is) (wait_claims l t b.timed b.place (subst IsReached b.is reached) b.hand)
+    subst (λ q. ((mutex_side q).role.claims ≡ None) ⊎ ((mutex_side q).role.claims ≡ Some (Has Exclusive))) (sym b.is) (wait_claims l t b.timed b.place (subst IsReached b.is reached) b.hand)
 
 -- and that is what it does about the mutex
 pub waiter_does : (k : ℕ) (at : CondvarPlace) (t l : ℕ) → is_taken_by t (taken_at (Condvar k at) l) ≡ true
-    → doing_on (Condvar k at) l ≡ (mutex_side at).doing
+    → role_on (Condvar k at) l ≡ (mutex_side at).role
 waiter_does k at t l e = by_lock (k == l) (is_lock l (mutex_beside at)) e
   where
     by_lock : (c d : Bool)
         → is_taken_by t (if d && not c then taken_from (mutex_side at).hand (mutex_side at).wants true else None) ≡ true
-        → (if c then (condvar_profile at).doing else if d then (mutex_side at).doing else idle) ≡ (mutex_side at).doing
+        → (if c then (condvar_profile at).role else if d then (mutex_side at).role else idle) ≡ (mutex_side at).role
     by_lock false true f = refl
     by_lock true true f = absurd cc
     by_lock c false f = absurd cc
 
 pub waiter_handed : (k : ℕ) (at : CondvarPlace) (t l : ℕ) (alone : Bool) → is_taken_by t (taken_at (Condvar k at) l) ≡ true
-    → (mutex_side at).doing.claims ≡ None → (r : ℕ → Rights)
+    → (mutex_side at).role.claims ≡ None → (r : ℕ → Rights)
     → call_state (next_place (Condvar k at) (HandedBy t alone)) (one_more_at l Exclusive r)
     ≡ record (call_state (Condvar k at) r) { retries = None; recalls = behind_wake (call_state (Condvar k at) r).recalls }
 waiter_handed k at t l alone e free r = let b = taken_beside k at t l e in
     subst (λ q. call_state (next_place (Condvar k q) (HandedBy t alone)) (one_more_at l Exclusive r) ≡ record (call_state (Condvar k q) r) { retries = None; recalls = behind_wake (call_state (Condvar k q) r).recalls }) (sym b.is)
-    (wait_handed k l t alone b.timed b.place b.hand (ap (λ q. (mutex_side q).doing.claims) (sym b.is) ∙ free) r)
+    (wait_handed k l t alone b.timed b.place b.hand (ap (λ q. (mutex_side q).role.claims) (sym b.is) ∙ free) r)
 
 -- told that it was, its call is as it was
 wait_told : (k l t : ℕ) (timed : Bool) (at : WaitAt) → (mutex_side (Wait l timed at)).hand ≡ hand t true → (r : ℕ → Rights)
@@ -167,7 +167,7 @@ pub waiter_told : (k : ℕ) (at : CondvarPlace) (t l : ℕ) → hand_at (Condvar
 waiter_told k at t l h r = by_call at (by_lock (k == l) (is_lock l (mutex_beside at)) h)
   where
     by_lock : (c d : Bool)
-        → (if c then station (Condvar k at) else if d then station_by (mutex_side at) else nowhere).hand ≡ hand t true
+        → (if c then location (Condvar k at) else if d then location_by (mutex_side at) else nowhere).hand ≡ hand t true
         → (mutex_side at).hand ≡ hand t true
     by_lock true d g = absurd cc
     by_lock false true g = g
@@ -196,11 +196,11 @@ stands_main : (b : Bool) (m : Line) → in_line b Main ≡ Some m → in_line b 
 stands_main true m h = refl
 stands_main false m h = absurd cc
 
-pub waiter_taken : (k : ℕ) (at : CondvarPlace) (u l : ℕ) (m : Line) → k ≢ l → (station_at (Condvar k at) l).stands ≡ Some m
+pub waiter_taken : (k : ℕ) (at : CondvarPlace) (u l : ℕ) (m : Line) → k ≢ l → (location_at (Condvar k at) l).stands ≡ Some m
     → (r : ℕ → Rights) → call_state (next_place (Condvar k at) (TakenBy u)) r ≡ call_state (Condvar k at) r
-waiter_taken k at u l m apart h r = by_call at (by_lock (is_lock l (mutex_beside at)) (ap (λ c. (if c then station (Condvar k at) else if is_lock l (mutex_beside at) then station_by (mutex_side at) else nowhere).stands) (sym (differ k l apart)) ∙ h))
+waiter_taken k at u l m apart h r = by_call at (by_lock (is_lock l (mutex_beside at)) (ap (λ c. (if c then location (Condvar k at) else if is_lock l (mutex_beside at) then location_by (mutex_side at) else nowhere).stands) (sym (differ k l apart)) ∙ h))
   where
-    by_lock : (d : Bool) → (if d then station_by (mutex_side at) else nowhere).stands ≡ Some m
+    by_lock : (d : Bool) → (if d then location_by (mutex_side at) else nowhere).stands ≡ Some m
         → (mutex_side at).stands ≡ Some Main
     by_lock true g = stands_main (condvar_row at).moved m g
     by_lock false g = absurd cc

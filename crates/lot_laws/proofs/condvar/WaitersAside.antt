@@ -6,7 +6,7 @@ use Rattle.spec_locks.specs.declared.kinds.Kind.{Kind}
 use Rattle.spec_locks.specs.declared.kinds.Kind.TheVariants as kind
 use Rattle.spec_locks.specs.Kinds.{is_plain_mutex}
 use Rattle.steps_base.specs.Profiles.{Hand, Profile, taken_from}
-use Rattle.steps_base.specs.Stations.{Station, nowhere, station_by}
+use Rattle.steps_base.specs.Locations.{Location, nowhere, location_by}
 use Rattle.steps_condvar.specs.declared.places.CondvarPlace.{CondvarPlace}
 use Rattle.steps_condvar.specs.declared.places.CondvarPlace.TheVariants.{Wait, Look, Notify}
 use Rattle.steps_condvar.specs.CondvarProfiles.{condvar_profile, condvar_row, mutex_side}
@@ -21,8 +21,8 @@ use Rattle.spec_locks.specs.Purposes.{rules_of}
 use Rattle.spec_locks.specs.Sites.{Main, Second, has_readers}
 use Rattle.lot_machine.specs.Machine.{State, kind_at, place_at, queue_at}
 use Rattle.lot_laws.specs.Refinement.{lock_state, taken_at}
-use Rattle.lot_laws.specs.Stations.{doing_on, station, station_at}
-use Rattle.lot_laws.specs.SitesOf.{FitsCondvar, FitsItsLock, IsSteady, condvar_of, rules_in, site_of, stood_in}
+use Rattle.lot_laws.specs.Locations.{role_on, location, location_at}
+use Rattle.lot_laws.specs.SitesOf.{FitsCondvar, FitsItsLock, IsInductive, condvar_of, rules_in, site_of, stood_in}
 use Rattle.lot_laws.proofs.machine.Parts.{differ, same}
 use Rattle.lot_laws.proofs.sites.OneStep.{queued_times}
 use Rattle.lot_laws.proofs.condvar.Promises.{IsAside, aside, unlisted}
@@ -41,7 +41,7 @@ pub record WaitsThere (w : State) (u l : ℕ) : Type 0 where
   pub is : place_at w u ≡ Condvar l at
   pub listed : (condvar_row at).listed ≡ true
 
-module _ (w : State) (steady : IsSteady w) (l : ℕ) (sort : (rules_in w l).sort ≡ locks.Condvar) where
+module _ (w : State) (steady : IsInductive w) (l : ℕ) (sort : (rules_in w l).sort ≡ locks.Condvar) where
   no_mutex : (rules_in w l).sort ≡ locks.Mutex → ⊥
   no_mutex mutex = let both : locks.Mutex ≡ locks.Condvar = sym mutex ∙ sort in cc
 
@@ -55,40 +55,40 @@ module _ (w : State) (steady : IsSteady w) (l : ℕ) (sort : (rules_in w l).sort
   sort_at k s here is = subst (λ j. (rules_in w j).sort ≡ s) (eqb-true k l here) is
 
   module _ (u : ℕ) where
-    by_place : (p : Place) → place_at w u ≡ p → FitsItsLock w p → 1 ≤ stood_in (station_at p l).stands Main → WaitsThere w u l
+    by_place : (p : Place) → place_at w u ≡ p → FitsItsLock w p → 1 ≤ stood_in (location_at p l).stands Main → WaitsThere w u l
     by_place Idle is fits some = absurd (omega arith)
     by_place (Mutex k at) is fits some = either (k == l) refl some
       where
-        either : (b : Bool) → (k == l) ≡ b → 1 ≤ stood_in (if b then station (Mutex k at) else nowhere).stands Main
+        either : (b : Bool) → (k == l) ≡ b → 1 ≤ stood_in (if b then location (Mutex k at) else nowhere).stands Main
             → WaitsThere w u l
         either true e h = absurd (no_mutex (sort_at k locks.Mutex e (ap (λ (r : Rules). r.sort) (mutex_rules (kind_at w k) fits))))
         either false e h = absurd (omega arith)
     by_place (RwLock k a c) is fits some = either (k == l) refl some
       where
-        either : (b : Bool) → (k == l) ≡ b → 1 ≤ stood_in (if b then station (RwLock k a c) else nowhere).stands Main
+        either : (b : Bool) → (k == l) ≡ b → 1 ≤ stood_in (if b then location (RwLock k a c) else nowhere).stands Main
             → WaitsThere w u l
         either true e h = absurd (let none : false ≡ true = sym (ap has_readers (ap (λ j. (rules_in w j).sort) (eqb-true k l e) ∙ sort)) ∙ fits.0.0 in cc)
         either false e h = absurd (omega arith)
     by_place (Once k at) is fits some = either (k == l) refl some
       where
-        either : (b : Bool) → (k == l) ≡ b → 1 ≤ stood_in (if b then station (Once k at) else nowhere).stands Main
+        either : (b : Bool) → (k == l) ≡ b → 1 ≤ stood_in (if b then location (Once k at) else nowhere).stands Main
             → WaitsThere w u l
         either true e h = absurd (no_once (sort_at k locks.Once e fits))
         either false e h = absurd (omega arith)
     by_place (Semaphore k at) is fits some = either (k == l) refl some
       where
-        either : (b : Bool) → (k == l) ≡ b → 1 ≤ stood_in (if b then station (Semaphore k at) else nowhere).stands Main
+        either : (b : Bool) → (k == l) ≡ b → 1 ≤ stood_in (if b then location (Semaphore k at) else nowhere).stands Main
             → WaitsThere w u l
         either true e h = absurd (no_semaphore (sort_at k locks.Semaphore e fits.0))
         either false e h = absurd (omega arith)
     by_place (Condvar k at) is fits some = either (k == l) refl some
       where
         beside : (o : Option ℕ) → mutex_beside at ≡ o
-            → 1 ≤ stood_in (if is_lock l o then station_by (mutex_side at) else nowhere).stands Main → WaitsThere w u l
+            → 1 ≤ stood_in (if is_lock l o then location_by (mutex_side at) else nowhere).stands Main → WaitsThere w u l
         beside None e h = absurd (omega arith)
         beside (Some m) e h = here (m == l) refl h
           where
-            here : (b : Bool) → (m == l) ≡ b → 1 ≤ stood_in (if b then station_by (mutex_side at) else nowhere).stands Main
+            here : (b : Bool) → (m == l) ≡ b → 1 ≤ stood_in (if b then location_by (mutex_side at) else nowhere).stands Main
                 → WaitsThere w u l
             here true f g = absurd (no_mutex (sort_at m locks.Mutex f (plain_sort (kind_at w m) (fits.mutex m e))))
             here false f g = absurd (omega arith)
@@ -100,25 +100,25 @@ module _ (w : State) (steady : IsSteady w) (l : ℕ) (sort : (rules_in w l).sort
         either : (b : Bool) → (k == l) ≡ b
             → 1
             ≤ stood_in
-            (if b then station_by (condvar_profile at) else if is_lock l (mutex_beside at) then station_by (mutex_side at) else nowhere).stands Main
+            (if b then location_by (condvar_profile at) else if is_lock l (mutex_beside at) then location_by (mutex_side at) else nowhere).stands Main
             → WaitsThere w u l
         either true e h = record { at = at; is = is ∙ ap (λ j. Condvar j at) (eqb-true k l e); listed = listed (condvar_row at).listed h }
         either false e h = beside (mutex_beside at) refl h
 
     pub waits_there : 1 ≤ locks.times u (lock_state w l).queue → WaitsThere w u l
-    waits_there some = by_place (place_at w u) refl (steady.stands.calls u) (let n : locks.times u (lock_state w l).queue ≡ stood_in (station_at (place_at w u) l).stands Main = queued_times u (queue_at w (2 * l)) ∙ steady.stands.lines u l Main in omega arith)
+    waits_there some = by_place (place_at w u) refl (steady.stands.calls u) (let n : locks.times u (lock_state w l).queue ≡ stood_in (location_at (place_at w u) l).stands Main = queued_times u (queue_at w (2 * l)) ∙ steady.stands.lines u l Main in omega arith)
 
   pub waits_aside : (m : ℕ) → WaitsAside (condvar_of w l) (site_of w m) m
   waits_aside m u some names = let x = waits_there u some in by_at x.at x.is x.listed
     where
       by_at : (at : CondvarPlace) → place_at w u ≡ Condvar l at → (condvar_row at).listed ≡ true
-          → (standing u (lock_state w m) ≡ 0) × ((doing_on (place_at w u) m).retries ≡ None)
+          → (standing u (lock_state w m) ≡ 0) × ((role_on (place_at w u) m).retries ≡ None)
       by_at (Look all) is listed = absurd cc
       by_at (Notify all k at) is listed = absurd (let none : false ≡ true = sym (unlisted all k at) ∙ listed in cc)
-      by_at (Wait k timed at) is listed = subst Nowhere named (standing_none, doing_none)
+      by_at (Wait k timed at) is listed = subst Nowhere named (standing_none, role_none)
         where
           Nowhere : ℕ → Type 0
-          Nowhere j = (standing u (lock_state w j) ≡ 0) × ((doing_on (place_at w u) j).retries ≡ None)
+          Nowhere j = (standing u (lock_state w j) ≡ 0) × ((role_on (place_at w u) j).retries ≡ None)
 
           row : profile_at (place_at w u) l ≡ condvar_profile (Wait k timed at)
           row = rw (is, same l) refl
@@ -135,11 +135,11 @@ module _ (w : State) (steady : IsSteady w) (l : ℕ) (sort : (rules_in w l).sort
           side : IsAside k at
           side = aside k timed at fits.reached listed
 
-          station_beside : station_at (place_at w u) k ≡ station_by (mutex_side (Wait k timed at))
-          station_beside = rw (is, differ l k apart, same k) refl
+          location_beside : location_at (place_at w u) k ≡ location_by (mutex_side (Wait k timed at))
+          location_beside = rw (is, differ l k apart, same k) refl
 
-          stands_none : (station_at (place_at w u) k).stands ≡ None
-          stands_none = ap (λ (y : Station). y.stands) station_beside ∙ ap (λ (b : Bool). if b then Some Main else None) side.moved
+          stands_none : (location_at (place_at w u) k).stands ≡ None
+          stands_none = ap (λ (y : Location). y.stands) location_beside ∙ ap (λ (b : Bool). if b then Some Main else None) side.moved
 
           taken_none : taken_at (place_at w u) k ≡ None
           taken_none = rw (is, differ l k apart, same k) (ap (λ (h : Option Hand). taken_from h (mutex_side (Wait k timed at)).wants true) side.hand)
@@ -147,5 +147,5 @@ module _ (w : State) (steady : IsSteady w) (l : ℕ) (sort : (rules_in w l).sort
           standing_none : standing u (lock_state w k) ≡ 0
           standing_none = standing_by w u steady k ∙ (λ i. stood_in (stands_none i) Main + stood_in (stands_none i) Second + one_if_some (taken_none i))
 
-          doing_none : (doing_on (place_at w u) k).retries ≡ None
-          doing_none = rw (is, differ l k apart, same k) side.retries
+          role_none : (role_on (place_at w u) k).retries ≡ None
+          role_none = rw (is, differ l k apart, same k) side.retries

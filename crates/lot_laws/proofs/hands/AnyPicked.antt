@@ -57,7 +57,7 @@ module _ (t : ℕ) where
   first_or : (k : ℕ) (p : Place) (ps : List Place) → any_in t k (p ∷ ps) ≡ is_of (taker p) (wants p) (any_in t (suc k) ps)
   first_or k p ps = joined (shares_in_hand t (held p)) (wants_more_in_hand t (held p)) k p _ (successor_from t (suc k) ps)
 
-  -- whoever was picked is in hand
+  -- each thread that was picked is in hand
   pub any_held : (k : ℕ) (ps : List Place) → any_in t k ps ≡ true → (u : ℕ) × (is_thread t (taker (get_or ps u Idle)) ≡ true)
   any_held k [] h = absurd cc
   any_held k (p ∷ ps) h = elim (is_in (taker p) (wants p) (any_in t (suc k) ps) (sym (first_or k p ps) ∙ h)) [

@@ -14,7 +14,7 @@ use Rattle.lot_laws.proofs.hands.InHand.{wanted_of}
 
 -- ---------------------------------------------------------------- a case of another thread
 
--- who is taken by another is not in the hand of t
+-- a thread that is taken by another is not in the hand of t
 another_hand : (t : ℕ) (o : Option Taken) → ((h : Taken) → o ≡ Some h → h.by ≢ t) → wanted_of t o ≡ None
 another_hand t None none = refl
 another_hand t (Some h) none = ap (λ b. if b then Some h.want else None) (differ h.by t (none h refl))
@@ -44,12 +44,12 @@ none_some : {A : Type 0} (o : Option A) → one_if_some o ≤ 0 → o ≡ None
 none_some None h = refl
 none_some (Some x) h = absurd (omega arith)
 
--- who stands in a line is in no hand
+-- a thread that stands in a line is in no hand
 in_line_free : (r : Rules) (s : LockState) (u : ℕ) → IsLockState r s → 1 ≤ times u s.queue + locks.is_thread u s.aside
     → s.taken u ≡ None
 in_line_free r s u is h = let once : standing u s ≤ 1 = is.once u in none_some (s.taken u) (omega arith)
 
--- who is aside alone
+-- a thread that is aside alone
 counts_one : (v u : ℕ) → u ≡ v → locks.is_thread u (Some v) ≡ 1
 counts_one v u e = grind (arith, nat_tests)
 
@@ -69,7 +69,7 @@ once_holds r s t a u is ne Fail = refl
 once_holds r s t a u is ne (Rest wanted forced) = refl
 once_holds r s t a u is ne TakeAll = taken_holds t a u s.queue s.taken ne (λ h. in_line_free r s u is (omega arith))
 
--- what is done to a condition variable takes nobody
+-- a deed at a condition variable takes nobody
 condvar_taken : (case : locks.CondvarCase) (s : LockState) → (locks.condvar_after case s).taken ≡ s.taken
 condvar_taken (locks.Look seen) s = refl
 condvar_taken (locks.Show m) s = refl
@@ -114,7 +114,7 @@ unshared Upgradable more = refl
 unshared Wait more = refl
 unshared CallOnce more = refl
 
--- who is taken now was, or is among those who are taken
+-- a thread that is taken now was, or is among those who are taken
 taken_more : (t u : ℕ) (x : Want) (xs : List Queued) (taken : ℕ → Option Taken) → x ≢ Shared → taking t xs taken u ≡ Some (record { by = t; want = x }) → (taken u ≡ Some (record { by = t; want = x })) ⊎ HasMore u xs
 taken_more t u x [] taken more e = inl e
 taken_more t u x (z ∷ zs) taken more e = elim (taken_more t u x zs (putting taken z.thread (Some (record { by = t; want = z.want }))) more e) [
@@ -164,7 +164,7 @@ one_taken t s xs none few u v x y h more k more2 = one_has_more u v xs few (amon
     among : (u : ℕ) (x : Want) → taking t xs s.taken u ≡ Some (record { by = t; want = x }) → x ≢ Shared → HasMore u xs
     among u x h more = elim (taken_more t u x xs s.taken more h) [ inl was ↦ absurd (none u x was) | inr is ↦ is ]
 
--- whoever is let go is in no hand
+-- each thread that is let go is in no hand
 kept_none : (t u : ℕ) (s : LockState) (x : Want) → keep_from t (s.taken u) ≡ Some (record { by = t; want = x }) → ⊥
 kept_none t u s x e = (kept_by t (s.taken u) (record { by = t; want = x }) e).0 refl
 

@@ -17,9 +17,9 @@ use Rattle.spec_locks.specs.Locks.{IsSuccessor, Queued, Taken, readers, shares_h
 use Rattle.lot_machine.specs.declared.hands.Successor.{Successor}
 use Rattle.lot_machine.specs.Machine.{State, held, held_by, place_at, shares_at, shares_in_hand, sharers, successor_from, successor_or, want_of_successor, wants_more_in_hand}
 use Rattle.lot_laws.specs.Refinement.{lock_state, taken_at}
-use Rattle.lot_laws.specs.Stations.{Station, nowhere, station, station_by}
-use Rattle.lot_laws.specs.SitesOf.{IsCounted, IsSteady, carried_at, hand_at}
-use Rattle.lot_laws.proofs.machine.Parts.{IsOf, same, IsSingle, single_held, single_station, single_taken, single_taker, taken_out, IsInHandOf, in_hand_where, aparts}
+use Rattle.lot_laws.specs.Locations.{Location, nowhere, location, location_by}
+use Rattle.lot_laws.specs.SitesOf.{IsCounted, IsInductive, carried_at, hand_at}
+use Rattle.lot_laws.proofs.machine.Parts.{IsOf, same, IsSingle, single_held, single_location, single_taken, single_taker, taken_out, IsInHandOf, in_hand_where, aparts}
 use Rattle.lot_laws.proofs.hands.Handed.{in_hand_here, of_carries}
 use Rattle.lot_laws.proofs.mutex.Waiters.{side_wanted}
 use Rattle.steps_condvar.specs.declared.places.CondvarPlace.{CondvarPlace}
@@ -48,13 +48,13 @@ by_row t (Some (Of v false)) (Some y) false f = either (v == t) refl
     either true e = absurd (let g : false ≡ true = (f false (ap (λ u. hand u false) (eqb-true v t e))).1 in cc)
     either false e = refl
 
-module _ (w : State) (t l : ℕ) (steady : IsSteady w) (own : IsOf l (place_at w t)) (any : Bool)
+module _ (w : State) (t l : ℕ) (steady : IsInductive w) (own : IsOf l (place_at w t)) (any : Bool)
     (carries : carried_at (place_at w t) l ≡ in_hand any false) where
   by_any : (c g : Bool) → in_hand c false ≡ Some g → g ≡ false
   by_any true g e = let f : false ≡ g = cc in sym f
   by_any false g e = absurd cc
 
-  -- who is in its hand is so at its lock, and was handed nothing
+  -- a thread that is in its hand is so at its lock, and was handed nothing
   pub hand_there : (u : ℕ) → is_thread t (taker (place_at w u)) ≡ true → hand_at (place_at w u) l ≡ hand t false
   hand_there u h =
       let k : IsInHandOf (place_at w u) t = in_hand_where (place_at w u) t (aparts w steady u) h in
@@ -65,9 +65,9 @@ module _ (w : State) (t l : ℕ) (steady : IsSteady w) (own : IsOf l (place_at w
   -- in a call of one lock
   fresh_here : (u : ℕ) → IsSingle (place_at w u) → (g : Bool) → (profile (place_at w u)).hand ≡ hand t g
       → (g ≡ false) × (calls (place_at w u) l ≡ true)
-  fresh_here u single g h = by_call (calls (place_at w u) l) (sym (ap (λ (y : Station). y.hand) (single_station (place_at w u) l single)) ∙ hand_there u (ap (is_thread t) (single_taker (place_at w u) single ∙ ap hand_owner h) ∙ same t))
+  fresh_here u single g h = by_call (calls (place_at w u) l) (sym (ap (λ (y : Location). y.hand) (single_location (place_at w u) l single)) ∙ hand_there u (ap (is_thread t) (single_taker (place_at w u) single ∙ ap hand_owner h) ∙ same t))
     where
-      by_call : (c : Bool) → (if c then station (place_at w u) else nowhere).hand ≡ hand t false → (g ≡ false) × (c ≡ true)
+      by_call : (c : Bool) → (if c then location (place_at w u) else nowhere).hand ≡ hand t false → (g ≡ false) × (c ≡ true)
       by_call true e = (let both : hand t g ≡ hand t false = sym h ∙ e in cc, refl)
       by_call false e = absurd cc
 
@@ -91,7 +91,7 @@ module _ (w : State) (t l : ℕ) (steady : IsSteady w) (own : IsOf l (place_at w
         (hand_there u (ap (λ q. is_thread t (taker q)) is ∙ ap (λ x. is_thread t (hand_owner (or_else x None))) h ∙ same t)))
       where
         by_call : (c d : Bool)
-            → (if c then station (Condvar k at) else if d then station_by (mutex_side at) else nowhere).hand ≡ hand t false
+            → (if c then location (Condvar k at) else if d then location_by (mutex_side at) else nowhere).hand ≡ hand t false
             → (g ≡ false) × ((d && not c) ≡ true)
         by_call true d e = absurd cc
         by_call false true e = (let both : hand t g ≡ hand t false = sym h ∙ e in cc, refl)
@@ -139,7 +139,7 @@ shares_of t o p e = by_wanted o ∙ ap share e ∙ sym (by_wanted p)
         either true = refl
         either false = refl
 
--- who wants more, and is in the hand
+-- a thread that wants more, and is in the hand
 more_is : (t : ℕ) (o : Option Taken) (x : Want) → wanted_of t o ≡ Some x → x ≢ Shared → wants_more_in_hand t o ≡ Some x
 more_is t None x e ne = absurd cc
 more_is t (Some h) x e ne = either (h.by == t) e
@@ -169,7 +169,7 @@ is_more t (Some h) x e = either (h.by == t) e
 
 -- ---------------------------------------------------------------- what the lock hands over
 
-module _ (w : State) (t l : ℕ) (steady : IsSteady w) (own : IsOf l (place_at w t)) (any : Bool)
+module _ (w : State) (t l : ℕ) (steady : IsInductive w) (own : IsOf l (place_at w t)) (any : Bool)
     (carries : carried_at (place_at w t) l ≡ in_hand any false) (k : Counted) (count : IsCounted w t k) where
   abbrev taken : ℕ → Option Taken
   taken u = taken_at (place_at w u) l
@@ -247,7 +247,7 @@ filter_less f (p ∷ ps) (suc i) lt e = let h : length (filter f ps) < length ps
     one true h = omega arith
     one false h = omega arith
 
--- who is in nobody's hand isn't in its own
+-- a thread that is in nobody's hand isn't in its own
 pub few_sharers : (w : State) (t : ℕ) → t < length w.places → IsSingle (place_at w t) → (profile (place_at w t)).hand ≡ None
     → sharers t w.places < length w.places
 few_sharers w t lt single free = filter_less (λ (p : Place). shares_in_hand t (held p)) w.places t lt (ap (shares_in_hand t) (single_held (place_at w t) single) ∙ ap (λ h. shares_in_hand t (held_by (hand_owner h) (profile (place_at w t)).wants)) free)

@@ -49,11 +49,11 @@ use Rattle.lot_steps.specs.declared.places.Place.TheVariants.{Idle, Mutex, RwLoc
 use Rattle.lot_steps.specs.Steps.{first_place, in_mutex, in_once, in_rwlock, late_key, looking, mutex_goes, next_place, once_goes, rwlock_goes, condvar_goes, in_condvar, in_semaphore, semaphore_goes}
 use Rattle.lot_machine.specs.Machine.{State, held, place_at}
 use Rattle.lot_laws.specs.SitesOf.{AreCounted, IsCounted, carried_at}
-use Rattle.lot_laws.specs.Stations.{nowhere, station}
+use Rattle.lot_laws.specs.Locations.{nowhere, location}
 use Rattle.lot_laws.proofs.machine.Parts.{IsOf, same}
 use Rattle.lot_laws.proofs.promises.RowPromises.{Befalls}
 
--- what a place has counted of those whom its thread has in hand, to hand them the lock
+-- tells what a place has counted of those whom its thread has in hand, to hand them the lock
 abbrev pub counted_on : Place → ℕ → Option Counted
 counted_on Idle l = None
 counted_on (Mutex j at) l = None
@@ -92,7 +92,7 @@ pub condvar_counted : (l j : ℕ) (n : Next CondvarPlace) → counted_on (condva
 condvar_counted l j (next.At c) = refl
 condvar_counted l j (next.End answer) = refl
 
--- who has counted is in a call of a reader-writer lock
+-- a thread that has counted is in a call of a reader-writer lock
 pub record IsCounting (l : ℕ) (k : Counted) (p : Place) : Type 0 where
   pub admission : Admission
   pub call : RwLockCallPlace
@@ -126,14 +126,14 @@ pub record HasCounted (l : ℕ) (p : Place) : Type 0 where
   pub of : IsOf l p
   -- it is in nobody's hand
   pub unheld : held p ≡ None
-  -- whom it has in hand it has handed nothing yet
+  -- a thread that it has in hand it has handed nothing yet
   pub any : Bool
   pub carries : carried_at p l ≡ in_hand any false
 
 has_counted : (l : ℕ) (k : Counted) (a : Admission) (c : RwLockCallPlace) → in_hand_of c ≡ Some k → HasCounted l (RwLock l a c)
-has_counted l k a (HandOver x b (handing.Store m)) e = record { of = refl; unheld = refl; any = any_taken m; carries = ap (λ y. (if y then station (RwLock l a (HandOver x b (handing.Store m))) else nowhere).carries) (same l) }
-has_counted l k a (HandOver x b (handing.Look m)) e = record { of = refl; unheld = refl; any = any_taken m; carries = ap (λ y. (if y then station (RwLock l a (HandOver x b (handing.Look m))) else nowhere).carries) (same l) }
-has_counted l k a (HandOver x b (handing.Exchange m seen)) e = record { of = refl; unheld = refl; any = any_taken m; carries = ap (λ y. (if y then station (RwLock l a (HandOver x b (handing.Exchange m seen))) else nowhere).carries) (same l) }
+has_counted l k a (HandOver x b (handing.Store m)) e = record { of = refl; unheld = refl; any = any_taken m; carries = ap (λ y. (if y then location (RwLock l a (HandOver x b (handing.Store m))) else nowhere).carries) (same l) }
+has_counted l k a (HandOver x b (handing.Look m)) e = record { of = refl; unheld = refl; any = any_taken m; carries = ap (λ y. (if y then location (RwLock l a (HandOver x b (handing.Look m))) else nowhere).carries) (same l) }
+has_counted l k a (HandOver x b (handing.Exchange m seen)) e = record { of = refl; unheld = refl; any = any_taken m; carries = ap (λ y. (if y then location (RwLock l a (HandOver x b (handing.Exchange m seen))) else nowhere).carries) (same l) }
 has_counted l k a (HandOver x b to) e = absurd cc
 has_counted l k a c e = absurd cc
 
@@ -211,7 +211,7 @@ abbrev pub IsHandOver : RwLockCallPlace → Type 0
 IsHandOver (HandOver x b to) = Unit {0}
 IsHandOver c = ⊥
 
--- whatever it hears, such a call has nobody counted then
+-- such a call has nobody counted then, with any news
 pub others_bare : (a : Admission) (c : RwLockCallPlace) (r : Reply) → (IsHandOver c → ⊥) → counted_next (call_next a c r) ≡ None
 others_bare a (Plain p) r no_hand = unless_given_bare (given false p r) (plain_next (rwlock_next a p r)) (given_bare false p r) (plain_bare (rwlock_next a p r))
 others_bare a (Bump p) r no_hand = unless_given_bare (given true p r) (bump_next p.purpose (rwlock_next a p r)) (given_bare true p r) (bump_bare p.purpose (rwlock_next a p r))
@@ -263,7 +263,7 @@ begins_bare l kind (call.TheVariants.Semaphore j c) = refl
 begins_bare l kind (call.TheVariants.Condvar j c) = refl
 begins_bare l kind (call.TheVariants.RwLock j c) = ap (λ o. if j == l then o else None) (first_bare c) ∙ nothing (j == l)
 
--- who looks at the word once more hands nothing over
+-- a thread that looks at the word once more hands nothing over
 pub record LooksBare (q : Place) : Type 0 where
   pub bare : (l : ℕ) → counted_on q l ≡ None
   pub goes_on : (r : Reply) (l : ℕ) → counted_on (next_place q r) l ≡ None

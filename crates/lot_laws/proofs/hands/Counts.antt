@@ -17,7 +17,7 @@ pub none_first : (q : List Waiter) → first_of q ≡ None → q ≡ []
 none_first [] h = refl
 none_first (y ∷ q) h = absurd cc
 
--- who stands in no line is no first
+-- a thread that stands in no line is no first
 pub first_out : (t : ℕ) (q : List Waiter) → times t q ≡ 0 → locks.is_thread t (first_of q) ≡ 0
 first_out t [] h = refl
 first_out t (y ∷ q) h = omega arith

@@ -46,10 +46,10 @@ use Rattle.lot_steps.specs.Steps.{act_of, first_place, late_key, looking, next_p
 use Rattle.spec_locks.specs.Locks.{LockState}
 use Rattle.spec_locks.specs.Runs.{IsStep, Turned}
 use Rattle.lot_machine.specs.Machine.{State, after, can_turn, go_reply, held, is_possible, kind_at, place_at, put, state_after_act, state_after_hand_over_by, state_after_late_on, state_after_look, state_after_operation, state_after_turn, step_outcome, word_at}
-use Rattle.lot_machine.specs.Fits.{IsShaped}
+use Rattle.lot_machine.specs.Fits.{IsWellFormed}
 use Rattle.lot_machine.proofs.Shape.{after_size, both}
 use Rattle.lot_laws.specs.Refinement.{lock_state, locks_of}
-use Rattle.lot_laws.specs.SitesOf.{AreCondvars, AreCounted, FitsItsLock, IsCounted, IsSteady, rules_in}
+use Rattle.lot_laws.specs.SitesOf.{AreCondvars, AreCounted, FitsItsLock, IsCounted, IsInductive, rules_in}
 use Rattle.lot_laws.proofs.machine.Befallen.{others_keep_it}
 use Rattle.lot_laws.proofs.hands.Counting.{HasCounted, IsHandOver, are_counted, begins_bare, counted_befallen, counted_next, counted_on, counting, counting_row, counts_there, goes_counted, late_bare, looks_bare, mutex_counted, none_is, nothing, once_counted, others_bare, semaphore_counted}
 use Rattle.lot_laws.proofs.hands.CountsTaken.{picked_now, take_counts, took_is}
@@ -65,7 +65,7 @@ use Rattle.lot_laws.proofs.sites.TurnsKept.{after_steady}
 
 -- ---------------------------------------------------------------- another thread goes on
 
-module _ (w v : State) (a : ℕ) (steady : IsSteady w) (behind : IsSteady v) (counted : AreCounted w)
+module _ (w v : State) (a : ℕ) (steady : IsInductive w) (behind : IsInductive v) (counted : AreCounted w)
     (size : length v.places ≡ length w.places) where
   module _ (t l : ℕ) (k : Counted) (was : counted_on (place_at w t) l ≡ Some k) (now : counted_on (place_at v t) l ≡ Some k) where
     before : HasCounted l (place_at w t)
@@ -78,7 +78,7 @@ module _ (w v : State) (a : ℕ) (steady : IsSteady w) (behind : IsSteady v) (co
     readers : has_readers (rules_in w l).sort ≡ true
     readers = let h = counting l k (place_at w t) was in let fits : FitsItsLock w (RwLock l h.admission h.call) = subst (FitsItsLock w) h.is (steady.stands.calls t) in fits.0.0
 
-    -- whom it has in hand, the abstract lock says, and no case of another changes that
+    -- a thread that it has in hand, the abstract lock says, and no case of another changes that
     same_wanted : t ≢ a → (x : Turn) (o : Outcome) → Turned (locks_of w) a x o (locks_of v) → (u : ℕ)
         → wanted_of t (held (place_at v u)) ≡ wanted_of t (held (place_at w u))
     same_wanted ne x o turned u = same_hand v t l behind then_so.of then_so.any then_so.carries u
@@ -91,7 +91,7 @@ module _ (w v : State) (a : ℕ) (steady : IsSteady w) (behind : IsSteady v) (co
 
 -- ---------------------------------------------------------------- the thread itself goes on
 
-module _ (w : State) (t : ℕ) (steady : IsSteady w) (counted : AreCounted w) (there : t < length w.places) where
+module _ (w : State) (t : ℕ) (steady : IsInductive w) (counted : AreCounted w) (there : t < length w.places) where
   abbrev goes_to : Place → State
   goes_to p = put (state_after_act w t p (act_of p)) t (next_place p (reply_to w t (act_of p)))
 
@@ -190,7 +190,7 @@ module _ (w : State) (t : ℕ) (steady : IsSteady w) (counted : AreCounted w) (t
         by_room true e = handed (seen == expected) e
         by_room false e = let_go (seen == expected) e
 
-    hand_over_counts : (to : HandOverAt) → place_at w t ≡ at to → IsSteady (goes_to (at to))
+    hand_over_counts : (to : HandOverAt) → place_at w t ≡ at to → IsInductive (goes_to (at to))
         → Turned (locks_of w) t y o (locks_of (goes_to (at to))) → Counts to
     hand_over_counts handing.Load is behind turned k e = absurd (none_is k (in_hand_of (HandOver x b (looked (word_at w l)))) (looked_bare (word_at w l)) e)
     hand_over_counts (handing.Free expected) is behind turned k e = free_counts expected k e
@@ -207,7 +207,7 @@ module _ (w : State) (t : ℕ) (steady : IsSteady w) (counted : AreCounted w) (t
   -- by the reply to the act of its place
   module _ (y : Turn) (o : Outcome) where
     abbrev Goes : Place → Type 0
-    Goes p = place_at w t ≡ p → IsSteady (goes_to p) → Turned (locks_of w) t y o (locks_of (goes_to p)) → (l : ℕ) (k : Counted) → counted_on (next_place p (reply_to w t (act_of p))) l ≡ Some k → IsCounted (goes_to p) t k
+    Goes p = place_at w t ≡ p → IsInductive (goes_to p) → Turned (locks_of w) t y o (locks_of (goes_to p)) → (l : ℕ) (k : Counted) → counted_on (next_place p (reply_to w t (act_of p))) l ≡ Some k → IsCounted (goes_to p) t k
 
     bare_goes : (j : ℕ) (a : Admission) (c : RwLockCallPlace) → (IsHandOver c → ⊥) → Goes (RwLock j a c)
     bare_goes j a c other is behind turned l k e = absurd (none_is k _ (goes_counted l j a n ∙ ap (λ z. if j == l then z else None) (others_bare a c (reply_to w t (call_act j a c)) other) ∙ nothing (j == l)) e)
@@ -236,12 +236,12 @@ module _ (w : State) (t : ℕ) (steady : IsSteady w) (counted : AreCounted w) (t
     going_counts (RwLock j a (Handed x how b to)) is behind turned l k e = bare_goes j a (Handed x how b to) (λ no. no) is behind turned l k e
 
 -- in a call of two locks it counts nobody
-two_bare : (w : State) (t : ℕ) → IsSteady w → t < length w.places → IsOfTwo (place_at w t) → (l : ℕ)
+two_bare : (w : State) (t : ℕ) → IsInductive w → t < length w.places → IsOfTwo (place_at w t) → (l : ℕ)
     → counted_on (place_at (state_after_go w t) t) l ≡ None
 two_bare w t steady there two l = ap (λ p. counted_on (place_at (state_after_going w t p) t) l) two.is
     ∙ ap (λ p. counted_on p l) (went_place w t two.lock two.at two.is (fits_two w t steady two).reached there) ∙ condvar_counted l two.lock (went w t two.lock two.at two.is (fits_two w t steady two).reached there)
 
-module _ (w : State) (t : ℕ) (steady : IsSteady w) (counted : AreCounted w) (there : t < length w.places) where
+module _ (w : State) (t : ℕ) (steady : IsInductive w) (counted : AreCounted w) (there : t < length w.places) where
   -- it looks at the word once more
   spun_counts : (p : Option Place) → looking (place_at w t) ≡ p → (l : ℕ) (k : Counted)
       → counted_on (place_at (state_after_look w t p) t) l ≡ Some k → IsCounted (state_after_look w t p) t k
@@ -271,14 +271,14 @@ module _ (w : State) (t : ℕ) (steady : IsSteady w) (counted : AreCounted w) (t
       ∙ ap (λ p. counted_on (next_place p (reply_to v t (act_of p))) l) (closing_here w t there succeeded one ∙ is_behind w t there succeeded one)
       ∙ once_counted l one.lock (once_next (Run one.forced (run.Close succeeded)) (reply_to v t (act_of (Once one.lock (Run one.forced (run.Close succeeded))))))
 
-  turned_counts : (x : Turn) → can_turn w t x ≡ true → IsSteady (state_after_turn w t x) → (o : Outcome)
+  turned_counts : (x : Turn) → can_turn w t x ≡ true → IsInductive (state_after_turn w t x) → (o : Outcome)
       → Turned (locks_of w) t x o (locks_of (state_after_turn w t x)) → (l : ℕ) (k : Counted)
       → counted_on (place_at (state_after_turn w t x) t) l ≡ Some k → IsCounted (state_after_turn w t x) t k
   turned_counts (turn.TheVariants.Begin c) can behind o turned l k e = absurd (none_is k _ (ap (λ p. counted_on p l) (get_or-set_same w.places t (first_place (kind_at w (lock_in c)) c) Idle there) ∙ begins_bare l (kind_at w (lock_in c)) c) e)
   turned_counts turn.TheVariants.Go can behind o turned l k e = elim (single_or_two (place_at w t)) [
     | inl single ↦ (let same = gone w t single in
         subst (λ (v : State). IsCounted v t k) (sym same) (going_counts w t steady counted there turn.TheVariants.Go o (place_at w t) refl
-        (subst IsSteady same behind) (subst (λ (v : State). Turned (locks_of w) t turn.TheVariants.Go o (locks_of v)) same turned) l k
+        (subst IsInductive same behind) (subst (λ (v : State). Turned (locks_of w) t turn.TheVariants.Go o (locks_of v)) same turned) l k
         (ap (λ p. counted_on p l) (sym (gone_place w t single there)) ∙ e)))
     | inr two ↦ absurd (none_is k _ (two_bare w t steady there two l) e)
   ]
@@ -289,16 +289,16 @@ module _ (w : State) (t : ℕ) (steady : IsSteady w) (counted : AreCounted w) (t
 
 -- ---------------------------------------------------------------- every step
 
-pub counted_after : (w : State) (s : Step) → IsShaped w → IsSteady w → AreCounted w → AreCondvars w → AreCounted (after w s)
+pub counted_after : (w : State) (s : Step) → IsWellFormed w → IsInductive w → AreCounted w → AreCondvars w → AreCounted (after w s)
 counted_after w s shape steady counted condvars = are_counted (after w s) each
   where
-    behind : IsSteady (after w s)
+    behind : IsInductive (after w s)
     behind = after_steady w s shape steady counted condvars
 
     stepped : IsStep (locks_of w) s (step_outcome w s) (locks_of (after w s))
     stepped = after_step w s shape steady counted condvars
 
-    own : (b : Bool) → is_possible w s ≡ b → IsSteady (if b then state_after_turn w s.thread s.turn else w)
+    own : (b : Bool) → is_possible w s ≡ b → IsInductive (if b then state_after_turn w s.thread s.turn else w)
         → Turned (locks_of w) s.thread s.turn (step_outcome w s) (locks_of (if b then state_after_turn w s.thread s.turn else w))
         → (l : ℕ) (k : Counted) → counted_on (place_at (if b then state_after_turn w s.thread s.turn else w) s.thread) l ≡ Some k
         → IsCounted (if b then state_after_turn w s.thread s.turn else w) s.thread k

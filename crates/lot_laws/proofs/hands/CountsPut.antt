@@ -28,7 +28,7 @@ module _ (w : State) (t : ℕ) (q : Place) (there : t < length w.places) (same_h
     | inr ne ↦ counted_stays w (put w t q) u (length-set w.places t q) (λ j. ap (wanted_of u) (held_same j)) k (counts_there w u l k counted (ap (λ p. counted_on p l) (sym (get_or-set_other w.places t u q Idle ne)) ∙ e))
   ])
 
--- who looks at the word once more has counted nobody
+-- a thread that looks at the word once more has counted nobody
 pub looking_counted : (w : State) (t : ℕ) → t < length w.places → (q : Place) → looking (place_at w t) ≡ Some q → AreCounted w
     → AreCounted (put w t q)
 looking_counted w t there q is = put_counted w t q there (let b = looks_beside (place_at w t) q is in let r = (look (place_at w t) q is).row in λ i. held_by (hand_owner (or_else (b.1 i).hand (r i).hand)) (or_else (b.1 i).wants (r i).wants)) (looks_bare (place_at w t) q is).bare

@@ -32,8 +32,8 @@ use Rattle.lot_laws.proofs.calls.EachLock.{moves_nobody, turned_so}
 use Rattle.lot_laws.proofs.machine.Parts.{IsSingle}
 use Rattle.lot_laws.proofs.promises.PlacePromises.{calls_one_lock}
 use Rattle.lot_laws.specs.Refinement.{lock_state, locks_of}
-use Rattle.lot_laws.specs.SitesOf.{stations_of, FitsItsLock, IsCounted, IsSteady, carried_at, rules_in}
-use Rattle.lot_laws.specs.Stations.{nowhere, station}
+use Rattle.lot_laws.specs.SitesOf.{locations_of, FitsItsLock, IsCounted, IsInductive, carried_at, rules_in}
+use Rattle.lot_laws.specs.Locations.{nowhere, location}
 use Rattle.lot_laws.proofs.machine.AtPlaces.{in_no_hand}
 use Rattle.lot_laws.proofs.hands.Counting.{HasCounted, counting_row, counted_on}
 use Rattle.lot_laws.proofs.machine.Parts.{same}
@@ -51,21 +51,21 @@ queued_more : (xs : List Waiter) → wanting_more (map queued_of xs) ≡ hands.w
 queued_more [] = refl
 queued_more (x ∷ xs) = ap (λ n. (if wants_shared x.want then 0 else 1) + n) (queued_more xs)
 
-module _ (w : State) (t l : ℕ) (steady : IsSteady w) where
+module _ (w : State) (t l : ℕ) (steady : IsInductive w) where
   few_picked : (start : Option Want) → wanting_more (picked (rules_in w l).sort start (lock_state w l).queue) ≤ 1
-  few_picked start = subst (λ q. wanting_more q ≤ 1) (picks_tied (rules_in w l).sort start (2 * l) (queue_at w (2 * l)) (under_of (stations_of (place_at w)) l Main (queue_at w (2 * l)) (steady.stands.waits l Main)))
+  few_picked start = subst (λ q. wanting_more q ≤ 1) (picks_tied (rules_in w l).sort start (2 * l) (queue_at w (2 * l)) (under_of (locations_of (place_at w)) l Main (queue_at w (2 * l)) (steady.stands.waits l Main)))
       (let one : hands.wanting_more (lock_picked start (is_recursive (rules_in w l).sort) (queue_at w (2 * l))) ≤ 1 = one_more_picked start (is_recursive (rules_in w l).sort) (queue_at w (2 * l)) in
       let tied : wanting_more (map queued_of (lock_picked start (is_recursive (rules_in w l).sort) (queue_at w (2 * l)))) ≡ hands.wanting_more (lock_picked start (is_recursive (rules_in w l).sort) (queue_at w (2 * l))) = queued_more (lock_picked start (is_recursive (rules_in w l).sort) (queue_at w (2 * l))) in
       omega arith)
 
-  -- behind a step of a thread that had nobody in hand
+  -- after a step of a thread that had nobody in hand
   one_more_then : IsSingle (place_at w t) → (v : State) (x : Turn) (o : Outcome) → (rules_in w l).sort ≢ Once
       → Turned (locks_of w) t x o (locks_of v) → HasTakenNobody (lock_state w l) t → OneMore (lock_state v l).taken t
   one_more_then single v x o lock turned none = turned_so (λ (s z : LockState). OneMore z.taken t) (locks_of w) (locks_of v) t l (λ c m every owned number may. absurd (moves_nobody (locks_of w) t (calls_one_lock w t steady single) c m every owned number may)) (nobody_more t (lock_state w l).taken none)
       (λ c needs. takes_one_more (lock_state w l) t none (rules_in w l) lock few_picked c needs) x o turned
 
 -- by where it stands then
-one_in_hand : (v : State) (t l : ℕ) → IsSteady v → HasCounted l (place_at v t) → OneMore (lock_state v l).taken t
+one_in_hand : (v : State) (t l : ℕ) → IsInductive v → HasCounted l (place_at v t) → OneMore (lock_state v l).taken t
     → (u i : ℕ) (x y : Want) → wants_more_in_hand t (held (place_at v u)) ≡ Some x
     → wants_more_in_hand t (held (place_at v i)) ≡ Some y → u ≡ i
 one_in_hand v t l steady has one u i x y e f = let a = is_more t (held (place_at v u)) x e in let b = is_more t (held (place_at v i)) y f in
@@ -76,7 +76,7 @@ one_in_hand v t l steady has one u i x y e f = let a = is_more t (held (place_at
 
 -- ---------------------------------------------------------------- the take
 
--- who isn't moved by what is told stays where it is
+-- a thread that isn't moved by what is told stays where it is
 told_stays : (u : ℕ) (r : Reply) (p : Place) → next_place p r ≡ p → (us : List ℕ) (ps : List Place) → get_or ps u Idle ≡ p
     → get_or (places_told r us ps) u Idle ≡ p
 told_stays u r p stays [] ps is = is
@@ -93,12 +93,12 @@ took_is access.Shared b k = refl
 took_is access.Upgradable b k = refl
 took_is access.Exclusive b k = refl
 
-module _ (w : State) (t l : ℕ) (a : Admission) (x : Access) (b : Bool) (steady : IsSteady w) (there : t < length w.places)
+module _ (w : State) (t l : ℕ) (a : Admission) (x : Access) (b : Bool) (steady : IsInductive w) (there : t < length w.places)
     (is : place_at w t ≡ RwLock l a (HandOver x b handing.Take)) where
   abbrev taken_all : State
   taken_all = state_after_take w t (2 * l) (whom.Picked None a.recursive)
 
-  -- what it is told
+  -- tells what it is told
   abbrev pub picked_now : Counted
   picked_now = record {
     sharers = sharers t taken_all.places;
@@ -129,7 +129,7 @@ module _ (w : State) (t l : ℕ) (a : Admission) (x : Access) (b : Bool) (steady
   same_wants u = ap (wanted_of t) (set_keeps held taken_all.places t u place_then Idle ((counting_row l picked_now place_then counts).unheld ∙ sym (ap held still)))
 
   nobody_before : HasTakenNobody (lock_state w l) t
-  nobody_before = in_no_hand w steady t l (λ h. let none : carried_at (place_at w t) l ≡ None = ap (λ p. carried_at p l) is ∙ ap (λ y. (if y then station (RwLock l a (HandOver x b handing.Take)) else nowhere).carries) (same l) in
+  nobody_before = in_no_hand w steady t l (λ h. let none : carried_at (place_at w t) l ≡ None = ap (λ p. carried_at p l) is ∙ ap (λ y. (if y then location (RwLock l a (HandOver x b handing.Take)) else nowhere).carries) (same l) in
       let f : ◌≡◌ {A = Option Bool} None (Some false) = sym none ∙ h in cc)
 
   -- a lock that is shared
@@ -138,7 +138,7 @@ module _ (w : State) (t l : ℕ) (a : Admission) (x : Access) (b : Bool) (steady
       let fits : FitsItsLock w (RwLock l a (HandOver x b handing.Take)) = subst (FitsItsLock w) is (steady.stands.calls t) in
       let f : has_readers Once ≡ true = subst (λ sort. has_readers sort ≡ true) once fits.0.0 in cc
 
-  pub take_counts : IsSteady state_then → (y : Turn) (o : Outcome) → Turned (locks_of w) t y o (locks_of state_then)
+  pub take_counts : IsInductive state_then → (y : Turn) (o : Outcome) → Turned (locks_of w) t y o (locks_of state_then)
       → IsCounted state_then t picked_now
   take_counts behind y o turned = record {
     number = same_sharers taken_all state_then t (length-set taken_all.places t place_then) same_wants;

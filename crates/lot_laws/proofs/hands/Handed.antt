@@ -17,18 +17,18 @@ use Rattle.spec_locks.specs.Locks as locks
 use Rattle.lot_machine.specs.Machine.{State, place_at, shares_at, state_after_telling, held, pending_for, owners_of_successor, shares_handed_over, owners_handed_over, state_after_reply}
 use Rattle.lot_laws.specs.Refinement.{lock_seen, taken_at}
 pub use Rattle.steps_mutex.specs.MutexLaws.{heir}
-use Rattle.lot_laws.specs.Stations.{Station, hand}
+use Rattle.lot_laws.specs.Locations.{Location, hand}
 use Rattle.lot_laws.specs.SitesOf.{carried_at, hand_at, Hands}
-use Rattle.lot_laws.proofs.machine.Parts.{mutex, put_other, stays, untaken, IsOf, station_elsewhere, WantsAlone, none_given, IsApart, held_tells, in_hand_where, Base, LetGo, IsInHandOf, successor_in, successor_is, told_in}
+use Rattle.lot_laws.proofs.machine.Parts.{mutex, put_other, stays, untaken, IsOf, location_elsewhere, WantsAlone, none_given, IsApart, held_tells, in_hand_where, Base, LetGo, IsInHandOf, successor_in, successor_is, told_in}
 
 -- a thread that has somebody in hand at one lock at most
 abbrev pub CarriesAt : ℕ → Place → Type 0
 CarriesAt l p = (k : ℕ) → k ≢ l → carried_at p k ≡ None
 
 pub of_carries : (l : ℕ) (p : Place) → IsOf l p → CarriesAt l p
-of_carries l p of k ne = ap (λ (y : Station). y.carries) (station_elsewhere l k p of ne)
+of_carries l p of k ne = ap (λ (y : Location). y.carries) (location_elsewhere l k p of ne)
 
--- whoever is in the hand of t is so there
+-- each thread that is in the hand of t is so there
 pub in_hand_here : {one : ℕ → Type 0} (p : ℕ → Place) → Hands one p → (t l u : ℕ) → CarriesAt l (p t) → (x : IsInHandOf (p u) t)
     → x.lock ≡ l
 in_hand_here p hands t l u here x = elim (cases_eq x.lock l) [
@@ -36,7 +36,7 @@ in_hand_here p hands t l u here x = elim (cases_eq x.lock l) [
   | inr ne ↦ absurd (let a : carried_at (p t) x.lock ≡ Some x.handed = hands.taken t u x.lock x.handed x.hand in let c : carried_at (p t) x.lock ≡ None = here x.lock ne in cc)
 ]
 
--- of those who wait at one lock, one at most is in the hand of t
+-- among those that wait at one lock, one at most is in the hand of t
 pub only_held : {one : ℕ → Type 0} (p : ℕ → Place) → ((u : ℕ) → IsApart (p u)) → Hands one p → (t l u : ℕ) (b : Bool) → one l
     → CarriesAt l (p t) → hand_at (p u) l ≡ hand t b → (x : ℕ) → x ≢ u → is_thread t (taker (p x)) ≡ false
 only_held p apart hands t l u b single here held x ne = either (is_thread t (taker (p x))) refl
@@ -65,7 +65,7 @@ successor_one w t l u b apart hands single here held_at alone unshared o =
 
 -- ---------------------------------------------------------------- a release wakes whom it has taken
 
--- who has nobody in hand leaves alone
+-- a thread that has nobody in hand leaves alone
 pub lets_nobody : {one : ℕ → Type 0} (places : ℕ → Place) (hands : Hands one places) (t l : ℕ) (p2 : Place)
     → carried_at (places t) l ≡ None → (u : ℕ) → u ≢ t → LetGo t l (places u) (putting places t p2 u)
 lets_nobody places hands t l p2 none u ne = rw (put_other places t p2 u ne) (stays t l (places u) (untaken (places u) t l (λ h. let a : carried_at (places t) l ≡ Some false = hands.taken t u l false h in absurd cc)))

@@ -16,13 +16,13 @@ use Rattle.steps_base.specs.Acts.{takes_effect}
 use Rattle.steps_base.specs.Moves.{HandsOver, bit_left, claim_handed, heir_of}
 use Rattle.steps_base.specs.Owners.{lock_seen, shares_then}
 use Rattle.steps_base.specs.Profiles.{Profile, hand, in_hand}
-use Rattle.steps_base.specs.Stations.{Station, nowhere, station_by}
+use Rattle.steps_base.specs.Locations.{Location, nowhere, location_by}
 use Rattle.steps_rwlock.specs.declared.places.Admission.{Admission}
 use Rattle.steps_rwlock.specs.declared.places.RwLockPlace.{RwLockPlace}
 use Rattle.steps_rwlock.specs.declared.places.RwLockAt.{RwLockAt}
 use Rattle.steps_rwlock.specs.declared.places.RwLockAt.TheVariants as at
 use Rattle.steps_rwlock.specs.declared.park.ParkAt.TheVariants as parking
-use Rattle.steps_rwlock.specs.RwLockDeeds.{doing_at, again_of}
+use Rattle.steps_rwlock.specs.RwLockDeeds.{role_at, again_of}
 use Rattle.steps_rwlock.specs.RwLockProfiles.{hand_at as place_hand}
 use Rattle.steps_rwlock_fair.specs.declared.places.RwLockCallPlace.{RwLockCallPlace}
 use Rattle.steps_rwlock_fair.specs.declared.places.RwLockCallPlace.TheVariants.{Plain, Glance, HandOver, Bump, Handed}
@@ -46,18 +46,18 @@ use Rattle.lot_steps.specs.declared.places.Place.{Place}
 use Rattle.lot_steps.specs.declared.places.Place.TheVariants.{Idle, Mutex, RwLock, Once, Condvar, Semaphore}
 use Rattle.lot_steps.specs.Steps.{next_place, profile}
 use Rattle.spec_locks.specs.Locks.{LockState, Rules, Taken, HandOff, IsLockState, Owns, Queued, without_owner}
-use Rattle.spec_locks.specs.Sites.{Case, Doing, Pends, Site, has_readers}
+use Rattle.spec_locks.specs.Sites.{Case, Role, Pends, Site, has_readers}
 use Rattle.spec_locks.specs.Codes.{HasLimit, code}
 use Rattle.spec_locks.specs.Deeds as laws
 use Rattle.lot_machine.specs.Machine.{State, owners_at, place_at, put, queue_at, share_at, shares_at, sharers, state_after_act, successor_from, unshared_then, word_at}
-use Rattle.lot_machine.specs.Fits.{IsShaped}
+use Rattle.lot_machine.specs.Fits.{IsWellFormed}
 use Rattle.lot_laws.specs.Refinement.{taken_at}
 use Rattle.lot_laws.specs.MutexDeeds.{acts}
-use Rattle.lot_laws.specs.SitesOf.{FitsItsLock, Goes, HasRoom, IsCounted, IsSteady, carried_at, hand_at, rules_in}
-use Rattle.lot_laws.specs.Stations.{doing_on, station}
+use Rattle.lot_laws.specs.SitesOf.{FitsItsLock, Goes, LimitHasRoom, IsCounted, IsInductive, carried_at, hand_at, rules_in}
+use Rattle.lot_laws.specs.Locations.{role_on, location}
 use Rattle.lot_laws.proofs.sites.ActsKept.{lock_by}
 use Rattle.steps_base.specs.Profiles.{Hand}
-use Rattle.lot_laws.proofs.machine.Parts.{free_of, IsOf, doing_here, next_of, station_here, of_single, condvar_unheld}
+use Rattle.lot_laws.proofs.machine.Parts.{free_of, IsOf, role_here, next_of, location_here, of_single, condvar_unheld}
 use Rattle.lot_laws.proofs.hands.Counted.{few_sharers, has_in_hand}
 use Rattle.lot_laws.proofs.hands.Kept.{IsGiven, claims_given, given_of}
 use Rattle.lot_laws.proofs.hands.Moved.{hands_over as hands_all, looks_again, thread_of}
@@ -66,7 +66,7 @@ use Rattle.lot_laws.proofs.rwlock.Kept.{beside_no_call, admits, at_now, call_tol
 
 -- ---------------------------------------------------------------- the place
 
--- what a hand-over that has these in hand, and saw this word, does to the lock
+-- tells what a hand-over that has these in hand, and saw this word, does to the lock
 pub record HandsFacts (a : Admission) (c : RwLockCallPlace) (k : Counted) (op : Op) (seen : ℕ) : Type 0 where
   pub right : Want
   pub deeds : (whom : Option ℕ) → takes_effect op seen ≡ true → call_deeds a c whom (Value seen) ≡ hands_over right k whom
@@ -127,14 +127,14 @@ hands_facts l a (HandOver access.Shared b to) k op seen stands is e = absurd sta
 hands_facts l a (HandOver x b (handing.Look j)) k op seen stands is e = absurd cc
 hands_facts l a c k op seen stands is e = absurd cc
 
--- who is in a hand claims nothing, or is pending
+-- a thread that is in a hand claims nothing, or is pending
 hand_claims : (a : Admission) (c : RwLockCallPlace) (t : ℕ) → (call_profile a c).hand ≡ hand t false
-    → ((call_profile a c).doing.claims ≡ None) ⊎ ((b : Bool) × ((call_profile a c).doing.claims ≡ Some (Pends b)))
+    → ((call_profile a c).role.claims ≡ None) ⊎ ((b : Bool) × ((call_profile a c).role.claims ≡ Some (Pends b)))
 hand_claims a c t h = by_call c h
   where
     by_place : (p : RwLockPlace) (to : RwLockAt) → place_hand to ≡ hand t false
-        → ((doing_at (again_of p) p.purpose to).claims ≡ None)
-        ⊎ ((b : Bool) × ((doing_at (again_of p) p.purpose to).claims ≡ Some (Pends b)))
+        → ((role_at (again_of p) p.purpose to).claims ≡ None)
+        ⊎ ((b : Bool) × ((role_at (again_of p) p.purpose to).claims ≡ Some (Pends b)))
     by_place p (at.Park (parking.Taken v)) g = inl refl
     by_place p (at.Aside (parking.Taken v)) g = inr (_, refl)
     by_place p (at.Park to) g = absurd cc
@@ -142,7 +142,7 @@ hand_claims a c t h = by_call c h
     by_place p to g = absurd cc
 
     by_call : (c : RwLockCallPlace) → (call_profile a c).hand ≡ hand t false
-        → ((call_profile a c).doing.claims ≡ None) ⊎ ((b : Bool) × ((call_profile a c).doing.claims ≡ Some (Pends b)))
+        → ((call_profile a c).role.claims ≡ None) ⊎ ((b : Bool) × ((call_profile a c).role.claims ≡ Some (Pends b)))
     by_call (Plain p) g = by_place p p.at g
     by_call (Bump p) g = by_place p p.at g
     by_call (Glance x) g = absurd cc
@@ -165,7 +165,7 @@ heir_same (Some x) (Some y) e = let both : record { thread = 0; want = x } ≡ r
 
 -- ---------------------------------------------------------------- the step
 
-module _ (w : State) (t l : ℕ) (a : Admission) (c : RwLockCallPlace) (steady : IsSteady w) (shape : IsShaped w)
+module _ (w : State) (t l : ℕ) (a : Admission) (c : RwLockCallPlace) (steady : IsInductive w) (shape : IsWellFormed w)
     (there : t < length w.places) (lt : l < length w.locks) (is : place_at w t ≡ RwLock l a c)
     (k : Counted) (is_k : in_hand_of c ≡ Some k) (count : IsCounted w t k) (op : Op) (e : call_act l a c ≡ act.HandOver l op) where
   abbrev here : Site
@@ -187,10 +187,10 @@ module _ (w : State) (t l : ℕ) (a : Admission) (c : RwLockCallPlace) (steady :
   g = (hand_overs_move l l a c op k fits.1 is_k e).1
 
   pub carries : carried_at (place_at w t) l ≡ in_hand g.any false
-  carries = ap (λ (y : Station). y.carries) (station_here l (place_at w t) of) ∙ ap (λ (y : Station). y.carries) (ap station_by row ∙ g.was)
+  carries = ap (λ (y : Location). y.carries) (location_here l (place_at w t) of) ∙ ap (λ (y : Location). y.carries) (ap location_by row ∙ g.was)
 
   pub bare : (profile (place_at w t)).hand ≡ None
-  bare = ap (λ (y : Station). y.hand) (ap station_by row ∙ g.was)
+  bare = ap (λ (y : Location). y.hand) (ap location_by row ∙ g.was)
 
   abbrev pub whom : Option ℕ
   whom = thread_of (successor_from t 0 w.places)
@@ -204,7 +204,7 @@ module _ (w : State) (t l : ℕ) (a : Admission) (c : RwLockCallPlace) (steady :
     in_hand = has_in_hand w t l steady of g.any carries k count;
   }
 
-  limits : HasRoom (length w.places) (rules_in w l) × HasLimit (rules_in w l) here.lock
+  limits : LimitHasRoom (length w.places) (rules_in w l) × HasLimit (rules_in w l) here.lock
   limits = steady.sites.limits l fits.0.0
 
   room : a.limit < 2 ^ 60 - 1
@@ -222,7 +222,7 @@ module _ (w : State) (t l : ℕ) (a : Admission) (c : RwLockCallPlace) (steady :
   now : word_at w l ≡ code (rules_in w l) here
   now = steady.sites.word l
 
-  -- what it makes of its call
+  -- tells what it makes of its call
   pub hands_tell : CallTells (rules_in w l) a here t l c whom (Value (word_at w l))
   hands_tell = subst (λ v. CallTells (rules_in w l) a here t l c whom (Value v)) (sym now) (hand_overs_tell (rules_in w l) a here t l c op whom hands e)
 
@@ -233,7 +233,7 @@ module _ (w : State) (t l : ℕ) (a : Admission) (c : RwLockCallPlace) (steady :
       × (apply op (word_at w l) ≡ code (rules_in w l) (laws.after_all (rules_in w l) (call_deeds a c whom (Value (word_at w l))) here t))
   follows = subst (λ v. Followed v × (apply op v ≡ code (rules_in w l) (laws.after_all (rules_in w l) (call_deeds a c whom (Value v)) here t))) (sym now)
       (let f = hand_overs_follow (rules_in w l) a here t l c op whom hands e in (
-        followed_by w t l a c steady shape there lt is whom (Value (code (rules_in w l) here)) f.needed f.doing (call_told_value a c (code (rules_in w l) here) few),
+        followed_by w t l a c steady shape there lt is whom (Value (code (rules_in w l) here)) f.needed f.role (call_told_value a c (code (rules_in w l) here) few),
         hand_overs_code (rules_in w l) a here t l c op whom hands e fewer few room limits.1,
       ))
 
@@ -264,16 +264,16 @@ module _ (w : State) (t l : ℕ) (a : Admission) (c : RwLockCallPlace) (steady :
 
     -- nobody in its hand claims anything yet
     pub unclaimed : (u j : ℕ) (d : Admission) (q : RwLockCallPlace) → place_at w u ≡ RwLock j d q → j ≡ l
-        → (call_profile d q).hand ≡ hand t false → (call_profile d q).doing.claims ≡ None
+        → (call_profile d q).hand ≡ hand t false → (call_profile d q).role.claims ≡ None
     unclaimed u j d q f same_lock z = elim (hand_claims d q t z) [
       | inl none ↦ none
       | inr pends ↦ absurd (
-          let claims : (here.doing u).claims ≡ Some (Pends pends.0) = ap (λ (y : Place). (doing_on y l).claims) f ∙ ap (λ (y : Doing). y.claims) (doing_here l (RwLock j d q) same_lock) ∙ pends.1 in
+          let claims : (here.role u).claims ≡ Some (Pends pends.0) = ap (λ (y : Place). (role_on y l).claims) f ∙ ap (λ (y : Role). y.claims) (role_here l (RwLock j d q) same_lock) ∙ pends.1 in
           let some : here.lock.pending ≡ Some (record { thread = u; falls_back = pends.0 }) = (steady.sites.site l).held u (Pends pends.0) claims in
           let none = unpending in cc)
     ]
 
-    -- whom it has in hand
+    -- a thread that it has in hand
     pub given : (u : ℕ) (b : Bool) → hand_at (place_at w u) l ≡ hand t b → IsGiven w t l b (unshared_then w t l) (place_at w u)
     given u b held = by_place (place_at w u) refl held
       where
@@ -289,19 +289,19 @@ module _ (w : State) (t l : ℕ) (a : Admission) (c : RwLockCallPlace) (steady :
         by_place (Condvar j at) f h = absurd (let none : hand_at (Condvar j at) l ≡ None = condvar_unheld j at l (beside_no_call w t l a c steady shape there lt is u j at f) in let both : ◌≡◌ {A = Option Hand} None (hand t b) = sym none ∙ h in cc)
         by_place (Once j at) f h = either (j == l) refl h
           where
-            either : (y : Bool) → (j == l) ≡ y → (if y then station (Once j at) else nowhere).hand ≡ hand t b
+            either : (y : Bool) → (j == l) ≡ y → (if y then location (Once j at) else nowhere).hand ≡ hand t b
                 → IsGiven w t l b (unshared_then w t l) (Once j at)
             either true same_lock z = absurd (of_no_once w t l a c steady shape there lt is u j at f (eqb-true j l same_lock))
             either false same_lock z = absurd cc
         by_place (Semaphore j at) f h = either (j == l) refl h
           where
-            either : (y : Bool) → (j == l) ≡ y → (if y then station (Semaphore j at) else nowhere).hand ≡ hand t b
+            either : (y : Bool) → (j == l) ≡ y → (if y then location (Semaphore j at) else nowhere).hand ≡ hand t b
                 → IsGiven w t l b (unshared_then w t l) (Semaphore j at)
             either true same_lock z = absurd (of_no_semaphore w t l a c steady shape there lt is u j at f (eqb-true j l same_lock))
             either false same_lock z = absurd cc
         by_place (Mutex j m) f h = either (j == l) refl h
           where
-            either : (y : Bool) → (j == l) ≡ y → (if y then station (Mutex j m) else nowhere).hand ≡ hand t b
+            either : (y : Bool) → (j == l) ≡ y → (if y then location (Mutex j m) else nowhere).hand ≡ hand t b
                 → IsGiven w t l b (unshared_then w t l) (Mutex j m)
             either true same_lock z = absurd (of_no_mutex w t l a c steady shape there lt is u j m f (eqb-true j l same_lock))
             either false same_lock z = absurd cc
@@ -321,12 +321,12 @@ module _ (w : State) (t l : ℕ) (a : Admission) (c : RwLockCallPlace) (steady :
                 let in_it : (call_profile d q).hand ≡ hand t false = z ∙ ap (hand t) fresh in
                 let waits = (fair_sleepers_move d q fits_u.1).held t in_it in
                 let m = (handed_move d q fits_u.1).given t (unshared_then w t l) waits.want in_it (unclaimed u j d q f same_lock in_it) waits.wants in
-                given_of w t l b (unshared_then w t l) (RwLock j d q) waits.want same_lock fresh waits.wants (waits.was ∙ ap (λ y. record nowhere { hand = hand t y }) (sym fresh)) (ap station_by told_row ∙ m.goes)
-                (doing_here l told (next_of l (RwLock j d q) (HandedBy t (unshared_then w t l)) same_lock) ∙ ap (λ (y : Profile). y.doing) told_row ∙ m.claims
-                ∙ sym (ap (λ (y : Doing). record y { claims = Some (claim_handed (unshared_then w t l) waits.want) }) (doing_here l (RwLock j d q) same_lock)))
+                given_of w t l b (unshared_then w t l) (RwLock j d q) waits.want same_lock fresh waits.wants (waits.was ∙ ap (λ y. record nowhere { hand = hand t y }) (sym fresh)) (ap location_by told_row ∙ m.goes)
+                (role_here l told (next_of l (RwLock j d q) (HandedBy t (unshared_then w t l)) same_lock) ∙ ap (λ (y : Profile). y.role) told_row ∙ m.claims
+                ∙ sym (ap (λ (y : Role). record y { claims = Some (claim_handed (unshared_then w t l) waits.want) }) (role_here l (RwLock j d q) same_lock)))
                 (fits_next w t l a c steady shape there lt is j d (call_next d q (HandedBy t (unshared_then w t l))) fits_u.0 (fair_calls_stand d q (HandedBy t (unshared_then w t l)) fits_u.1 (call_told_other d q (HandedBy t (unshared_then w t l)) tt)))
 
-            either : (y : Bool) → (j == l) ≡ y → (if y then station (RwLock j d q) else nowhere).hand ≡ hand t b
+            either : (y : Bool) → (j == l) ≡ y → (if y then location (RwLock j d q) else nowhere).hand ≡ hand t b
                 → IsGiven w t l b (unshared_then w t l) (RwLock j d q)
             either true same_lock z = at_lock (eqb-true j l same_lock) z
             either false same_lock z = absurd cc

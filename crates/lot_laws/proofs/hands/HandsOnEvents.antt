@@ -14,7 +14,7 @@ use Rattle.steps_base.specs.Acts.{takes_effect}
 use Rattle.steps_base.specs.Moves.{claim_handed, heir_of, row_of}
 use Rattle.steps_base.specs.Owners.{is_thread}
 use Rattle.steps_base.specs.Profiles.{Hand, Of, Profile, hand, taken_from}
-use Rattle.steps_base.specs.Stations.{Station, nowhere, station_by}
+use Rattle.steps_base.specs.Locations.{Location, nowhere, location_by}
 use Rattle.steps_rwlock.specs.declared.places.Admission.{Admission}
 use Rattle.steps_rwlock_fair.specs.declared.places.RwLockCallPlace.{RwLockCallPlace}
 use Rattle.steps_rwlock_fair.specs.declared.hand_over.Taken.{Taken as Counted}
@@ -33,15 +33,15 @@ use Rattle.spec_locks.specs.Deeds.{case_of, event_by}
 use Rattle.spec_locks.specs.Locks.{HandOff, IsTaken, Queued, Rights, Taken, putting}
 use Rattle.spec_locks.specs.Runs.{AtLock, Event, is_taken_by}
 use Rattle.spec_locks.specs.Sites.{Deed}
-use Rattle.lot_machine.specs.Fits.{IsShaped}
+use Rattle.lot_machine.specs.Fits.{IsWellFormed}
 use Rattle.lot_machine.specs.Machine.{State, place_after_telling, place_at, put, state_after_act, state_after_hand_over_by, unshared_then, word_at}
 use Rattle.lot_laws.specs.MutexDeeds.{acts}
 use Rattle.lot_laws.specs.MutexDeeds as deeds
 use Rattle.lot_laws.specs.Refinement.{call_state, lock_state, taken_at}
-use Rattle.lot_laws.specs.SitesOf.{FitsItsLock, Goes, IsCounted, IsSteady, carried_at, rules_in}
+use Rattle.lot_laws.specs.SitesOf.{FitsItsLock, Goes, IsCounted, IsInductive, carried_at, rules_in}
 use Rattle.lot_laws.proofs.machine.AtPlaces.{in_no_hand, unless_held}
 use Rattle.lot_laws.proofs.calls.Events.{Happens, OthersFollow, happens}
-use Rattle.lot_laws.proofs.machine.Parts.{IsSingle, held_tells, station_here, condvar_untaken}
+use Rattle.lot_laws.proofs.machine.Parts.{IsSingle, held_tells, location_here, condvar_untaken}
 use Rattle.lot_laws.proofs.hands.Rights.{given_right}
 use Rattle.lot_laws.proofs.hands.Counted.{hand_there}
 use Rattle.lot_laws.proofs.hands.Events.{IsHandedCall, claims_are, hands_many}
@@ -51,7 +51,7 @@ use Rattle.lot_laws.proofs.calls.LockEvents.{Befalls}
 use Rattle.lot_laws.proofs.calls.OtherCalls.{taken_by_hand}
 use Rattle.lot_laws.proofs.rwlock.Kept.{beside_no_call, admits, of_no_mutex, of_no_semaphore}
 
--- what a thread has once it was handed what it wanted
+-- tells what a thread has once it was handed what it wanted
 gains : (alone : Bool) (x : Want) (l : ℕ) (r : ℕ → Rights)
     → putting r l (given_right alone x (r l)) ≡ with_claim (claim_handed alone x) l r
 gains true Exclusive l r = refl
@@ -65,7 +65,7 @@ gains false Shared l r = refl
 gains false Wait l r = refl
 gains false CallOnce l r = refl
 
-module _ (w : State) (t l : ℕ) (a : Admission) (c : RwLockCallPlace) (steady : IsSteady w) (shape : IsShaped w)
+module _ (w : State) (t l : ℕ) (a : Admission) (c : RwLockCallPlace) (steady : IsInductive w) (shape : IsWellFormed w)
     (there : t < length w.places) (lt : l < length w.locks) (is : place_at w t ≡ RwLock l a c)
     (k : Counted) (is_k : in_hand_of c ≡ Some k) (count : IsCounted w t k) (op : Op) (e : call_act l a c ≡ act.HandOver l op) (takes : takes_effect op (word_at w l) ≡ true) where
   abbrev alone : Bool
@@ -93,7 +93,7 @@ module _ (w : State) (t l : ℕ) (a : Admission) (c : RwLockCallPlace) (steady :
   successor = heir_of heir (g w t l a c steady shape there lt is k is_k count op e).successor
 
   carried_now : carried_at (place_at w t) l ≡ (call_profile a c).carries
-  carried_now = ap (λ (y : Station). y.carries) (station_here l (place_at w t) (of w t l a c steady shape there lt is k is_k count op e)) ∙ ap (λ (y : Profile). y.carries) (row w t l a c steady shape there lt is k is_k count op e)
+  carried_now = ap (λ (y : Location). y.carries) (location_here l (place_at w t) (of w t l a c steady shape there lt is k is_k count op e)) ∙ ap (λ (y : Profile). y.carries) (row w t l a c steady shape there lt is k is_k count op e)
 
   abbrev event : Event
   event = event_by l (case_of (call_profile a c).carries done)
@@ -118,7 +118,7 @@ module _ (w : State) (t l : ℕ) (a : Admission) (c : RwLockCallPlace) (steady :
           (hand_there w t l steady (of w t l a c steady shape there lt is k is_k count op e) (g w t l a c steady shape there lt is k is_k count op e).any (carries w t l a c steady shape there lt is k is_k count op e) u f))
       same_test false f = f ∙ sym (unless_held w steady t l u (λ h. let z : is_thread t (taker (place_at w u)) ≡ true = held_tells (place_at w u) t l false h in cc))
 
-  -- who waits for a lock that is no mutex is in a call of it alone
+  -- a thread that waits for a lock that is no mutex is in a call of it alone
   handed_single : (u : ℕ) (x : Want) → IsTaken (lock_state w l) t u x → IsSingle (place_at w u)
   handed_single u x taken = by_place (place_at w u) refl taken
     where
@@ -179,15 +179,15 @@ module _ (w : State) (t l : ℕ) (a : Admission) (c : RwLockCallPlace) (steady :
               → IsHandedCall l t alone x (RwLock j d q)
           at_lock same_lock z wants r = by_next (call_next d q (HandedBy t alone)) refl
             where
-              unclaimed_now : (call_profile d q).doing.claims ≡ None
+              unclaimed_now : (call_profile d q).role.claims ≡ None
               unclaimed_now = unclaimed w t l a c steady shape there lt is k is_k count op e takes u j d q f same_lock z
 
               by_next : (n : Next RwLockCallPlace) → call_next d q (HandedBy t alone) ≡ n → call_state (rwlock_goes j d n) (putting r l (given_right alone x (r l))) ≡ record (call_state (RwLock j d q) r) { retries = None }
               by_next (next.At c2) y = ap (call_state (RwLock j d c2)) (gains alone x l r ∙ ap (λ i. with_claim (claim_handed alone x) i r) (sym same_lock)) ∙ (fair_sleepers_hear d j q fits_u.1).given t alone z unclaimed_now c2 r x wants y
               by_next (next.End answer) y = absurd (
                   let m = (handed_move d q fits_u.1).given t alone x z unclaimed_now wants in
-                  let goes : station_by ((call_move d q).next (HandedBy t alone)) ≡ record nowhere { hand = hand t true } = m.goes in
-                  let none : ◌≡◌ {A = Option Hand} None (hand t true) = sym (ap (λ (n : Next RwLockCallPlace). (row_of (next_rows d n)).hand) y) ∙ ap (λ (s : Station). s.hand) goes in cc)
+                  let goes : location_by ((call_move d q).next (HandedBy t alone)) ≡ record nowhere { hand = hand t true } = m.goes in
+                  let none : ◌≡◌ {A = Option Hand} None (hand t true) = sym (ap (λ (n : Next RwLockCallPlace). (row_of (next_rows d n)).hand) y) ∙ ap (λ (s : Location). s.hand) goes in cc)
 
           by_row : (o : Option Hand) (y : Option Want) (b : Bool) → (call_profile d q).hand ≡ o → (call_profile d q).wants ≡ y → (j == l) ≡ b → taken_from o y b ≡ Some (record { by = t; want = x }) → IsHandedCall l t alone x (RwLock j d q)
           by_row None y b p1 p2 p3 z = absurd cc

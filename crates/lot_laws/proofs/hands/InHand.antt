@@ -13,12 +13,12 @@ use Rattle.lot_steps.specs.declared.places.Place.TheVariants.{Idle}
 use Rattle.lot_machine.specs.declared.hands.Successor.{Successor}
 use Rattle.lot_machine.specs.Machine.{held, shares_in_hand, sharers, successor_from, successor_or, wants_more_in_hand}
 
--- what a thread wants, where t has taken it
+-- tells what a thread wants, where t has taken it
 abbrev pub wanted_of : ℕ → Option Taken → Option Want
 wanted_of t None = None
 wanted_of t (Some h) = if h.by == t then Some h.want else None
 
--- of n threads from i on, how many t has in hand who want to share
+-- among n threads from i on, the number that t has in hand and that want to share
 abbrev pub sharers_from : ℕ → (ℕ → Option Taken) → ℕ → ℕ → ℕ
 sharers_from t taken i zero = 0
 sharers_from t taken i (suc n) = shares_handed t (taken i) + sharers_from t taken (i + 1) n

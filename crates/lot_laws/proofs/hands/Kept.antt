@@ -21,7 +21,7 @@ use Rattle.lot_steps.specs.declared.places.Place.TheVariants.{Idle}
 use Rattle.lot_steps.specs.Steps.{calls, next_place, owners_after, profile, taker, wants}
 use Rattle.spec_locks.specs.Locks.{LockState, Queued, Taken, Rules, Sort, Mutex, Normal, Recursive, Semaphore, Once, HandOff, IsSuccessor, Knows, keep_from, let_go, putting, sharing_from, sharing_handed, shares_handed, succeeding, wants_shared, with_owner, with_successor, without_owner, handed, readers}
 use Rattle.spec_locks.specs.Locks as locks
-use Rattle.spec_locks.specs.Sites.{Doing, Site, IsSite, Deed, Has, Begin, Case, Holds, has_readers, is_full, after_deed}
+use Rattle.spec_locks.specs.Sites.{Role, Site, IsSite, Deed, Has, Begin, Case, Holds, has_readers, is_full, after_deed}
 use Rattle.spec_locks.specs.Codes.{code, code_of, fills, has_aside, has_parked, HasLimit, TellsTrue}
 use Rattle.spec_locks.specs.Deeds as laws
 use Rattle.spec_locks.proofs.CodeLaws.{words_tell_true}
@@ -34,9 +34,9 @@ use Rattle.lot_machine.proofs.ShareLemmas.{given_count}
 use Rattle.lot_laws.specs.Refinement.{taken_at}
 use Rattle.lot_laws.specs.MutexDeeds.{acts}
 use Rattle.lot_laws.specs.MutexDeeds as deeds
-use Rattle.lot_laws.specs.Stations.{Station, station, station_at, nowhere, doing_on}
-use Rattle.lot_laws.specs.SitesOf.{stations_of, ActsNeeded, HasRoom, IsSteady, Goes, Hands, TakesOne, FitsItsLock, after_acts, rules_in, carried_at, hand_at}
-use Rattle.lot_laws.proofs.machine.Parts.{free_of, held_calls, Parts, parts_at, lock_in, seen_in, same, put_here, put_other, put_same, IsOf, station_here, untaken, held_tells, thread_is, past_all, IsSingle, of_single, single_taken, single_wants, next_of}
+use Rattle.lot_laws.specs.Locations.{Location, location, location_at, nowhere, role_on}
+use Rattle.lot_laws.specs.SitesOf.{locations_of, ActsNeeded, LimitHasRoom, IsInductive, Goes, Hands, TakesOne, FitsItsLock, after_acts, rules_in, carried_at, hand_at}
+use Rattle.lot_laws.proofs.machine.Parts.{free_of, held_calls, Parts, parts_at, lock_in, seen_in, same, put_here, put_other, put_same, IsOf, location_here, untaken, held_tells, thread_is, past_all, IsSingle, of_single, single_taken, single_wants, next_of}
 use Rattle.lot_laws.proofs.machine.KindsStay.{given_kinds}
 use Rattle.lot_laws.proofs.sites.OneStep.{AreQuiet, AreSingle, acts_keep, full_then, fills_by, others_same}
 use Rattle.lot_laws.proofs.sites.ActsKept.{Moves, lock_by, site_by, follows_by}
@@ -60,49 +60,49 @@ needed_both r [] ys s h k = k
 needed_both r (a ∷ xs) ys s h k = (h.0, needed_both r xs ys (after_deed r a.deed s a.by) h.1 k)
 
 module _ (t : ℕ) (alone : Bool) where
-  -- whoever was taken by t claims what it wanted, from the hand-over on
+  -- each thread that was taken by t claims what it wanted, from the hand-over on
   abbrev pub claim_of : ℕ → Option Taken → List deeds.Act
   claim_of u None = []
   claim_of u (Some h) = if h.by == t then record { by = u; deed = Begin (Some (claim_handed alone h.want)) } ∷ [] else []
 
-  -- of so many threads
+  -- among so many threads
   abbrev pub claims_given : (ℕ → Option Taken) → ℕ → List deeds.Act
   claims_given taken zero = []
   claims_given taken (suc n) = claim_of n (taken n) ++ claims_given taken n
 
-  abbrev pub with_claim : Option Taken → Doing → Doing
+  abbrev pub with_claim : Option Taken → Role → Role
   with_claim None d = d
   with_claim (Some h) d = if h.by == t then record d { claims = Some (claim_handed alone h.want) } else d
 
-  one_claim : (r : Rules) (s : Site) (u : ℕ) (o : Option Taken) → after_acts r (claim_of u o) s ≡ record s { doing = putting s.doing u (with_claim o (s.doing u)) }
-  one_claim r s u None = λ i. record s { doing = λ k. sym (put_same s.doing u (s.doing u) refl k) i }
+  one_claim : (r : Rules) (s : Site) (u : ℕ) (o : Option Taken) → after_acts r (claim_of u o) s ≡ record s { role = putting s.role u (with_claim o (s.role u)) }
+  one_claim r s u None = λ i. record s { role = λ k. sym (put_same s.role u (s.role u) refl k) i }
   one_claim r s u (Some h) = either (h.by == t)
     where
-      either : (b : Bool) → after_acts r (if b then record { by = u; deed = Begin (Some (claim_handed alone h.want)) } ∷ [] else []) s ≡ record s { doing = putting s.doing u (if b then record (s.doing u) { claims = Some (claim_handed alone h.want) } else s.doing u) }
+      either : (b : Bool) → after_acts r (if b then record { by = u; deed = Begin (Some (claim_handed alone h.want)) } ∷ [] else []) s ≡ record s { role = putting s.role u (if b then record (s.role u) { claims = Some (claim_handed alone h.want) } else s.role u) }
       either true = refl
-      either false = λ i. record s { doing = λ k. sym (put_same s.doing u (s.doing u) refl k) i }
+      either false = λ i. record s { role = λ k. sym (put_same s.role u (s.role u) refl k) i }
 
   module _ (taken : ℕ → Option Taken) where
-    abbrev claimed : ℕ → ℕ → Doing → Doing
+    abbrev claimed : ℕ → ℕ → Role → Role
     claimed zero u d = d
     claimed (suc n) u d = claimed n u (if u == n then with_claim (taken n) d else d)
 
-    claims_lead : (r : Rules) (n : ℕ) (s : Site) → after_acts r (claims_given taken n) s ≡ record s { doing = λ u. claimed n u (s.doing u) }
+    claims_lead : (r : Rules) (n : ℕ) (s : Site) → after_acts r (claims_given taken n) s ≡ record s { role = λ u. claimed n u (s.role u) }
     claims_lead r zero s = refl
     claims_lead r (suc n) s = after_both r (claim_of n (taken n)) (claims_given taken n) s ∙ ap (after_acts r (claims_given taken n)) (one_claim r s n (taken n))
-        ∙ claims_lead r n (record s { doing = putting s.doing n (with_claim (taken n) (s.doing n)) }) ∙ (λ i. record s { doing = λ u. claimed n u (spot u (u == n) refl i) })
+        ∙ claims_lead r n (record s { role = putting s.role n (with_claim (taken n) (s.role n)) }) ∙ (λ i. record s { role = λ u. claimed n u (spot u (u == n) refl i) })
       where
         spot : (u : ℕ) (b : Bool) → (u == n) ≡ b
-            → (if b then with_claim (taken n) (s.doing n) else s.doing u)
-            ≡ (if b then with_claim (taken n) (s.doing u) else s.doing u)
-        spot u true e = ap (λ k. with_claim (taken n) (s.doing k)) (sym (eqb-true u n e))
+            → (if b then with_claim (taken n) (s.role n) else s.role u)
+            ≡ (if b then with_claim (taken n) (s.role u) else s.role u)
+        spot u true e = ap (λ k. with_claim (taken n) (s.role k)) (sym (eqb-true u n e))
         spot u false e = refl
 
-    claimed_past : (n u : ℕ) (d : Doing) → n ≤ u → claimed n u d ≡ d
+    claimed_past : (n u : ℕ) (d : Role) → n ≤ u → claimed n u d ≡ d
     claimed_past zero u d h = refl
     claimed_past (suc n) u d h = ap (λ b. claimed n u (if b then with_claim (taken n) d else d)) (let ne : (u == n) ≡ false = grind (arith, nat_tests) in ne) ∙ claimed_past n u d (omega arith)
 
-    claimed_there : (n u : ℕ) (d : Doing) → u < n → claimed n u d ≡ with_claim (taken u) d
+    claimed_there : (n u : ℕ) (d : Role) → u < n → claimed n u d ≡ with_claim (taken u) d
     claimed_there zero u d h = absurd (omega arith)
     claimed_there (suc n) u d h = elim (cases_eq u n) [
       | inl e ↦ rw e (ap (λ b. claimed n n (if b then with_claim (taken n) d else d)) (same n) ∙ claimed_past n n (with_claim (taken n) d) (omega arith))
@@ -110,14 +110,14 @@ module _ (t : ℕ) (alone : Bool) where
     ]
 
     -- where nobody else is taken
-    claimed_is : (n u : ℕ) (d : Doing) → ((k : ℕ) → n ≤ k → taken k ≡ None) → claimed n u d ≡ with_claim (taken u) d
+    claimed_is : (n u : ℕ) (d : Role) → ((k : ℕ) → n ≤ k → taken k ≡ None) → claimed n u d ≡ with_claim (taken u) d
     claimed_is n u d none = elim (cases_lt u n) [
       | inl lt ↦ claimed_there n u d lt
       | inr ge ↦ claimed_past n u d ge ∙ sym (ap (λ o. with_claim o d) (none u ge))
     ]
 
-    pub claims_so : (r : Rules) (n : ℕ) (s : Site) → ((k : ℕ) → n ≤ k → taken k ≡ None) → after_acts r (claims_given taken n) s ≡ record s { doing = λ u. with_claim (taken u) (s.doing u) }
-    claims_so r n s none = claims_lead r n s ∙ (λ i. record s { doing = λ u. claimed_is n u (s.doing u) none i })
+    pub claims_so : (r : Rules) (n : ℕ) (s : Site) → ((k : ℕ) → n ≤ k → taken k ≡ None) → after_acts r (claims_given taken n) s ≡ record s { role = λ u. with_claim (taken u) (s.role u) }
+    claims_so r n s none = claims_lead r n s ∙ (λ i. record s { role = λ u. claimed_is n u (s.role u) none i })
 
     -- each of them has it
     pub claims_needed : (r : Rules) (now : LockState) (n : ℕ) (s : Site) → s.lock ≡ now
@@ -147,8 +147,8 @@ unknown sort Shared r e u s k = s refl
 unknown Normal x r e u s k = k
 unknown Recursive x r e u s k = k
 
--- who was not taken by t claims nothing anew
-unclaimed : (t : ℕ) (alone : Bool) (o : Option Taken) (d : Doing) → keep_from t o ≡ o → with_claim t alone o d ≡ d
+-- a thread that was not taken by t claims nothing anew
+unclaimed : (t : ℕ) (alone : Bool) (o : Option Taken) (d : Role) → keep_from t o ≡ o → with_claim t alone o d ≡ d
 unclaimed t alone None d e = refl
 unclaimed t alone (Some h) d e = either (h.by == t) e
   where
@@ -157,10 +157,10 @@ unclaimed t alone (Some h) d e = either (h.by == t) e
     either false f = refl
 
 -- a word hangs on owners and bits alone
-pub code_doing : (r : Rules) (s : Site) (d : ℕ → Doing) → code r (record s { doing = d }) ≡ code r s
-code_doing r s d = by_sort r.sort
+pub code_role : (r : Rules) (s : Site) (d : ℕ → Role) → code r (record s { role = d }) ≡ code r s
+code_role r s d = by_sort r.sort
   where
-    by_sort : (sort : Sort) → code_of sort r.limit (record s { doing = d }) ≡ code_of sort r.limit s
+    by_sort : (sort : Sort) → code_of sort r.limit (record s { role = d }) ≡ code_of sort r.limit s
     by_sort Mutex = refl
     by_sort Normal = refl
     by_sort Recursive = refl
@@ -230,12 +230,12 @@ given_is t i taken (p ∷ ps) (n ∷ ns) each e few =
 
 -- ---------------------------------------------------------------- those in hand
 
--- who is in the hand of t, by its place, is taken by it
-taken_by : (q : Place) (l : ℕ) {t : ℕ} (x : Want) → IsOf l q → (station q).hand ≡ hand t false → wants q ≡ Some x → taken_at q l ≡ Some (record { by = t; want = x })
+-- a thread that is in the hand of t, by its place, is taken by it
+taken_by : (q : Place) (l : ℕ) {t : ℕ} (x : Want) → IsOf l q → (location q).hand ≡ hand t false → wants q ≡ Some x → taken_at q l ≡ Some (record { by = t; want = x })
 taken_by q l {t = t} x of h e = single_taken q l (of_single l q of) ∙ (λ i. taken_from (h i) ((sym (single_wants q (of_single l q of)) ∙ e) i) (calls q l)) ∙ ap (taken_from (hand t false) (Some x)) (held_calls q l of (Of t false) h)
 
--- who was handed what it wanted isn't taken any more
-given_free : (q : Place) (l t : ℕ) → IsSingle q → (station q).hand ≡ hand t true → taken_at q l ≡ None
+-- a thread that was handed what it wanted isn't taken any more
+given_free : (q : Place) (l t : ℕ) → IsSingle q → (location q).hand ≡ hand t true → taken_at q l ≡ None
 given_free q l t single h = single_taken q l single ∙ ap (λ o. taken_from o (profile q).wants (calls q l)) h
 
 -- where a thread goes that t has in hand, and hands its right
@@ -245,24 +245,24 @@ pub record IsGiven (w : State) (t l : ℕ) (handed alone : Bool) (p : Place) : T
   pub wants_it : wants p ≡ Some want
   pub taken : taken_at p l ≡ Some (record { by = t; want = want })
   pub free : taken_at (next_place p (HandedBy t alone)) l ≡ None
-  pub goes : station_at (next_place p (HandedBy t alone)) l ≡ record (station_at p l) { hand = hand t true }
+  pub goes : location_at (next_place p (HandedBy t alone)) l ≡ record (location_at p l) { hand = hand t true }
   pub alike : AlikeBeside l p (next_place p (HandedBy t alone))
-  pub doing : doing_on (next_place p (HandedBy t alone)) l ≡ record (doing_on p l) { claims = Some (claim_handed alone want) }
+  pub role : role_on (next_place p (HandedBy t alone)) l ≡ record (role_on p l) { claims = Some (claim_handed alone want) }
   pub fits : FitsItsLock w (next_place p (HandedBy t alone))
 
--- who calls the lock
-pub given_of : (w : State) (t l : ℕ) (handed alone : Bool) (p : Place) (want : Want) → IsOf l p → handed ≡ false → wants p ≡ Some want → station p ≡ record nowhere { hand = hand t handed } → station (next_place p (HandedBy t alone)) ≡ record nowhere { hand = hand t true }
-    → doing_on (next_place p (HandedBy t alone)) l ≡ record (doing_on p l) { claims = Some (claim_handed alone want) }
+-- a thread that calls the lock
+pub given_of : (w : State) (t l : ℕ) (handed alone : Bool) (p : Place) (want : Want) → IsOf l p → handed ≡ false → wants p ≡ Some want → location p ≡ record nowhere { hand = hand t handed } → location (next_place p (HandedBy t alone)) ≡ record nowhere { hand = hand t true }
+    → role_on (next_place p (HandedBy t alone)) l ≡ record (role_on p l) { claims = Some (claim_handed alone want) }
     → FitsItsLock w (next_place p (HandedBy t alone)) → IsGiven w t l handed alone p
-given_of w t l handed alone p want of fresh wants_it was goes doing fits = record {
+given_of w t l handed alone p want of fresh wants_it was goes role fits = record {
   fresh = fresh;
   want = want;
   wants_it = wants_it;
-  taken = taken_by p l want of (ap (λ (y : Station). y.hand) was ∙ ap (hand t) fresh) wants_it;
-  free = given_free p2 l t (of_single l p2 of_2) (ap (λ (y : Station). y.hand) goes);
-  goes = station_here l p2 of_2 ∙ goes ∙ sym (ap (λ (y : Station). record y { hand = hand t true }) (station_here l p of ∙ was));
+  taken = taken_by p l want of (ap (λ (y : Location). y.hand) was ∙ ap (hand t) fresh) wants_it;
+  free = given_free p2 l t (of_single l p2 of_2) (ap (λ (y : Location). y.hand) goes);
+  goes = location_here l p2 of_2 ∙ goes ∙ sym (ap (λ (y : Location). record y { hand = hand t true }) (location_here l p of ∙ was));
   alike = own_alike l p p2 of of_2;
-  doing = doing;
+  role = role;
   fits = fits;
 }
   where
@@ -272,10 +272,10 @@ given_of w t l handed alone p want of fresh wants_it was goes doing fits = recor
     of_2 : IsOf l p2
     of_2 = next_of l p (HandedBy t alone) of
 
-module _ (w : State) (t l : ℕ) (steady : IsSteady w) (own : IsOf l (place_at w t)) (there : t < length w.places)
+module _ (w : State) (t l : ℕ) (steady : IsInductive w) (own : IsOf l (place_at w t)) (there : t < length w.places)
     (lt : l < length w.locks) (p p2 : Place) (of : IsOf l p2) (fits : FitsItsLock w p2) (op : Op) (r : Rules)
     (rules : rules_in w l ≡ r) (sharers : has_readers r.sort ≡ true)
-    (all : (u : ℕ) (b : Bool) → hand_at (place_at w u) l ≡ hand t b → IsGiven w t l b (unshared_then w t l) (place_at w u)) (free : (station (place_at w t)).hand ≡ None) where
+    (all : (u : ℕ) (b : Bool) → hand_at (place_at w u) l ≡ hand t b → IsGiven w t l b (unshared_then w t l) (place_at w u)) (free : (location (place_at w t)).hand ≡ None) where
   abbrev alone : Bool
   alone = unshared_then w t l
 
@@ -302,11 +302,11 @@ module _ (w : State) (t l : ℕ) (steady : IsSteady w) (own : IsOf l (place_at w
       → IsToldAt w t l b (hand t true) (hand_over_told w t l) (place_at w u)
   all_told u b h = let k = all u b h in record { goes = k.goes; alike = k.alike; fits = k.fits }
 
-  was_here : station_at (place_at w t) l ≡ station (place_at w t)
-  was_here = station_here l (place_at w t) own
+  was_here : location_at (place_at w t) l ≡ location (place_at w t)
+  was_here = location_here l (place_at w t) own
 
-  is_here : station_at p2 l ≡ station p2
-  is_here = station_here l p2 of
+  is_here : location_at p2 l ≡ location p2
+  is_here = location_here l p2 of
 
   abbrev is_told : ℕ → Bool
   is_told = has w t l steady p2 same_there fits in_hands (hand_over_told w t l) (hand t true) all_told
@@ -317,7 +317,7 @@ module _ (w : State) (t l : ℕ) (steady : IsSteady w) (own : IsOf l (place_at w
   abbrev told_now : ℕ → Place
   told_now = told w t l steady p2 same_there fits in_hands (hand_over_told w t l) (hand t true) all_told
 
-  -- whom t has in hand
+  -- a thread that t has in hand
   module _ (u : ℕ) (h : is_told u ≡ true) where
     at_hand : HeldHere w t l steady p2 same_there fits in_hands (hand_over_told w t l) (hand t true) all_told u
     at_hand = held_here w t l steady p2 same_there fits in_hands (hand_over_told w t l) (hand t true) all_told u h
@@ -337,12 +337,12 @@ module _ (w : State) (t l : ℕ) (steady : IsSteady w) (own : IsOf l (place_at w
     where
       by_test : (b : Bool) → is_told t ≡ b → b ≡ false
       by_test false h = refl
-      by_test true h = absurd (let held_so : hand_at (place_at w t) l ≡ hand t (at_hand t h).handed = (at_hand t h).hand in let none : hand_at (place_at w t) l ≡ None = ap (λ (y : Station). y.hand) was_here ∙ free in let both : ◌≡◌ {A = Option Hand} None (hand t (at_hand t h).handed) = sym none ∙ held_so in cc)
+      by_test true h = absurd (let held_so : hand_at (place_at w t) l ≡ hand t (at_hand t h).handed = (at_hand t h).hand in let none : hand_at (place_at w t) l ≡ None = ap (λ (y : Location). y.hand) was_here ∙ free in let both : ◌≡◌ {A = Option Hand} None (hand t (at_hand t h).handed) = sym none ∙ held_so in cc)
 
   not_taken : (u : ℕ) → is_told u ≡ false → keep_from t (taken u) ≡ taken u
   not_taken u h = untaken (place_at w u) t l (not_held w t l steady p2 same_there fits in_hands (hand_over_told w t l) (hand t true) all_told u h false)
 
-  -- who gets a share
+  -- a thread that gets a share
   share_is : (u : ℕ) → shares_handed t (taken u) ≡ (if shares_in_hand t (held (place_at w u)) then 1 else 0)
   share_is u = either (is_told u) refl
     where
@@ -357,7 +357,7 @@ module _ (w : State) (t l : ℕ) (steady : IsSteady w) (own : IsOf l (place_at w
   limits = subst (λ x. HasLimit x here.lock) rules (steady.sites.limits l (ap (λ x. has_readers x.sort) rules ∙ sharers)).1
 
   room : (r.limit < 2 ^ 60 - 1) × (length w.places ≤ r.limit)
-  room = let all_room = subst (λ x. HasRoom (length w.places) x) rules (steady.sites.limits l (ap (λ x. has_readers x.sort) rules ∙ sharers)).0 in (all_room.1, all_room.2)
+  room = let all_room = subst (λ x. LimitHasRoom (length w.places) x) rules (steady.sites.limits l (ap (λ x. has_readers x.sort) rules ∙ sharers)).0 in (all_room.1, all_room.2)
 
   shares_are : shares_handed_over w t l ≡ sharing_from t taken 0 (shares_at w l)
   shares_are = given_is t 0 taken w.places (shares_at w l) (λ j. subst (λ k. shares_handed t (taken k) ≡ (if shares_in_hand t (held (place_at w j)) then 1 else 0)) (let z : j ≡ 0 + j = omega arith in z) (share_is j)) (sym (steady.numbers.threads l)) (let a : locks.count here.lock ≡ sum (shares_at w l) + locks.one_if_some (owners_at w l).upgradable = refl in let b : locks.count here.lock ≤ r.limit + 1 = limits.top in let c : r.limit < 2 ^ 60 - 1 = room.0 in omega arith)
@@ -393,10 +393,10 @@ module _ (w : State) (t l : ℕ) (steady : IsSteady w) (own : IsOf l (place_at w
     abbrev between : Site
     between = laws.after_all r own_deeds here t
 
-    -- what the laws of its sort conclude
+    -- tells what the laws of its sort conclude
     pub record HandsLawful : Type 0 where
       pub needed : laws.AllNeeded r own_deeds here t
-      pub doing : between.doing t ≡ doing_on p2 l
+      pub role : between.role t ≡ role_on p2 l
       pub owners : lock_seen (shares_at w l) keeps (queue_at w (2 * l)) (queue_at w (2 * l + 1)) taken
           ≡ without_owner t right here.lock
       pub word : apply op (word_at w l) ≡ code r between
@@ -410,7 +410,7 @@ module _ (w : State) (t l : ℕ) (steady : IsSteady w) (own : IsOf l (place_at w
       second = queue_at w (2 * l + 1);
     }
 
-    module _ (law : HandsLawful) (unheld : (station p2).hand ≡ None) where
+    module _ (law : HandsLawful) (unheld : (location p2).hand ≡ None) where
       needed : ActsNeeded r (acts t own_deeds) here
       needed = needed_same r own_deeds here t law.needed
 
@@ -431,7 +431,7 @@ module _ (w : State) (t l : ℕ) (steady : IsSteady w) (own : IsOf l (place_at w
       site_between : IsSite r between
       site_between = subst (λ s. IsSite r s) (after_same r own_deeds here t) (acts_keep r (acts t own_deeds) here site needed)
 
-      -- who is in hand still
+      -- a thread that is in hand still
       taken_then : (u : ℕ) → taken_at (places_behind u) l ≡ let_go t taken u
       taken_then u = elim (cases_eq u t) [
         | inl e ↦ rw e (ap (λ q. taken_at q l) (put_here told_now t p2) ∙ free_of p2 l (of_single l p2 of) unheld ∙ sym (ap (keep_from t) (free_of (place_at w t) l (of_single l (place_at w t) own) free)))
@@ -481,7 +481,7 @@ module _ (w : State) (t l : ℕ) (steady : IsSteady w) (own : IsOf l (place_at w
       abbrev behind : Site
       behind = after_acts r (acts t own_deeds ++ claims) here
 
-      behind_is : behind ≡ record between { doing = λ u. with_claim t alone (taken u) (between.doing u) }
+      behind_is : behind ≡ record between { role = λ u. with_claim t alone (taken u) (between.role u) }
       behind_is = after_both r (acts t own_deeds) claims here ∙ ap (after_acts r claims) (after_same r own_deeds here t) ∙ claims_so t alone taken r (length w.places) between none_past
 
       all_needed : ActsNeeded r (acts t own_deeds ++ claims) here
@@ -502,16 +502,16 @@ module _ (w : State) (t l : ℕ) (steady : IsSteady w) (own : IsOf l (place_at w
       single_bit true = (tt, (tt, tt))
       single_bit false = (tt, (tt, tt))
 
-      doing_then : (u : ℕ) → doing_on (places_behind u) l ≡ with_claim t alone (taken u) (between.doing u)
-      doing_then u = elim (cases_eq u t) [
-        | inl e ↦ rw e (ap (λ q. doing_on q l) (put_here told_now t p2) ∙ sym law.doing ∙ sym (ap (λ o. with_claim t alone o (between.doing t)) (free_of (place_at w t) l (of_single l (place_at w t) own) free)))
-        | inr ne ↦ ap (λ q. doing_on q l) (put_other told_now t p2 u ne) ∙ either (is_told u) refl ∙ sym (ap (with_claim t alone (taken u)) (ap (λ (s : Site). s.doing u) (sym (after_same r own_deeds here t)) ∙ others_same r own_deeds here t u (single_bit none_left) ne))
+      role_then : (u : ℕ) → role_on (places_behind u) l ≡ with_claim t alone (taken u) (between.role u)
+      role_then u = elim (cases_eq u t) [
+        | inl e ↦ rw e (ap (λ q. role_on q l) (put_here told_now t p2) ∙ sym law.role ∙ sym (ap (λ o. with_claim t alone o (between.role t)) (free_of (place_at w t) l (of_single l (place_at w t) own) free)))
+        | inr ne ↦ ap (λ q. role_on q l) (put_other told_now t p2 u ne) ∙ either (is_told u) refl ∙ sym (ap (with_claim t alone (taken u)) (ap (λ (s : Site). s.role u) (sym (after_same r own_deeds here t)) ∙ others_same r own_deeds here t u (single_bit none_left) ne))
       ]
         where
-          either : (b : Bool) → is_told u ≡ b → doing_on (told_now u) l ≡ with_claim t alone (taken u) (doing_on (place_at w u) l)
-          either true h = ap (λ q. doing_on q l) (told_on w t l steady p2 same_there fits in_hands (hand_over_told w t l) (hand t true) all_told u h) ∙ (given u h).doing
-              ∙ sym (ap (λ o. with_claim t alone o (doing_on (place_at w u) l)) (taken_is u h) ∙ ap (λ b. if b then record (doing_on (place_at w u) l) { claims = Some (claim_handed alone (given u h).want) } else doing_on (place_at w u) l) (same t))
-          either false h = ap (λ q. doing_on q l) (told_off w t l steady p2 same_there fits in_hands (hand_over_told w t l) (hand t true) all_told u h) ∙ sym (unclaimed t alone (taken u) (doing_on (place_at w u) l) (not_taken u h))
+          either : (b : Bool) → is_told u ≡ b → role_on (told_now u) l ≡ with_claim t alone (taken u) (role_on (place_at w u) l)
+          either true h = ap (λ q. role_on q l) (told_on w t l steady p2 same_there fits in_hands (hand_over_told w t l) (hand t true) all_told u h) ∙ (given u h).role
+              ∙ sym (ap (λ o. with_claim t alone o (role_on (place_at w u) l)) (taken_is u h) ∙ ap (λ b. if b then record (role_on (place_at w u) l) { claims = Some (claim_handed alone (given u h).want) } else role_on (place_at w u) l) (same t))
+          either false h = ap (λ q. role_on q l) (told_off w t l steady p2 same_there fits in_hands (hand_over_told w t l) (hand t true) all_told u h) ∙ sym (unclaimed t alone (taken u) (role_on (place_at w u) l) (not_taken u h))
 
       led : seen_in r l parts_then places_behind ≡ behind
       led = (λ i. record {
@@ -519,14 +519,14 @@ module _ (w : State) (t l : ℕ) (steady : IsSteady w) (own : IsOf l (place_at w
         parked = (parked_read r.sort (apply op (word_at w l)) sharers ∙ ap has_parked law.word ∙ told_true.parked) i;
         aside_parked = (aside_read r.sort (apply op (word_at w l)) sharers ∙ ap has_aside law.word ∙ told_true.aside) i;
         filled = full_now i;
-        doing = λ u. doing_then u i;
+        role = λ u. role_then u i;
       }) ∙ sym behind_is
 
       -- every lock is a site again
-      module _ (any : Bool) (inside : (station p2).inside ≡ (station (place_at w t)).inside)
-          (stands : (station p2).stands ≡ (station (place_at w t)).stands)
-          (waits : (station p2).waits ≡ (station (place_at w t)).waits)
-          (carried : (station (place_at w t)).carries ≡ in_hand_if any false) (carries_now : (station p2).carries ≡ in_hand_if any true) where
+      module _ (any : Bool) (inside : (location p2).inside ≡ (location (place_at w t)).inside)
+          (stands : (location p2).stands ≡ (location (place_at w t)).stands)
+          (waits : (location p2).waits ≡ (location (place_at w t)).waits)
+          (carried : (location (place_at w t)).carries ≡ in_hand_if any false) (carries_now : (location p2).carries ≡ in_hand_if any true) where
         places : place_at v ≡ places_behind
         places = places_are w t l steady p2 same_there fits in_hands (hand_over_told w t l) (hand t true) all_told (state_after_hand_over w t p l op) refl there
 
@@ -558,30 +558,30 @@ module _ (w : State) (t l : ℕ) (steady : IsSteady w) (own : IsOf l (place_at w
           };
           places = places;
           kinds = given_kinds w t p l op;
-          alike = λ k ne. alike w t l steady p2 same_there fits in_hands (hand_over_told w t l) (hand t true) all_told k ne ((beside k ne).taken, (beside k ne).doing);
+          alike = λ k ne. alike w t l steady p2 same_there fits in_hands (hand_over_told w t l) (hand t true) all_told k ne ((beside k ne).taken, (beside k ne).role);
           numbers = record { threads = threads; locks = length-set w.locks l _; shares = length-set w.shares l (shares_handed_over w t l) };
           sharers = given_count t w.places (shares_at w l);
         }
 
         coded : apply op (word_at w l) ≡ code r (seen_in r l parts_then places_behind)
-        coded = law.word ∙ sym (code_doing r between (λ u. with_claim t alone (taken u) (between.doing u))) ∙ sym (ap (code r) (led ∙ behind_is))
+        coded = law.word ∙ sym (code_role r between (λ u. with_claim t alone (taken u) (between.role u))) ∙ sym (ap (code r) (led ∙ behind_is))
 
         within : HasLimit r behind.lock
         within = subst (λ s. HasLimit r s) (sym (ap (λ (s : Site). s.lock) behind_is ∙ lock_between))
             (handed_limit r right heir here.lock t site.state law.needed.0.0 (subst (λ n. t < n) (sym (steady.numbers.threads l)) there) (free_of (place_at w t) l (of_single l (place_at w t) own) free) (subst (λ n. n ≤ r.limit) (sym (steady.numbers.threads l)) room.1))
 
         held_before : carried_at (place_at w t) l ≡ in_hand_if any false
-        held_before = ap (λ (y : Station). y.carries) (station_here l (place_at w t) own) ∙ carried
+        held_before = ap (λ (y : Location). y.carries) (location_here l (place_at w t) own) ∙ carried
 
         -- it has somebody in hand behind it exactly where it had before
-        some_held : (b : Bool) → (station p2).carries ≡ Some b → (b ≡ true) × ((u : ℕ) × (is_told u ≡ true))
+        some_held : (b : Bool) → (location p2).carries ≡ Some b → (b ≡ true) × ((u : ℕ) × (is_told u ≡ true))
         some_held b e = by_any any refl (sym carries_now ∙ e)
           where
             by_any : (a : Bool) → any ≡ a → in_hand_if a true ≡ Some b → (b ≡ true) × ((u : ℕ) × (is_told u ≡ true))
             by_any true f g = (let h : true ≡ b = cc in sym h, let u = steady.stands.hands.carried t l false (held_before ∙ ap (λ a. in_hand_if a false) f) in (u.0, held_tells (place_at w u.0) t l false u.1))
             by_any false f g = absurd cc
 
-        full_hand : (u : ℕ) → is_told u ≡ true → (station p2).carries ≡ Some true
+        full_hand : (u : ℕ) → is_told u ≡ true → (location p2).carries ≡ Some true
         full_hand u h = carries_now ∙ by_any any refl
           where
             held_so : carried_at (place_at w t) l ≡ Some (at_hand u h).handed
@@ -592,15 +592,15 @@ module _ (w : State) (t l : ℕ) (steady : IsSteady w) (own : IsOf l (place_at w
             by_any false f = absurd (let none : carried_at (place_at w t) l ≡ None = held_before ∙ ap (λ a. in_hand_if a false) f in let g : ◌≡◌ {A = Option Bool} None (Some (at_hand u h).handed) = sym none ∙ held_so in cc)
 
         hands_now : Hands (TakesOne w) places_behind
-        hands_now = hands_given (TakesOne w) (stations_of (place_at w)) (stations_of places_behind) steady.stands.hands t l is_told (station p2).carries
-            (in_hand w t l steady p2 same_there fits in_hands (hand_over_told w t l) (hand t true) all_told (ap (λ (y : Station). y.hand) is_here ∙ unheld ∙ sym (ap (λ c. if c then hand t true else (station_at (place_at w t) l).hand) not_told ∙ ap (λ (y : Station). y.hand) was_here ∙ free)))
-            (λ i k. carries w t l steady p2 same_there fits in_hands (hand_over_told w t l) (hand t true) all_told i k ∙ ap (λ c. if (i == t) && (k == l) then c else carried_at (place_at w i) k) (ap (λ (y : Station). y.carries) is_here))
+        hands_now = hands_given (TakesOne w) (locations_of (place_at w)) (locations_of places_behind) steady.stands.hands t l is_told (location p2).carries
+            (in_hand w t l steady p2 same_there fits in_hands (hand_over_told w t l) (hand t true) all_told (ap (λ (y : Location). y.hand) is_here ∙ unheld ∙ sym (ap (λ c. if c then hand t true else (location_at (place_at w t) l).hand) not_told ∙ ap (λ (y : Location). y.hand) was_here ∙ free)))
+            (λ i k. carries w t l steady p2 same_there fits in_hands (hand_over_told w t l) (hand t true) all_told i k ∙ ap (λ c. if (i == t) && (k == l) then c else carried_at (place_at w i) k) (ap (λ (y : Location). y.carries) is_here))
             (λ u h. ((at_hand u h).handed, (at_hand u h).hand)) (λ u b h. held_tells (place_at w u) t l b h) some_held full_hand
 
-        part_kept : {A : Type 0} (g : Station → A) → ((y : Station) (h : Option Hand) → g (record y { hand = h }) ≡ g y) → g (station p2) ≡ g (station (place_at w t)) → (u k : ℕ) → g (station_at (places_behind u) k) ≡ g (station_at (place_at w u) k)
+        part_kept : {A : Type 0} (g : Location → A) → ((y : Location) (h : Option Hand) → g (record y { hand = h }) ≡ g y) → g (location p2) ≡ g (location (place_at w t)) → (u k : ℕ) → g (location_at (places_behind u) k) ≡ g (location_at (place_at w u) k)
         part_kept g part e = all_parts w t l steady p2 same_there fits in_hands (hand_over_told w t l) (hand t true) all_told g part (λ k. elim (cases_eq k l) [
           | inl f ↦ rw f (ap g is_here ∙ e ∙ sym (ap g was_here))
-          | inr ne ↦ ap g (beside k ne).station
+          | inr ne ↦ ap g (beside k ne).location
         ])
 
         pub hand_over_goes : Goes w v l (acts t own_deeds ++ claims)
@@ -608,9 +608,9 @@ module _ (w : State) (t l : ℕ) (steady : IsSteady w) (own : IsOf l (place_at w
           follows = follows_by w v l parts_then places_behind moves r rules (acts t own_deeds ++ claims) (λ e. absurd (let f : true ≡ false = sym sharers ∙ ap has_readers e in cc)) (λ h. within) led all_needed coded;
           stands = stands_by w v places_behind places moves.kinds
               (record {
-                sections = sections_same (stations_of (place_at w)) (stations_of places_behind) (section_at w) steady.stands.sections (part_kept (λ y. y.inside) (λ y h. refl) inside);
-                lines = lines_same (stations_of (place_at w)) (stations_of places_behind) (queue_at w) (queue_at v) steady.stands.lines (part_kept (λ y. y.stands) (λ y h. refl) stands) (λ key. refl);
-                waits = waits_same (stations_of (place_at w)) (stations_of places_behind) (queue_at w) (queue_at v) steady.stands.waits (part_kept (λ y. y.waits) (λ y h. refl) waits) (λ key. refl);
+                sections = sections_same (locations_of (place_at w)) (locations_of places_behind) (section_at w) steady.stands.sections (part_kept (λ y. y.inside) (λ y h. refl) inside);
+                lines = lines_same (locations_of (place_at w)) (locations_of places_behind) (queue_at w) (queue_at v) steady.stands.lines (part_kept (λ y. y.stands) (λ y h. refl) stands) (λ key. refl);
+                waits = waits_same (locations_of (place_at w)) (locations_of places_behind) (queue_at w) (queue_at v) steady.stands.waits (part_kept (λ y. y.waits) (λ y h. refl) waits) (λ key. refl);
                 hands = hands_now;
               })
               (λ u. calls_in w v (places_behind u) moves.kinds (calls_then w t l steady p2 same_there fits in_hands (hand_over_told w t l) (hand t true) all_told u));

@@ -12,7 +12,7 @@ use Rattle.steps_base.specs.Acts.{takes_effect, wakes_taken}
 use Rattle.steps_base.specs.Moves.{Move, Hears, Accepts, HandsOver, TellsHanded, bit_left, heir_of, inside_of}
 use Rattle.steps_base.specs.Owners.{lock_seen}
 use Rattle.steps_base.specs.Profiles.{Profile, in_hand}
-use Rattle.steps_base.specs.Stations.{Station, station_by, nowhere}
+use Rattle.steps_base.specs.Locations.{Location, location_by, nowhere}
 use Rattle.lot_steps.specs.declared.places.Place.{Place}
 use Rattle.lot_steps.specs.Steps.{owners_after, profile}
 use Rattle.spec_locks.specs.Locks.{Rules, HandOff, without_owner}
@@ -24,10 +24,10 @@ use Rattle.lot_machine.specs.Machine.{State, place_at, word_at, owners_at, share
 use Rattle.lot_laws.specs.Refinement.{taken_at}
 use Rattle.lot_laws.specs.MutexDeeds.{acts}
 use Rattle.lot_laws.specs.MutexDeeds as deeds
-use Rattle.lot_laws.specs.Stations.{doing_on, hand, station}
-use Rattle.lot_laws.specs.SitesOf.{ActsNeeded, IsSteady, Goes, after_acts, key_of, rules_in, hand_at}
+use Rattle.lot_laws.specs.Locations.{role_on, hand, location}
+use Rattle.lot_laws.specs.SitesOf.{ActsNeeded, IsInductive, Goes, after_acts, key_of, rules_in, hand_at}
 use Rattle.lot_laws.proofs.sites.ActsKept.{lock_by, operated, place_goes}
-use Rattle.lot_laws.proofs.machine.Parts.{free_of, IsOf, doing_here, lock_in, parts_at, of_single}
+use Rattle.lot_laws.proofs.machine.Parts.{free_of, IsOf, role_here, lock_in, parts_at, of_single}
 use Rattle.lot_laws.proofs.hands.Kept.{IsGiven, HandsLawful, claims_given, hand_over_goes, heir_in}
 use Rattle.lot_laws.proofs.sites.LawsKept.{after_same, lawful_goes, needed_same}
 use Rattle.lot_laws.proofs.sites.MovesKept.{IsFollowed, goes_out_alone}
@@ -35,7 +35,7 @@ use Rattle.lot_laws.proofs.sites.OneStep.{steps_by}
 use Rattle.lot_laws.proofs.sites.WakesAt.{IsWokenAt}
 use Rattle.lot_laws.proofs.sites.WakesKept.{wake_goes}
 
--- who succeeds, and what it wants, are the heir
+-- the heir: the successor, and its want
 abbrev pub thread_of : Option Successor → Option ℕ
 thread_of None = None
 thread_of (Some x) = Some x.thread
@@ -44,7 +44,7 @@ heirs_same : (x : Option Successor) → heir_of (thread_of x) (want_of_successor
 heirs_same None = refl
 heirs_same (Some x) = refl
 
-module _ (w : State) (t l : ℕ) (steady : IsSteady w) (there : t < length w.places) (own : IsOf l (place_at w t)) (r : Rules)
+module _ (w : State) (t l : ℕ) (steady : IsInductive w) (there : t < length w.places) (own : IsOf l (place_at w t)) (r : Rules)
     (rules : rules_in w l ≡ r) (readers : has_readers r.sort ≡ true) (x : Move) (same_row : profile (place_at w t) ≡ x.row)
     (lt : l < length w.locks) (p : Place) (op : Op) (g : HandsOver x op) where
   abbrev here : Site
@@ -53,18 +53,18 @@ module _ (w : State) (t l : ℕ) (steady : IsSteady w) (there : t < length w.pla
   abbrev pub seen : ℕ
   seen = word_at w l
 
-  -- who succeeds is no part of the place
+  -- a thread that succeeds is no part of the place
   abbrev pub whom : Option ℕ
   whom = thread_of (successor_from t 0 w.places)
 
   abbrev pub claims : List deeds.Act
   claims = claims_given t (unshared_then w t l) (λ u. taken_at (place_at w u) l) (length w.places)
 
-  station_is : station (place_at w t) ≡ record (inside_of Main) { carries = in_hand g.any false }
-  station_is = ap station_by same_row ∙ g.was
+  location_is : location (place_at w t) ≡ record (inside_of Main) { carries = in_hand g.any false }
+  location_is = ap location_by same_row ∙ g.was
 
-  free : (station (place_at w t)).hand ≡ None
-  free = ap (λ (y : Station). y.hand) station_is
+  free : (location (place_at w t)).hand ≡ None
+  free = ap (λ (y : Location). y.hand) location_is
 
   -- where the operation takes effect
   module _ (takes : takes_effect op seen ≡ true) (p2 : Place)
@@ -76,8 +76,8 @@ module _ (w : State) (t l : ℕ) (steady : IsSteady w) (there : t < length w.pla
     pub deeds_are : x.deeds whom (Value seen) ≡ hands
     deeds_are = g.deeds whom seen takes ∙ ap (λ q. Case (HandOff g.right q) ∷ bit_left g.none_left ∷ []) (ap (heir_of whom) knows ∙ heirs_same (successor_from t 0 w.places))
 
-    there_is : station p2 ≡ record (inside_of Main) { carries = in_hand g.any true }
-    there_is = ap station_by f.row ∙ g.goes seen takes
+    there_is : location p2 ≡ record (inside_of Main) { carries = in_hand g.any true }
+    there_is = ap location_by f.row ∙ g.goes seen takes
 
     pub hands_over : lock_seen (shares_at w l) (owners_after p t seen (owners_at w l)) (queue_at w (2 * l))
         (queue_at w (2 * l + 1)) (λ u. taken_at (place_at w u) l)
@@ -86,14 +86,14 @@ module _ (w : State) (t l : ℕ) (steady : IsSteady w) (there : t < length w.pla
         → Goes w (put (state_after_act w t p (act.HandOver l op)) t p2) l (acts t (x.deeds whom (Value seen)) ++ claims)
     hands_over owners word = subst (λ ds. Goes w (put (state_after_act w t p (act.HandOver l op)) t p2) l (acts t ds ++ claims)) (sym deeds_are)
         (subst (λ b. Goes w (put (state_after_hand_over_by b w t p l op) t p2) l (acts t hands ++ claims)) (sym takes)
-        (hand_over_goes w t l steady own there lt p p2 f.of f.fits op r rules readers given free g.right g.none_left law (ap (λ (y : Station). y.hand) there_is) g.any
-        (ap (λ (y : Station). y.inside) there_is ∙ sym (ap (λ (y : Station). y.inside) station_is)) (ap (λ (y : Station). y.stands) there_is ∙ sym (ap (λ (y : Station). y.stands) station_is)) (ap (λ (y : Station). y.waits) there_is ∙ sym (ap (λ (y : Station). y.waits) station_is))
-        (ap (λ (y : Station). y.carries) station_is) (ap (λ (y : Station). y.carries) there_is)))
+        (hand_over_goes w t l steady own there lt p p2 f.of f.fits op r rules readers given free g.right g.none_left law (ap (λ (y : Location). y.hand) there_is) g.any
+        (ap (λ (y : Location). y.inside) there_is ∙ sym (ap (λ (y : Location). y.inside) location_is)) (ap (λ (y : Location). y.stands) there_is ∙ sym (ap (λ (y : Location). y.stands) location_is)) (ap (λ (y : Location). y.waits) there_is ∙ sym (ap (λ (y : Location). y.waits) location_is))
+        (ap (λ (y : Location). y.carries) location_is) (ap (λ (y : Location). y.carries) there_is)))
       where
         law : HandsLawful w t l steady own there lt p p2 f.of f.fits op r rules readers given free g.right g.none_left
         law = record {
           needed = subst (λ ds. laws.AllNeeded r ds here t) deeds_are f.needed;
-          doing = ap (λ ds. (laws.after_all r ds here t).doing t) (sym deeds_are) ∙ f.doing ∙ sym (doing_here l p2 f.of ∙ ap (λ (y : Profile). y.doing) f.row);
+          role = ap (λ ds. (laws.after_all r ds here t).role t) (sym deeds_are) ∙ f.role ∙ sym (role_here l p2 f.of ∙ ap (λ (y : Profile). y.role) f.row);
           owners = owners;
           word = word ∙ ap (λ ds. code r (laws.after_all r ds here t)) deeds_are;
         }
@@ -104,31 +104,31 @@ module _ (w : State) (t l : ℕ) (steady : IsSteady w) (there : t < length w.pla
     nothing : x.deeds whom (Value seen) ≡ []
     nothing = g.fails whom seen fails
 
-    same_station : station p2 ≡ station (place_at w t)
-    same_station = ap station_by f.row ∙ g.stays seen fails ∙ sym (ap station_by same_row)
+    same_location : location p2 ≡ location (place_at w t)
+    same_location = ap location_by f.row ∙ g.stays seen fails ∙ sym (ap location_by same_row)
 
     pub looks_again : lock_in (operated w t p l op) (λ u. taken_at (place_at w u) l) ≡ here.lock → apply op seen ≡ code r here
         → Goes w (put (state_after_act w t p (act.HandOver l op)) t p2) l (acts t (x.deeds whom (Value seen)))
     looks_again owners word = subst (λ ds. Goes w (put (state_after_act w t p (act.HandOver l op)) t p2) l (acts t ds)) (sym nothing)
         (subst (λ b. Goes w (put (state_after_hand_over_by b w t p l op) t p2) l []) (sym fails)
         (lawful_goes w t l steady own there r rules p2 f.of f.fits readers p op []
-        (record { needed = tt; doing = ap (λ ds. (laws.after_all r ds here t).doing t) (sym nothing) ∙ f.doing ∙ sym (doing_here l p2 f.of ∙ ap (λ (y : Profile). y.doing) f.row); owners = owners; word = word })
-        tt tt lt tt (free_of (place_at w t) l (of_single l (place_at w t) own) free ∙ sym (free_of p2 l (of_single l p2 f.of) (ap (λ (y : Station). y.hand) same_station ∙ free))) same_station))
+        (record { needed = tt; role = ap (λ ds. (laws.after_all r ds here t).role t) (sym nothing) ∙ f.role ∙ sym (role_here l p2 f.of ∙ ap (λ (y : Profile). y.role) f.row); owners = owners; word = word })
+        tt tt lt tt (free_of (place_at w t) l (of_single l (place_at w t) own) free ∙ sym (free_of p2 l (of_single l p2 f.of) (ap (λ (y : Location). y.hand) same_location ∙ free))) same_location))
 
 -- ---------------------------------------------------------------- they are told so
 
-module _ (w : State) (t l : ℕ) (steady : IsSteady w) (there : t < length w.places) (own : IsOf l (place_at w t)) (r : Rules)
+module _ (w : State) (t l : ℕ) (steady : IsInductive w) (there : t < length w.places) (own : IsOf l (place_at w t)) (r : Rules)
     (rules : rules_in w l ≡ r) (readers : has_readers r.sort ≡ true) (x : Move) (same_row : profile (place_at w t) ≡ x.row)
     (hears : Hears) where
   abbrev now : Site
   now = lock_by w l r
 
   module _ (wakes : Wakes) (g : TellsHanded x hears wakes) where
-    stands_so : station (place_at w t) ≡ record (inside_of Main) { carries = in_hand g.any true }
-    stands_so = ap station_by same_row ∙ g.was
+    stands_so : location (place_at w t) ≡ record (inside_of Main) { carries = in_hand g.any true }
+    stands_so = ap location_by same_row ∙ g.was
 
-    bare : (station (place_at w t)).hand ≡ None
-    bare = ap (λ (y : Station). y.hand) stands_so
+    bare : (location (place_at w t)).hand ≡ None
+    bare = ap (λ (y : Location). y.hand) stands_so
 
     pub told_hears : hears r now t None Done
     told_hears = g.may r now t (free_of (place_at w t) l (of_single l (place_at w t) own) bare)
@@ -140,37 +140,37 @@ module _ (w : State) (t l : ℕ) (steady : IsSteady w) (there : t < length w.pla
         → Goes w (put (state_after_leave w t (One (key_of l Main)) wakes) t p2) l (acts t (x.deeds None Done))
     tells_handed p2 line f woken = subst (λ y. Goes w (put (state_after_leave w t (One (key_of l Main)) y) t p2) l (acts t (x.deeds None Done))) (sym g.notes) (either g.any refl)
       where
-        goes_nowhere : station p2 ≡ nowhere
-        goes_nowhere = ap station_by f.row ∙ g.goes
+        goes_nowhere : location p2 ≡ nowhere
+        goes_nowhere = ap location_by f.row ∙ g.goes
 
-        own_then : doing_on p2 l ≡ (after_acts r (acts t (x.deeds None Done)) now).doing t
-        own_then = doing_here l p2 f.of ∙ ap (λ (y : Profile). y.doing) f.row ∙ sym f.doing ∙ sym (ap (λ (s : Site). s.doing t) (after_same r (x.deeds None Done) now t))
+        own_then : role_on p2 l ≡ (after_acts r (acts t (x.deeds None Done)) now).role t
+        own_then = role_here l p2 f.of ∙ ap (λ (y : Profile). y.role) f.row ∙ sym f.role ∙ sym (ap (λ (s : Site). s.role t) (after_same r (x.deeds None Done) now t))
 
         either : (b : Bool) → g.any ≡ b
             → Goes w (put (state_after_leave w t (One (key_of l Main)) (wakes_taken b HandOffNote)) t p2) l
             (acts t (x.deeds None Done))
-        either false e = goes_out_alone w t l steady there own r rules x same_row hears Main p2 line g.deeds (ap (λ (y : Station). y.inside) g.was) (ap (λ (y : Station). y.carries) g.was ∙ ap (λ b. in_hand b true) e) (ap (λ (y : Station). y.hand) g.was)
-            (g.goes ∙ sym (ap (λ (y : Station). record y { inside = None; carries = None }) g.was)) f
-        either true e = wake_goes w t l steady own there p2 f.of f.fits HandOffNote woken bare (ap (λ (y : Station). y.carries) goes_nowhere) (ap (λ (y : Station). y.hand) goes_nowhere)
-            Main line (ap (λ (y : Station). y.inside) stands_so) (ap (λ (y : Station). y.stands) goes_nowhere ∙ sym (ap (λ (y : Station). y.stands) stands_so)) (ap (λ (y : Station). y.waits) goes_nowhere ∙ sym (ap (λ (y : Station). y.waits) stands_so)) (ap (λ (y : Station). y.inside) goes_nowhere)
-            r rules (free_of (place_at w t) l (of_single l (place_at w t) own) bare) (free_of p2 l (of_single l p2 f.of) (ap (λ (y : Station). y.hand) goes_nowhere)) (x.deeds None Done) g.deeds (needed_same r (x.deeds None Done) now t f.needed) own_then
+        either false e = goes_out_alone w t l steady there own r rules x same_row hears Main p2 line g.deeds (ap (λ (y : Location). y.inside) g.was) (ap (λ (y : Location). y.carries) g.was ∙ ap (λ b. in_hand b true) e) (ap (λ (y : Location). y.hand) g.was)
+            (g.goes ∙ sym (ap (λ (y : Location). record y { inside = None; carries = None }) g.was)) f
+        either true e = wake_goes w t l steady own there p2 f.of f.fits HandOffNote woken bare (ap (λ (y : Location). y.carries) goes_nowhere) (ap (λ (y : Location). y.hand) goes_nowhere)
+            Main line (ap (λ (y : Location). y.inside) stands_so) (ap (λ (y : Location). y.stands) goes_nowhere ∙ sym (ap (λ (y : Location). y.stands) stands_so)) (ap (λ (y : Location). y.waits) goes_nowhere ∙ sym (ap (λ (y : Location). y.waits) stands_so)) (ap (λ (y : Location). y.inside) goes_nowhere)
+            r rules (free_of (place_at w t) l (of_single l (place_at w t) own) bare) (free_of p2 l (of_single l p2 f.of) (ap (λ (y : Location). y.hand) goes_nowhere)) (x.deeds None Done) g.deeds (needed_same r (x.deeds None Done) now t f.needed) own_then
 
-  -- who was told so ends its call
+  -- a thread that was told so ends its call
   pub accepts : (g : Accepts x hears) (p2 : Place)
       → (hears r now t None Done → IsFollowed w t l steady there own r rules x same_row None Done p2)
       → Goes w (put w t p2) l (acts t (x.deeds None Done))
   accepts g p2 followed = subst (λ ds. Goes w (put w t p2) l (acts t ds)) (sym g.deeds)
       (place_goes w t l steady own there r rules p2 f.of f.fits (End ∷ []) (λ h. tt)
       (steps_by r l (parts_at w l) (parts_at w l) (place_at w) t p2 (End ∷ []) (subst (λ ds. ActsNeeded r (acts t ds) now) g.deeds (needed_same r (x.deeds None Done) now t f.needed)) (tt, tt)
-      (free_of (place_at w t) l (of_single l (place_at w t) own) (ap (λ (y : Station). y.hand) stood) ∙ sym (free_of p2 l (of_single l p2 f.of) (ap (λ (y : Station). y.hand) goes_nowhere))) refl refl refl refl
-      (doing_here l p2 f.of ∙ ap (λ (y : Profile). y.doing) f.row ∙ sym f.doing ∙ ap (λ ds. (laws.after_all r ds now t).doing t) g.deeds))
+      (free_of (place_at w t) l (of_single l (place_at w t) own) (ap (λ (y : Location). y.hand) stood) ∙ sym (free_of p2 l (of_single l p2 f.of) (ap (λ (y : Location). y.hand) goes_nowhere))) refl refl refl refl
+      (role_here l p2 f.of ∙ ap (λ (y : Profile). y.role) f.row ∙ sym f.role ∙ ap (λ ds. (laws.after_all r ds now t).role t) g.deeds))
       (goes_nowhere ∙ sym stood))
     where
       f : IsFollowed w t l steady there own r rules x same_row None Done p2
       f = followed (g.may r now t)
 
-      stood : station (place_at w t) ≡ nowhere
-      stood = ap station_by same_row ∙ g.was
+      stood : location (place_at w t) ≡ nowhere
+      stood = ap location_by same_row ∙ g.was
 
-      goes_nowhere : station p2 ≡ nowhere
-      goes_nowhere = ap station_by f.row ∙ g.goes
+      goes_nowhere : location p2 ≡ nowhere
+      goes_nowhere = ap location_by f.row ∙ g.goes

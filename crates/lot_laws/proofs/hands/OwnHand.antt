@@ -6,11 +6,11 @@ use Rattle.lot_steps.specs.Steps.{calls, profile}
 use Rattle.spec_locks.specs.Runs.{is_taken_by}
 use Rattle.lot_machine.specs.Machine.{State, place_at}
 use Rattle.lot_laws.specs.Refinement.{taken_at}
-use Rattle.lot_laws.specs.Stations.{Station, nowhere, station}
-use Rattle.lot_laws.specs.SitesOf.{IsSteady, carried_at}
+use Rattle.lot_laws.specs.Locations.{Location, nowhere, location}
+use Rattle.lot_laws.specs.SitesOf.{IsInductive, carried_at}
 use Rattle.lot_laws.proofs.machine.AtPlaces.{unless_held}
 use Rattle.lot_laws.proofs.machine.PlaceTest.{call_facts, mutex_row_facts, once_facts, semaphore_facts}
-use Rattle.lot_laws.proofs.machine.Parts.{IsSingle, free_of, single_station}
+use Rattle.lot_laws.proofs.machine.Parts.{IsSingle, free_of, single_location}
 
 bare : (p : Place) → IsSingle p → ((profile p).hand ≡ None) ⊎ ((profile p).carries ≡ None)
 bare Idle single = inl refl
@@ -20,11 +20,11 @@ bare (Once l at) single = (once_facts l at).bare
 bare (Semaphore l at) single = (semaphore_facts l at).bare
 bare (Condvar l at) single = absurd single
 
-module _ (w : State) (steady : IsSteady w) (t l : ℕ) (single : IsSingle (place_at w t)) where
+module _ (w : State) (steady : IsInductive w) (t l : ℕ) (single : IsSingle (place_at w t)) where
   nobody : (profile (place_at w t)).carries ≡ None → carried_at (place_at w t) l ≡ None
-  nobody none = ap (λ (x : Station). x.carries) (single_station (place_at w t) l single) ∙ either (calls (place_at w t) l)
+  nobody none = ap (λ (x : Location). x.carries) (single_location (place_at w t) l single) ∙ either (calls (place_at w t) l)
     where
-      either : (b : Bool) → (if b then station (place_at w t) else nowhere).carries ≡ None
+      either : (b : Bool) → (if b then location (place_at w t) else nowhere).carries ≡ None
       either true = none
       either false = refl
 

@@ -13,16 +13,16 @@ use Rattle.spec_locks.specs.Sites.{Main, Has}
 use Rattle.lot_machine.specs.Machine.{State, place_at, word_at, owners_at, kind_at, queue_at}
 use Rattle.lot_laws.specs.Refinement.{lock_state, taken_at}
 use Rattle.lot_laws.specs.MutexPromises.{IsMutexWord}
-use Rattle.lot_laws.specs.MutexDeeds.{mutex_doing}
-use Rattle.lot_laws.specs.Stations.{hand, station, station_at, doing_on}
-use Rattle.lot_laws.specs.SitesOf.{IsSteady, FitsItsLock, rules_in, carried_at, hand_at, stood_in}
+use Rattle.lot_laws.specs.MutexDeeds.{mutex_role}
+use Rattle.lot_laws.specs.Locations.{hand, location, location_at, role_on}
+use Rattle.lot_laws.specs.SitesOf.{IsInductive, FitsItsLock, rules_in, carried_at, hand_at, stood_in}
 use Rattle.lot_laws.proofs.hands.Counts.{without_absent}
-use Rattle.lot_laws.proofs.machine.Parts.{IsSingle, same, doing_here, nothing_at, untaken}
+use Rattle.lot_laws.proofs.machine.Parts.{IsSingle, same, role_here, nothing_at, untaken}
 use Rattle.lot_laws.proofs.mutex.Words.{mutex, queued_times}
 use Rattle.lot_laws.proofs.sites.StandsMoved.{mutex_rules}
 use Rattle.lot_laws.proofs.promises.SitesPromise.{coded_at}
 
-module _ (w : State) (steady : IsSteady w) where
+module _ (w : State) (steady : IsInductive w) where
   -- the word says whether the mutex is owned
   pub coded : (l : ℕ) → rules_in w l ≡ mutex → IsMutexWord (word_at w l) (owners_at w l).exclusive
   coded = coded_at w steady
@@ -34,12 +34,12 @@ module _ (w : State) (steady : IsSteady w) where
   pub coded_for : (t l : ℕ) (at : MutexPlace) → place_at w t ≡ Mutex l at → IsMutexWord (word_at w l) (owners_at w l).exclusive
   coded_for t l at is = coded l (rules_for t l at is)
 
-  -- who has nobody in hand by its place
-  pub taken_nobody : (t l : ℕ) → (doing_on (place_at w t) l).carries ≡ false → HasTakenNobody (lock_state w l) t
-  taken_nobody t l none u x h = let some : (doing_on (place_at w t) l).carries ≡ true = (steady.sites.site l).carried u (record { by = t; want = x }) h in cc
+  -- a thread that has nobody in hand by its place
+  pub taken_nobody : (t l : ℕ) → (role_on (place_at w t) l).carries ≡ false → HasTakenNobody (lock_state w l) t
+  taken_nobody t l none u x h = let some : (role_on (place_at w t) l).carries ≡ true = (steady.sites.site l).carried u (record { by = t; want = x }) h in cc
 
   module _ (t l : ℕ) where
-    -- who is not in its hand, to be woken or to be handed the lock, it hasn't taken
+    -- a thread that is not in its hand, to be woken or to be handed the lock, it hasn't taken
     pub unless_held : (u : ℕ) → (hand_at (place_at w u) l ≡ hand t false → ⊥) → is_taken_by t (taken_at (place_at w u) l) ≡ false
     unless_held u none = freed (taken_at (place_at w u) l) (untaken (place_at w u) t l none)
       where
@@ -57,11 +57,11 @@ module _ (w : State) (steady : IsSteady w) where
 
   module _ (t l : ℕ) where
     -- how often it stands in the queue
-    pub queued_by : locks.times t (lock_state w l).queue ≡ stood_in (station_at (place_at w t) l).stands Main
+    pub queued_by : locks.times t (lock_state w l).queue ≡ stood_in (location_at (place_at w t) l).stands Main
     queued_by = queued_times t (queue_at w (2 * l)) ∙ steady.stands.lines t l Main
 
-  -- who stands in no line leaves none, in a call of one lock
-  module _ (t : ℕ) (single : IsSingle (place_at w t)) (nowhere_now : (station (place_at w t)).stands ≡ None) where
+  -- a thread that stands in no line leaves none, in a call of one lock
+  module _ (t : ℕ) (single : IsSingle (place_at w t)) (nowhere_now : (location (place_at w t)).stands ≡ None) where
     pub absent : (l : ℕ) → times t (queue_at w (2 * l)) ≡ 0
     absent l = steady.stands.lines t l Main ∙ ap (λ x. stood_in x Main) (nothing_at (place_at w t) l single (λ x. x.stands) refl nowhere_now)
 
@@ -69,8 +69,8 @@ module _ (w : State) (steady : IsSteady w) where
     same_without l = get_or-map (without t) w.queues (2 * l) [] ∙ without_absent t (queue_at w (2 * l)) (absent l)
 
   module _ (t l : ℕ) (at : MutexPlace) (is : place_at w t ≡ Mutex l at) where
-    pub own_doing : doing_on (place_at w t) l ≡ mutex_doing at
-    own_doing = ap (λ p. doing_on p l) is ∙ doing_here l (Mutex l at) refl
+    pub own_role : role_on (place_at w t) l ≡ mutex_role at
+    own_role = ap (λ p. role_on p l) is ∙ role_here l (Mutex l at) refl
 
-    pub owns : (mutex_doing at).claims ≡ Some (Has Exclusive) → (owners_at w l).exclusive ≡ Some t
-    owns h = (steady.sites.site l).held t (Has Exclusive) (ap (λ x. x.claims) own_doing ∙ h)
+    pub owns : (mutex_role at).claims ≡ Some (Has Exclusive) → (owners_at w l).exclusive ≡ Some t
+    owns h = (steady.sites.site l).held t (Has Exclusive) (ap (λ x. x.claims) own_role ∙ h)

@@ -15,8 +15,8 @@ use Rattle.lot_machine.proofs.Acted.{acted_keeps}
 use Rattle.lot_laws.proofs.promises.RowPromises.{Befalls}
 
 module _ {A : Type 0} (g : Place → A) (kept : (p : Place) (r : Reply) → Befalls r → g (next_place p r) ≡ g p) where
-  doing_keeps : (w : State) (u t : ℕ) (p : Place) (a : Act) → g (place_at (state_after_act w t p a) u) ≡ g (place_at w u)
-  doing_keeps w u t p a = acted_keeps (λ q. g q ≡ g (place_at w u)) w u t p a (λ any r b q e. kept q r b ∙ e) refl
+  role_keeps : (w : State) (u t : ℕ) (p : Place) (a : Act) → g (place_at (state_after_act w t p a) u) ≡ g (place_at w u)
+  role_keeps w u t p a = acted_keeps (λ q. g q ≡ g (place_at w u)) w u t p a (λ any r b q e. kept q r b ∙ e) refl
 
   put_keeps : (b : State) (t u : ℕ) (p : Place) → u ≢ t → g (place_at (put b t p) u) ≡ g (place_at b u)
   put_keeps b t u p ne = ap g (get_or-set_other b.places t u p Idle ne)
@@ -26,7 +26,7 @@ module _ {A : Type 0} (g : Place → A) (kept : (p : Place) (r : Reply) → Befa
   late_keeps w t u (Some key) ne = put_keeps (state_with_sections w (One key) (Some t)) t u _ ne
 
   went_keeps : (w : State) (t u : ℕ) (p : Place) → u ≢ t → g (place_at (state_after_going w t p) u) ≡ g (place_at w u)
-  went_keeps w t u p ne = put_keeps (state_after_act w t p (act_of p)) t u _ ne ∙ doing_keeps w u t p (act_of p)
+  went_keeps w t u p ne = put_keeps (state_after_act w t p (act_of p)) t u _ ne ∙ role_keeps w u t p (act_of p)
 
   put_went_keeps : (w : State) (t u : ℕ) (q : Place) → u ≢ t → g (place_at (state_after_go (put w t q) t) u) ≡ g (place_at w u)
   put_went_keeps w t u q ne = went_keeps (put w t q) t u (place_at (put w t q) t) ne ∙ put_keeps w t u q ne
@@ -43,7 +43,7 @@ module _ {A : Type 0} (g : Place → A) (kept : (p : Place) (r : Reply) → Befa
   turned_keeps w t u turn.TheVariants.Ok ne = put_went_keeps w t u (closed_place w t true) ne
   turned_keeps w t u turn.TheVariants.Err ne = put_went_keeps w t u (closed_place w t false) ne
 
-  -- whatever another thread does
+  -- for every act of another thread
   pub others_keep_it : (w : State) (s : Step) (u : ℕ) → u ≢ s.thread → g (place_at (after w s) u) ≡ g (place_at w u)
   others_keep_it w s u ne = either (is_possible w s)
     where

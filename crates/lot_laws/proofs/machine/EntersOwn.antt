@@ -3,7 +3,7 @@ use Rattle.std.proofs.Common.{ℕ, Bool, true, false, Some, ◌≡◌, ◌⊎◌
 use Rattle.core_base.specs.declared.keys.Keys.TheVariants.{One, Two}
 use Rattle.steps_base.specs.declared.acts.Act.{Act}
 use Rattle.steps_base.specs.declared.acts.Act.TheVariants as act
-use Rattle.steps_base.specs.Stations.{Station}
+use Rattle.steps_base.specs.Locations.{Location}
 use Rattle.steps_condvar.specs.declared.places.CondvarPlace.{CondvarPlace}
 use Rattle.steps_condvar.specs.declared.places.CondvarPlace.TheVariants as condvar
 use Rattle.steps_condvar.specs.declared.wait.WaitAt.TheVariants as wait
@@ -16,22 +16,22 @@ use Rattle.spec_locks.specs.Sites.{Line, Main, Second, has_readers}
 use Rattle.spec_locks.specs.Purposes.{rules_of}
 use Rattle.lot_machine.specs.Machine.{State, kind_at, place_at}
 use Rattle.lot_laws.specs.SitesOf.{FitsItsLock, IsWorld, key_of, rules_in}
-use Rattle.lot_laws.specs.Solo.{EntersAt, HasLine, IsBarred}
-use Rattle.lot_laws.specs.Stations.{station}
+use Rattle.lot_laws.specs.Solo.{EntersSection, HasLine, IsBarred}
+use Rattle.lot_laws.specs.Locations.{location}
 use Rattle.lot_laws.proofs.machine.PlaceTest.{IsLineAct, call_facts, mutex_facts, once_facts, semaphore_facts}
 
 -- ---------------------------------------------------------------- of the main line
 
-moves_never : (key l m : ℕ) (all locked : Bool) → EntersAt key (move_act all locked l m) → ⊥
+moves_never : (key l m : ℕ) (all locked : Bool) → EntersSection key (move_act all locked l m) → ⊥
 moves_never key l m true locked h = h
 moves_never key l m false true h = h
 moves_never key l m false false h = h
 
--- of a condition variable, or of its mutex
+-- for a condition variable, or for its mutex
 abbrev MainOf : CondvarPlace → ℕ → ℕ → Type 0
 MainOf p l key = (2 * l ≡ key) ⊎ ((m : ℕ) × (mutex_beside p ≡ Some m) × (2 * m ≡ key))
 
-condvar_main : (l key : ℕ) (at : CondvarPlace) → EntersAt key (condvar_act l at) → MainOf at l key
+condvar_main : (l key : ℕ) (at : CondvarPlace) → EntersSection key (condvar_act l at) → MainOf at l key
 condvar_main l key (condvar.Look all) h = absurd h
 condvar_main l key (condvar.Wait m timed wait.Enter) h = inl h
 condvar_main l key (condvar.Wait m timed (wait.Release s at)) h = inr (m, refl, (mutex_facts m at).main refl key h)
@@ -50,7 +50,7 @@ same_lock k l Second Second e = omega arith
 same_lock k l Main Second e = absurd (omega arith)
 same_lock k l Second Main e = absurd (omega arith)
 
-within_line : (l key : ℕ) (s : Station) (a : Act) → IsLineAct l s a → EntersAt key a → (n : Line) × (key ≡ key_of l n)
+within_line : (l key : ℕ) (s : Location) (a : Act) → IsLineAct l s a → EntersSection key a → (n : Line) × (key ≡ key_of l n)
 within_line l key s (act.Enter (One k)) h e = (h.0, sym e ∙ h.1)
 within_line l key s (act.Enter (Two first second)) h e = absurd h
 within_line l key s a h e = absurd e
@@ -59,7 +59,7 @@ module _ (w : State) (t : ℕ) (world : IsWorld w) (b : IsBarred w t) where
   abbrev Own : Type 0
   Own = ((lock_of (place_at w t) ≡ Some b.lock) ⊎ (beside_of (place_at w t) ≡ Some b.lock)) × HasLine (rules_of (kind_at w b.lock)).sort b.line
 
-  -- of this lock it is the main line
+  -- for this lock it is the main line
   main_line : (l : ℕ) → 2 * l ≡ key_of b.lock b.line → (l ≡ b.lock) × HasLine (rules_of (kind_at w b.lock)).sort b.line
   main_line l e = by_line b.lock b.line e
     where
@@ -79,17 +79,17 @@ module _ (w : State) (t : ℕ) (world : IsWorld w) (b : IsBarred w t) where
       by_line Main shared = tt
       by_line Second shared = shared
 
-  -- what bars it is a section that its call may enter
+  -- the section that bars it is one that its call may enter
   pub enters_own : Own
   enters_own = by_place (place_at w t) refl (subst (FitsItsLock w) refl (world.steady.stands.calls t)) b.enters
     where
-      by_place : (p : Place) → place_at w t ≡ p → FitsItsLock w p → EntersAt (key_of b.lock b.line) (act_of p) → Own
+      by_place : (p : Place) → place_at w t ≡ p → FitsItsLock w p → EntersSection (key_of b.lock b.line) (act_of p) → Own
       by_place Idle is fits e = absurd e
       by_place (Mutex l at) is fits e = own_main l (ap lock_of is) ((mutex_facts l at).main refl (key_of b.lock b.line) e)
       by_place (Once l at) is fits e = own_main l (ap lock_of is) ((once_facts l at).main refl (key_of b.lock b.line) e)
       by_place (Semaphore l at) is fits e = own_main l (ap lock_of is) ((semaphore_facts l at).main refl (key_of b.lock b.line) e)
       by_place (RwLock l a c) is fits e = own_shared l (ap lock_of is) fits.0.0
-          (within_line l (key_of b.lock b.line) (station (RwLock l a c)) (act_of (RwLock l a c)) (call_facts l a c).line e)
+          (within_line l (key_of b.lock b.line) (location (RwLock l a c)) (act_of (RwLock l a c)) (call_facts l a c).line e)
       by_place (Condvar l at) is fits e = elim (condvar_main l (key_of b.lock b.line) at e) [
         | inl own ↦ own_main l (ap lock_of is) own
         | inr beside ↦ let h = main_line beside.0 beside.2 in (inr (ap beside_of is ∙ beside.1 ∙ ap Some h.0), h.1)

@@ -320,7 +320,7 @@ unless_sleeps : (l : ℕ) (a : Admission) (o : Option RwLockCallPlace) (n : Next
 unless_sleeps l a None n given stays = stays
 unless_sleeps l a (Some c) n given stays = (c, (refl, given))
 
--- what a bump makes of a call by its purpose
+-- tells what a bump makes of a call by its purpose
 abbrev in_bump : RwLockPurpose → ℕ → CallState → CallState
 in_bump q l c = record c { purpose = Some (Bumps l (wanted (access_of q))); released = bump_released q c.released; former = bump_former q l c.former }
 

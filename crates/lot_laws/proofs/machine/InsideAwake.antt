@@ -4,19 +4,19 @@ use Rattle.spec_locks.specs.Sites.{Line, idle}
 use Rattle.lot_steps.specs.declared.places.Place.{Place}
 use Rattle.lot_steps.specs.Steps.{act_of, beside_of, calls, is_lock, profile, profile_beside}
 use Rattle.lot_machine.specs.Machine.{State, place_at}
-use Rattle.lot_laws.specs.Stations.{doing_on}
-use Rattle.lot_laws.specs.SitesOf.{IsSteady}
+use Rattle.lot_laws.specs.Locations.{role_on}
+use Rattle.lot_laws.specs.SitesOf.{IsInductive}
 use Rattle.lot_laws.specs.Owing.{IsInside}
 use Rattle.lot_laws.proofs.machine.Parts.{inside_is}
 use Rattle.lot_laws.proofs.machine.PlaceTest.{IsFree, beside_facts, row_facts}
 
-doing_goes : (p : Place) (l : ℕ) (m : Line) → (doing_on p l).inside ≡ Some m → IsFree (act_of p)
-doing_goes p l = by_locks (calls p l) (is_lock l (beside_of p))
+role_goes : (p : Place) (l : ℕ) (m : Line) → (role_on p l).inside ≡ Some m → IsFree (act_of p)
+role_goes p l = by_locks (calls p l) (is_lock l (beside_of p))
   where
-    by_locks : (b c : Bool) (m : Line) → (if b then (profile p).doing else if c then (profile_beside p).doing else idle).inside ≡ Some m → IsFree (act_of p)
+    by_locks : (b c : Bool) (m : Line) → (if b then (profile p).role else if c then (profile_beside p).role else idle).inside ≡ Some m → IsFree (act_of p)
     by_locks true c m h = (row_facts p).goes m h
     by_locks false true m h = (beside_facts p).goes m h
     by_locks false false m h = absurd cc
 
-pub inside_goes : (w : State) → IsSteady w → (t l : ℕ) (m : Line) → IsInside w t l m → IsFree (act_of (place_at w t))
-inside_goes w steady t l m h = doing_goes (place_at w t) l m (inside_is (place_at w t) l ∙ (steady.stands.sections t l m).1 h)
+pub inside_goes : (w : State) → IsInductive w → (t l : ℕ) (m : Line) → IsInside w t l m → IsFree (act_of (place_at w t))
+inside_goes w steady t l m h = role_goes (place_at w t) l m (inside_is (place_at w t) l ∙ (steady.stands.sections t l m).1 h)

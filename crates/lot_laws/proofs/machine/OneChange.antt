@@ -28,8 +28,8 @@ use Rattle.lot_machine.specs.Machine.{state_after_hand_over_by, State, left_behi
 use Rattle.lot_laws.proofs.calls.Looking.{looks_untouched}
 use Rattle.lot_machine.proofs.Shape.{both}
 use Rattle.std.specs.Prelude.{nat_lt, length}
-use Rattle.lot_laws.specs.Stations.{station}
-use Rattle.lot_laws.specs.SitesOf.{FitsItsLock, IsSteady}
+use Rattle.lot_laws.specs.Locations.{location}
+use Rattle.lot_laws.specs.SitesOf.{FitsItsLock, IsInductive}
 use Rattle.lot_laws.proofs.condvar.Sections.{IsActOfTwo, condvar_lines, holds_key, left_at}
 use Rattle.steps_condvar.specs.declared.places.CondvarPlace.{CondvarPlace}
 use Rattle.lot_steps.specs.declared.places.Place.TheVariants.{Condvar}
@@ -46,7 +46,7 @@ use Rattle.steps_base.specs.Acts.{takes_effect, holds}
 use Rattle.lot_laws.specs.Refinement.{ChangesOneThing}
 use Rattle.lot_laws.specs.WorldRuns.{IsUntouched, TouchesOnlyByGoing}
 
--- who looks at the word once more changes none
+-- a thread that looks at the word once more changes none
 spun_touches : (w : State) (t : ℕ) → t < length w.places → (o : Option Place) → looking (place_at w t) ≡ o
     → IsUntouched w (state_after_look w t o)
 spun_touches w t there None is = (λ l. refl, λ key. refl)
@@ -74,7 +74,7 @@ put_one : (w v : State) (t u : ℕ) (p : Place) → ChangesOneThing w t v → Ch
 put_one w v t u p (inl h) = inl h
 put_one w v t u p (inr h) = inr h
 
-module _ (w : State) (t : ℕ) (steady : IsSteady w) (there : t < length w.places) where
+module _ (w : State) (t : ℕ) (steady : IsInductive w) (there : t < length w.places) where
   word_one : (p : Place) (l : ℕ) (f : op.Op) → ChangesOneThing w t (state_after_operation w t p l f)
   word_one p l f = inl (l, (λ k ne. ap (λ x. x.word) (get_or-set_other w.locks l k _ (unlocked kind.TheVariants.Mutex) ne)), λ key. refl)
 
@@ -116,9 +116,9 @@ module _ (w : State) (t : ℕ) (steady : IsSteady w) (there : t < length w.place
   take_one key held (whom.Picked start recursive) = inr ((λ k. refl), set_at key w.queues (without_lock_picked start recursive key (queue_at w key)) held (λ k. inl refl))
   take_one key held whom.All = inr ((λ k. refl), set_at key w.queues [] held (λ k. inl refl))
 
-  -- whatever its act is, by the line that it touches
+  -- for every act, by the line that it touches
   module _ (l : ℕ) (is_of : IsOf l (place_at w t)) where
-    act_one : (p : Place) (a : Act) → IsLineAct l (station (place_at w t)) a → ChangesOneThing w t (state_after_act w t p a)
+    act_one : (p : Place) (a : Act) → IsLineAct l (location (place_at w t)) a → ChangesOneThing w t (state_after_act w t p a)
     act_one p (act.TheVariants.Word k f) h = word_one p k f
     act_one p (act.TheVariants.HandOver k f) h = given_one p k f (takes_effect f (word_at w k))
     act_one p (act.TheVariants.Enter keys) h = filled_one keys (Some t)
@@ -176,7 +176,7 @@ module _ (w : State) (t : ℕ) (steady : IsSteady w) (there : t < length w.place
   late_one None = stays
   late_one (Some key) = put_one w (state_with_sections w (One key) (Some t)) t t (next_place (place_at w t) Late) (filled_one (One key) (Some t))
 
-  -- behind its closure it swaps the word of its `Once`
+  -- after its closure it swaps the word of its `Once`
   closed_one : (succeeded : Bool) → RunsOne (place_at w t) → ChangesOneThing w t (state_after_close w t succeeded)
   closed_one succeeded one = subst (ChangesOneThing w t) (sym (goes_there w t there succeeded one ∙ goes_from_there (closing w t there succeeded one) t swaps (closing_here w t there succeeded one ∙ is_behind w t there succeeded one) tt))
       (put_one w (put swapped t (closed_place w t succeeded)) t t (next_place swaps (Value (word_at w one.lock))) (put_one w swapped t t (closed_place w t succeeded) (word_one swaps one.lock (op.TheVariants.Swap (word_behind succeeded)))))
@@ -196,7 +196,7 @@ module _ (w : State) (t : ℕ) (steady : IsSteady w) (there : t < length w.place
   turned_one turn.TheVariants.Ok can = closed_one true (closes_one w t true can)
   turned_one turn.TheVariants.Err can = closed_one false (closes_one w t false can)
 
-pub one_thing : (w : State) (s : Step) → IsSteady w → ChangesOneThing w s.thread (after w s)
+pub one_thing : (w : State) (s : Step) → IsInductive w → ChangesOneThing w s.thread (after w s)
 one_thing w s steady = either (is_possible w s) refl
   where
     either : (b : Bool) → is_possible w s ≡ b → ChangesOneThing w s.thread (if b then state_after_turn w s.thread s.turn else w)

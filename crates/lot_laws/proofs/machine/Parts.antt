@@ -38,13 +38,13 @@ use Rattle.spec_locks.specs.Locks.{LockState, Taken, Rules, keep_from, putting}
 use Rattle.std.specs.Prelude.{◌&&◌, ◌||◌}
 use Rattle.steps_base.specs.Owners.{is_thread}
 use Rattle.spec_locks.specs.Locks as locks
-use Rattle.spec_locks.specs.Sites.{Doing, Site, Out, idle, leaves, wakened, after_deed}
+use Rattle.spec_locks.specs.Sites.{Role, Site, Out, idle, leaves, wakened, after_deed}
 use Rattle.lot_machine.specs.Machine.{State, place_at, kind_at, word_at, owners_at, shares_at, filled_at, queue_at, place_after_telling, held, shares_in_hand, with_share, shares_given, wants_more_in_hand, successor_or, successor_from, put, held_by}
 use Rattle.lot_machine.specs.declared.hands.Successor.{Successor}
 use Rattle.lot_laws.specs.Refinement.{lock_seen, taken_at}
-use Rattle.lot_laws.specs.MutexDeeds.{mutex_station}
-use Rattle.lot_laws.specs.Stations.{Station, hand, station, station_at, nowhere, doing_on, station_by}
-use Rattle.lot_laws.specs.SitesOf.{rules_in, hand_at, FitsItsLock, IsSteady, TakesOne}
+use Rattle.lot_laws.specs.MutexDeeds.{mutex_location}
+use Rattle.lot_laws.specs.Locations.{Location, hand, location, location_at, nowhere, role_on, location_by}
+use Rattle.lot_laws.specs.SitesOf.{rules_in, hand_at, FitsItsLock, IsInductive, TakesOne}
 
 -- ---------------------------------------------------------------- lists with one element set, as functions
 
@@ -73,7 +73,7 @@ set_puts xs i x d past j = put_is (λ k. get_or xs k d) (λ k. get_or (set xs i 
 pub put_places : (w : State) (t : ℕ) (p : Place) → (length w.places ≤ t → p ≡ Idle) → place_at (put w t p) ≡ putting (place_at w) t p
 put_places w t p past = λ i u. set_puts w.places t p Idle past u i
 
--- whatever befalls a thread, with no bound: past the last all are idle
+-- for all that befalls a thread, with no bound: past the last all are idle
 pub goes_from : (w : State) (t : ℕ) (reply : Reply) → place_at (put w t (next_place (place_at w t) reply)) ≡ putting (place_at w) t (next_place (place_at w t) reply)
 goes_from w t reply = put_places w t (next_place (place_at w t) reply) (λ h. ap (λ p. next_place p reply) (past_all w.places t Idle h))
 
@@ -82,7 +82,7 @@ goes_from w t reply = put_places w t (next_place (place_at w t) reply) (λ h. ap
 abbrev pub mutex : Rules
 mutex = record { sort = locks.Mutex; limit = 0 }
 
--- what no step of a mutex changes
+-- tells what no step of a mutex changes
 pub record Base : Type 0 where
   pub shared : List ℕ
   pub filled : Bool
@@ -112,13 +112,13 @@ seen_in r l a places = record {
   parked = parked_in r.sort a.word;
   aside_parked = aside_in r.sort a.word;
   filled = a.base.filled;
-  doing = λ u. doing_on (places u) l;
+  role = λ u. role_on (places u) l;
 }
 
 abbrev pub seen_by : Rules → (l : ℕ) → Base → (word : ℕ) → Owners → (main second : List Waiter) → (ℕ → Place) → Site
 seen_by r l n word o main second places = seen_in r l (record { base = n; word = word; owners = o; main = main; second = second }) places
 
--- of a mutex
+-- for a mutex
 abbrev pub seen : (l : ℕ) → Base → (word : ℕ) → Owners → (main second : List Waiter) → (ℕ → Place) → Site
 seen l n word o main second places = seen_by mutex l n word o main second places
 
@@ -143,11 +143,11 @@ put_other f t x u ne = ap (λ b. if b then x else f u) (differ u t ne)
 
 -- ---------------------------------------------------------------- leaving a section
 
--- whom t hasn't taken
+-- a thread that t hasn't taken
 abbrev pub Untaken : ℕ → Option Taken → Type 0
 Untaken t o = keep_from t o ≡ o
 
-pub not_wakened : (t : ℕ) (o : Option Taken) (d : Doing) → Untaken t o → wakened t o d ≡ d
+pub not_wakened : (t : ℕ) (o : Option Taken) (d : Role) → Untaken t o → wakened t o d ≡ d
 not_wakened t None d e = refl
 not_wakened t (Some h) d e = either (h.by == t) refl
   where
@@ -155,20 +155,20 @@ not_wakened t (Some h) d e = either (h.by == t) refl
     either false f = refl
     either true f = absurd (let g : keep_from t (Some h) ≡ None = ap (λ b. if b then None else Some h) f in cc)
 
--- what leaving does to each other thread
+-- tells what leaving does to each other thread
 pub record LetGo (t l : ℕ) (p p2 : Place) : Type 0 where
   pub taken : taken_at p2 l ≡ keep_from t (taken_at p l)
-  pub doing : doing_on p2 l ≡ wakened t (taken_at p l) (doing_on p l)
+  pub role : role_on p2 l ≡ wakened t (taken_at p l) (role_on p l)
 
--- who wasn't taken stays
+-- a thread that wasn't taken stays
 pub stays : (t l : ℕ) (p : Place) → Untaken t (taken_at p l) → LetGo t l p p
-stays t l p e = record { taken = sym e; doing = sym (not_wakened t (taken_at p l) (doing_on p l) e) }
+stays t l p e = record { taken = sym e; role = sym (not_wakened t (taken_at p l) (role_on p l) e) }
 
 module _ (r : Rules) (l : ℕ) (n : Base) (word : ℕ) (o : Owners) (m s : List Waiter) (p q : ℕ → Place) (t : ℕ) where
   -- leaving a section, whoever is woken by it
-  pub leaving : taken_at (p t) l ≡ None → taken_at (q t) l ≡ None → doing_on (q t) l ≡ leaves (doing_on (p t) l) → ((u : ℕ) → u ≢ t → LetGo t l (p u) (q u))
+  pub leaving : taken_at (p t) l ≡ None → taken_at (q t) l ≡ None → role_on (q t) l ≡ leaves (role_on (p t) l) → ((u : ℕ) → u ≢ t → LetGo t l (p u) (q u))
       → seen l n word o m s q ≡ after_deed r Out (seen l n word o m s p) t
-  leaving none none2 own others = λ i. record (seen l n word o m s q) { lock = lock_seen n.shared o m s (λ u. taken_now u i); doing = λ u. doing_now u i }
+  leaving none none2 own others = λ i. record (seen l n word o m s q) { lock = lock_seen n.shared o m s (λ u. taken_now u i); role = λ u. role_now u i }
     where
       taken_now : (u : ℕ) → taken_at (q u) l ≡ keep_from t (taken_at (p u) l)
       taken_now u = elim (cases_eq u t) [
@@ -176,10 +176,10 @@ module _ (r : Rules) (l : ℕ) (n : Base) (word : ℕ) (o : Owners) (m s : List 
         | inr ne ↦ (others u ne).taken
       ]
 
-      doing_now : (u : ℕ) → doing_on (q u) l ≡ wakened t (taken_at (p u) l) (putting (λ x. doing_on (p x) l) t (leaves (doing_on (p t) l)) u)
-      doing_now u = elim (cases_eq u t) [
-        | inl e ↦ rw e (own ∙ sym (ap (λ x. wakened t x (putting (λ y. doing_on (p y) l) t (leaves (doing_on (p t) l)) t)) none ∙ put_here (λ y. doing_on (p y) l) t (leaves (doing_on (p t) l))))
-        | inr ne ↦ (others u ne).doing ∙ sym (ap (wakened t (taken_at (p u) l)) (put_other (λ y. doing_on (p y) l) t (leaves (doing_on (p t) l)) u ne))
+      role_now : (u : ℕ) → role_on (q u) l ≡ wakened t (taken_at (p u) l) (putting (λ x. role_on (p x) l) t (leaves (role_on (p t) l)) u)
+      role_now u = elim (cases_eq u t) [
+        | inl e ↦ rw e (own ∙ sym (ap (λ x. wakened t x (putting (λ y. role_on (p y) l) t (leaves (role_on (p t) l)) t)) none ∙ put_here (λ y. role_on (p y) l) t (leaves (role_on (p t) l))))
+        | inr ne ↦ (others u ne).role ∙ sym (ap (wakened t (taken_at (p u) l)) (put_other (λ y. role_on (p y) l) t (leaves (role_on (p t) l)) u ne))
       ]
 
 -- ---------------------------------------------------------------- hands
@@ -214,7 +214,7 @@ single_or_two (Semaphore k at) = inl tt
 single_or_two (Condvar k at) = inr (record { lock = k; at = at; is = refl })
 
 -- a call of two locks fits them
-pub fits_two : (w : State) (t : ℕ) → IsSteady w → (two : IsOfTwo (place_at w t)) → FitsItsLock w (Condvar two.lock two.at)
+pub fits_two : (w : State) (t : ℕ) → IsInductive w → (two : IsOfTwo (place_at w t)) → FitsItsLock w (Condvar two.lock two.at)
 fits_two w t steady two = subst (FitsItsLock w) two.is (steady.stands.calls t)
 
 -- has no other beside it
@@ -235,11 +235,11 @@ blank_beside (Semaphore k at) single = refl
 blank_beside (Condvar k at) single = absurd single
 
 -- so that all that is said of it is said of its lock
-pub single_station : (p : Place) (l : ℕ) → IsSingle p → station_at p l ≡ (if calls p l then station p else nowhere)
-single_station p l single = ap (λ o. if calls p l then station p else if is_lock l o then station_by (profile_beside p) else nowhere) (none_beside p single)
+pub single_location : (p : Place) (l : ℕ) → IsSingle p → location_at p l ≡ (if calls p l then location p else nowhere)
+single_location p l single = ap (λ o. if calls p l then location p else if is_lock l o then location_by (profile_beside p) else nowhere) (none_beside p single)
 
-pub single_doing : (p : Place) (l : ℕ) → IsSingle p → doing_on p l ≡ (if calls p l then (profile p).doing else idle)
-single_doing p l single = ap (λ o. if calls p l then (profile p).doing else if is_lock l o then (profile_beside p).doing else idle) (none_beside p single)
+pub single_role : (p : Place) (l : ℕ) → IsSingle p → role_on p l ≡ (if calls p l then (profile p).role else idle)
+single_role p l single = ap (λ o. if calls p l then (profile p).role else if is_lock l o then (profile_beside p).role else idle) (none_beside p single)
 
 pub single_taken : (p : Place) (l : ℕ) → IsSingle p → taken_at p l ≡ taken_from (profile p).hand (profile p).wants (calls p l)
 single_taken p l single = ap (λ o. if is_lock l o && not (calls p l) then taken_from (profile_beside p).hand (profile_beside p).wants true else taken_from (profile p).hand (profile p).wants (calls p l)) (none_beside p single)
@@ -259,11 +259,11 @@ single_held p single = ap (λ (row : Profile). held_by (hand_owner (or_else row.
 pub single_wants : (p : Place) → IsSingle p → wants p ≡ (profile p).wants
 single_wants p single = ap (λ (row : Profile). or_else row.wants (profile p).wants) (blank_beside p single)
 
--- what a place says nothing of at its own lock, it says nothing of at any
-pub nothing_at : {A : Type 0} (p : Place) (l : ℕ) → IsSingle p → (g : Station → Option A) → g nowhere ≡ None → g (station p) ≡ None → g (station_at p l) ≡ None
-nothing_at p l single g n e = ap g (single_station p l single) ∙ either (calls p l)
+-- a place says nothing at any lock of what it says nothing of at its own
+pub nothing_at : {A : Type 0} (p : Place) (l : ℕ) → IsSingle p → (g : Location → Option A) → g nowhere ≡ None → g (location p) ≡ None → g (location_at p l) ≡ None
+nothing_at p l single g n e = ap g (single_location p l single) ∙ either (calls p l)
   where
-    either : (b : Bool) → g (if b then station p else nowhere) ≡ None
+    either : (b : Bool) → g (if b then location p else nowhere) ≡ None
     either true = e
     either false = n
 
@@ -271,7 +271,7 @@ abbrev pub IsInHand : Place → ℕ → Bool → ℕ → Type 0
 IsInHand p t false l = IsTakenAt p t l
 IsInHand p t true l = IsHandedAt p t l
 
--- who calls the lock l calls a mutex
+-- a thread that calls the lock l calls a mutex
 abbrev pub IsMutexCall : ℕ → Place → Type 0
 IsMutexCall l (RwLock k a at) = k ≢ l
 IsMutexCall l (Once k at) = k ≢ l
@@ -280,19 +280,19 @@ IsMutexCall l (Condvar k at) = ⊥
 IsMutexCall l p = Unit {0}
 
 pub in_hand : (p : Place) (t l : ℕ) (b : Bool) → IsMutexCall l p → hand_at p l ≡ hand t b → IsInHand p t b l
-in_hand (RwLock k a at) t l b other h = absurd (let none : hand_at (RwLock k a at) l ≡ None = ap (λ c. (if c then station (RwLock k a at) else nowhere).hand) (differ k l other) in cc)
-in_hand (Once k at) t l b other h = absurd (let none : hand_at (Once k at) l ≡ None = ap (λ c. (if c then station (Once k at) else nowhere).hand) (differ k l other) in cc)
-in_hand (Semaphore k at) t l b other h = absurd (let none : hand_at (Semaphore k at) l ≡ None = ap (λ c. (if c then station (Semaphore k at) else nowhere).hand) (differ k l other) in cc)
+in_hand (RwLock k a at) t l b other h = absurd (let none : hand_at (RwLock k a at) l ≡ None = ap (λ c. (if c then location (RwLock k a at) else nowhere).hand) (differ k l other) in cc)
+in_hand (Once k at) t l b other h = absurd (let none : hand_at (Once k at) l ≡ None = ap (λ c. (if c then location (Once k at) else nowhere).hand) (differ k l other) in cc)
+in_hand (Semaphore k at) t l b other h = absurd (let none : hand_at (Semaphore k at) l ≡ None = ap (λ c. (if c then location (Semaphore k at) else nowhere).hand) (differ k l other) in cc)
 in_hand (Condvar k at) t l b of h = absurd of
 in_hand (Mutex k (Lock e retries (lock.Taken by))) t l b of h = either (k == l) refl b h
   where
-    either : (c : Bool) → (k == l) ≡ c → (b : Bool) → (if c then mutex_station (Lock e retries (lock.Taken by)) else nowhere).hand ≡ hand t b → IsInHand (Mutex k (Lock e retries (lock.Taken by))) t b l
+    either : (c : Bool) → (k == l) ≡ c → (b : Bool) → (if c then mutex_location (Lock e retries (lock.Taken by)) else nowhere).hand ≡ hand t b → IsInHand (Mutex k (Lock e retries (lock.Taken by))) t b l
     either true f false g = let own : k ≡ l = eqb-true k l f in let whose : by ≡ t = cc in record { entry = e; retries = retries; is = rw (own, whose) refl }
     either true f true g = absurd cc
     either false f b g = absurd cc
 in_hand (Mutex k (Lock e retries (lock.Handed by))) t l b of h = either (k == l) refl b h
   where
-    either : (c : Bool) → (k == l) ≡ c → (b : Bool) → (if c then mutex_station (Lock e retries (lock.Handed by)) else nowhere).hand ≡ hand t b → IsInHand (Mutex k (Lock e retries (lock.Handed by))) t b l
+    either : (c : Bool) → (k == l) ≡ c → (b : Bool) → (if c then mutex_location (Lock e retries (lock.Handed by)) else nowhere).hand ≡ hand t b → IsInHand (Mutex k (Lock e retries (lock.Handed by))) t b l
     either true f true g = let own : k ≡ l = eqb-true k l f in let whose : by ≡ t = cc in record { entry = e; retries = retries; is = rw (own, whose) refl }
     either true f false g = absurd cc
     either false f b g = absurd cc
@@ -304,7 +304,7 @@ is_taken p t l of h = in_hand p t l false of h
 pub is_handed : (p : Place) (t l : ℕ) → IsMutexCall l p → hand_at p l ≡ hand t true → IsHandedAt p t l
 is_handed p t l of h = in_hand p t l true of h
 
--- who calls another lock is in nobody's hand here
+-- a thread that calls another lock is in nobody's hand here
 pub taken_out : (h : Option Hand) (x : Option Want) → taken_from h x false ≡ None
 taken_out None x = refl
 taken_out (Some (Of u true)) x = refl
@@ -334,25 +334,25 @@ held_from t (Some (Of u true)) x want e = absurd cc
 held_from t (Some (Of u false)) None want e = absurd cc
 held_from t (Some (Of u false)) (Some x) want e = ap (λ o. hand (taken_by o) false) e
 
--- who is taken there is in that hand
+-- a thread that is taken there is in that hand
 pub taken_held : (p : Place) (t l : ℕ) (want : Want) → taken_at p l ≡ Some (record { by = t; want = want }) → hand_at p l ≡ hand t false
 taken_held p t l want = which (calls p l) (is_lock l (beside_of p))
   where
     which : (b c : Bool) → (if c && not b then taken_from (profile_beside p).hand (profile_beside p).wants true else taken_from (profile p).hand (profile p).wants b) ≡ Some (record { by = t; want = want })
-        → (if b then station p else if c then station_by (profile_beside p) else nowhere).hand ≡ hand t false
+        → (if b then location p else if c then location_by (profile_beside p) else nowhere).hand ≡ hand t false
     which true true e = held_from t (profile p).hand (profile p).wants want e
     which true false e = held_from t (profile p).hand (profile p).wants want e
     which false true e = held_from t (profile_beside p).hand (profile_beside p).wants want e
     which false false e = absurd (let none : ◌≡◌ {A = Option Taken} None (Some (record { by = t; want = want })) = sym (taken_out (profile p).hand (profile p).wants) ∙ e in cc)
 
--- who isn't in the hand of t
+-- a thread that isn't in the hand of t
 pub untaken : (p : Place) (t l : ℕ) → (hand_at p l ≡ hand t false → ⊥) → Untaken t (taken_at p l)
 untaken p t l none = which (calls p l) (is_lock l (beside_of p)) none
   where
     out : (h : Option Hand) (x : Option Want) → Untaken t (taken_from h x false)
     out h x = ap (keep_from t) (taken_out h x) ∙ sym (taken_out h x)
 
-    which : (b c : Bool) → ((if b then station p else if c then station_by (profile_beside p) else nowhere).hand ≡ hand t false → ⊥)
+    which : (b c : Bool) → ((if b then location p else if c then location_by (profile_beside p) else nowhere).hand ≡ hand t false → ⊥)
         → Untaken t (if c && not b then taken_from (profile_beside p).hand (profile_beside p).wants true else taken_from (profile p).hand (profile p).wants b)
     which true true free = untaken_by t (profile p).hand (profile p).wants free
     which true false free = untaken_by t (profile p).hand (profile p).wants free
@@ -471,7 +471,7 @@ pub next_mutex : (l k : ℕ) (n : Next MutexPlace) → k ≡ l → IsMutexOf l (
 next_mutex l k (next.TheVariants.At at) e = e
 next_mutex l k (next.TheVariants.End answer) e = tt
 
--- who calls no lock is idle
+-- a thread that calls no lock is idle
 pub calls_none : (p : Place) → lock_of p ≡ None → p ≡ Idle
 calls_none Idle e = refl
 calls_none (Mutex k at) e = absurd cc
@@ -480,16 +480,16 @@ calls_none (Once k at) e = absurd cc
 calls_none (Semaphore k at) e = absurd cc
 calls_none (Condvar k at) e = absurd cc
 
--- who is in nobody's hand isn't taken
-pub free_of : (q : Place) (l : ℕ) → IsSingle q → (station q).hand ≡ None → taken_at q l ≡ None
+-- a thread that is in nobody's hand isn't taken
+pub free_of : (q : Place) (l : ℕ) → IsSingle q → (location q).hand ≡ None → taken_at q l ≡ None
 free_of q l single none = single_taken q l single ∙ ap (λ (h : Option Hand). taken_from h (profile q).wants (calls q l)) none
 
--- who is in a hand calls the lock
-pub held_calls : (p : Place) (l : ℕ) → IsOf l p → (h : Hand) → (station p).hand ≡ Some h → calls p l ≡ true
+-- a thread that is in a hand calls the lock
+pub held_calls : (p : Place) (l : ℕ) → IsOf l p → (h : Hand) → (location p).hand ≡ Some h → calls p l ≡ true
 held_calls p l of h e = by_lock (lock_of p) refl (of_lock_of l p of)
   where
     by_lock : (o : Option ℕ) → lock_of p ≡ o → IsLock l o → is_lock l o ≡ true
-    by_lock None f g = absurd (let none : ◌≡◌ {A = Option Hand} None (Some h) = sym (ap (λ q. (station q).hand) (calls_none p f)) ∙ e in cc)
+    by_lock None f g = absurd (let none : ◌≡◌ {A = Option Hand} None (Some h) = sym (ap (λ q. (location q).hand) (calls_none p f)) ∙ e in cc)
     by_lock (Some k) f g = ap (λ j. j == l) g ∙ same l
 
 calls_other : (l k : ℕ) (o : Option ℕ) → IsLock l o → k ≢ l → is_lock k o ≡ false
@@ -497,50 +497,50 @@ calls_other l k None h ne = refl
 calls_other l k (Some j) h ne = differ j k (λ e. ne (sym e ∙ h))
 
 -- it does nothing about another lock
-pub doing_elsewhere : (l k : ℕ) (p : Place) → IsOf l p → k ≢ l → doing_on p k ≡ idle
-doing_elsewhere l k p h ne = single_doing p k (of_single l p h) ∙ ap (λ b. if b then (profile p).doing else idle) (calls_other l k (lock_of p) (of_lock_of l p h) ne)
+pub role_elsewhere : (l k : ℕ) (p : Place) → IsOf l p → k ≢ l → role_on p k ≡ idle
+role_elsewhere l k p h ne = single_role p k (of_single l p h) ∙ ap (λ b. if b then (profile p).role else idle) (calls_other l k (lock_of p) (of_lock_of l p h) ne)
 
 pub taken_elsewhere : (l k : ℕ) (p : Place) → IsOf l p → k ≢ l → taken_at p k ≡ None
 taken_elsewhere l k p h ne = single_taken p k (of_single l p h) ∙ ap (taken_from (profile p).hand (profile p).wants) (calls_other l k (lock_of p) (of_lock_of l p h) ne) ∙ taken_out (profile p).hand (profile p).wants
 
 -- how it stands at a lock, by how it stands at its own
-pub station_is : (l k : ℕ) (p : Place) → IsOf l p → station_at p k ≡ (if l == k then station p else nowhere)
-station_is l k p h = single_station p k (of_single l p h) ∙ by_lock (lock_of p) refl (of_lock_of l p h)
+pub location_is : (l k : ℕ) (p : Place) → IsOf l p → location_at p k ≡ (if l == k then location p else nowhere)
+location_is l k p h = single_location p k (of_single l p h) ∙ by_lock (lock_of p) refl (of_lock_of l p h)
   where
-    out : (b : Bool) → station p ≡ nowhere → nowhere ≡ (if b then station p else nowhere)
+    out : (b : Bool) → location p ≡ nowhere → nowhere ≡ (if b then location p else nowhere)
     out true e = sym e
     out false e = refl
 
-    by_lock : (o : Option ℕ) → lock_of p ≡ o → IsLock l o → (if is_lock k o then station p else nowhere) ≡ (if l == k then station p else nowhere)
-    by_lock None e own = out (l == k) (ap station (calls_none p e))
-    by_lock (Some j) e own = ap (λ x. if x == k then station p else nowhere) own
+    by_lock : (o : Option ℕ) → lock_of p ≡ o → IsLock l o → (if is_lock k o then location p else nowhere) ≡ (if l == k then location p else nowhere)
+    by_lock None e own = out (l == k) (ap location (calls_none p e))
+    by_lock (Some j) e own = ap (λ x. if x == k then location p else nowhere) own
 
-pub station_here : (l : ℕ) (p : Place) → IsOf l p → station_at p l ≡ station p
-station_here l p h = station_is l l p h ∙ ap (λ b. if b then station p else nowhere) (same l)
+pub location_here : (l : ℕ) (p : Place) → IsOf l p → location_at p l ≡ location p
+location_here l p h = location_is l l p h ∙ ap (λ b. if b then location p else nowhere) (same l)
 
-pub station_elsewhere : (l k : ℕ) (p : Place) → IsOf l p → k ≢ l → station_at p k ≡ nowhere
-station_elsewhere l k p h ne = station_is l k p h ∙ ap (λ b. if b then station p else nowhere) (differ l k (λ e. ne (sym e)))
+pub location_elsewhere : (l k : ℕ) (p : Place) → IsOf l p → k ≢ l → location_at p k ≡ nowhere
+location_elsewhere l k p h ne = location_is l k p h ∙ ap (λ b. if b then location p else nowhere) (differ l k (λ e. ne (sym e)))
 
-abbrev pub doing_of : Place → Doing
-doing_of p = (profile p).doing
+abbrev pub role_of : Place → Role
+role_of p = (profile p).role
 
-pub doing_here : (l : ℕ) (p : Place) → IsOf l p → doing_on p l ≡ doing_of p
-doing_here l p h = single_doing p l (of_single l p h) ∙ by_lock (lock_of p) refl (of_lock_of l p h)
+pub role_here : (l : ℕ) (p : Place) → IsOf l p → role_on p l ≡ role_of p
+role_here l p h = single_role p l (of_single l p h) ∙ by_lock (lock_of p) refl (of_lock_of l p h)
   where
-    by_lock : (o : Option ℕ) → lock_of p ≡ o → IsLock l o → (if is_lock l o then doing_of p else idle) ≡ doing_of p
-    by_lock None e own = sym (ap doing_of (calls_none p e))
-    by_lock (Some j) e own = ap (λ x. if x == l then doing_of p else idle) own ∙ ap (λ b. if b then doing_of p else idle) (same l)
+    by_lock : (o : Option ℕ) → lock_of p ≡ o → IsLock l o → (if is_lock l o then role_of p else idle) ≡ role_of p
+    by_lock None e own = sym (ap role_of (calls_none p e))
+    by_lock (Some j) e own = ap (λ x. if x == l then role_of p else idle) own ∙ ap (λ b. if b then role_of p else idle) (same l)
 
-pub inside_is : (p : Place) (l : ℕ) → (doing_on p l).inside ≡ (station_at p l).inside
+pub inside_is : (p : Place) (l : ℕ) → (role_on p l).inside ≡ (location_at p l).inside
 inside_is p l = which (calls p l) (is_lock l (beside_of p))
   where
-    which : (b c : Bool) → (if b then doing_of p else if c then (profile_beside p).doing else idle).inside ≡ (if b then station p else if c then station_by (profile_beside p) else nowhere).inside
+    which : (b c : Bool) → (if b then role_of p else if c then (profile_beside p).role else idle).inside ≡ (if b then location p else if c then location_by (profile_beside p) else nowhere).inside
     which true c = refl
     which false true = refl
     which false false = refl
 
-pub own_stance : (l : ℕ) (q : Place) (at : MutexPlace) → q ≡ Mutex l at → station_at q l ≡ mutex_station at
-own_stance l q at is = ap (λ x. station_at x l) is ∙ station_here l (Mutex l at) refl
+pub own_stance : (l : ℕ) (q : Place) (at : MutexPlace) → q ≡ Mutex l at → location_at q l ≡ mutex_location at
+own_stance l q at is = ap (λ x. location_at x l) is ∙ location_here l (Mutex l at) refl
 
 -- ---------------------------------------------------------------- whom a thread has in hand is told
 
@@ -556,7 +556,7 @@ told_in t reply [] u held only = absurd cc
 told_in t reply (p ∷ ps) zero held only = λ i. ap (λ b. if b then next_place p reply else p) held i ∷ told_out t reply ps (λ x. only (suc x) (λ e. omega arith)) i
 told_in t reply (p ∷ ps) (suc u) held only = λ i. ap (λ b. if b then next_place p reply else p) (only 0 (λ e. omega arith)) i ∷ told_in t reply ps u held (λ x ne. only (suc x) (λ e. ne (omega arith))) i
 
--- whom t has in hand wants to own alone
+-- a thread that t has in hand wants to own alone
 abbrev pub WantsAlone : ℕ → Place → Type 0
 WantsAlone t p = is_thread t (taker p) ≡ true → wants p ≡ Some Exclusive
 
@@ -603,15 +603,15 @@ successor_in t k (p ∷ ps) zero alone held_by only = ap (λ o. successor_or k o
 successor_in t k (p ∷ ps) (suc u) alone held_by only = ap (λ o. successor_or k o (successor_from t (suc k) ps)) (wants_none t p (only 0 (λ e. omega arith)))
     ∙ successor_in t (suc k) ps u alone held_by (λ x ne. only (suc x) (λ e. ne (omega arith))) ∙ ap (λ n. Some (successor_is n)) (let e : suc k + u ≡ k + suc u = omega arith in e)
 
--- who took it, by its row
+-- the thread that took it, by its row
 pub single_taker : (p : Place) → IsSingle p → taker p ≡ hand_owner (profile p).hand
 single_taker p single = ap (λ (row : Profile). hand_owner (or_else row.hand (profile p).hand)) (blank_beside p single)
 
--- who is in a hand by the place is so by the taker
+-- a thread that is in a hand by the place is so by the taker
 pub held_taker : (p : Place) (t l : ℕ) (b : Bool) → IsSingle p → hand_at p l ≡ hand t b → is_thread t (taker p) ≡ true
-held_taker p t l b single h = ap (is_thread t) (single_taker p single) ∙ either (calls p l) (sym (ap (λ (x : Station). x.hand) (single_station p l single)) ∙ h)
+held_taker p t l b single h = ap (is_thread t) (single_taker p single) ∙ either (calls p l) (sym (ap (λ (x : Location). x.hand) (single_location p l single)) ∙ h)
   where
-    either : (c : Bool) → (if c then station p else nowhere).hand ≡ hand t b → is_thread t (hand_owner (profile p).hand) ≡ true
+    either : (c : Bool) → (if c then location p else nowhere).hand ≡ hand t b → is_thread t (hand_owner (profile p).hand) ≡ true
     either true g = ap (λ x. is_thread t (hand_owner x)) g ∙ same t
     either false g = absurd cc
 
@@ -631,7 +631,7 @@ held_where p t single h = by_hand (profile p).hand (lock_of p) refl refl (sym (a
     by_hand (Some (Of u b)) (Some k) e f g = record {
       lock = k;
       handed = b;
-      hand = ap (λ (x : Station). x.hand) (station_here k p (of_own k p single f)) ∙ e ∙ ap (λ x. hand x b) (eqb-true u t g);
+      hand = ap (λ (x : Location). x.hand) (location_here k p (of_own k p single f)) ∙ e ∙ ap (λ x. hand x b) (eqb-true u t g);
       of = of_own k p single f;
     }
 
@@ -654,14 +654,14 @@ fits_apart w (Once k at) fits m e = absurd cc
 fits_apart w (Semaphore k at) fits m e = absurd cc
 fits_apart w (Condvar k at) fits m e = differ k m (condvar_apart w k at fits m e)
 
-pub aparts : (w : State) → IsSteady w → (t : ℕ) → IsApart (place_at w t)
+pub aparts : (w : State) → IsInductive w → (t : ℕ) → IsApart (place_at w t)
 aparts w steady t = fits_apart w (place_at w t) (steady.stands.calls t)
 
 -- nobody is in a hand at a condition variable: who is in one by the place, at either of its locks, is so by the taker
 pub held_tells : (p : Place) (t l : ℕ) (b : Bool) → hand_at p l ≡ hand t b → is_thread t (taker p) ≡ true
 held_tells (Condvar k at) t l b h = either (k == l) (is_lock l (mutex_beside at)) h
   where
-    either : (c d : Bool) → (if c then station (Condvar k at) else if d then station_by (mutex_side at) else nowhere).hand ≡ hand t b → is_thread t (taker (Condvar k at)) ≡ true
+    either : (c d : Bool) → (if c then location (Condvar k at) else if d then location_by (mutex_side at) else nowhere).hand ≡ hand t b → is_thread t (taker (Condvar k at)) ≡ true
     either true d g = absurd cc
     either false true g = ap (λ x. is_thread t (hand_owner (or_else x None))) g ∙ same t
     either false false g = absurd cc
@@ -689,8 +689,8 @@ in_hand_beside k at t apart h = by_mutex (mutex_beside at) refl
     by_hand m e (Some (Of u b)) f g = record {
       lock = m;
       handed = b;
-      hand = ap (λ c. (if c then station (Condvar k at) else if is_lock m (mutex_beside at) then station_by (mutex_side at) else nowhere).hand) (apart m e)
-          ∙ ap (λ o. (if is_lock m o then station_by (mutex_side at) else nowhere).hand) e ∙ ap (λ c. (if c then station_by (mutex_side at) else nowhere).hand) (same m)
+      hand = ap (λ c. (if c then location (Condvar k at) else if is_lock m (mutex_beside at) then location_by (mutex_side at) else nowhere).hand) (apart m e)
+          ∙ ap (λ o. (if is_lock m o then location_by (mutex_side at) else nowhere).hand) e ∙ ap (λ c. (if c then location_by (mutex_side at) else nowhere).hand) (same m)
           ∙ f ∙ ap (λ x. hand x b) (eqb-true u t g);
       at = inr e;
     }
@@ -731,9 +731,9 @@ not_beside w p l fits many = by_mutex (beside_of p) refl
 
 -- where a call of a condition variable is beside another lock, it is in nobody's hand
 pub condvar_unheld : (k : ℕ) (at : CondvarPlace) (l : ℕ) → is_lock l (mutex_beside at) ≡ false → hand_at (Condvar k at) l ≡ None
-condvar_unheld k at l out = ap (λ d. (if k == l then station (Condvar k at) else if d then station_by (mutex_side at) else nowhere).hand) out ∙ either (k == l)
+condvar_unheld k at l out = ap (λ d. (if k == l then location (Condvar k at) else if d then location_by (mutex_side at) else nowhere).hand) out ∙ either (k == l)
   where
-    either : (c : Bool) → (if c then station (Condvar k at) else nowhere).hand ≡ None
+    either : (c : Bool) → (if c then location (Condvar k at) else nowhere).hand ≡ None
     either true = refl
     either false = refl
 

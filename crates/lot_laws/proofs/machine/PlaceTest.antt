@@ -13,7 +13,9 @@ use Rattle.steps_base.specs.Profiles.{Hand, Profile, in_line}
 use Rattle.steps_base.proofs.RowCheck.{both, is_line, is_try, no_line}
 use Rattle.spec_locks.specs.Codes.{has_aside}
 use Rattle.spec_locks.specs.Condvars.{Stage}
-use Rattle.spec_locks.specs.Purposes.{Recall, Blank, Purpose, Enters, Converts, Patience, Try, once_purpose}
+use Rattle.spec_locks.specs.Purposes.{Recall, Blank, Purpose, Enters, Converts, once_purpose}
+use Rattle.spec_locks.specs.declared.calls.Patience.{Patience}
+use Rattle.spec_locks.specs.declared.calls.Patience.TheVariants.{Try}
 use Rattle.spec_locks.specs.Sites.{Line, Main, Second}
 use Rattle.steps_mutex.specs.declared.lock.Entry.{Entry}
 use Rattle.steps_mutex.specs.declared.lock.Entry.TheVariants as entry
@@ -75,8 +77,8 @@ use Rattle.lot_laws.specs.MutexDeeds.{mutex_row}
 use Rattle.lot_laws.specs.Promises.{IsTry}
 use Rattle.lot_laws.specs.Refinement.{keys_entered, runs_closure, sleeps}
 use Rattle.lot_laws.specs.SitesOf.{key_of}
-use Rattle.lot_laws.specs.Solo.{EntersAt}
-use Rattle.lot_laws.specs.Stations.{Station, station_by}
+use Rattle.lot_laws.specs.Solo.{EntersSection}
+use Rattle.lot_laws.specs.Locations.{Location, location_by}
 
 -- ---------------------------------------------------------------- acts
 
@@ -88,14 +90,14 @@ IsFree a = (sleeps a ≡ false) × (runs_closure a ≡ false) × (keys_entered a
 abbrev pub IsOfLine : ℕ → ℕ → Type 0
 IsOfLine l key = (m : Line) × (key ≡ key_of l m)
 
-abbrev pub IsWithinLine : ℕ → Station → ℕ → Type 0
+abbrev pub IsWithinLine : ℕ → Location → ℕ → Type 0
 IsWithinLine l s key = (m : Line) × (s.inside ≡ Some m) × (key ≡ key_of l m)
 
 -- a thread that stands in a line stands in that one
-abbrev pub StandsThere : Station → Type 0
+abbrev pub StandsThere : Location → Type 0
 StandsThere s = (s.stands ≡ None) ⊎ (s.stands ≡ s.inside)
 
-abbrev pub IsLineAct : ℕ → Station → Act → Type 0
+abbrev pub IsLineAct : ℕ → Location → Act → Type 0
 IsLineAct l s (act.Enter (One key)) = IsOfLine l key
 IsLineAct l s (act.Enter (Two first second)) = ⊥
 IsLineAct l s (act.Leave (One key) x) = IsWithinLine l s key
@@ -109,14 +111,14 @@ IsLineAct l s a = Unit {0}
 
 -- ---------------------------------------------------------------- what a place says
 
--- of its row alone, whatever the lock
+-- for its row alone, at every lock
 pub record RowFacts (row : Profile) (a : Act) : Type 0 where
   -- inside a section its thread goes freely
-  pub goes : (m : Line) → row.doing.inside ≡ Some m → IsFree a
+  pub goes : (m : Line) → row.role.inside ≡ Some m → IsFree a
   -- a thread that has others in hand is inside
-  pub carries : row.doing.carries ≡ true → (m : Line) × (row.doing.inside ≡ Some m)
+  pub carries : row.role.carries ≡ true → (m : Line) × (row.role.inside ≡ Some m)
   -- one that is to take waiters beside a clear bit owes them their wake
-  pub owed : row.doing.sets ≡ true → row.doing.wakes ≡ Some Main → row.owes ≡ Some Main
+  pub owed : row.role.sets ≡ true → row.role.wakes ≡ Some Main → row.owes ≡ Some Main
   -- one that stands in a line is in no hand
   pub unheld : (m : Line) → row.stands ≡ Some m → row.hand ≡ None
 
@@ -134,9 +136,9 @@ pub record PlaceFacts (shared : Bool) (l : ℕ) (row : Profile) (a : Act) : Type
   -- one that is in a hand has nobody in hand
   pub bare : (row.hand ≡ None) ⊎ (row.carries ≡ None)
   -- its act is on a line of the lock
-  pub line : IsLineAct l (station_by row) a
+  pub line : IsLineAct l (location_by row) a
   -- on the main one, where there is no other
-  pub main : shared ≡ false → (key : ℕ) → EntersAt key a → 2 * l ≡ key
+  pub main : shared ≡ false → (key : ℕ) → EntersSection key a → 2 * l ≡ key
   -- a try goes freely
   pub tries : shared ≡ false → IsTry (Some (row.purpose l)) → IsFree a
 
@@ -158,9 +160,9 @@ carries_none c = false
 
 abbrev row_test : Profile → Act → Bool
 row_test row a =
-    (no_line row.doing.inside || goes_free a)
-    && ((not row.doing.carries || not (no_line row.doing.inside))
-    && ((not (row.doing.sets && is_line Main row.doing.wakes) || is_line Main row.owes)
+    (no_line row.role.inside || goes_free a)
+    && ((not row.role.carries || not (no_line row.role.inside))
+    && ((not (row.role.sets && is_line Main row.role.wakes) || is_line Main row.owes)
     && (no_hand row.hand || no_line row.stands)))
 
 abbrev no_stage : Option Stage → Bool
@@ -190,12 +192,12 @@ key_or other a = other
 
 abbrev line_test : Line → Profile → Act → Bool
 line_test m row (act.Enter (Two first second)) = false
-line_test m row (act.Leave (One key) x) = is_line m row.doing.inside
+line_test m row (act.Leave (One key) x) = is_line m row.role.inside
 line_test m row (act.Leave (Two first second) x) = false
-line_test m row (act.Park lock key check x) = is_line m row.doing.inside && (no_line row.stands || is_line m row.stands)
-line_test m row (act.Stand key x) = is_line m row.doing.inside && (no_line row.stands || is_line m row.stands)
-line_test m row (act.Take key x) = is_line m row.doing.inside
-line_test m row (act.Remove key) = is_line m row.doing.inside && (no_line row.stands || is_line m row.stands)
+line_test m row (act.Park lock key check x) = is_line m row.role.inside && (no_line row.stands || is_line m row.stands)
+line_test m row (act.Stand key x) = is_line m row.role.inside && (no_line row.stands || is_line m row.stands)
+line_test m row (act.Take key x) = is_line m row.role.inside
+line_test m row (act.Remove key) = is_line m row.role.inside && (no_line row.stands || is_line m row.stands)
 line_test m row (act.Requeue from to how) = false
 line_test m row a = true
 
@@ -255,14 +257,14 @@ free_so a h = (refl, refl, refl)
 
 row_so : (row : Profile) (a : Act) → row_test row a ≡ true → RowFacts row a
 row_so row a h =
-    let t1 = both (no_line row.doing.inside || goes_free a) _ h in
-    let t2 = both (not row.doing.carries || not (no_line row.doing.inside)) _ t1.1 in
-    let t3 = both (not (row.doing.sets && is_line Main row.doing.wakes) || is_line Main row.owes) _ t2.1 in
+    let t1 = both (no_line row.role.inside || goes_free a) _ h in
+    let t2 = both (not row.role.carries || not (no_line row.role.inside)) _ t1.1 in
+    let t3 = both (not (row.role.sets && is_line Main row.role.wakes) || is_line Main row.owes) _ t2.1 in
     record {
-      goes = λ m e. elim (either (no_line row.doing.inside) (goes_free a) t1.0) [ inl x ↦ absurd (no_line_so row.doing.inside m x e) | inr x ↦ free_so a x ];
-      carries = λ e. elim (either (not row.doing.carries) _ t2.0) [ inl x ↦ absurd (not_so row.doing.carries x e) | inr x ↦ some_so row.doing.inside x ];
-      owed = λ sets wakes. elim (either (not (row.doing.sets && is_line Main row.doing.wakes)) _ t3.0) [
-        | inl x ↦ absurd (not_so (row.doing.sets && is_line Main row.doing.wakes) x (rw (sets, wakes) refl))
+      goes = λ m e. elim (either (no_line row.role.inside) (goes_free a) t1.0) [ inl x ↦ absurd (no_line_so row.role.inside m x e) | inr x ↦ free_so a x ];
+      carries = λ e. elim (either (not row.role.carries) _ t2.0) [ inl x ↦ absurd (not_so row.role.carries x e) | inr x ↦ some_so row.role.inside x ];
+      owed = λ sets wakes. elim (either (not (row.role.sets && is_line Main row.role.wakes)) _ t3.0) [
+        | inl x ↦ absurd (not_so (row.role.sets && is_line Main row.role.wakes) x (rw (sets, wakes) refl))
         | inr x ↦ line_is Main row.owes x
       ];
       unheld = λ m e. elim (either (no_hand row.hand) _ t3.1) [ inl x ↦ hand_so row.hand x | inr x ↦ absurd (no_line_so row.stands m x e) ];
@@ -287,21 +289,21 @@ silent_so row h =
     record { stage = stage_so row.stage t1.0; names = name_so row.names t2.0; recalls = blank_so row.recalls t2.1 }
 
 module _ (l : ℕ) (m : Line) (row : Profile) where
-  within_so : (key : ℕ) → is_line m row.doing.inside ≡ true → key ≡ key_of l m → IsWithinLine l (station_by row) key
-  within_so key h e = (m, line_is m row.doing.inside h, e)
+  within_so : (key : ℕ) → is_line m row.role.inside ≡ true → key ≡ key_of l m → IsWithinLine l (location_by row) key
+  within_so key h e = (m, line_is m row.role.inside h, e)
 
-  stands_so : (key : ℕ) → (is_line m row.doing.inside && (no_line row.stands || is_line m row.stands)) ≡ true → key ≡ key_of l m
-      → IsWithinLine l (station_by row) key × StandsThere (station_by row)
+  stands_so : (key : ℕ) → (is_line m row.role.inside && (no_line row.stands || is_line m row.stands)) ≡ true → key ≡ key_of l m
+      → IsWithinLine l (location_by row) key × StandsThere (location_by row)
   stands_so key h e =
-      let t = both (is_line m row.doing.inside) _ h in (
+      let t = both (is_line m row.role.inside) _ h in (
         within_so key t.0 e,
         elim (either (no_line row.stands) _ t.1) [
           | inl x ↦ inl (none_so row.stands x)
-          | inr x ↦ inr (line_is m row.stands x ∙ sym (line_is m row.doing.inside t.0))
+          | inr x ↦ inr (line_is m row.stands x ∙ sym (line_is m row.role.inside t.0))
         ],
       )
 
-  line_so : (a : Act) → key_or (key_of l m) a ≡ key_of l m → line_test m row a ≡ true → IsLineAct l (station_by row) a
+  line_so : (a : Act) → key_or (key_of l m) a ≡ key_of l m → line_test m row a ≡ true → IsLineAct l (location_by row) a
   line_so (act.Enter (One key)) e h = (m, e)
   line_so (act.Enter (Two first second)) e h = absurd cc
   line_so (act.Leave (One key) x) e h = within_so key h e
@@ -314,7 +316,7 @@ module _ (l : ℕ) (m : Line) (row : Profile) where
   line_so a e h = tt
 
 main_so : (l : ℕ) (m : Line) (row : Profile) (a : Act) → key_or (key_of l m) a ≡ key_of l m → line_test m row a ≡ true → is_line Main (Some m) ≡ true
-    → (key : ℕ) → EntersAt key a → 2 * l ≡ key
+    → (key : ℕ) → EntersSection key a → 2 * l ≡ key
 main_so l Main row (act.Enter (One k)) e h main key enters = sym e ∙ enters
 main_so l Second row (act.Enter (One k)) e h main key enters = absurd cc
 main_so l m row (act.Enter (Two j k)) e h main key enters = absurd cc
@@ -352,7 +354,7 @@ facts shared l row a m tried e q h =
       ];
     }
 
--- of a place, by the line that its act is on
+-- for a place, by the line that its act is on
 pub shows : {shared : Bool} {l : ℕ} {row : Profile} {a : Act} (m : Line) → key_or (key_of l m) a ≡ key_of l m
     → place_test shared m row a (tries (row.purpose l)) ≡ true → PlaceFacts shared l row a
 shows m e h = facts _ _ _ _ m _ e refl h
@@ -553,7 +555,7 @@ notify_beside l m all (notify.Move locked) = by_all all locked
     by_all false false = row_shows refl
 notify_beside l m all (notify.Leave any number) = by_number (number == 0)
   where
-    by_number : (b : Bool) → RowFacts (record (mutex_side (condvar.Notify all m (notify.Leave any number))) { doing = if b then inside else has_moved any false })
+    by_number : (b : Bool) → RowFacts (record (mutex_side (condvar.Notify all m (notify.Leave any number))) { role = if b then inside else has_moved any false })
         (condvar_act l (condvar.Notify all m (notify.Leave any number)))
     by_number true = row_shows refl
     by_number false = row_shows refl

@@ -47,10 +47,10 @@ use Rattle.steps_mutex.specs.MutexSteps.{mutex_act, mutex_first, mutex_next}
 use Rattle.lot_steps.specs.Steps.{act_of, beside_of, lock_of, profile_beside, next_place, next_act, mutex_goes, mutex_does, late_key, first_place, looking, key_in, profile, rwlock_does, rwlock_goes, once_does, once_goes, condvar_goes, condvar_does, semaphore_does, semaphore_goes}
 use Rattle.core_base.specs.declared.ops.Op.{Op}
 use Rattle.lot_machine.specs.Machine.{state_after_hand_over_by, State, state_after_take, place_at, queue_at, section_at, can_do, can_go, is_free_under, word_at, state_with_sections, queues_without_first, state_after_taking, state_after_wake, state_after_act, state_after_go, state_after_late_on}
-use Rattle.lot_machine.specs.Fits.{IsShaped, PlaceFits}
+use Rattle.lot_machine.specs.Fits.{IsWellFormed, PlaceFits}
 use Rattle.spec_locks.specs.Sites.{Main, Line, Second}
-use Rattle.lot_laws.specs.Stations.{station, station_at, Station}
-use Rattle.lot_laws.specs.SitesOf.{FitsItsLock, IsSteady, stood_in, key_of}
+use Rattle.lot_laws.specs.Locations.{location, location_at, Location}
+use Rattle.lot_laws.specs.SitesOf.{FitsItsLock, IsInductive, stood_in, key_of}
 use Rattle.lot_laws.specs.Refinement.{lock_state, locks_of, call_state, sleeps, runs_closure, keys_entered, call_on_both}
 use Rattle.lot_laws.proofs.calls.SingleCalls.{call_none}
 use Rattle.lot_laws.proofs.machine.Parts.{IsOf, of_own, IsOfTwo, IsSingle, fits_two, calls_none, condvar_apart, single_late, single_or_two}
@@ -67,7 +67,7 @@ use Rattle.spec_locks.specs.Locks.{Rights}
 use Rattle.spec_locks.specs.Locks as locks
 use Rattle.spec_locks.specs.Runs.{AreFree, MayGo, MayBeLate, MayTurn, IsTimed, StandsFreely, SectionChanges, CallState}
 use Rattle.lot_laws.proofs.promises.RowPromises.{is_acting}
-use Rattle.lot_laws.proofs.promises.PlacePromises.{row_promises, station_own, station_calls, call_own, in_second}
+use Rattle.lot_laws.proofs.promises.PlacePromises.{row_promises, location_own, location_calls, call_own, in_second}
 use Rattle.lot_laws.proofs.sites.StandsKept.{in_main}
 use Rattle.lot_laws.proofs.hands.Counts.{first_times}
 use Rattle.lot_laws.proofs.promises.PlaceSteps.{late_next}
@@ -87,7 +87,7 @@ awake_is Sleep h = absurd (h refl)
 awake_is a h = refl
 
 module _ (w : State) where
-  -- what can be done is done by a thread that is awake, outside its closure, and before sections that are free
+  -- a possible act is done by a thread that is awake, outside its closure, and before sections that are free
   can_is : (a : Act) → can_do w a ≡ true → (sleeps a ≡ false) × (runs_closure a ≡ false) × AreFree (locks_of w) (keys_entered a)
   can_is Rest can = absurd cc
   can_is Sleep can = absurd cc
@@ -113,7 +113,7 @@ module _ (w : State) where
   can_if (Enter (Two first second)) acting awake outside free = rw (free.0, free.1) refl
   can_if a acting awake outside free = refl
 
--- who can do something is in a call, and whoever is in a call has something to do
+-- a thread that can do something is in a call, and one in a call has something to do
 called_of : (w : State) (p : Place) (r : ℕ → Rights) → can_do w (act_of p) ≡ true → (call_state p r).purpose ≢ None
 called_of w p r can = by_lock (beside_of p) (lock_of p) refl
   where
@@ -122,7 +122,7 @@ called_of w p r can = by_lock (beside_of p) (lock_of p) refl
     by_lock (Some m) (Some l) e = λ h. cc
     by_lock m None e = absurd (let f : can_do w Rest ≡ true = ap (λ q. can_do w (act_of q)) (sym (calls_none p e)) ∙ can in cc)
 
-acting_of : (w : State) (t : ℕ) → IsSteady w → (call_state (place_at w t) (rights w t)).purpose ≢ None
+acting_of : (w : State) (t : ℕ) → IsInductive w → (call_state (place_at w t) (rights w t)).purpose ≢ None
     → is_acting (act_of (place_at w t)) ≡ true
 acting_of w t steady called = elim (single_or_two (place_at w t)) [
   | inl single ↦ by_lock single (lock_of (place_at w t)) refl
@@ -133,7 +133,7 @@ acting_of w t steady called = elim (single_or_two (place_at w t)) [
     by_lock single (Some l) e = (row_promises w t steady l single e).acts
     by_lock single None e = absurd (called (ap (λ (c : CallState). c.purpose) (call_none (place_at w t) e (rights w t))))
 
-late_two : (w : State) (t : ℕ) → IsSteady w → (two : IsOfTwo (place_at w t)) → (key : ℕ) → late_key (place_at w t) ≡ Some key
+late_two : (w : State) (t : ℕ) → IsInductive w → (two : IsOfTwo (place_at w t)) → (key : ℕ) → late_key (place_at w t) ≡ Some key
     → IsLate two.lock two.at key
 late_two w t steady two key e = two_late two.lock two.at (condvar_apart w two.lock two.at (fits_two w t steady two)) key (sym (ap late_key two.is) ∙ e)
 
@@ -141,7 +141,7 @@ pub may_go : (w : State) (t : ℕ) → can_go w t ≡ true → MayGo (locks_of w
 may_go w t can = let is = can_is w (act_of (place_at w t)) can in
     record { called = called_of w (place_at w t) (rights w t) can; awake = is.0; outside = is.1; free = is.2 }
 
-pub go_possible : (w : State) (t : ℕ) → IsSteady w → MayGo (locks_of w) t → can_go w t ≡ true
+pub go_possible : (w : State) (t : ℕ) → IsInductive w → MayGo (locks_of w) t → can_go w t ≡ true
 go_possible w t steady may = can_if w (act_of (place_at w t)) (acting_of w t steady may.called) may.awake may.outside may.free
 
 -- ---------------------------------------------------------------- being late
@@ -150,17 +150,17 @@ sleeps_is : (a : Act) → sleeps a ≡ true → a ≡ Sleep
 sleeps_is Sleep h = refl
 sleeps_is a h = absurd cc
 
-module _ (w : State) (t : ℕ) (steady : IsSteady w) where
+module _ (w : State) (t : ℕ) (steady : IsInductive w) where
   -- a thread in whose line the section is free may be late there
-  stands_freely : (l : ℕ) (m : Line) → (station_at (place_at w t) l).stands ≡ Some m → section_at w (key_of l m) ≡ None
+  stands_freely : (l : ℕ) (m : Line) → (location_at (place_at w t) l).stands ≡ Some m → section_at w (key_of l m) ≡ None
       → StandsFreely (locks_of w) t l
   stands_freely l Main stands free = inl (let n : locks.times t (lock_state w l).queue ≡ 1 = queued_by w steady t l ∙ ap (λ x. stood_in x Main) stands in omega arith, free)
   stands_freely l Second stands free = inr (in_second w t steady l stands, free)
 
   stands_free : (l : ℕ) → StandsFreely (locks_of w) t l
-      → (m : Line) × ((station_at (place_at w t) l).stands ≡ Some m) × (is_none (section_at w (key_of l m)) ≡ true)
-  stands_free l (inl h) = (Main, in_main (station_at (place_at w t) l).stands (subst (λ n. 1 ≤ n) (queued_by w steady t l) h.0), ap is_none h.1)
-  stands_free l (inr h) = (Second, in_line (station_at (place_at w t) l).stands (subst (λ n. 1 ≤ n) (steady.stands.lines t l Second) (first_times t (queue_at w (2 * l + 1)) h.0)), ap is_none h.1)
+      → (m : Line) × ((location_at (place_at w t) l).stands ≡ Some m) × (is_none (section_at w (key_of l m)) ≡ true)
+  stands_free l (inl h) = (Main, in_main (location_at (place_at w t) l).stands (subst (λ n. 1 ≤ n) (queued_by w steady t l) h.0), ap is_none h.1)
+  stands_free l (inr h) = (Second, in_line (location_at (place_at w t) l).stands (subst (λ n. 1 ≤ n) (steady.stands.lines t l Second) (first_times t (queue_at w (2 * l + 1)) h.0)), ap is_none h.1)
     where
       in_line : (o : Option Line) → 1 ≤ stood_in o Second → o ≡ Some Second
       in_line (Some Second) h = refl
@@ -179,7 +179,7 @@ module _ (w : State) (t : ℕ) (steady : IsSteady w) where
             lock = of.0;
             timed = subst (λ (c : CallState). IsTimed c.purpose c.recalls of.0) (sym (call_own w t steady of.0 single of.1)) row.timed;
             asleep = ap sleeps row.asleep;
-            stands = stands_freely of.0 of.2.0 (ap (λ (x : Station). x.stands) (station_own (place_at w t) of.0 of.1) ∙ row.stands) (none_is (section_at w (key_of of.0 of.2.0)) (subst (λ k. is_none (section_at w k) ≡ true) of.2.2 can));
+            stands = stands_freely of.0 of.2.0 (ap (λ (x : Location). x.stands) (location_own (place_at w t) of.0 of.1) ∙ row.stands) (none_is (section_at w (key_of of.0 of.2.0)) (subst (λ k. is_none (section_at w k) ≡ true) of.2.2 can));
           }
 
       by_two : IsOfTwo (place_at w t) → MayBeLate (locks_of w) t
@@ -189,18 +189,18 @@ module _ (w : State) (t : ℕ) (steady : IsSteady w) where
             lock = is_late.lock;
             timed = subst (λ p. IsTimed (call_state p (rights w t)).purpose (call_state p (rights w t)).recalls is_late.lock) (sym two.is) (is_late.timed (rights w t));
             asleep = ap (λ p. sleeps (act_of p)) two.is ∙ ap sleeps is_late.asleep;
-            stands = stands_freely is_late.lock Main (ap (λ p. (station_at p is_late.lock).stands) two.is ∙ is_late.stands) (none_is (section_at w (2 * is_late.lock)) (subst (λ k. is_none (section_at w k) ≡ true) is_late.under can));
+            stands = stands_freely is_late.lock Main (ap (λ p. (location_at p is_late.lock).stands) two.is ∙ is_late.stands) (none_is (section_at w (2 * is_late.lock)) (subst (λ k. is_none (section_at w k) ≡ true) is_late.under can));
           }
 
   pub may_be_late : is_free_under w (late_key (place_at w t)) ≡ true → MayBeLate (locks_of w) t
   may_be_late can = late_there (late_key (place_at w t)) refl can
 
-  module _ (may : MayBeLate (locks_of w) t) (n : Line) (stood : (station_at (place_at w t) may.lock).stands ≡ Some n)
+  module _ (may : MayBeLate (locks_of w) t) (n : Line) (stood : (location_at (place_at w t) may.lock).stands ≡ Some n)
       (free : is_none (section_at w (key_of may.lock n)) ≡ true) where
     late_one : IsSingle (place_at w t) → is_free_under w (late_key (place_at w t)) ≡ true
     late_one single =
-        let own = station_calls (place_at w t) may.lock single (λ out. let e : ◌≡◌ {A = Option Line} None (Some n) = sym (ap (λ (x : Station). x.stands) out) ∙ stood in cc) in
-        let stands : (profile (place_at w t)).stands ≡ Some n = sym (ap (λ (x : Station). x.stands) (station_own (place_at w t) may.lock own)) ∙ stood in
+        let own = location_calls (place_at w t) may.lock single (λ out. let e : ◌≡◌ {A = Option Line} None (Some n) = sym (ap (λ (x : Location). x.stands) out) ∙ stood in cc) in
+        let stands : (profile (place_at w t)).stands ≡ Some n = sym (ap (λ (x : Location). x.stands) (location_own (place_at w t) may.lock own)) ∙ stood in
         let timed : IsTimed (Some ((profile (place_at w t)).purpose may.lock)) (profile (place_at w t)).recalls may.lock = subst (λ (c : CallState). IsTimed c.purpose c.recalls may.lock) (call_own w t steady may.lock single own) may.timed in
         let row : (profile (place_at w t)).late_line ≡ Some n = (row_promises w t steady may.lock single own).may_be_late n stands (sleeps_is (act_of (place_at w t)) may.asleep) timed in
         ap (is_free_under w) (single_late (place_at w t) single ∙ (λ i. key_in (own i) (row i))) ∙ free
@@ -210,7 +210,7 @@ module _ (w : State) (t : ℕ) (steady : IsSteady w) where
         let fits = fits_two w t steady two in
         let asleep : condvar_act two.lock two.at ≡ Sleep = sym (ap act_of two.is) ∙ sleeps_is (act_of (place_at w t)) may.asleep in
         let timed = subst (λ p. IsTimed (call_state p (rights w t)).purpose (call_state p (rights w t)).recalls may.lock) two.is may.timed in
-        let key = two_may_late two.lock two.at fits.reached asleep may.lock (rights w t) timed n (sym (ap (λ p. (station_at p may.lock).stands) two.is) ∙ stood) in
+        let key = two_may_late two.lock two.at fits.reached asleep may.lock (rights w t) timed n (sym (ap (λ p. (location_at p may.lock).stands) two.is) ∙ stood) in
         ap (is_free_under w) (ap late_key two.is ∙ key) ∙ free
 
   pub late_possible : MayBeLate (locks_of w) t → is_free_under w (late_key (place_at w t)) ≡ true
@@ -383,7 +383,7 @@ nobody_turns w t turn.TheVariants.Late idle = inr (λ may. let e : false ≡ tru
 nobody_turns w t turn.TheVariants.Ok idle = inr (λ may. let e : false ≡ true = sym (ap (λ p. runs_closure (act_of p)) idle) ∙ may in cc)
 nobody_turns w t turn.TheVariants.Err idle = inr (λ may. let e : false ≡ true = sym (ap (λ p. runs_closure (act_of p)) idle) ∙ may in cc)
 
--- whoever takes a turn is there
+-- each thread that takes a turn is there
 pub turner_there : (w : State) (t : ℕ) (x : Turn) → MayTurn (locks_of w) t x → t < length w.places
 turner_there w t x may = elim (cases_lt t (length w.places)) [
   | inl lt ↦ lt
@@ -431,12 +431,12 @@ module _ (w : State) (t : ℕ) where
   took_all key (whom.TheVariants.Picked start recursive) k = refl
   took_all key whom.TheVariants.All k = refl
 
-  module _ (shape : IsShaped w) (steady : IsSteady w) (l : ℕ) (is_of : IsOf l (place_at w t)) (lt : l < length w.locks) where
+  module _ (shape : IsWellFormed w) (steady : IsInductive w) (l : ℕ) (is_of : IsOf l (place_at w t)) (lt : l < length w.locks) where
     there_is : (key : ℕ) → IsOfLine l key → key < length w.sections
     there_is key h = subst (λ k. k < length w.sections) (sym h.1) (key_there w l h.0 shape lt)
 
     -- it enters or leaves the section of one line alone, and leaves it only from inside
-    act_sections : (p : Place) (a : Act) → can_do w a ≡ true → IsLineAct l (station (place_at w t)) a → (key : ℕ)
+    act_sections : (p : Place) (a : Act) → can_do w a ≡ true → IsLineAct l (location (place_at w t)) a → (key : ℕ)
         → SectionChanges (section_at w key) t (section_at (state_after_act w t p a) key)
     act_sections p (Enter (One k)) can h key = filled_changes k (Some t) (there_is k h) (inr (inl (none_is (section_at w k) can, refl))) key
     act_sections p (Enter (Two first second)) can h key = absurd h
@@ -449,7 +449,7 @@ module _ (w : State) (t : ℕ) where
     act_sections p Rest can h key = inl refl
     act_sections p a can h key = inl refl
 
-  module _ (shape : IsShaped w) (steady : IsSteady w) (c : ℕ) (at : CondvarPlace) (is : place_at w t ≡ Condvar c at)
+  module _ (shape : IsWellFormed w) (steady : IsInductive w) (c : ℕ) (at : CondvarPlace) (is : place_at w t ≡ Condvar c at)
       (fits : FitsItsLock w (Condvar c at)) where
     key_is : (key : ℕ) → IsItsKey c at key → key < length w.sections
     key_is key (inl h) = subst (λ k. k < length w.sections) (sym h) (key_there w c Main shape (subst (PlaceFits (length w.locks)) is (shape.places t)).0)
@@ -476,7 +476,7 @@ module _ (w : State) (t : ℕ) where
     two_sections p Rest can h key = inl refl
     two_sections p a can h key = inl refl
 
-pub gone_sections : (w : State) (t : ℕ) → IsShaped w → IsSteady w → can_go w t ≡ true → (key : ℕ)
+pub gone_sections : (w : State) (t : ℕ) → IsWellFormed w → IsInductive w → can_go w t ≡ true → (key : ℕ)
     → SectionChanges (section_at w key) t (section_at (state_after_go w t) key)
 gone_sections w t shape steady can = elim (single_or_two (place_at w t)) [ inl single ↦ by_lock single (lock_of (place_at w t)) refl | inr two ↦ by_two two ]
   where
@@ -493,7 +493,7 @@ gone_sections w t shape steady can = elim (single_or_two (place_at w t)) [ inl s
 -- ---------------------------------------------------------------- the other turns
 
 module _ (w : State) (t : ℕ) (there : t < length w.places) where
-  pub late_awake : IsSteady w → (o : Option ℕ) → late_key (place_at w t) ≡ o → is_free_under w o ≡ true
+  pub late_awake : IsInductive w → (o : Option ℕ) → late_key (place_at w t) ≡ o → is_free_under w o ≡ true
       → sleeps (act_of (place_at (state_after_late_on w t o) t)) ≡ false
   late_awake steady None e can = absurd cc
   late_awake steady (Some key) e can =
@@ -502,9 +502,9 @@ module _ (w : State) (t : ℕ) (there : t < length w.places) where
         | inr two ↦ subst (λ p. act_of (next_place p Late) ≢ Sleep) (sym two.is) (late_two w t steady two key e).awake
       ])
 
-module _ (w : State) (t : ℕ) (shape : IsShaped w) where
-  -- who is late enters the section of the line in which it sleeps
-  pub late_sections : IsSteady w → (p : Place) → place_at w t ≡ p → PlaceFits (length w.locks) p
+module _ (w : State) (t : ℕ) (shape : IsWellFormed w) where
+  -- a thread that is late enters the section of the line in which it sleeps
+  pub late_sections : IsInductive w → (p : Place) → place_at w t ≡ p → PlaceFits (length w.locks) p
       → is_free_under w (late_key p) ≡ true → (key : ℕ)
       → SectionChanges (section_at w key) t (section_at (state_after_late_on w t (late_key p)) key)
   late_sections steady p is fits can = by_key (late_key p) refl can

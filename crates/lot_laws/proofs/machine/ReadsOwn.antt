@@ -22,7 +22,7 @@ use Rattle.spec_locks.specs.Runs.{purpose_at}
 use Rattle.spec_locks.specs.Sites.{Main}
 use Rattle.lot_machine.specs.Machine.{State, kind_at, place_at}
 use Rattle.lot_laws.specs.Refinement.{locks_of}
-use Rattle.lot_laws.specs.Solo.{HasItsWay, HasMainLine, HasWhatItReads}
+use Rattle.lot_laws.specs.Solo.{IsUnobstructed, HasMainLine, HasWhatItReads}
 
 module _ (w : State) (t l : ℕ) (own : HasMainLine w t l) where
   mutex_reads : (fair : Bool) (c : MutexCall) → HasWhatItReads w t (Some (mutex_purpose fair l c))
@@ -72,7 +72,7 @@ module _ (w : State) (t l : ℕ) (own : HasMainLine w t l) where
   of_semaphore (kinds.Semaphore permits) semaphore_call.Release = tt
   of_semaphore k c = tt
 
-pub reads_its_own : (w : State) (t : ℕ) (c : Call) → place_at w t ≡ first_place (kind_at w (lock_in c)) c → HasItsWay w t
+pub reads_its_own : (w : State) (t : ℕ) (c : Call) → place_at w t ≡ first_place (kind_at w (lock_in c)) c → IsUnobstructed w t
     → HasWhatItReads w t (purpose_at (locks_of w) c)
 reads_its_own w t c is way = by_call c is
   where

@@ -2,7 +2,7 @@
 use Rattle.std.proofs.Common.{ℕ, Bool, true, false, Some, None, if◌then◌else◌, ◌≡◌, ◌≢◌, ◌*◌, ◌<◌, List, [], ◌∷◌, length, drop, map, inl, inr, refl, sym, ◌∙◌, ap, subst, arith, length-set, get_or-set_same, get_or-set_other}
 use Rattle.spec_locks.specs.Picks.{queued_of}
 use Rattle.lot_laws.specs.MutexDeeds.{acts}
-use Rattle.lot_laws.specs.Stations.{station_at}
+use Rattle.lot_laws.specs.Locations.{location_at}
 use Rattle.lot_laws.proofs.machine.Parts.{put_places}
 use Rattle.spec_locks.specs.Locks.{IsLockState}
 use Rattle.std.proofs.lemmas.Bool.{cases_eq}
@@ -24,8 +24,8 @@ use Rattle.spec_locks.specs.Locks as locks
 use Rattle.spec_locks.specs.Sites.{Has, Site, Main, Begin, Mark, Clear, Case, wakened}
 use Rattle.lot_machine.specs.Machine.{held}
 use Rattle.lot_laws.specs.Refinement.{lock_seen, taken_at}
-use Rattle.lot_laws.specs.MutexDeeds.{Act, mutex_station, queued}
-use Rattle.lot_laws.specs.Stations.{hand, nowhere, doing_on}
+use Rattle.lot_laws.specs.MutexDeeds.{Act, mutex_location, queued}
+use Rattle.lot_laws.specs.Locations.{hand, nowhere, role_on}
 use Rattle.lot_laws.specs.SitesOf.{after_acts, hand_at, Hands}
 use Rattle.lot_laws.proofs.machine.Parts.{mutex, Base, seen, LetGo, untaken, put_here, put_other, same, differ}
 use Rattle.lot_laws.proofs.hands.Handed.{handed_is, heir}
@@ -35,41 +35,41 @@ use Rattle.lot_machine.proofs.QueueLemmas.{told_count}
 use Rattle.lot_laws.proofs.sites.StandsKept.{AlikeBeside}
 use Rattle.lot_laws.proofs.sites.Following.{lock_by}
 use Rattle.lot_laws.proofs.sites.TakesAt.{IsTakenAt, SplitsAt, behind_take, member, told_by, told_places, take_goes, only_member}
-use Rattle.lot_laws.specs.SitesOf.{stations_of, ActsNeeded, AreWaiting, FitsItsLock, Goes, IsSteady, rules_in}
+use Rattle.lot_laws.specs.SitesOf.{locations_of, ActsNeeded, AreWaiting, FitsItsLock, Goes, IsInductive, rules_in}
 use Rattle.lot_laws.proofs.mutex.Waiters.{CallsMutex, IsHeldThere, SleepsAt, WasGivenThere, held_there}
 
--- who was taken is woken and tries again
+-- a thread that was taken is woken and tries again
 pub tries : (l t : ℕ) (p : Place) → IsHeldThere l t p → LetGo t l p (next_place p (Woken note.Normal))
 tries l t p held = record {
   taken = held.woken.taken ∙ sym (ap (keep_from t) held.was ∙ ap (λ b. if b then None else Some (record { by = t; want = Exclusive })) (same t));
-  doing = held.woken.doing ∙ sym (ap (λ o. wakened t o (doing_on p l)) held.was ∙ ap (λ b. if b then record (doing_on p l) { retries = Some Exclusive } else doing_on p l) (same t));
+  role = held.woken.role ∙ sym (ap (λ o. wakened t o (role_on p l)) held.was ∙ ap (λ b. if b then record (role_on p l) { retries = Some Exclusive } else role_on p l) (same t));
 }
 
--- who was handed the lock has it
+-- a thread that was handed the lock has it
 pub accepts : (l t by : ℕ) (p : Place) → WasGivenThere l by p → LetGo t l p (next_place p (Woken note.HandOff))
 accepts l t by p given = record {
   taken = given.told.taken ∙ sym (ap (keep_from t) given.was);
-  doing = given.told.doing ∙ sym (ap (λ o. wakened t o (doing_on p l)) given.was);
+  role = given.told.role ∙ sym (ap (λ o. wakened t o (role_on p l)) given.was);
 }
 
 -- ---------------------------------------------------------------- the first of the line is taken
 
--- whoever takes it, in whatever call, and whoever it is: itself too
-module _ (w : State) (t l : ℕ) (steady : IsSteady w) (there : t < length w.places) (p2 : Place)
+-- for each taker, in any call, and each thread taken: itself too
+module _ (w : State) (t l : ℕ) (steady : IsInductive w) (there : t < length w.places) (p2 : Place)
     (beside : AlikeBeside l (place_at w t) p2) (fits : FitsItsLock w p2) (rules : rules_in w l ≡ mutex)
     (line : 2 * l < length w.queues)
-    (x : Waiter) (rest : List Waiter) (first : queue_at w (2 * l) ≡ x ∷ rest) (wants : x.want ≡ Exclusive) (stood : (station_at (place_at w x.thread) l).stands ≡ Some Main) (sleeps : SleepsAt l (place_at w x.thread)) where
+    (x : Waiter) (rest : List Waiter) (first : queue_at w (2 * l) ≡ x ∷ rest) (wants : x.want ≡ Exclusive) (stood : (location_at (place_at w x.thread) l).stands ≡ Some Main) (sleeps : SleepsAt l (place_at w x.thread)) where
   abbrev pub taken_state : State
   taken_state = put (state_after_reply (record w { queues = queues_without_first w.queues (2 * l) }) x.thread (TakenBy t)) t p2
 
   first_sleeps : IsTakenAt w t l Main (place_at w x.thread)
-  first_sleeps = let k = sleeps.taken t in record { stands = stood; unheld = sleeps.free; goes = k.station; alike = k.others; doing = k.doing; fits = k.fits tt w (steady.stands.calls x.thread) }
+  first_sleeps = let k = sleeps.taken t in record { stands = stood; unheld = sleeps.free; goes = k.location; alike = k.others; role = k.role; fits = k.fits tt w (steady.stands.calls x.thread) }
 
   splits : SplitsAt w t l Main (x ∷ []) rest
   splits = record {
     counts = λ u. let a : times u (queue_at w (2 * l)) ≡ times u (x ∷ rest) = ap (times u) first in omega arith;
     sleeps = λ u h. subst (λ j. IsTakenAt w t l Main (place_at w j)) (only_member x u h) first_sleeps;
-    lefts = (subst (AreWaiting (stations_of (place_at w)) l Main) first (steady.stands.waits l Main)).1;
+    lefts = (subst (AreWaiting (locations_of (place_at w)) l Main) first (steady.stands.waits l Main)).1;
     wants = ((sleeps.taken t).taken ∙ (λ i. Some (record { by = t; want = sym wants i })), tt);
   }
 
@@ -83,11 +83,11 @@ module _ (w : State) (t l : ℕ) (steady : IsSteady w) (there : t < length w.pla
   same_one : member x.thread (x ∷ []) ≡ true
   same_one = rw (same x.thread) refl
 
-  pub first_goes : (station_at (place_at w t) l).carries ≡ None → station_at p2 l ≡ record (behind_take t (member t (x ∷ [])) (station_at (place_at w t) l)) { carries = Some false }
+  pub first_goes : (location_at (place_at w t) l).carries ≡ None → location_at p2 l ≡ record (behind_take t (member t (x ∷ [])) (location_at (place_at w t) l)) { carries = Some false }
       → taken_at p2 l
       ≡ (if member t (x ∷ []) then taken_at (next_place (place_at w t) (TakenBy t)) l else taken_at (place_at w t) l)
       → ActsNeeded mutex (acts t (Case (TakeFirst (queued x.thread)) ∷ [])) (lock_by w l mutex)
-      → doing_on p2 l ≡ (after_acts mutex (acts t (Case (TakeFirst (queued x.thread)) ∷ [])) (lock_by w l mutex)).doing t
+      → role_on p2 l ≡ (after_acts mutex (acts t (Case (TakeFirst (queued x.thread)) ∷ [])) (lock_by w l mutex)).role t
       → Goes w taken_state l (acts t (Case (TakeFirst (queued x.thread)) ∷ []))
   first_goes bare now own_taken needed own_is = take_goes w t l steady there p2 beside fits Main (x ∷ []) rest splits
       (λ one u v h g. sym (only_member x u h) ∙ only_member x v g) bare (Some false) now mutex rules own_taken taken_state refl refl refl threads places
@@ -111,7 +111,7 @@ module _ (r : Rules) (l : ℕ) (n : Base) (word : ℕ) (o : Owners) (m s : List 
   taken_there = held_there (p u) t l (mutexes u) held
 
   apart : u ≢ t
-  apart e = let a : hand_at (p t) l ≡ hand t false = subst (λ j. hand_at (p j) l ≡ hand t false) e held in let b : hand_at (p t) l ≡ None = ap (λ q. hand_at q l) store ∙ ap (λ c. (if c then mutex_station (HandOff bumps (hand_off.Store true none_left)) else nowhere).hand) (same l) in cc
+  apart e = let a : hand_at (p t) l ≡ hand t false = subst (λ j. hand_at (p j) l ≡ hand t false) e held in let b : hand_at (p t) l ≡ None = ap (λ q. hand_at q l) store ∙ ap (λ c. (if c then mutex_location (HandOff bumps (hand_off.Store true none_left)) else nowhere).hand) (same l) in cc
 
   let_go_now : (x : ℕ) → taken_at (handed_places x) l ≡ keep_from t (taken_at (p x) l)
   let_go_now x = elim (cases_eq x t) [
@@ -125,19 +125,19 @@ module _ (r : Rules) (l : ℕ) (n : Base) (word : ℕ) (o : Owners) (m s : List 
   abbrev pub hands_acts : Bool → List Act
   hands_acts b = record { by = t; deed = Case (locks.HandOff Exclusive (Some (queued u))) } ∷ record { by = t; deed = if b then Clear Main else Mark Main } ∷ record { by = u; deed = Begin (Some (Has Exclusive)) } ∷ []
 
-  doing_then : (b : Bool) → none_left ≡ b → (x : ℕ)
-      → doing_on (handed_places x) l ≡ (after_acts r (hands_acts b) at_store).doing x
-  doing_then true f x = elim (cases_eq x t) [
+  role_then : (b : Bool) → none_left ≡ b → (x : ℕ)
+      → role_on (handed_places x) l ≡ (after_acts r (hands_acts b) at_store).role x
+  role_then true f x = elim (cases_eq x t) [
     | inl e ↦ rw (e, put_here (putting p u (next_place (p u) (HandedBy t alone))) t (Mutex l (HandOff bumps (hand_off.Leave true))), differ t u (λ g. apart (sym g)), same t, store, same l) refl
     | inr nt ↦ rw (put_other (putting p u (next_place (p u) (HandedBy t alone))) t (Mutex l (HandOff bumps (hand_off.Leave true))) x nt) (elim (cases_eq x u) [
-      | inl e ↦ rw (e, put_here p u (next_place (p u) (HandedBy t alone)), same u, differ u t apart) (taken_there.handed alone).doing
+      | inl e ↦ rw (e, put_here p u (next_place (p u) (HandedBy t alone)), same u, differ u t apart) (taken_there.handed alone).role
       | inr nu ↦ rw (put_other p u (next_place (p u) (HandedBy t alone)) x nu, differ x u nu, differ x t nt) refl
     ])
   ]
-  doing_then false f x = elim (cases_eq x t) [
+  role_then false f x = elim (cases_eq x t) [
     | inl e ↦ rw (e, put_here (putting p u (next_place (p u) (HandedBy t alone))) t (Mutex l (HandOff bumps (hand_off.Leave true))), differ t u (λ g. apart (sym g)), same t, store, same l, f) refl
     | inr nt ↦ rw (put_other (putting p u (next_place (p u) (HandedBy t alone))) t (Mutex l (HandOff bumps (hand_off.Leave true))) x nt) (elim (cases_eq x u) [
-      | inl e ↦ rw (e, put_here p u (next_place (p u) (HandedBy t alone)), same u, differ u t apart) (taken_there.handed alone).doing
+      | inl e ↦ rw (e, put_here p u (next_place (p u) (HandedBy t alone)), same u, differ u t apart) (taken_there.handed alone).role
       | inr nu ↦ rw (put_other p u (next_place (p u) (HandedBy t alone)) x nu, differ x u nu, differ x t nt) refl
     ])
   ]
@@ -150,7 +150,7 @@ module _ (r : Rules) (l : ℕ) (n : Base) (word : ℕ) (o : Owners) (m s : List 
     parked = bit b i;
     aside_parked = no_aside b i;
     filled = unfilled b i;
-    doing = λ x. doing_then b f x i;
+    role = λ x. role_then b f x i;
   }
     where
       let_go_lock : lock_seen n.shared (with_exclusive o (Some u)) m s (λ x. taken_at (handed_places x) l)

@@ -34,15 +34,15 @@ use Rattle.spec_locks.specs.Locks.{one_if_some, TakeFirst}
 use Rattle.spec_locks.specs.Codes.{bit}
 use Rattle.spec_locks.specs.Sites.{Main, Second, End, is_empty, found, leaves, In, Out, Case, FindNobody}
 use Rattle.lot_machine.specs.Machine.{State, place_at, word_at, owners_at, queue_at, section_at, can_do, put, state_with_sections, queues_with_last, queues_without, queues_without_first, state_after_reply, state_after_taking, is_there, reply_to}
-use Rattle.lot_machine.specs.Fits.{IsShaped, PlaceFits}
+use Rattle.lot_machine.specs.Fits.{IsWellFormed, PlaceFits}
 use Rattle.lot_laws.specs.Refinement.{taken_at}
 use Rattle.spec_locks.specs.Picks.{queued_of}
-use Rattle.lot_laws.specs.MutexDeeds.{mutex_doing, mutex_station, acts, deeds, mutex_deeds, queued}
-use Rattle.lot_laws.specs.Stations.{Station, nowhere, station, station_at}
-use Rattle.lot_laws.specs.SitesOf.{AreCounted, IsSteady, Goes, stood_in}
+use Rattle.lot_laws.specs.MutexDeeds.{mutex_role, mutex_location, acts, deeds, mutex_deeds, queued}
+use Rattle.lot_laws.specs.Locations.{Location, nowhere, location, location_at}
+use Rattle.lot_laws.specs.SitesOf.{AreCounted, IsInductive, Goes, stood_in}
 use Rattle.lot_machine.proofs.Shape.{main_line_there, main_key_there}
-use Rattle.lot_laws.proofs.machine.Parts.{base_at, same, own_stance, inside_is, doing_of, doing_here, IsMutexOf, own_of, IsSingle}
-use Rattle.lot_laws.proofs.mutex.Words.{Fits, own_doing, ends, looks, at_first, at_load, at_decide_free, at_decide_one, at_clear, at_release_clear, at_try, at_subtract, at_unlock_fair, at_bump, at_store_none}
+use Rattle.lot_laws.proofs.machine.Parts.{base_at, same, own_stance, inside_is, role_of, role_here, IsMutexOf, own_of, IsSingle}
+use Rattle.lot_laws.proofs.mutex.Words.{Fits, own_role, ends, looks, at_first, at_load, at_decide_free, at_decide_one, at_clear, at_release_clear, at_try, at_subtract, at_unlock_fair, at_bump, at_store_none}
 use Rattle.lot_laws.proofs.sites.OneStep.{empty_line}
 use Rattle.lot_laws.proofs.sites.SitesKept.{go_by, goes_steady, site_l, word_l, word_keeps, place_keeps, enter_keeps, leave_keeps, one_held, release_wakes, tells, hands_over, take_keeps, mutexes_at}
 use Rattle.lot_laws.proofs.mutex.Waiters.{stands_or_sleeps}
@@ -58,12 +58,12 @@ owned_3 : (e : Option ℕ) → 3 ≡ one_if_some e + 2 * 1 → e ≢ None
 owned_3 None h e = omega arith
 owned_3 (Some x) h e = cc
 
-module _ (w : State) (t : ℕ) (steady : IsSteady w) (shape : IsShaped w) (there : t < length w.places) where
+module _ (w : State) (t : ℕ) (steady : IsInductive w) (shape : IsWellFormed w) (there : t < length w.places) where
   -- the thread does at the lock l what its act does
   abbrev GoesWith : ℕ → MutexPlace → Option ℕ → Act → Type 0
   GoesWith l at whom a = Goes w (go_by w t (Mutex l at) a) l (deeds t at whom (reply_to w t a))
 
-  -- whomever it takes, or hands the lock
+  -- for each thread that it takes, or hands the lock
   abbrev GoesBy : ℕ → MutexPlace → Act → Type 0
   GoesBy l at a = (whom : Option ℕ) × GoesWith l at whom a
 
@@ -79,20 +79,20 @@ module _ (w : State) (t : ℕ) (steady : IsSteady w) (shape : IsShaped w) (there
   key : (l : ℕ) → l < length w.locks → 2 * l < length w.sections
   key l lt = main_key_there w l shape lt
 
-  pub enters : (l : ℕ) (at at2 : MutexPlace) → place_at w t ≡ Mutex l at → l < length w.locks → is_none (section_at w (2 * l)) ≡ true → taken_at (Mutex l at) l ≡ None → taken_at (Mutex l at2) l ≡ None → (mutex_doing at).inside ≡ None → (mutex_doing at).empty ≡ None → mutex_doing at2 ≡ record (mutex_doing at) { inside = Some Main }
-      → mutex_station at2 ≡ record (mutex_station at) { inside = Some Main }
+  pub enters : (l : ℕ) (at at2 : MutexPlace) → place_at w t ≡ Mutex l at → l < length w.locks → is_none (section_at w (2 * l)) ≡ true → taken_at (Mutex l at) l ≡ None → taken_at (Mutex l at2) l ≡ None → (mutex_role at).inside ≡ None → (mutex_role at).empty ≡ None → mutex_role at2 ≡ record (mutex_role at) { inside = Some Main }
+      → mutex_location at2 ≡ record (mutex_location at) { inside = Some Main }
       → Goes w (put (state_with_sections w (One (2 * l)) (Some t)) t (Mutex l at2)) l (acts t (In Main ∷ []))
-  enters l at at2 is lt free none none2 i e d s = enter_keeps w t l at steady is there (key l lt) (Mutex l at2) refl none none2 (none_is (section_at w (2 * l)) free) i e (own_doing l (Mutex l at2) at2 refl ∙ d) s
+  enters l at at2 is lt free none none2 i e d s = enter_keeps w t l at steady is there (key l lt) (Mutex l at2) refl none none2 (none_is (section_at w (2 * l)) free) i e (own_role l (Mutex l at2) at2 refl ∙ d) s
 
   -- it looks, and does nothing
   pub looked : (l : ℕ) (at at2 : MutexPlace) → place_at w t ≡ Mutex l at → taken_at (Mutex l at) l ≡ None
-      → taken_at (Mutex l at2) l ≡ None → mutex_doing at2 ≡ mutex_doing at → mutex_station at2 ≡ mutex_station at
+      → taken_at (Mutex l at2) l ≡ None → mutex_role at2 ≡ mutex_role at → mutex_location at2 ≡ mutex_location at
       → Goes w (put w t (Mutex l at2)) l []
   looked l at at2 is none none2 d s = place_keeps w t l at steady is there (Mutex l at2) [] refl
-      (looks l (base_at w l) (word_at w l) (word_at w l) (owners_at w l) (queue_at w (2 * l)) (queue_at w (2 * l + 1)) (place_at w) t (Mutex l at2) (site_l w t l at steady is there) (mutex_doing at) (own_doing l (place_at w t) at is) (ap (λ y. taken_at y l) is ∙ none) none2 refl
-      (own_doing l (Mutex l at2) at2 refl ∙ d)) s
+      (looks l (base_at w l) (word_at w l) (word_at w l) (owners_at w l) (queue_at w (2 * l)) (queue_at w (2 * l + 1)) (place_at w) t (Mutex l at2) (site_l w t l at steady is there) (mutex_role at) (own_role l (place_at w t) at is) (ap (λ y. taken_at y l) is ∙ none) none2 refl
+      (own_role l (Mutex l at2) at2 refl ∙ d)) s
 
-  -- what a thread does about the word that it saw, by its two tests
+  -- tells what a thread does about the word that it saw, by its two tests
   decided_by : ℕ → ℕ → Bool → Bool → Act
   decided_by l x a b =
       if not a then act.TheVariants.Word l (op.TheVariants.Exchange x (x + 1))
@@ -111,14 +111,14 @@ module _ (w : State) (t : ℕ) (steady : IsSteady w) (shape : IsShaped w) (there
       → GoesWith l (Lock e r lock.Check) None (act.TheVariants.Park l (2 * l) (WordIs 3) Exclusive)
   parked_kept l e r is lt = either (word_at w l == 3) refl
     where
-      again : (b : Bool) → mutex_doing (Lock e (b && not false) (lock.Leave false)) ≡ mutex_doing (Lock e b lock.Check)
+      again : (b : Bool) → mutex_role (Lock e (b && not false) (lock.Leave false)) ≡ mutex_role (Lock e b lock.Check)
       again true = refl
       again false = refl
 
       either : (b : Bool) → (word_at w l == 3) ≡ b → Goes w (put (if b then record w { queues = queues_with_last w.queues (2 * l) t Exclusive } else w) t (next_place (Mutex l (Lock e r lock.Check)) (Parked b))) l (deeds t (Lock e r lock.Check) None (Parked b))
       either true f = let z : word_at w l ≡ 3 = eqb-true (word_at w l) 3 f in
           park_keeps w t l (Lock e r lock.Check) steady is there (line l lt) (Mutex l (Lock e (r && not true) (lock.Leave true))) refl refl refl refl (ap is_parked z) (owned_3 (owners_at w l).exclusive (subst (λ x. x ≡ one_if_some (owners_at w l).exclusive + 2 * bit (is_parked x)) z (word_l w t l (Lock e r lock.Check) steady is there))) refl refl refl
-          (own_doing l (Mutex l (Lock e (r && not true) (lock.Leave true))) (Lock e (r && not true) (lock.Leave true)) refl) refl
+          (own_role l (Mutex l (Lock e (r && not true) (lock.Leave true))) (Lock e (r && not true) (lock.Leave true)) refl) refl
       either false f = looked l (Lock e r lock.Check) (Lock e (r && not false) (lock.Leave false)) is refl refl (again r) refl
 
   removed_kept : (l : ℕ) (e : Entry) (r : Bool) → place_at w t ≡ Mutex l (Lock e r lock.Remove) → l < length w.locks
@@ -126,16 +126,16 @@ module _ (w : State) (t : ℕ) (steady : IsSteady w) (shape : IsShaped w) (there
   removed_kept l e r is lt = either (length (without t (queue_at w (2 * l))) == 0) (empty_line (without t (queue_at w (2 * l))))
     where
       either : (b : Bool) → is_empty (map queued_of (without t (queue_at w (2 * l)))) ≡ b → Goes w (put (record w { queues = queues_without w.queues t }) t (next_place (Mutex l (Lock e r lock.Remove)) (Removed b))) l (deeds t (Lock e r lock.Remove) None (Removed b))
-      either true f = remove_keeps w t l (Lock e r lock.Remove) steady is there (line l lt) (Mutex l (Lock e r lock.Clear)) refl refl refl refl refl refl (own_doing l (Mutex l (Lock e r lock.Clear)) (Lock e r lock.Clear) refl ∙ rw f refl) refl
-      either false f = remove_keeps w t l (Lock e r lock.Remove) steady is there (line l lt) (Mutex l (Lock e r lock.GiveUp)) refl refl refl refl refl refl (own_doing l (Mutex l (Lock e r lock.GiveUp)) (Lock e r lock.GiveUp) refl ∙ rw f refl) refl
+      either true f = remove_keeps w t l (Lock e r lock.Remove) steady is there (line l lt) (Mutex l (Lock e r lock.Clear)) refl refl refl refl refl refl (own_role l (Mutex l (Lock e r lock.Clear)) (Lock e r lock.Clear) refl ∙ rw f refl) refl
+      either false f = remove_keeps w t l (Lock e r lock.Remove) steady is there (line l lt) (Mutex l (Lock e r lock.GiveUp)) refl refl refl refl refl refl (own_role l (Mutex l (Lock e r lock.GiveUp)) (Lock e r lock.GiveUp) refl ∙ rw f refl) refl
 
   -- it leaves its section with nobody in hand
   goes_away : (l : ℕ) (at : MutexPlace) (p2 : Place) → place_at w t ≡ Mutex l at → l < length w.locks → IsMutexOf l p2
-      → taken_at (Mutex l at) l ≡ None → taken_at p2 l ≡ None → doing_of p2 ≡ leaves (mutex_doing at)
-      → (mutex_doing at).inside ≡ Some Main → (mutex_doing at).wakes ≡ None → (mutex_station at).carries ≡ None
-      → station p2 ≡ record (mutex_station at) { inside = None }
+      → taken_at (Mutex l at) l ≡ None → taken_at p2 l ≡ None → role_of p2 ≡ leaves (mutex_role at)
+      → (mutex_role at).inside ≡ Some Main → (mutex_role at).wakes ≡ None → (mutex_location at).carries ≡ None
+      → location p2 ≡ record (mutex_location at) { inside = None }
       → Goes w (put (state_with_sections w (One (2 * l)) None) t p2) l (acts t (Out ∷ []))
-  goes_away l at p2 is lt of none none2 d i k c s = leave_keeps w t l at steady is there (key l lt) p2 of none none2 (doing_here l p2 (own_of l p2 of) ∙ d) i k c s
+  goes_away l at p2 is lt of none none2 d i k c s = leave_keeps w t l at steady is there (key l lt) p2 of none none2 (role_here l p2 (own_of l p2 of) ∙ d) i k c s
 
   leaves_kept : (l : ℕ) (e : Entry) (r b : Bool) → place_at w t ≡ Mutex l (Lock e r (lock.Leave b)) → l < length w.locks
       → GoesWith l (Lock e r (lock.Leave b)) None (act.TheVariants.Leave (One (2 * l)) wakes.TheVariants.Nobody)
@@ -154,7 +154,7 @@ module _ (w : State) (t : ℕ) (steady : IsSteady w) (shape : IsShaped w) (there
   lock_kept l e r (lock.Taken by) is lt can = absurd cc
   lock_kept l e r (lock.Handed by) is lt can = absurd cc
   lock_kept l e r lock.Accept is lt can = place_keeps w t l (Lock e r lock.Accept) steady is there Idle (End ∷ []) tt
-      (ends l (base_at w l) (word_at w l) (word_at w l) (owners_at w l) (queue_at w (2 * l)) (queue_at w (2 * l + 1)) (place_at w) t Idle (site_l w t l (Lock e r lock.Accept) steady is there) (mutex_doing (Lock e r lock.Accept)) (own_doing l (place_at w t) (Lock e r lock.Accept) is)
+      (ends l (base_at w l) (word_at w l) (word_at w l) (owners_at w l) (queue_at w (2 * l)) (queue_at w (2 * l + 1)) (place_at w) t Idle (site_l w t l (Lock e r lock.Accept) steady is there) (mutex_role (Lock e r lock.Accept)) (own_role l (place_at w t) (Lock e r lock.Accept) is)
       (ap (λ y. taken_at y l) is) refl refl refl refl refl refl refl) refl
   lock_kept l e r lock.Remove is lt can = removed_kept l e r is lt
   lock_kept l e r lock.Clear is lt can = fitted l (Lock e r lock.Clear) is lt (op.TheVariants.And NOT_PARKED) (at_clear l _ _ _ _ _ t e r)
@@ -164,36 +164,36 @@ module _ (w : State) (t : ℕ) (steady : IsSteady w) (shape : IsShaped w) (there
   record TakesTo (l : ℕ) (at : MutexPlace) (u : ℕ) (b : Bool) : Type 0 where
     pub of : IsMutexOf l (next_place (Mutex l at) (Took true b))
     pub none : taken_at (next_place (Mutex l at) (Took true b)) l ≡ None
-    pub doing : doing_of (next_place (Mutex l at) (Took true b)) ≡ record (mutex_doing at) { wakes = None; carries = true; covers = true; empty = found Main b }
+    pub role : role_of (next_place (Mutex l at) (Took true b)) ≡ record (mutex_role at) { wakes = None; carries = true; covers = true; empty = found Main b }
     pub does : deeds t at (Some u) (Took true b) ≡ acts t (Case (TakeFirst (queued u)) ∷ [])
-    pub stands : station (next_place (Mutex l at) (Took true b)) ≡ record (mutex_station at) { carries = Some false }
+    pub stands : location (next_place (Mutex l at) (Took true b)) ≡ record (mutex_location at) { carries = Some false }
 
   -- the first of the line, if any, is taken
-  takes : (l : ℕ) (at : MutexPlace) → place_at w t ≡ Mutex l at → l < length w.locks → taken_at (Mutex l at) l ≡ None → mutex_station at ≡ record nowhere { inside = Some Main } → (mutex_doing at).carries ≡ false → (mutex_doing at).wakes ≢ Some Second
+  takes : (l : ℕ) (at : MutexPlace) → place_at w t ≡ Mutex l at → l < length w.locks → taken_at (Mutex l at) l ≡ None → mutex_location at ≡ record nowhere { inside = Some Main } → (mutex_role at).carries ≡ false → (mutex_role at).wakes ≢ Some Second
       → (queue_at w (2 * l) ≡ [] → Goes w (put (record w { queues = queues_without_first w.queues (2 * l) }) t (next_place (Mutex l at) (Took false true))) l (deeds t at None (Took false true)))
       → ((u : ℕ) (b : Bool) → TakesTo l at u b) → GoesBy l at (act.TheVariants.Take (2 * l) whoms.TheVariants.First)
   takes l at is lt none s c v empty to = by_line (queue_at w (2 * l)) refl
     where
       some : (x : Waiter) (rest : List Waiter) → queue_at w (2 * l) ≡ x ∷ rest → Goes w (put (state_after_reply (record w { queues = queues_without_first w.queues (2 * l) }) x.thread (TakenBy t)) t (next_place (Mutex l at) (Took true (length rest == 0)))) l (deeds t at (Some x.thread) (Took true (length rest == 0)))
       some x rest e = elim (stands_or_sleeps (place_at w x.thread) l (mutexes_at w t l at steady is x.thread) stands_there) [
-        | inl within ↦ absurd (apart ((site_l w t l at steady is there).alone x.thread t Main (inside_is (place_at w x.thread) l ∙ within) (inside_is (place_at w t) l ∙ ap (λ (y : Station). y.inside) here)))
+        | inl within ↦ absurd (apart ((site_l w t l at steady is there).alone x.thread t Main (inside_is (place_at w x.thread) l ∙ within) (inside_is (place_at w t) l ∙ ap (λ (y : Location). y.inside) here)))
         | inr a ↦ rw ((to x.thread (length rest == 0)).does) (take_keeps w t l at steady is there (line l lt) x rest e a stands_there apart (next_place (Mutex l at) (Took true (length rest == 0))) (to x.thread (length rest == 0)).of none (to x.thread (length rest == 0)).none
-            (ap (λ (y : Station). y.carries) s) (ap (λ (y : Station). y.hand) s) (ap (λ (y : Station). y.inside) s) c v
-            (doing_here l (next_place (Mutex l at) (Took true (length rest == 0))) (own_of l (next_place (Mutex l at) (Took true (length rest == 0))) (to x.thread (length rest == 0)).of) ∙ (to x.thread (length rest == 0)).doing ∙ ap (λ b. record (mutex_doing at) { wakes = None; carries = true; covers = true; empty = found Main b }) (sym (empty_line rest)))
+            (ap (λ (y : Location). y.carries) s) (ap (λ (y : Location). y.hand) s) (ap (λ (y : Location). y.inside) s) c v
+            (role_here l (next_place (Mutex l at) (Took true (length rest == 0))) (own_of l (next_place (Mutex l at) (Took true (length rest == 0))) (to x.thread (length rest == 0)).of) ∙ (to x.thread (length rest == 0)).role ∙ ap (λ b. record (mutex_role at) { wakes = None; carries = true; covers = true; empty = found Main b }) (sym (empty_line rest)))
             (to x.thread (length rest == 0)).stands)
       ]
         where
-          here : station_at (place_at w t) l ≡ record nowhere { inside = Some Main }
+          here : location_at (place_at w t) l ≡ record nowhere { inside = Some Main }
           here = own_stance l (place_at w t) at is ∙ s
 
-          stood : times x.thread (x ∷ rest) ≡ stood_in (station_at (place_at w x.thread) l).stands Main
-          stood = subst (λ (q : List Waiter). times x.thread q ≡ stood_in (station_at (place_at w x.thread) l).stands Main) e (steady.stands.lines x.thread l Main)
+          stood : times x.thread (x ∷ rest) ≡ stood_in (location_at (place_at w x.thread) l).stands Main
+          stood = subst (λ (q : List Waiter). times x.thread q ≡ stood_in (location_at (place_at w x.thread) l).stands Main) e (steady.stands.lines x.thread l Main)
 
-          stands_there : (station_at (place_at w x.thread) l).stands ≡ Some Main
-          stands_there = in_main (station_at (place_at w x.thread) l).stands (let one : ◌≡◌ {A = ℕ} (if x.thread == x.thread then 1 else 0) 1 = ap (λ (b : Bool). if b then 1 else 0) (same x.thread) in let all : times x.thread (x ∷ rest) ≡ stood_in (station_at (place_at w x.thread) l).stands Main = stood in omega arith)
+          stands_there : (location_at (place_at w x.thread) l).stands ≡ Some Main
+          stands_there = in_main (location_at (place_at w x.thread) l).stands (let one : ◌≡◌ {A = ℕ} (if x.thread == x.thread then 1 else 0) 1 = ap (λ (b : Bool). if b then 1 else 0) (same x.thread) in let all : times x.thread (x ∷ rest) ≡ stood_in (location_at (place_at w x.thread) l).stands Main = stood in omega arith)
 
           apart : x.thread ≢ t
-          apart f = let a : (station_at (place_at w t) l).stands ≡ Some Main = rw f at stands_there in let b : (station_at (place_at w t) l).stands ≡ None = ap (λ (y : Station). y.stands) here in cc
+          apart f = let a : (location_at (place_at w t) l).stands ≡ Some Main = rw f at stands_there in let b : (location_at (place_at w t) l).stands ≡ None = ap (λ (y : Location). y.stands) here in cc
 
       by_line : (q : List Waiter) → queue_at w (2 * l) ≡ q → (whom : Option ℕ) × Goes w (put (state_after_taking (record w { queues = queues_without_first w.queues (2 * l) }) t (first_of (queue_at w (2 * l)))) t (next_place (Mutex l at) (Took (is_there (first_of (queue_at w (2 * l)))) (length (drop 1 (queue_at w (2 * l))) == 0)))) l (deeds t at whom (Took (is_there (first_of (queue_at w (2 * l)))) (length (drop 1 (queue_at w (2 * l))) == 0)))
       by_line [] e = let a : first_of (queue_at w (2 * l)) ≡ None = ap first_of e in let b : (length (drop 1 (queue_at w (2 * l))) == 0) ≡ true = ap (λ (q : List Waiter). length (drop 1 q) == 0) e in (None, rw (a, b) (empty e))
@@ -201,13 +201,13 @@ module _ (w : State) (t : ℕ) (steady : IsSteady w) (shape : IsShaped w) (there
 
   -- nobody was there
   takes_nobody : (l : ℕ) (at at2 : MutexPlace) → place_at w t ≡ Mutex l at → l < length w.locks → queue_at w (2 * l) ≡ []
-      → taken_at (Mutex l at) l ≡ None → taken_at (Mutex l at2) l ≡ None → (mutex_doing at).inside ≡ Some Main
-      → (mutex_doing at).carries ≡ false → ((mutex_doing at).wakes ≡ None) ⊎ ((mutex_doing at).wakes ≡ Some Main)
-      → mutex_doing at2 ≡ record (mutex_doing at) { wakes = None; carries = true; covers = true; empty = Some Main }
-      → mutex_station at2 ≡ mutex_station at
+      → taken_at (Mutex l at) l ≡ None → taken_at (Mutex l at2) l ≡ None → (mutex_role at).inside ≡ Some Main
+      → (mutex_role at).carries ≡ false → ((mutex_role at).wakes ≡ None) ⊎ ((mutex_role at).wakes ≡ Some Main)
+      → mutex_role at2 ≡ record (mutex_role at) { wakes = None; carries = true; covers = true; empty = Some Main }
+      → mutex_location at2 ≡ mutex_location at
       → Goes w (put (record w { queues = queues_without_first w.queues (2 * l) }) t (Mutex l at2)) l
       (acts t (FindNobody Main ∷ []))
-  takes_nobody l at at2 is lt empty none none2 i c v d s = nobody_keeps w t l at steady is there (line l lt) (Mutex l at2) refl none none2 empty i c v (own_doing l (Mutex l at2) at2 refl ∙ d) s
+  takes_nobody l at at2 is lt empty none none2 i c v d s = nobody_keeps w t l at steady is there (line l lt) (Mutex l at2) refl none none2 empty i c v (own_role l (Mutex l at2) at2 refl ∙ d) s
 
   pub unlock_kept : (l : ℕ) (a : UnlockAt) → place_at w t ≡ Mutex l (Unlock a) → l < length w.locks
       → can_do w (unlock_act l a) ≡ true → GoesBy l (Unlock a) (unlock_act l a)
@@ -218,8 +218,8 @@ module _ (w : State) (t : ℕ) (steady : IsSteady w) (shape : IsShaped w) (there
       next_take
     where
       next_take : (u : ℕ) (b : Bool) → TakesTo l (Unlock unlock.Take) u b
-      next_take u true = record { of = refl; none = refl; doing = refl; does = refl; stands = refl }
-      next_take u false = record { of = refl; none = refl; doing = refl; does = refl; stands = refl }
+      next_take u true = record { of = refl; none = refl; role = refl; does = refl; stands = refl }
+      next_take u false = record { of = refl; none = refl; role = refl; does = refl; stands = refl }
   unlock_kept l (unlock.Clear any) is lt can = (None, fitted l (Unlock (unlock.Clear any)) is lt (op.TheVariants.And NOT_PARKED) (at_release_clear l _ _ _ _ _ t any))
   unlock_kept l (unlock.Leave false) is lt can = (None, goes_away l (Unlock (unlock.Leave false)) Idle is lt tt refl refl refl refl refl refl refl)
   unlock_kept l (unlock.Leave true) is lt can = (None, release_wakes w t l steady there (key l lt) is)
@@ -229,12 +229,12 @@ module _ (w : State) (t : ℕ) (steady : IsSteady w) (shape : IsShaped w) (there
   hand_off_kept l bumps hand_off.Enter is lt can = (None, enters l (HandOff bumps hand_off.Enter) (HandOff bumps hand_off.Take) is lt can refl refl refl refl refl refl)
   hand_off_kept l bumps hand_off.Take is lt can = takes l (HandOff bumps hand_off.Take) is lt refl refl refl (λ h. cc)
       (λ empty. takes_nobody l (HandOff bumps hand_off.Take) (HandOff bumps (hand_off.Store false true)) is lt empty refl refl refl refl (inl refl) refl refl)
-      (λ u b. record { of = refl; none = refl; doing = refl; does = refl; stands = refl })
+      (λ u b. record { of = refl; none = refl; role = refl; does = refl; stands = refl })
   hand_off_kept l bumps (hand_off.Store false b) is lt can = (None, fitted l (HandOff bumps (hand_off.Store false b)) is lt (op.TheVariants.Store 0) (at_store_none l _ _ _ _ _ t steady.stands.hands bumps b))
   hand_off_kept l bumps (hand_off.Store true b) is lt can = let one = one_held w t l steady there (HandOff bumps (hand_off.Store true b)) is false refl in (Some one.0, hands_over w t l steady there lt bumps b one.0 is one.1)
   hand_off_kept l true (hand_off.Leave false) is lt can = (None, goes_away l (HandOff true (hand_off.Leave false)) (Mutex l (Lock entries.Bump false lock.First)) is lt refl refl refl refl refl refl refl refl)
   hand_off_kept l false (hand_off.Leave false) is lt can = (None, goes_away l (HandOff false (hand_off.Leave false)) Idle is lt tt refl refl refl refl refl refl refl)
-  hand_off_kept l true (hand_off.Leave true) is lt can = (None, tells w t l steady there (key l lt) true is (Mutex l (Lock entries.Bump false lock.First)) refl refl (own_doing l (Mutex l (Lock entries.Bump false lock.First)) (Lock entries.Bump false lock.First) refl) refl)
+  hand_off_kept l true (hand_off.Leave true) is lt can = (None, tells w t l steady there (key l lt) true is (Mutex l (Lock entries.Bump false lock.First)) refl refl (own_role l (Mutex l (Lock entries.Bump false lock.First)) (Lock entries.Bump false lock.First) refl) refl)
   hand_off_kept l false (hand_off.Leave true) is lt can = (None, tells w t l steady there (key l lt) false is Idle tt refl refl refl)
 
   -- wherever it stands, its deeds are what the place and the reply say
@@ -249,7 +249,7 @@ module _ (w : State) (t : ℕ) (steady : IsSteady w) (shape : IsShaped w) (there
 
   -- a thread goes on
   pub gone_kept : AreCounted w → (p : Place) → place_at w t ≡ p → IsSingle p → PlaceFits (length w.locks) p
-      → can_do w (act_of p) ≡ true → IsSteady (go_by w t p (act_of p))
+      → can_do w (act_of p) ≡ true → IsInductive (go_by w t p (act_of p))
   gone_kept counted Idle is single fits can = absurd cc
   gone_kept counted (Condvar l at) is single fits can = absurd single
   gone_kept counted (Once l at) is single fits can = goes_steady w _ l _ steady (goes_once w t l at steady shape there fits is can).goes

@@ -32,7 +32,7 @@ use Rattle.lot_machine.specs.Machine.{State, place_at, word_at, queue_at, is_the
 use Rattle.lot_laws.specs.Refinement.{owner_at}
 use Rattle.spec_locks.specs.Sites.{Main}
 use Rattle.lot_laws.specs.MutexPromises.{IsMutexWord}
-use Rattle.lot_laws.specs.SitesOf.{IsSteady}
+use Rattle.lot_laws.specs.SitesOf.{IsInductive}
 use Rattle.lot_laws.proofs.machine.AtPlaces.{coded_for, owns}
 use Rattle.lot_steps.specs.Steps.{line_owed, profile}
 use Rattle.lot_laws.proofs.promises.RowPromises.{LetsIn, RowSees, RowOwesNext, IsLateNext, Befalls}
@@ -104,7 +104,7 @@ befalls_woken l Bump n k = refl
 befalls_woken l (HandOff b hand_off.Enter) n k = refl
 befalls_woken l (HandOff b a) n k = refl
 
--- whatever befalls a thread, it owes what it owed
+-- a thread owes what it owed, with all that befalls it
 pub mutex_befallen : (l : ℕ) (at : MutexPlace) (r : Reply) → Befalls r → (k : ℕ)
     → line_owed (next_place (Mutex l at) r) k ≡ line_owed (Mutex l at) k
 mutex_befallen l at (TakenBy t) b k = befalls_taken l at t k
@@ -117,7 +117,7 @@ mutex_befallen l at r b k = absurd b
 
 -- a row that owes just while it is inside
 abbrev Within : Place → Type 0
-Within q = (m : Line) → (profile q).owes ≡ Some m → (profile q).doing.inside ≡ Some m
+Within q = (m : Line) → (profile q).owes ≡ Some m → (profile q).role.inside ≡ Some m
 
 locked_within : (k : ℕ) (e : Entry) (r : Bool) (n : Next LockAt) → Within (mutex_goes k (in_lock e r n))
 locked_within k e r (next.At at) m h = lock_owes (is_timed e) r at ∙ h
@@ -128,19 +128,19 @@ ended : (word k : ℕ) (at : MutexPlace) (a : _)
     → RowOwesNext locks.Mutex k word (mutex_row at) (outcome.TheVariants.End a) (profile Idle)
 ended word k at a = record { since = λ m h. absurd cc; sees = λ m s o. absurd cc }
 
--- who goes on inside the section, or on its way to it, owes on the main line
+-- a thread that goes on inside the section, or on its way to it, owes on the main line
 main_is : (m : Line) (word k : ℕ) (at : MutexPlace) → RowSees locks.Mutex k word (mutex_row at) m → m ≡ Main
 main_is Main word k at s = refl
 main_is Second word k at s = absurd (let f : false ≡ true = s.2 in cc)
 
 within : (word k : ℕ) (at : MutexPlace) (o : Outcome) (q : Place) → (profile q).owes ≡ Some Main
-    → (profile q).doing.inside ≡ Some Main → RowOwesNext locks.Mutex k word (mutex_row at) o (profile q)
+    → (profile q).role.inside ≡ Some Main → RowOwesNext locks.Mutex k word (mutex_row at) o (profile q)
 within word k at o q owes inside = record {
   since = λ m h. inl (inside ∙ sym owes ∙ h);
   sees = λ m s step. owes ∙ ap Some (sym (main_is m word k at s));
 }
 
--- who releases and sees the parked bit is to wake
+-- a thread that releases and sees the parked bit is to wake
 seen_parked : (word k : ℕ) (at : MutexPlace) (q : Place) → LetsIn locks.Mutex k (mutex_row at) → is_parked word ≡ true
     → line_let_in locks.Mutex (Some ((mutex_row at).purpose k)) ≡ Main → (profile q).owes ≡ Some Main
     → RowOwesNext locks.Mutex k word (mutex_row at) outcome.TheVariants.Step (profile q)
@@ -152,7 +152,7 @@ seen_parked word k at q lets parked main owes = record {
     some_same : (m n : Line) → Some m ≡ Some n → m ≡ n
     some_same m n e = cc
 
--- who enters lets nobody in
+-- a thread that enters lets nobody in
 entering : (word k : ℕ) (e : Entry) (r : Bool) (a : LockAt) (o : Outcome) (q : Place) → Within q
     → RowOwesNext locks.Mutex k word (mutex_row (Lock e r a)) o (profile q)
 entering word k e r a o q within = record {
@@ -164,7 +164,7 @@ entering word k e r a o q within = record {
 abbrev pub OwesNext : ℕ → ℕ → MutexPlace → Next MutexPlace → Type 0
 OwesNext k word at n = RowOwesNext locks.Mutex k word (mutex_row at) (outcome_of (mutex_does k n)) (profile (mutex_goes k n))
 
-module _ (w : State) (t : ℕ) (steady : IsSteady w) (k : ℕ) where
+module _ (w : State) (t : ℕ) (steady : IsInductive w) (k : ℕ) where
   -- the word of an owner that isn't 1 says that somebody may wait
   beside_owner : (at : MutexPlace) → place_at w t ≡ Mutex k at → owner_at w k ≡ Some t → (word_at w k == 1) ≡ false
       → is_parked (word_at w k) ≡ true
@@ -243,7 +243,7 @@ mutex_first_owes false mutex_call.TheVariants.Unlock = refl
 mutex_first_owes fair mutex_call.TheVariants.UnlockFair = refl
 mutex_first_owes fair mutex_call.TheVariants.Bump = refl
 
--- whose time is up is then awake, inside the section of the line where it slept
+-- a thread whose time is up is then awake, inside the section of the line where it slept
 pub mutex_late : (k : ℕ) (at : MutexPlace) (m : Line) → (mutex_row at).late_line ≡ Some m
     → IsLateNext (next_place (Mutex k at) Late) m
 mutex_late k (Lock entries.LockTimed r lock.Asleep) m h = record { inside = h; owes = h; awake = λ e. cc }

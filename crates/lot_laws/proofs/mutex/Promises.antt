@@ -27,7 +27,7 @@ only_exclusive : (x : Want) → Knows locks.Mutex x → x ≡ Exclusive
 only_exclusive Exclusive h = refl
 only_exclusive x h = absurd h
 
--- whoever wakes the waiters of a mutex releases it, waits with it, or notifies and has seen it
+-- each thread that wakes the waiters of a mutex releases it, waits with it, or notifies and has seen it
 wakes_one : (sort : ℕ → Sort) (q : Option Purpose) (g : Option ℕ) (r : Recall) (l : ℕ) → sort l ≡ locks.Mutex → KnowsRights sort q
     → WakesWaiters locks.Mutex q g r l → WakesOne q r l
 wakes_one sort None g r l e knows h = h
@@ -66,7 +66,7 @@ module _ (w : State) (l : ℕ) (of_mutex : is_mutex (kind_at w l) ≡ true) wher
   unshared : has_readers (sort_at w l) ≡ true → ⊥
   unshared h = let e : false ≡ true = sym (ap has_readers sort) ∙ h in cc
 
-  -- who lets others in releases it
+  -- a thread that lets others in releases it
   only_releases : (t : ℕ) → LetsOthersIn w t l → ReleasesLock w t l
   only_releases t (inl releasing) = releasing
   only_releases t (inr shared) = absurd (unshared shared.0)
@@ -83,7 +83,7 @@ module _ (w : State) (l : ℕ) (kept : IsKept w) (of_mutex : is_mutex (kind_at w
     stands_nowhere = k.stands_nowhere;
   }
 
-  -- who is shown to owe does so on the main line
+  -- a thread that is shown to owe does so on the main line
   pub shown : (t : ℕ) → IsShownToOwe w t l → Owes w t l Main
   shown t h = by_line (line_owed (place_at w t) l) refl h
     where

@@ -23,7 +23,7 @@ pub mutex_acts : (l : ℕ) (at : MutexPlace) → is_acting (mutex_act l at) ≡ 
 mutex_acts l at = (mutex_promises l at).acts
 
 -- a call that enters owes just while it is inside the section
-pub lock_owes : (timed retries : Bool) (at : LockAt) → (lock_row timed retries at).doing.inside ≡ (lock_row timed retries at).owes
+pub lock_owes : (timed retries : Bool) (at : LockAt) → (lock_row timed retries at).role.inside ≡ (lock_row timed retries at).owes
 lock_owes timed retries lock.First = refl
 lock_owes timed retries at = refl
 

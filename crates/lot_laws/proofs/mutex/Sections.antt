@@ -11,25 +11,25 @@ use Rattle.steps_mutex.specs.declared.places.MutexPlace.TheVariants.{HandOff}
 use Rattle.steps_mutex.specs.declared.hand_off.HandOffAt.TheVariants as hand_off
 use Rattle.spec_locks.specs.Locks.{LockState, Taken, Queued, IsTaken, HasTakenNobody, Knows, TakeFirst, keep_from}
 use Rattle.spec_locks.specs.Locks as locks
-use Rattle.spec_locks.specs.Sites.{Doing, Has, IsSite, Main, Second, Case}
+use Rattle.spec_locks.specs.Sites.{Role, Has, IsSite, Main, Second, Case}
 use Rattle.lot_laws.specs.Refinement.{lock_seen, taken_at}
 use Rattle.spec_locks.specs.Picks.{queued_of}
-use Rattle.lot_laws.specs.MutexDeeds.{mutex_doing, acts, queued}
-use Rattle.lot_laws.specs.Stations.{hand, doing_on}
+use Rattle.lot_laws.specs.MutexDeeds.{mutex_role, acts, queued}
+use Rattle.lot_laws.specs.Locations.{hand, role_on}
 use Rattle.lot_laws.specs.SitesOf.{ActsNeeded}
 use Rattle.lot_laws.proofs.machine.Parts.{Base, seen, same, Untaken, untaken}
 use Rattle.lot_laws.proofs.hands.Handed.{handed_is}
 use Rattle.lot_laws.proofs.mutex.Waiters.{CallsMutex, IsHeldThere}
 use Rattle.lot_laws.proofs.mutex.Hands.{hands_acts, taken_there}
 use Rattle.lot_laws.specs.SitesOf.{hand_at, Hands}
-use Rattle.lot_laws.proofs.mutex.Words.{mutex, own_doing}
+use Rattle.lot_laws.proofs.mutex.Words.{mutex, own_role}
 
--- who waits for a mutex waits for all of it
+-- a thread that waits for a mutex waits for all of it
 pub exclusive_wanted : (x : Want) → Knows locks.Mutex x → x ≡ Exclusive
 exclusive_wanted Exclusive k = refl
 exclusive_wanted x k = absurd k
 
--- whom t has in hand
+-- a thread that t has in hand
 pub taken_nobody : (l : ℕ) (p : ℕ → Place) (t : ℕ) (n : Base) (o : Owners) (m s : List Waiter)
     → ((u : ℕ) → Untaken t (taken_at (p u) l)) → HasTakenNobody (lock_seen n.shared o m s (λ u. taken_at (p u) l)) t
 taken_nobody l p t n o m s none u x h = let g : keep_from t (Some (record { by = t; want = x })) ≡ Some (record { by = t; want = x }) = rw h at (none u) in let f : ◌≡◌ {A = Option Taken} None (Some (record { by = t; want = x })) = rw (same t) at g in cc
@@ -39,7 +39,7 @@ module _ (l : ℕ) (n : Base) (w : ℕ) (o : Owners) (s rest : List Waiter) (x :
   pub first_wants : x.want ≡ Exclusive
   first_wants = exclusive_wanted x.want site.state.known_queue.0
 
-  pub take_needed : (d : Doing) → doing_on (p t) l ≡ d → ((u : ℕ) → Untaken t (taken_at (p u) l)) → d.inside ≡ Some Main
+  pub take_needed : (d : Role) → role_on (p t) l ≡ d → ((u : ℕ) → Untaken t (taken_at (p u) l)) → d.inside ≡ Some Main
       → d.carries ≡ false → d.wakes ≢ Some Second
       → ActsNeeded mutex (acts t (Case (TakeFirst (queued x.thread)) ∷ [])) (seen l n w o (x ∷ rest) s p)
   take_needed d is none i c v = (
@@ -59,8 +59,8 @@ module _ (l : ℕ) (n : Base) (w : ℕ) (o : Owners) (m s : List Waiter) (p : �
     (single : one l) (mutexes : (x : ℕ) → CallsMutex l (p x)) (t u : ℕ) (alone bumps none_left : Bool)
     (store : p t ≡ Mutex l (HandOff bumps (hand_off.Store true none_left))) (held : hand_at (p u) l ≡ hand t false)
     (site : IsSite mutex (seen l n w o m s p)) where
-  d_is : doing_on (p t) l ≡ mutex_doing (HandOff bumps (hand_off.Store true none_left))
-  d_is = own_doing l (p t) (HandOff bumps (hand_off.Store true none_left)) store
+  d_is : role_on (p t) l ≡ mutex_role (HandOff bumps (hand_off.Store true none_left))
+  d_is = own_role l (p t) (HandOff bumps (hand_off.Store true none_left)) store
 
   hand_is : IsHeldThere l t (p u)
   hand_is = taken_there mutex l n w o m s p one hands single mutexes t u alone bumps none_left refl site.state store held
@@ -88,10 +88,10 @@ module _ (l : ℕ) (n : Base) (w : ℕ) (o : Owners) (m s : List Waiter) (p : �
       (hands_acts mutex l n w o m s p one hands single mutexes t u alone bumps none_left refl site.state store held b)
       (seen l n w o m s p)
   hands_needed true f = (
-    ((site.held t (Has Exclusive) (ap (λ (x : Doing). x.claims) d_is), (λ h. cc), successor, tt), (rw d_is refl, rw d_is refl, rw d_is refl, rw d_is refl)),
+    ((site.held t (Has Exclusive) (ap (λ (x : Role). x.claims) d_is), (λ h. cc), successor, tt), (rw d_is refl, rw d_is refl, rw d_is refl, rw d_is refl)),
     (rw (same t, d_is, f) refl, (ap (λ (x : LockState). x.exclusive) (handed_is t n o m s p l (Some u) site.state), tt)),
   )
   hands_needed false f = (
-    ((site.held t (Has Exclusive) (ap (λ (x : Doing). x.claims) d_is), (λ h. cc), successor, tt), (rw d_is refl, rw d_is refl, rw d_is refl, rw d_is refl)),
+    ((site.held t (Has Exclusive) (ap (λ (x : Role). x.claims) d_is), (λ h. cc), successor, tt), (rw d_is refl, rw d_is refl, rw d_is refl, rw d_is refl)),
     (tt, (ap (λ (x : LockState). x.exclusive) (handed_is t n o m s p l (Some u) site.state), tt)),
   )

@@ -28,23 +28,23 @@ use Rattle.steps_condvar.specs.CondvarProfiles.{condvar_profile, mutex_side, not
 use Rattle.steps_condvar.specs.CondvarCalls.{IsReached, IsRelease, IsLockOf, IsRelock}
 use Rattle.spec_locks.specs.Locks.{Rules, Taken}
 use Rattle.spec_locks.specs.Locks as locks
-use Rattle.spec_locks.specs.Sites.{Doing, Line, Main, Has, has_readers, idle}
+use Rattle.spec_locks.specs.Sites.{Role, Line, Main, Has, has_readers, idle}
 use Rattle.lot_machine.specs.Machine.{State, place_at}
 use Rattle.lot_laws.specs.Refinement.{taken_at}
 use Rattle.steps_mutex.specs.MutexProfiles.{mutex_profile}
-use Rattle.lot_laws.specs.MutexDeeds.{mutex_row, mutex_station}
-use Rattle.lot_laws.specs.Stations.{Station, Hand, hand, nowhere, station, station_at, station_by, doing_on}
-use Rattle.lot_laws.specs.SitesOf.{FitsItsLock, IsSteady, Hands, hand_at, rules_in}
+use Rattle.lot_laws.specs.MutexDeeds.{mutex_row, mutex_location}
+use Rattle.lot_laws.specs.Locations.{Location, Hand, hand, nowhere, location, location_at, location_by, role_on}
+use Rattle.lot_laws.specs.SitesOf.{FitsItsLock, IsInductive, Hands, hand_at, rules_in}
 use Rattle.lot_laws.proofs.sites.StandsKept.{Alike, AlikeBeside}
 use Rattle.lot_laws.proofs.sites.ToldAt.{HoldsHere}
 use Rattle.lot_laws.proofs.machine.Parts.{aparts, held_tells, same, differ, mutex, taken_out, IsApart, WantsAlone, in_hand_where}
 use Rattle.lot_laws.proofs.hands.Handed.{CarriesAt, in_hand_here}
 
 -- told something by another thread, it goes to a place: what the lock l sees then, and where it may stand there
-pub record IsTold (l : ℕ) (p q : Place) (may : Type 0) (goes : Station → Station) (does : Doing → Doing)
+pub record IsTold (l : ℕ) (p q : Place) (may : Type 0) (goes : Location → Location) (does : Role → Role)
     (held : Option Taken) : Type 0 where
-  pub station : station_at q l ≡ goes (station_at p l)
-  pub doing : doing_on q l ≡ does (doing_on p l)
+  pub location : location_at q l ≡ goes (location_at p l)
+  pub role : role_on q l ≡ does (role_on p l)
   pub taken : taken_at q l ≡ held
   pub others : AlikeBeside l p q
   pub fits : may → (w : State) → FitsItsLock w p → FitsItsLock w q
@@ -58,8 +58,8 @@ pub record SleepsAt (l : ℕ) (p : Place) : Type 0 where
 -- taken by t, it is handed the mutex or woken: handed it only once it has released it
 pub record IsHeldThere (l t : ℕ) (p : Place) : Type 0 where
   pub was : taken_at p l ≡ Some (record { by = t; want = Exclusive })
-  pub claims : ((doing_on p l).claims ≡ None) ⊎ ((doing_on p l).claims ≡ Some (Has Exclusive))
-  pub handed : (alone : Bool) → IsTold l p (next_place p (HandedBy t alone)) ((doing_on p l).claims ≡ None) (λ s. record s { hand = hand t true }) (λ d. record d { claims = Some (Has Exclusive) }) None
+  pub claims : ((role_on p l).claims ≡ None) ⊎ ((role_on p l).claims ≡ Some (Has Exclusive))
+  pub handed : (alone : Bool) → IsTold l p (next_place p (HandedBy t alone)) ((role_on p l).claims ≡ None) (λ s. record s { hand = hand t true }) (λ d. record d { claims = Some (Has Exclusive) }) None
   pub woken : IsTold l p (next_place p (Woken note.Normal)) (Unit {0}) (λ s. record s { hand = None }) (λ d. record d { retries = Some Exclusive }) None
 
 -- handed the mutex by t, it is told so
@@ -67,7 +67,7 @@ pub record WasGivenThere (l t : ℕ) (p : Place) : Type 0 where
   pub was : taken_at p l ≡ None
   pub told : IsTold l p (next_place p (Woken note.HandOff)) (Unit {0}) (λ s. record s { hand = None }) (λ d. d) None
 
--- who stands at the mutex l calls it, or waits with it
+-- a thread that stands at the mutex l calls it, or waits with it
 abbrev pub CallsMutex : ℕ → Place → Type 0
 CallsMutex l (RwLock k a at) = k ≢ l
 CallsMutex l (Once k at) = k ≢ l
@@ -92,18 +92,18 @@ calls_mutex_at w l Idle fits rules = tt
 
 -- ---------------------------------------------------------------- in a call of one lock
 
-module _ (l : ℕ) (at at2 : MutexPlace) (may : Type 0) (goes : Station → Station) (does : Doing → Doing)
+module _ (l : ℕ) (at at2 : MutexPlace) (may : Type 0) (goes : Location → Location) (does : Role → Role)
     (held : Option Taken) where
   -- by its rows
-  mutex_told : mutex_station at2 ≡ goes (mutex_station at) → (mutex_row at2).doing ≡ does (mutex_row at).doing
+  mutex_told : mutex_location at2 ≡ goes (mutex_location at) → (mutex_row at2).role ≡ does (mutex_row at).role
       → taken_from (mutex_row at2).hand (mutex_row at2).wants true ≡ held → IsTold l (Mutex l at) (Mutex l at2) may goes does held
   mutex_told s d h = record {
-    station = rw (same l) s;
-    doing = rw (same l) d;
+    location = rw (same l) s;
+    role = rw (same l) d;
     taken = rw (same l) h;
     others = λ k ne. let other : (l == k) ≡ false = differ l k (λ e. ne (sym e)) in record {
-      station = rw other refl;
-      doing = rw other refl;
+      location = rw other refl;
+      role = rw other refl;
       taken = rw other (taken_out (mutex_row at2).hand (mutex_row at2).wants ∙ sym (taken_out (mutex_row at).hand (mutex_row at).wants));
     };
     fits = λ m w h. h;
@@ -116,19 +116,19 @@ module _ (k l : ℕ) (apart : k ≢ l) where
   other = differ k l apart
 
   module _ (p : CondvarPlace) (of : mutex_beside p ≡ Some l) where
-    pub station_beside : station_at (Condvar k p) l ≡ station_by (mutex_side p)
-    station_beside = rw (other, of, same l) refl
+    pub location_beside : location_at (Condvar k p) l ≡ location_by (mutex_side p)
+    location_beside = rw (other, of, same l) refl
 
-    pub doing_beside : doing_on (Condvar k p) l ≡ (mutex_side p).doing
-    doing_beside = rw (other, of, same l) refl
+    pub role_beside : role_on (Condvar k p) l ≡ (mutex_side p).role
+    role_beside = rw (other, of, same l) refl
 
     taken_beside : taken_at (Condvar k p) l ≡ taken_from (mutex_side p).hand (mutex_side p).wants true
     taken_beside = rw (other, of, same l) refl
 
   -- at any lock but the mutex it has the parts of its row at the condition variable, or none
   module _ (p p2 : CondvarPlace) (of : mutex_beside p ≡ Some l) (of2 : mutex_beside p2 ≡ Some l)
-      (stood : station_by (condvar_profile p2) ≡ station_by (condvar_profile p))
-      (did : (condvar_profile p2).doing ≡ (condvar_profile p).doing) where
+      (stood : location_by (condvar_profile p2) ≡ location_by (condvar_profile p))
+      (did : (condvar_profile p2).role ≡ (condvar_profile p).role) where
     condvar_same : (j : ℕ) → j ≢ l → Alike j (Condvar k p) (Condvar k p2)
     condvar_same j ne = either (k == j) refl
       where
@@ -136,17 +136,17 @@ module _ (k l : ℕ) (apart : k ≢ l) where
         elsewhere = differ l j (λ e. ne (sym e))
 
         either : (b : Bool) → (k == j) ≡ b → Alike j (Condvar k p) (Condvar k p2)
-        either true e = record { station = rw e stood; doing = rw e did; taken = rw (e, of, of2, elsewhere) refl }
-        either false e = record { station = rw (e, of, of2, elsewhere) refl; doing = rw (e, of, of2, elsewhere) refl; taken = rw (e, of, of2, elsewhere) refl }
+        either true e = record { location = rw e stood; role = rw e did; taken = rw (e, of, of2, elsewhere) refl }
+        either false e = record { location = rw (e, of, of2, elsewhere) refl; role = rw (e, of, of2, elsewhere) refl; taken = rw (e, of, of2, elsewhere) refl }
 
     -- by its rows
-    condvar_told : (may : Type 0) (goes : Station → Station) (does : Doing → Doing) (held : Option Taken)
-        → station_by (mutex_side p2) ≡ goes (station_by (mutex_side p)) → (mutex_side p2).doing ≡ does (mutex_side p).doing
+    condvar_told : (may : Type 0) (goes : Location → Location) (does : Role → Role) (held : Option Taken)
+        → location_by (mutex_side p2) ≡ goes (location_by (mutex_side p)) → (mutex_side p2).role ≡ does (mutex_side p).role
         → taken_from (mutex_side p2).hand (mutex_side p2).wants true ≡ held → (may → IsReached p → IsReached p2)
         → IsTold l (Condvar k p) (Condvar k p2) may goes does held
     condvar_told may goes does held s d h reached = record {
-      station = station_beside p2 of2 ∙ s ∙ ap goes (sym (station_beside p of));
-      doing = doing_beside p2 of2 ∙ d ∙ ap does (sym (doing_beside p of));
+      location = location_beside p2 of2 ∙ s ∙ ap goes (sym (location_beside p of));
+      role = role_beside p2 of2 ∙ d ∙ ap does (sym (role_beside p of));
       taken = taken_beside p2 of2 ∙ h;
       others = condvar_same;
       fits = λ m w fits. record { sort = fits.sort; reached = reached m fits.reached; mutex = λ m is. fits.mutex m (of ∙ sym of2 ∙ is) };
@@ -164,13 +164,13 @@ module _ (k l : ℕ) (apart : k ≢ l) (m : ℕ) (timed : Bool) (of : mutex_besi
   -- while it releases its mutex
   pub release_sleeps : (at : MutexPlace) → SleepsAt l (wait_at (wait.Release stands.Moved at))
   release_sleeps at = record {
-    free = ap (λ (s : Station). s.hand) (station_beside k l apart (Wait m timed (wait.Release stands.Moved at)) of);
+    free = ap (λ (s : Location). s.hand) (location_beside k l apart (Wait m timed (wait.Release stands.Moved at)) of);
     untaken = taken_beside k l apart (Wait m timed (wait.Release stands.Moved at)) of;
     taken = λ t. condvar_told k l apart (Wait m timed (wait.Release stands.Moved at)) (Wait m timed (wait.Release (stands.InHand t) at)) of of refl refl _ _ _ _ refl refl refl (λ y h. h);
   }
 
   release_claims : (at : MutexPlace) → IsRelease at
-      → ((mutex_profile at).doing.claims ≡ None) ⊎ ((mutex_profile at).doing.claims ≡ Some (Has Exclusive))
+      → ((mutex_profile at).role.claims ≡ None) ⊎ ((mutex_profile at).role.claims ≡ Some (Has Exclusive))
   release_claims (Unlock unlock.Subtract) h = inr refl
   release_claims (Unlock at) h = inl refl
   release_claims at h = absurd h
@@ -186,8 +186,8 @@ module _ (k l : ℕ) (apart : k ≢ l) (m : ℕ) (timed : Bool) (of : mutex_besi
     woken = condvar_told k l apart (Wait m timed (wait.Release (stands.InHand t) at)) (Wait m timed (wait.Release (stands.Noted note.Normal) at)) of of refl refl _ _ _ _ refl refl refl (λ y h. (h.0, λ f. absurd cc));
   }
     where
-      own_claims : (doing_on (wait_at (wait.Release (stands.InHand t) at)) l).claims ≡ (mutex_profile at).doing.claims
-      own_claims = ap (λ (d : Doing). d.claims) (doing_beside k l apart (Wait m timed (wait.Release (stands.InHand t) at)) of)
+      own_claims : (role_on (wait_at (wait.Release (stands.InHand t) at)) l).claims ≡ (mutex_profile at).role.claims
+      own_claims = ap (λ (d : Role). d.claims) (role_beside k l apart (Wait m timed (wait.Release (stands.InHand t) at)) of)
 
   release_given : (t : ℕ) (at : MutexPlace) → WasGivenThere l t (wait_at (wait.Release (stands.Handed t) at))
   release_given t at = record {
@@ -195,10 +195,10 @@ module _ (k l : ℕ) (apart : k ≢ l) (m : ℕ) (timed : Bool) (of : mutex_besi
     told = condvar_told k l apart (Wait m timed (wait.Release (stands.Handed t) at)) (Wait m timed (wait.Release (stands.Noted note.HandOff) at)) of of refl refl _ _ _ _ refl refl refl (λ y h. h);
   }
 
-  -- behind it
+  -- after it
   asleep_sleeps : SleepsAt l (wait_at (wait.Asleep stands.Moved))
   asleep_sleeps = record {
-    free = ap (λ (s : Station). s.hand) (station_beside k l apart (Wait m timed (wait.Asleep stands.Moved)) of);
+    free = ap (λ (s : Location). s.hand) (location_beside k l apart (Wait m timed (wait.Asleep stands.Moved)) of);
     untaken = taken_beside k l apart (Wait m timed (wait.Asleep stands.Moved)) of;
     taken = λ t. condvar_told k l apart (Wait m timed (wait.Asleep stands.Moved)) (Wait m timed (wait.Asleep (stands.InHand t))) of of refl refl _ _ _ _ refl refl refl (λ y h. h);
   }
@@ -206,7 +206,7 @@ module _ (k l : ℕ) (apart : k ≢ l) (m : ℕ) (timed : Bool) (of : mutex_besi
   asleep_held : (t : ℕ) → IsHeldThere l t (wait_at (wait.Asleep (stands.InHand t)))
   asleep_held t = record {
     was = taken_beside k l apart (Wait m timed (wait.Asleep (stands.InHand t))) of;
-    claims = inl (ap (λ (d : Doing). d.claims) (doing_beside k l apart (Wait m timed (wait.Asleep (stands.InHand t))) of));
+    claims = inl (ap (λ (d : Role). d.claims) (role_beside k l apart (Wait m timed (wait.Asleep (stands.InHand t))) of));
     handed = λ alone. condvar_told k l apart (Wait m timed (wait.Asleep (stands.InHand t))) (Wait m timed (wait.Asleep (stands.Handed t))) of of refl refl _ _ _ _ refl refl refl (λ y h. h);
     woken = condvar_told k l apart (Wait m timed (wait.Asleep (stands.InHand t))) (Wait m timed (wait.Lock false (Lock entries.Lock true lock.First))) of of refl refl _ _ _ _ refl refl refl (λ y h. (λ f. absurd cc, tt));
   }
@@ -224,7 +224,7 @@ module _ (k l : ℕ) (apart : k ≢ l) (m : ℕ) (timed : Bool) (of : mutex_besi
 
     lock_sleeps : SleepsAt l (wait_at (lock_at r lock.Asleep))
     lock_sleeps = record {
-      free = ap (λ (s : Station). s.hand) (station_beside k l apart (Wait m timed (lock_at r lock.Asleep)) of);
+      free = ap (λ (s : Location). s.hand) (location_beside k l apart (Wait m timed (lock_at r lock.Asleep)) of);
       untaken = taken_beside k l apart (Wait m timed (lock_at r lock.Asleep)) of;
       taken = λ t. condvar_told k l apart (Wait m timed (lock_at r lock.Asleep)) (Wait m timed (lock_at r (lock.Taken t))) of of refl refl _ _ _ _ refl refl refl (λ y h. (h.0, relocks e r r lock.Asleep (lock.Taken t) tt h.1));
     }
@@ -232,7 +232,7 @@ module _ (k l : ℕ) (apart : k ≢ l) (m : ℕ) (timed : Bool) (of : mutex_besi
     lock_held : (t : ℕ) → IsHeldThere l t (wait_at (lock_at r (lock.Taken t)))
     lock_held t = record {
       was = taken_beside k l apart (Wait m timed (lock_at r (lock.Taken t))) of;
-      claims = inl (ap (λ (d : Doing). d.claims) (doing_beside k l apart (Wait m timed (lock_at r (lock.Taken t))) of));
+      claims = inl (ap (λ (d : Role). d.claims) (role_beside k l apart (Wait m timed (lock_at r (lock.Taken t))) of));
       handed = λ alone. condvar_told k l apart (Wait m timed (lock_at r (lock.Taken t))) (Wait m timed (lock_at false (lock.Handed t))) of of refl refl _ _ _ _ refl refl refl (λ y h. (h.0, relocks e r false (lock.Taken t) (lock.Handed t) tt h.1));
       woken = condvar_told k l apart (Wait m timed (lock_at r (lock.Taken t))) (Wait m timed (lock_at true lock.Load)) of of refl refl _ _ _ _ refl refl refl (λ y h. (h.0, relocks e r true (lock.Taken t) lock.Load tt h.1));
     }
@@ -259,10 +259,10 @@ notifier_stands all m (notify.MarkMoved number) = (refl, refl)
 notifier_stands all m (notify.Leave any number) = (refl, refl)
 
 -- beside its condition variable a thread is at the mutex that it names, or nowhere
-beside_or_out : (k l : ℕ) → k ≢ l → (p : CondvarPlace) → (station_at (Condvar k p) l ≡ nowhere) ⊎ (mutex_beside p ≡ Some l)
+beside_or_out : (k l : ℕ) → k ≢ l → (p : CondvarPlace) → (location_at (Condvar k p) l ≡ nowhere) ⊎ (mutex_beside p ≡ Some l)
 beside_or_out k l apart p = by_mutex (mutex_beside p) refl
   where
-    by_mutex : (o : Option ℕ) → mutex_beside p ≡ o → (station_at (Condvar k p) l ≡ nowhere) ⊎ (mutex_beside p ≡ Some l)
+    by_mutex : (o : Option ℕ) → mutex_beside p ≡ o → (location_at (Condvar k p) l ≡ nowhere) ⊎ (mutex_beside p ≡ Some l)
     by_mutex None e = inl (rw (other k l apart, e) refl)
     by_mutex (Some m) e = elim (cases_eq m l) [
       | inl f ↦ inr (e ∙ ap Some f)
@@ -270,10 +270,10 @@ beside_or_out k l apart p = by_mutex (mutex_beside p) refl
     ]
 
 module _ (k l : ℕ) (apart : k ≢ l) (m : ℕ) (timed : Bool) (of : mutex_beside (Wait m timed wait.Enter) ≡ Some l) where
-  abbrev side : WaitAt → Station
-  side at = station_by (mutex_side (Wait m timed at))
+  abbrev side : WaitAt → Location
+  side at = location_by (mutex_side (Wait m timed at))
 
-  -- who stands in the line of the mutex is inside its section, or asleep there
+  -- a thread that stands in the line of the mutex is inside its section, or asleep there
   abbrev StandsOrSleeps : WaitAt → Type 0
   StandsOrSleeps at = ((side at).inside ≡ Some Main) ⊎ SleepsAt l (Condvar k (Wait m timed at))
 
@@ -307,83 +307,83 @@ module _ (k l : ℕ) (apart : k ≢ l) (m : ℕ) (timed : Bool) (of : mutex_besi
 
 -- at the mutex that it calls
 module _ (l : ℕ) where
-  mutex_stands : (at : MutexPlace) → (mutex_station at).stands ≡ Some Main
-      → ((mutex_station at).inside ≡ Some Main) ⊎ SleepsAt l (Mutex l at)
+  mutex_stands : (at : MutexPlace) → (mutex_location at).stands ≡ Some Main
+      → ((mutex_location at).inside ≡ Some Main) ⊎ SleepsAt l (Mutex l at)
   mutex_stands (Lock e r (lock.Leave true)) h = inl refl
   mutex_stands (Lock e r lock.Asleep) h = inr (record {
-    free = ap (λ b. (if b then mutex_station (Lock e r lock.Asleep) else nowhere).hand) (same l);
+    free = ap (λ b. (if b then mutex_location (Lock e r lock.Asleep) else nowhere).hand) (same l);
     untaken = refl;
     taken = λ t. mutex_told l (Lock e r lock.Asleep) (Lock e r (lock.Taken t)) _ _ _ _ refl refl refl;
   })
   mutex_stands (Lock e r lock.Remove) h = inl refl
   mutex_stands at h = absurd cc
 
-  mutex_held : (t : ℕ) (at : MutexPlace) → (mutex_station at).hand ≡ hand t false → IsHeldThere l t (Mutex l at)
+  mutex_held : (t : ℕ) (at : MutexPlace) → (mutex_location at).hand ≡ hand t false → IsHeldThere l t (Mutex l at)
   mutex_held t (Lock e r (lock.Taken by)) h = let who : by ≡ t = cc in rw who (record {
     was = rw (same l) refl;
-    claims = inl (ap (λ b. (if b then (mutex_row (Lock e r (lock.Taken t))).doing else idle).claims) (same l));
+    claims = inl (ap (λ b. (if b then (mutex_row (Lock e r (lock.Taken t))).role else idle).claims) (same l));
     handed = λ alone. mutex_told l (Lock e r (lock.Taken t)) (Lock e false (lock.Handed t)) _ _ _ _ refl refl refl;
     woken = mutex_told l (Lock e r (lock.Taken t)) (Lock e true lock.Load) _ _ _ _ refl refl refl;
   })
   mutex_held t at h = absurd cc
 
-  mutex_given : (t : ℕ) (at : MutexPlace) → (mutex_station at).hand ≡ hand t true → WasGivenThere l t (Mutex l at)
+  mutex_given : (t : ℕ) (at : MutexPlace) → (mutex_location at).hand ≡ hand t true → WasGivenThere l t (Mutex l at)
   mutex_given t (Lock e r (lock.Handed by)) h = let who : by ≡ t = cc in rw who (record {
     was = refl;
     told = mutex_told l (Lock e r (lock.Handed t)) (Lock e r lock.Accept) _ _ _ _ refl refl refl;
   })
   mutex_given t at h = absurd cc
 
--- what a place has at the mutex it has by its row there
-module _ (l : ℕ) (T : Place → Type 0) {A : Type 0} (g : Station → A) (x : A) (none : g nowhere ≡ x → ⊥)
-    (mutexes : (at : MutexPlace) → g (mutex_station at) ≡ x → T (Mutex l at))
-    (waits : (k : ℕ) → k ≢ l → (m : ℕ) (timed : Bool) (at : WaitAt) → IsReached (Wait m timed at) → mutex_beside (Wait m timed wait.Enter) ≡ Some l → g (station_by (mutex_side (Wait m timed at))) ≡ x → T (Condvar k (Wait m timed at)))
-    (notifies : (k : ℕ) → k ≢ l → (all : Bool) (m : ℕ) (at : NotifyAt) → mutex_beside (Notify all m notify.Enter) ≡ Some l → g (station_by (mutex_side (Notify all m at))) ≡ x → T (Condvar k (Notify all m at))) where
-  by_row : (p : Place) → CallsMutex l p → g (station_at p l) ≡ x → T p
+-- a place has at the mutex what its row there says
+module _ (l : ℕ) (T : Place → Type 0) {A : Type 0} (g : Location → A) (x : A) (none : g nowhere ≡ x → ⊥)
+    (mutexes : (at : MutexPlace) → g (mutex_location at) ≡ x → T (Mutex l at))
+    (waits : (k : ℕ) → k ≢ l → (m : ℕ) (timed : Bool) (at : WaitAt) → IsReached (Wait m timed at) → mutex_beside (Wait m timed wait.Enter) ≡ Some l → g (location_by (mutex_side (Wait m timed at))) ≡ x → T (Condvar k (Wait m timed at)))
+    (notifies : (k : ℕ) → k ≢ l → (all : Bool) (m : ℕ) (at : NotifyAt) → mutex_beside (Notify all m notify.Enter) ≡ Some l → g (location_by (mutex_side (Notify all m at))) ≡ x → T (Condvar k (Notify all m at))) where
+  by_row : (p : Place) → CallsMutex l p → g (location_at p l) ≡ x → T p
   by_row Idle of h = absurd (none h)
   by_row (Mutex k at) of h = either (k == l) refl h
     where
-      either : (b : Bool) → (k == l) ≡ b → g (if b then mutex_station at else nowhere) ≡ x → T (Mutex k at)
+      either : (b : Bool) → (k == l) ≡ b → g (if b then mutex_location at else nowhere) ≡ x → T (Mutex k at)
       either true e f = subst (λ j. T (Mutex j at)) (sym (eqb-true k l e)) (mutexes at f)
       either false e f = absurd (none f)
-  by_row (RwLock k a at) of h = absurd (none (ap (λ b. g (if b then station (RwLock k a at) else nowhere)) (sym (differ k l of)) ∙ h))
-  by_row (Once k at) of h = absurd (none (ap (λ b. g (if b then station (Once k at) else nowhere)) (sym (differ k l of)) ∙ h))
-  by_row (Semaphore k at) of h = absurd (none (ap (λ b. g (if b then station (Semaphore k at) else nowhere)) (sym (differ k l of)) ∙ h))
+  by_row (RwLock k a at) of h = absurd (none (ap (λ b. g (if b then location (RwLock k a at) else nowhere)) (sym (differ k l of)) ∙ h))
+  by_row (Once k at) of h = absurd (none (ap (λ b. g (if b then location (Once k at) else nowhere)) (sym (differ k l of)) ∙ h))
+  by_row (Semaphore k at) of h = absurd (none (ap (λ b. g (if b then location (Semaphore k at) else nowhere)) (sym (differ k l of)) ∙ h))
   by_row (Condvar k p) of h = elim (beside_or_out k l of.0 p) [
     | inl out ↦ absurd (none (ap g (sym out) ∙ h))
-    | inr named ↦ by_call p of.1 named (ap g (sym (station_beside k l of.0 p named)) ∙ h)
+    | inr named ↦ by_call p of.1 named (ap g (sym (location_beside k l of.0 p named)) ∙ h)
   ]
     where
-      by_call : (p : CondvarPlace) → IsReached p → mutex_beside p ≡ Some l → g (station_by (mutex_side p)) ≡ x → T (Condvar k p)
+      by_call : (p : CondvarPlace) → IsReached p → mutex_beside p ≡ Some l → g (location_by (mutex_side p)) ≡ x → T (Condvar k p)
       by_call (Wait m timed at) reached named f = waits k of.0 m timed at reached named f
       by_call (Look all) reached named f = absurd cc
       by_call (Notify all m at) reached named f = notifies k of.0 all m at named f
 
--- who stands in the line of the mutex is inside its section, or sleeps there
-pub stands_or_sleeps : (p : Place) (l : ℕ) → CallsMutex l p → (station_at p l).stands ≡ Some Main
-    → ((station_at p l).inside ≡ Some Main) ⊎ SleepsAt l p
-stands_or_sleeps p l = by_row l (λ q. ((station_at q l).inside ≡ Some Main) ⊎ SleepsAt l q) (λ (s : Station). s.stands) (Some Main) (λ h. cc)
+-- a thread that stands in the line of the mutex is inside its section, or sleeps there
+pub stands_or_sleeps : (p : Place) (l : ℕ) → CallsMutex l p → (location_at p l).stands ≡ Some Main
+    → ((location_at p l).inside ≡ Some Main) ⊎ SleepsAt l p
+stands_or_sleeps p l = by_row l (λ q. ((location_at q l).inside ≡ Some Main) ⊎ SleepsAt l q) (λ (s : Location). s.stands) (Some Main) (λ h. cc)
     (λ at h. elim (mutex_stands l at h) [
-      | inl within ↦ inl (ap (λ b. (if b then mutex_station at else nowhere).inside) (same l) ∙ within)
+      | inl within ↦ inl (ap (λ b. (if b then mutex_location at else nowhere).inside) (same l) ∙ within)
       | inr sleeps ↦ inr sleeps
     ])
     (λ k apart m timed at reached of h. elim (wait_stands k l apart m timed of at h) [
-      | inl within ↦ inl (ap (λ (s : Station). s.inside) (station_beside k l apart (Wait m timed at) of) ∙ within)
+      | inl within ↦ inl (ap (λ (s : Location). s.inside) (location_beside k l apart (Wait m timed at) of) ∙ within)
       | inr sleeps ↦ inr sleeps
     ])
     (λ k apart all m at of h. absurd (let f : ◌≡◌ {A = Option Line} None (Some Main) = sym (ap (λ b. in_line b Main) (notifier_stands all m at).0) ∙ h in cc)) p
 
--- who is in a hand there was taken or handed the mutex
+-- a thread that is in a hand there was taken or handed the mutex
 pub held_there : (p : Place) (t l : ℕ) → CallsMutex l p → hand_at p l ≡ hand t false → IsHeldThere l t p
-held_there p t l = by_row l (IsHeldThere l t) (λ (s : Station). s.hand) (hand t false) (λ h. cc) (mutex_held l t) (λ k apart m timed at reached of h. wait_held k l apart m timed of t at reached h)
+held_there p t l = by_row l (IsHeldThere l t) (λ (s : Location). s.hand) (hand t false) (λ h. cc) (mutex_held l t) (λ k apart m timed at reached of h. wait_held k l apart m timed of t at reached h)
     (λ k apart all m at of h. absurd (let f : ◌≡◌ {A = Option Hand} None (hand t false) = sym (notifier_stands all m at).1 ∙ h in cc)) p
 
 pub given_there : (p : Place) (t l : ℕ) → CallsMutex l p → hand_at p l ≡ hand t true → WasGivenThere l t p
-given_there p t l = by_row l (WasGivenThere l t) (λ (s : Station). s.hand) (hand t true) (λ h. cc) (mutex_given l t) (λ k apart m timed at reached of h. wait_given k l apart m timed of t at h)
+given_there p t l = by_row l (WasGivenThere l t) (λ (s : Location). s.hand) (hand t true) (λ h. cc) (mutex_given l t) (λ k apart m timed at reached of h. wait_given k l apart m timed of t at h)
     (λ k apart all m at of h. absurd (let f : ◌≡◌ {A = Option Hand} None (hand t true) = sym (notifier_stands all m at).1 ∙ h in cc)) p
 
--- whoever is in a hand there wants to own alone
-mutex_wanted : (at : MutexPlace) (t : ℕ) (b : Bool) → (mutex_station at).hand ≡ hand t b → (mutex_row at).wants ≡ Some Exclusive
+-- each thread that is in a hand there wants to own alone
+mutex_wanted : (at : MutexPlace) (t : ℕ) (b : Bool) → (mutex_location at).hand ≡ hand t b → (mutex_row at).wants ≡ Some Exclusive
 mutex_wanted (Lock e r at) t b h = refl
 mutex_wanted at t b h = absurd cc
 
@@ -402,7 +402,7 @@ side_wanted (Look all) t b h = absurd cc
 side_wanted (Notify all m at) t b h = absurd (let f : ◌≡◌ {A = Option Hand} None (hand t b) = sym (notifier_stands all m at).1 ∙ h in cc)
 
 pub held_wants : (p : Place) (t l : ℕ) (b : Bool) → CallsMutex l p → hand_at p l ≡ hand t b → wants p ≡ Some Exclusive
-held_wants p t l b = by_row l (λ q. wants q ≡ Some Exclusive) (λ (s : Station). s.hand) (hand t b) (λ h. cc) (λ at h. mutex_wanted at t b h)
+held_wants p t l b = by_row l (λ q. wants q ≡ Some Exclusive) (λ (s : Location). s.hand) (hand t b) (λ h. cc) (λ at h. mutex_wanted at t b h)
     (λ k apart m timed at reached of h. ap (λ x. or_else x (condvar_profile (Wait m timed at)).wants) (wait_wanted m timed at t b h))
     (λ k apart all m at of h. absurd (let f : ◌≡◌ {A = Option Hand} None (hand t b) = sym (notifier_stands all m at).1 ∙ h in cc)) p
 
@@ -412,8 +412,8 @@ pub held_alone : {one : ℕ → Type 0} (p : ℕ → Place) → ((u : ℕ) → I
 held_alone p apart hands t l here mutexes u h = let x = in_hand_where (p u) t (apart u) h in
     held_wants (p u) t l x.handed (mutexes u) (subst (λ k. hand_at (p u) k ≡ hand t x.handed) (in_hand_here p hands t l u here x) x.hand)
 
--- whoever is in the hand of t is so by the taker, at the lock where it has somebody in hand
-pub holds_here : (w : State) (t l : ℕ) → IsSteady w → CarriesAt l (place_at w t) → HoldsHere w t l
+-- each thread that is in the hand of t is so by the taker, at the lock where it has somebody in hand
+pub holds_here : (w : State) (t l : ℕ) → IsInductive w → CarriesAt l (place_at w t) → HoldsHere w t l
 holds_here w t l steady here = record {
   held = λ u h. let k = in_hand_where (place_at w u) t (aparts w steady u) h in record { lock = k.lock; handed = k.handed; hand = k.hand };
   taker = λ u b h. held_tells (place_at w u) t l b h;

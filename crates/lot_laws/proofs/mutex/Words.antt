@@ -24,12 +24,12 @@ use Rattle.steps_base.specs.Owners.{with_exclusive}
 use Rattle.lot_steps.specs.Steps.{next_place}
 use Rattle.spec_locks.specs.Locks.{Taken, Queued, IsTaken, keep_from, one_if_some, is_thread, putting}
 use Rattle.spec_locks.specs.Locks as locks
-use Rattle.spec_locks.specs.Sites.{Doing, Has, Site, IsSite, Deed, Main, End, In, Mark, Clear, FindNobody, Case, idle, found, is_empty, seen_main, counts_some}
+use Rattle.spec_locks.specs.Sites.{Role, Has, Site, IsSite, Deed, Main, End, In, Mark, Clear, FindNobody, Case, idle, found, is_empty, seen_main, counts_some}
 use Rattle.spec_locks.specs.Codes as codes
 use Rattle.lot_laws.specs.Refinement.{lock_seen, taken_at}
 use Rattle.spec_locks.specs.Picks.{queued_of}
-use Rattle.lot_laws.specs.MutexDeeds.{owner, mutex_doing, mutex_deeds, mutex_station, acts}
-use Rattle.lot_laws.specs.Stations.{Station, nowhere, station, doing_on}
+use Rattle.lot_laws.specs.MutexDeeds.{owner, mutex_role, mutex_deeds, mutex_location, acts}
+use Rattle.lot_laws.specs.Locations.{Location, nowhere, location, role_on}
 use Rattle.lot_laws.specs.SitesOf.{after_acts}
 pub use Rattle.lot_laws.proofs.machine.Parts.{mutex}
 use Rattle.lot_laws.proofs.machine.Parts.{Base, Parts, seen, same, own_stance, Untaken, untaken}
@@ -48,7 +48,7 @@ abbrev pub MutexSteps : (l : ℕ) → Base → (w w2 : ℕ) → (o o2 : Owners) 
 MutexSteps l n w w2 o o2 m m2 s p t p2 ds = Steps mutex l (parts n w o m s) (parts n w2 o2 m2 s) p t p2 ds
 
 module _ (l : ℕ) (n : Base) (w w2 : ℕ) (o : Owners) (m s : List Waiter) (p : ℕ → Place) (t : ℕ) (p2 : Place)
-    (site : IsSite mutex (seen l n w o m s p)) (d : Doing) (is : doing_on (p t) l ≡ d) (hand : taken_at (p t) l ≡ None)
+    (site : IsSite mutex (seen l n w o m s p)) (d : Role) (is : role_on (p t) l ≡ d) (hand : taken_at (p t) l ≡ None)
     (hand2 : taken_at p2 l ≡ None) where
   abbrev now : Site
   now = seen l n w o m s p
@@ -56,61 +56,61 @@ module _ (l : ℕ) (n : Base) (w w2 : ℕ) (o : Owners) (m s : List Waiter) (p :
   meet : (o2 : Owners) (m2 : List Waiter) (ds : List Deed) → AreSingle ds
       → lock_seen n.shared o2 m2 s (λ u. taken_at (p u) l) ≡ (after_acts mutex (acts t ds) now).lock
       → is_parked w2 ≡ (after_acts mutex (acts t ds) now).parked
-      → false ≡ (after_acts mutex (acts t ds) now).aside_parked → doing_on p2 l ≡ (after_acts mutex (acts t ds) now).doing t
+      → false ≡ (after_acts mutex (acts t ds) now).aside_parked → role_on p2 l ≡ (after_acts mutex (acts t ds) now).role t
       → seen l n w2 o2 m2 s (putting p t p2) ≡ after_acts mutex (acts t ds) now
   meet o2 m2 ds single lock bit aside own = meets mutex l (parts n w2 o2 m2 s) p t p2 (after_acts mutex (acts t ds) now) (hand ∙ sym hand2) lock bit aside (sym (same_filled mutex (acts t ds) now refl)) own (λ u ne. others_same mutex ds now t u single ne)
 
-  pub looks : is_parked w2 ≡ is_parked w → doing_on p2 l ≡ d → MutexSteps l n w w2 o o m m s p t p2 []
+  pub looks : is_parked w2 ≡ is_parked w → role_on p2 l ≡ d → MutexSteps l n w w2 o o m m s p t p2 []
   looks bit own = record { site = meet o m [] tt refl bit refl (own ∙ sym is); needed = tt }
 
   pub enters : o.exclusive ≡ None → d.inside ≡ None → d.wakes ≡ None → d.carries ≡ false
-      → (d.retries ≡ None) ⊎ (d.retries ≡ Some Exclusive) → is_parked w2 ≡ is_parked w → doing_on p2 l ≡ idle
+      → (d.retries ≡ None) ⊎ (d.retries ≡ Some Exclusive) → is_parked w2 ≡ is_parked w → role_on p2 l ≡ idle
       → MutexSteps l n w w2 o (with_exclusive o (Some t)) m m s p t p2 (Case (locks.Enter Exclusive) ∷ End ∷ [])
   enters free i w c r bit own = record {
     site = meet (with_exclusive o (Some t)) m (Case (locks.Enter Exclusive) ∷ End ∷ []) (tt, (tt, tt)) refl bit refl (own ∙ rw (same t) refl);
     needed = (((((tt, free), tt), site.state.unshared (λ h. h)), rw is r), (rw (same t, is) (i, w, c, λ h. absurd cc), tt));
   }
 
-  pub marks : is_parked w2 ≡ true → doing_on p2 l ≡ d → MutexSteps l n w w2 o o m m s p t p2 (Mark Main ∷ [])
+  pub marks : is_parked w2 ≡ true → role_on p2 l ≡ d → MutexSteps l n w w2 o o m m s p t p2 (Mark Main ∷ [])
   marks bit own = record { site = meet o m (Mark Main ∷ []) (tt, tt) refl bit refl (own ∙ sym is); needed = (tt, tt) }
 
-  pub clears : is_parked w2 ≡ false → d.empty ≡ Some Main → doing_on p2 l ≡ record d { empty = None; brings = false } → MutexSteps l n w w2 o o m m s p t p2 (Clear Main ∷ [])
-  clears bit e own = record { site = meet o m (Clear Main ∷ []) (tt, tt) refl bit refl (own ∙ rw (same t, is) refl); needed = (ap (λ (x : Doing). x.empty) is ∙ e, tt) }
+  pub clears : is_parked w2 ≡ false → d.empty ≡ Some Main → role_on p2 l ≡ record d { empty = None; brings = false } → MutexSteps l n w w2 o o m m s p t p2 (Clear Main ∷ [])
+  clears bit e own = record { site = meet o m (Clear Main ∷ []) (tt, tt) refl bit refl (own ∙ rw (same t, is) refl); needed = (ap (λ (x : Role). x.empty) is ∙ e, tt) }
 
-  pub leaves : is_parked w2 ≡ is_parked w → d.claims ≡ Some (Has Exclusive) → d.wakes ≡ None → d.covers ≡ false → doing_on p2 l ≡ record d { wakes = seen_main (is_parked w); claims = None } → MutexSteps l n w w2 o (with_exclusive o None) m m s p t p2 (Case (locks.Leave Exclusive) ∷ [])
+  pub leaves : is_parked w2 ≡ is_parked w → d.claims ≡ Some (Has Exclusive) → d.wakes ≡ None → d.covers ≡ false → role_on p2 l ≡ record d { wakes = seen_main (is_parked w); claims = None } → MutexSteps l n w w2 o (with_exclusive o None) m m s p t p2 (Case (locks.Leave Exclusive) ∷ [])
   leaves bit c w v own = record {
     site = meet (with_exclusive o None) m (Case (locks.Leave Exclusive) ∷ []) (tt, tt) refl bit refl (own ∙ rw (same t, is, v) refl);
-    needed = ((site.held t (Has Exclusive) (ap (λ (x : Doing). x.claims) is ∙ c), ap (λ (x : Doing). x.wakes) is ∙ w), tt);
+    needed = ((site.held t (Has Exclusive) (ap (λ (x : Role). x.claims) is ∙ c), ap (λ (x : Role). x.wakes) is ∙ w), tt);
   }
 
   pub leaves_all : is_parked w2 ≡ is_parked w → is_parked w ≡ false → d.claims ≡ Some (Has Exclusive) → d.wakes ≡ None
-      → d.covers ≡ false → d.inside ≡ None → d.carries ≡ false → d.retries ≡ None → doing_on p2 l ≡ idle
+      → d.covers ≡ false → d.inside ≡ None → d.carries ≡ false → d.retries ≡ None → role_on p2 l ≡ idle
       → MutexSteps l n w w2 o (with_exclusive o None) m m s p t p2 (Case (locks.Leave Exclusive) ∷ End ∷ [])
   leaves_all bit none c w v i k r own = record {
     site = meet (with_exclusive o None) m (Case (locks.Leave Exclusive) ∷ End ∷ []) (tt, (tt, tt)) refl bit refl (own ∙ rw (same t) refl);
-    needed = ((site.held t (Has Exclusive) (ap (λ (x : Doing). x.claims) is ∙ c), ap (λ (x : Doing). x.wakes) is ∙ w), (rw (same t, is, v, none) (i, refl, k, λ h. absurd (let g : counts_some locks.Mutex None ≡ true = rw r at h in cc)), tt));
+    needed = ((site.held t (Has Exclusive) (ap (λ (x : Role). x.claims) is ∙ c), ap (λ (x : Role). x.wakes) is ∙ w), (rw (same t, is, v, none) (i, refl, k, λ h. absurd (let g : counts_some locks.Mutex None ≡ true = rw r at h in cc)), tt));
   }
 
   pub ends : is_parked w2 ≡ is_parked w → d.inside ≡ None → d.wakes ≡ None → d.carries ≡ false → d.retries ≡ None
-      → doing_on p2 l ≡ idle → MutexSteps l n w w2 o o m m s p t p2 (End ∷ [])
+      → role_on p2 l ≡ idle → MutexSteps l n w w2 o o m m s p t p2 (End ∷ [])
   ends bit i w c r own = record {
     site = meet o m (End ∷ []) (tt, tt) refl bit refl (own ∙ rw (same t) refl);
     needed = (rw is (i, w, c, λ h. absurd (let g : counts_some locks.Mutex None ≡ true = rw r at h in cc)), tt);
   }
 
-  pub goes_in : is_parked w2 ≡ is_parked w → ((u : ℕ) → (now.doing u).inside ≢ Some Main) → d.inside ≡ None → d.empty ≡ None → doing_on p2 l ≡ record d { inside = Some Main } → MutexSteps l n w w2 o o m m s p t p2 (In Main ∷ [])
+  pub goes_in : is_parked w2 ≡ is_parked w → ((u : ℕ) → (now.role u).inside ≢ Some Main) → d.inside ≡ None → d.empty ≡ None → role_on p2 l ≡ record d { inside = Some Main } → MutexSteps l n w w2 o o m m s p t p2 (In Main ∷ [])
   goes_in bit free i e own = record {
     site = meet o m (In Main ∷ []) (tt, tt) refl bit refl (own ∙ rw (same t, is) refl);
     needed = ((free, rw is i, rw is e), tt);
   }
 
-  pub finds_nobody : is_parked w2 ≡ is_parked w → m ≡ [] → d.inside ≡ Some Main → d.carries ≡ false → (d.wakes ≡ None) ⊎ (d.wakes ≡ Some Main) → doing_on p2 l ≡ record d { wakes = None; carries = true; covers = true; empty = Some Main } → MutexSteps l n w w2 o o m m s p t p2 (FindNobody Main ∷ [])
+  pub finds_nobody : is_parked w2 ≡ is_parked w → m ≡ [] → d.inside ≡ Some Main → d.carries ≡ false → (d.wakes ≡ None) ⊎ (d.wakes ≡ Some Main) → role_on p2 l ≡ record d { wakes = None; carries = true; covers = true; empty = Some Main } → MutexSteps l n w w2 o o m m s p t p2 (FindNobody Main ∷ [])
   finds_nobody bit none i c v own = record {
     site = meet o m (FindNobody Main ∷ []) (tt, tt) refl bit refl (own ∙ rw (same t, is) refl);
     needed = ((rw is i, rw is c, ap (map queued_of) none, rw is v), tt);
   }
 
-  pub parks : (key : ℕ) → is_parked w2 ≡ is_parked w → is_parked w ≡ true → (o.exclusive ≢ None) → times t m ≡ 0 → is_thread t (first_of s) ≡ 0 → d.inside ≡ Some Main → d.wakes ≡ None → d.covers ≡ false → doing_on p2 l ≡ record d { retries = None; empty = None } → MutexSteps l n w w2 o o m (m ++ waiter key t Exclusive ∷ []) s p t p2 (Case (locks.Park Exclusive) ∷ [])
+  pub parks : (key : ℕ) → is_parked w2 ≡ is_parked w → is_parked w ≡ true → (o.exclusive ≢ None) → times t m ≡ 0 → is_thread t (first_of s) ≡ 0 → d.inside ≡ Some Main → d.wakes ≡ None → d.covers ≡ false → role_on p2 l ≡ record d { retries = None; empty = None } → MutexSteps l n w w2 o o m (m ++ waiter key t Exclusive ∷ []) s p t p2 (Case (locks.Park Exclusive) ∷ [])
   parks key bit set owned nowhere aside i v c own = record {
     site = meet o (m ++ waiter key t Exclusive ∷ []) (Case (locks.Park Exclusive) ∷ []) (tt, tt) (ap (λ q. record now.lock { queue = q }) (queued_behind key t Exclusive m)) bit refl (own ∙ rw (same t, is) refl);
     needed = ((((tt, owned), stands_nowhere), (rw is i, set, rw is v, rw is c)), tt);
@@ -119,17 +119,17 @@ module _ (l : ℕ) (n : Base) (w w2 : ℕ) (o : Owners) (m s : List Waiter) (p :
       stands_nowhere : locks.times t (map queued_of m) + is_thread t (first_of s) + one_if_some (taken_at (p t) l) ≡ 0
       stands_nowhere = let a : locks.times t (map queued_of m) ≡ times t m = queued_times t m in let b : one_if_some (taken_at (p t) l) ≡ 0 = ap one_if_some hand in omega arith
 
-  pub removes : is_parked w2 ≡ is_parked w → 1 ≤ times t m → first_of s ≡ None → d.inside ≡ Some Main → d.carries ≡ false → doing_on p2 l ≡ record d { empty = found Main (is_empty (map queued_of (without t m))) } → MutexSteps l n w w2 o o m (without t m) s p t p2 (Case locks.Late ∷ [])
+  pub removes : is_parked w2 ≡ is_parked w → 1 ≤ times t m → first_of s ≡ None → d.inside ≡ Some Main → d.carries ≡ false → role_on p2 l ≡ record d { empty = found Main (is_empty (map queued_of (without t m))) } → MutexSteps l n w w2 o o m (without t m) s p t p2 (Case locks.Late ∷ [])
   removes bit stands none i c own = record {
     site = meet o (without t m) (Case locks.Late ∷ []) (tt, tt) (λ j. record now.lock { queue = queued_without t m j; aside = (none ∙ sym (ap (locks.aside_without t) none)) j }) bit refl
         (own ∙ rw (same t, is, i, queued_without) refl);
     needed = (((let a : locks.times t (map queued_of m) ≡ times t m = queued_times t m in omega arith), (rw (is, i) (λ h. let g : None ≡ Some t = sym none ∙ h in cc), rw is c)), tt);
   }
 
-  pub hands_nobody : is_parked w2 ≡ false → ((u : ℕ) → Untaken t (taken_at (p u) l)) → d.claims ≡ Some (Has Exclusive) → d.covers ≡ true → d.retries ≡ None → d.wakes ≡ None → d.inside ≡ Some Main → d.empty ≡ Some Main → doing_on p2 l ≡ record d { covers = false; claims = None; empty = None; brings = false; sets = false } → MutexSteps l n w w2 o (with_exclusive o None) m m s p t p2 (Case (locks.HandOff Exclusive None) ∷ Clear Main ∷ [])
+  pub hands_nobody : is_parked w2 ≡ false → ((u : ℕ) → Untaken t (taken_at (p u) l)) → d.claims ≡ Some (Has Exclusive) → d.covers ≡ true → d.retries ≡ None → d.wakes ≡ None → d.inside ≡ Some Main → d.empty ≡ Some Main → role_on p2 l ≡ record d { covers = false; claims = None; empty = None; brings = false; sets = false } → MutexSteps l n w w2 o (with_exclusive o None) m m s p t p2 (Case (locks.HandOff Exclusive None) ∷ Clear Main ∷ [])
   hands_nobody bit none c v r k i e own = record {
     site = meet (with_exclusive o None) m (Case (locks.HandOff Exclusive None) ∷ Clear Main ∷ []) (tt, (tt, tt)) (sym (λ j. lock_seen n.shared (with_exclusive o None) m s (λ u. none u j)) ∙ sym (handed_is t n o m s p l None site.state)) bit refl (own ∙ rw (same t, is) refl);
-    needed = (((site.held t (Has Exclusive) (ap (λ (x : Doing). x.claims) is ∙ c), (λ h. cc), heirless, tt), (rw is i, rw is v, rw is r, rw is k)), (rw (same t, is) e, tt));
+    needed = (((site.held t (Has Exclusive) (ap (λ (x : Role). x.claims) is ∙ c), (λ h. cc), heirless, tt), (rw is i, rw is v, rw is r, rw is k)), (rw (same t, is) e, tt));
   }
     where
       heirless : (u : ℕ) (x : Want) → (◌≡◌ {A = Option Queued} None (Some (record { thread = u; want = x }))) ↔ (IsTaken now.lock t u x × (x ≢ Shared))
@@ -141,23 +141,23 @@ module _ (l : ℕ) (n : Base) (w w2 : ℕ) (o : Owners) (m s : List Waiter) (p :
 abbrev pub IsCode : ℕ → Option ℕ → Type 0
 IsCode w o = w ≡ one_if_some o + 2 * codes.bit (is_parked w)
 
-pub own_doing : (l : ℕ) (q : Place) (at : MutexPlace) → q ≡ Mutex l at → doing_on q l ≡ mutex_doing at
-own_doing l q at is = ap (λ x. doing_on x l) is ∙ ap (λ b. if b then mutex_doing at else idle) (same l)
+pub own_role : (l : ℕ) (q : Place) (at : MutexPlace) → q ≡ Mutex l at → role_on q l ≡ mutex_role at
+own_role l q at is = ap (λ x. role_on x l) is ∙ ap (λ b. if b then mutex_role at else idle) (same l)
 
--- what a step on the word does to the lock, and that the word is the lock's
+-- tells what a step on the word does to the lock, and that the word is the lock's
 pub record OnWord (l : ℕ) (n : Base) (w : ℕ) (o : Owners) (m s : List Waiter) (p : ℕ → Place) (t : ℕ) (at : MutexPlace)
     (f : Op) : Type 0 where
   pub steps : MutexSteps l n w (apply f w) o (mutex_owners at t w o) m m s p t (next_place (Mutex l at) (Value w))
       (mutex_deeds at None (Value w))
   pub code : IsCode (apply f w) (mutex_owners at t w o).exclusive
   -- it neither goes into a section, nor out of one, nor into a line or a hand
-  pub same : station (next_place (Mutex l at) (Value w)) ≡ mutex_station at
+  pub same : location (next_place (Mutex l at) (Value w)) ≡ mutex_location at
 
 module _ (l : ℕ) (n : Base) (o : Owners) (m s : List Waiter) (p : ℕ → Place) (t : ℕ) where
   abbrev pub Fits : ℕ → MutexPlace → Op → Type 0
   Fits w at f = p t ≡ Mutex l at → IsSite mutex (seen l n w o m s p) → IsCode w o.exclusive → OnWord l n w o m s p t at f
 
-  -- of the four codes
+  -- each of the four codes
   by_code : (P : ℕ → Type 0) → P 0 → P 1 → P 2 → P 3 → (w : ℕ) → IsCode w o.exclusive → P w
   by_code P a b c d w code = either o.exclusive (is_parked w) code
     where
@@ -176,14 +176,14 @@ module _ (l : ℕ) (n : Base) (o : Owners) (m s : List Waiter) (p : ℕ → Plac
 
   -- where nothing changes
   stay : (w : ℕ) (at at2 : MutexPlace) → p t ≡ Mutex l at → IsSite mutex (seen l n w o m s p) → taken_at (Mutex l at) l ≡ None
-      → taken_at (Mutex l at2) l ≡ None → mutex_doing at2 ≡ mutex_doing at → MutexSteps l n w w o o m m s p t (Mutex l at2) []
-  stay w at at2 is site none none2 e = looks l n w w o m s p t (Mutex l at2) site (mutex_doing at) (own_doing l (p t) at is) (ap (λ x. taken_at x l) is ∙ none) none2 refl (own_doing l (Mutex l at2) at2 refl ∙ e)
+      → taken_at (Mutex l at2) l ≡ None → mutex_role at2 ≡ mutex_role at → MutexSteps l n w w o o m m s p t (Mutex l at2) []
+  stay w at at2 is site none none2 e = looks l n w w o m s p t (Mutex l at2) site (mutex_role at) (own_role l (p t) at is) (ap (λ x. taken_at x l) is ∙ none) none2 refl (own_role l (Mutex l at2) at2 refl ∙ e)
 
   takes : (w w2 : ℕ) (at : MutexPlace) → p t ≡ Mutex l at → IsSite mutex (seen l n w o m s p) → taken_at (Mutex l at) l ≡ None
-      → o.exclusive ≡ None → (mutex_doing at).inside ≡ None → (mutex_doing at).wakes ≡ None → (mutex_doing at).carries ≡ false
-      → ((mutex_doing at).retries ≡ None) ⊎ ((mutex_doing at).retries ≡ Some Exclusive) → is_parked w2 ≡ is_parked w
+      → o.exclusive ≡ None → (mutex_role at).inside ≡ None → (mutex_role at).wakes ≡ None → (mutex_role at).carries ≡ false
+      → ((mutex_role at).retries ≡ None) ⊎ ((mutex_role at).retries ≡ Some Exclusive) → is_parked w2 ≡ is_parked w
       → MutexSteps l n w w2 o (with_exclusive o (Some t)) m m s p t Idle (Case (locks.Enter Exclusive) ∷ End ∷ [])
-  takes w w2 at is site none free i v c r bit = enters l n w w2 o m s p t Idle site (mutex_doing at) (own_doing l (p t) at is) (ap (λ x. taken_at x l) is ∙ none) refl free i v c r bit refl
+  takes w w2 at is site none free i v c r bit = enters l n w w2 o m s p t Idle site (mutex_role at) (own_role l (p t) at is) (ap (λ x. taken_at x l) is ∙ none) refl free i v c r bit refl
 
   again_is : (b : Bool) → ((if b then Some Exclusive else None) ≡ None) ⊎ ((if b then Some Exclusive else None) ≡ Some Exclusive)
   again_is true = inr refl
@@ -237,7 +237,7 @@ module _ (l : ℕ) (n : Base) (o : Owners) (m s : List Waiter) (p : ℕ → Plac
   pub at_decide_one : (e : Entry) (b : Bool) (w : ℕ) → Fits w (Lock e b (lock.Decide 1)) (op.Exchange 1 3)
   at_decide_one e b w = by_word (Lock e b (lock.Decide 1)) (op.Exchange 1 3)
       (stale e b 1 3 0 refl)
-      (λ is site code. record { steps = marks l n 1 3 o m s p t (Mutex l (Lock e b (lock.Decide 3))) site (mutex_doing (Lock e b (lock.Decide 1))) (own_doing l (p t) (Lock e b (lock.Decide 1)) is) (ap (λ x. taken_at x l) is) refl refl (own_doing l (Mutex l (Lock e b (lock.Decide 3))) (Lock e b (lock.Decide 3)) refl); code = omega (arith, code); same = refl })
+      (λ is site code. record { steps = marks l n 1 3 o m s p t (Mutex l (Lock e b (lock.Decide 3))) site (mutex_role (Lock e b (lock.Decide 1))) (own_role l (p t) (Lock e b (lock.Decide 1)) is) (ap (λ x. taken_at x l) is) refl refl (own_role l (Mutex l (Lock e b (lock.Decide 3))) (Lock e b (lock.Decide 3)) refl); code = omega (arith, code); same = refl })
       (stale e b 1 3 2 refl)
       (stale e b 1 3 3 refl)
       w
@@ -247,7 +247,7 @@ module _ (l : ℕ) (n : Base) (o : Owners) (m s : List Waiter) (p : ℕ → Plac
   Wiped at2 w = MutexSteps l n w (apply (op.And NOT_PARKED) w) o o m m s p t (Mutex l at2) (Clear Main ∷ []) × IsCode (apply (op.And NOT_PARKED) w) o.exclusive
 
   wipes : (at at2 : MutexPlace) → p t ≡ Mutex l at → taken_at (Mutex l at) l ≡ None → taken_at (Mutex l at2) l ≡ None
-      → (mutex_doing at).empty ≡ Some Main → mutex_doing at2 ≡ record (mutex_doing at) { empty = None; brings = false }
+      → (mutex_role at).empty ≡ Some Main → mutex_role at2 ≡ record (mutex_role at) { empty = None; brings = false }
       → (w : ℕ) → IsSite mutex (seen l n w o m s p) → IsCode w o.exclusive → Wiped at2 w
   wipes at at2 is none none2 e e2 w site code = by_code (λ w. IsSite mutex (seen l n w o m s p) → IsCode w o.exclusive → Wiped at2 w)
       (λ site code. (cleared 0 0 site refl, code)) (λ site code. (cleared 1 1 site refl, code))
@@ -255,7 +255,7 @@ module _ (l : ℕ) (n : Base) (o : Owners) (m s : List Waiter) (p : ℕ → Plac
     where
       cleared : (w w2 : ℕ) → IsSite mutex (seen l n w o m s p) → is_parked w2 ≡ false
           → MutexSteps l n w w2 o o m m s p t (Mutex l at2) (Clear Main ∷ [])
-      cleared w w2 site bit = clears l n w w2 o m s p t (Mutex l at2) site (mutex_doing at) (own_doing l (p t) at is) (ap (λ x. taken_at x l) is ∙ none) none2 bit e (own_doing l (Mutex l at2) at2 refl ∙ e2)
+      cleared w w2 site bit = clears l n w w2 o m s p t (Mutex l at2) site (mutex_role at) (own_role l (p t) at is) (ap (λ x. taken_at x l) is ∙ none) none2 bit e (own_role l (Mutex l at2) at2 refl ∙ e2)
 
   pub at_clear : (e : Entry) (b : Bool) (w : ℕ) → Fits w (Lock e b lock.Clear) (op.And NOT_PARKED)
   at_clear e b w is site code = let h = wipes (Lock e b lock.Clear) (Lock e b lock.GiveUp) is refl refl refl refl w site code in record { steps = h.0; code = h.1; same = refl }
@@ -265,9 +265,9 @@ module _ (l : ℕ) (n : Base) (o : Owners) (m s : List Waiter) (p : ℕ → Plac
 
   -- a call that ends with what it has
   rests : (w : ℕ) (at : MutexPlace) → p t ≡ Mutex l at → IsSite mutex (seen l n w o m s p) → taken_at (Mutex l at) l ≡ None
-      → (mutex_doing at).inside ≡ None → (mutex_doing at).wakes ≡ None → (mutex_doing at).carries ≡ false
-      → (mutex_doing at).retries ≡ None → MutexSteps l n w w o o m m s p t Idle (End ∷ [])
-  rests w at is site none i v c r = ends l n w w o m s p t Idle site (mutex_doing at) (own_doing l (p t) at is) (ap (λ x. taken_at x l) is ∙ none) refl refl i v c r refl
+      → (mutex_role at).inside ≡ None → (mutex_role at).wakes ≡ None → (mutex_role at).carries ≡ false
+      → (mutex_role at).retries ≡ None → MutexSteps l n w w o o m m s p t Idle (End ∷ [])
+  rests w at is site none i v c r = ends l n w w o m s p t Idle site (mutex_role at) (own_role l (p t) at is) (ap (λ x. taken_at x l) is ∙ none) refl refl i v c r refl
 
   pub at_try : (w : ℕ) → Fits w TryLock (op.Or 1)
   at_try w = by_word TryLock (op.Or 1)
@@ -279,20 +279,20 @@ module _ (l : ℕ) (n : Base) (o : Owners) (m s : List Waiter) (p : ℕ → Plac
 
   -- a release needs an owner
   owned : (w k : ℕ) (at : MutexPlace) → p t ≡ Mutex l at → IsSite mutex (seen l n w o m s p)
-      → (mutex_doing at).claims ≡ Some (Has Exclusive) → k + 0 ≡ one_if_some o.exclusive + k → ⊥
-  owned w k at is site c code = let a : o.exclusive ≡ Some t = site.held t (Has Exclusive) (ap (λ (x : Doing). x.claims) (own_doing l (p t) at is) ∙ c) in let b : o.exclusive ≡ None = none_owns o.exclusive k code in cc
+      → (mutex_role at).claims ≡ Some (Has Exclusive) → k + 0 ≡ one_if_some o.exclusive + k → ⊥
+  owned w k at is site c code = let a : o.exclusive ≡ Some t = site.held t (Has Exclusive) (ap (λ (x : Role). x.claims) (own_role l (p t) at is) ∙ c) in let b : o.exclusive ≡ None = none_owns o.exclusive k code in cc
 
   gives_up : (at : MutexPlace) → p t ≡ Mutex l at → IsSite mutex (seen l n 1 o m s p) → taken_at (Mutex l at) l ≡ None
-      → mutex_doing at ≡ owner
+      → mutex_role at ≡ owner
       → MutexSteps l n 1 0 o (with_exclusive o None) m m s p t Idle (Case (locks.Leave Exclusive) ∷ End ∷ [])
-  gives_up at is site none e = leaves_all l n 1 0 o m s p t Idle site owner (own_doing l (p t) at is ∙ e) (ap (λ x. taken_at x l) is ∙ none) refl refl refl refl refl refl refl refl refl refl
+  gives_up at is site none e = leaves_all l n 1 0 o m s p t Idle site owner (own_role l (p t) at is ∙ e) (ap (λ x. taken_at x l) is ∙ none) refl refl refl refl refl refl refl refl refl refl
 
   pub at_subtract : (w : ℕ) → Fits w (Unlock unlock.Subtract) (op.Sub 1)
   at_subtract w = by_word (Unlock unlock.Subtract) (op.Sub 1)
       (λ is site code. absurd (owned 0 0 (Unlock unlock.Subtract) is site refl code))
       (λ is site code. record { steps = gives_up (Unlock unlock.Subtract) is site refl refl; code = refl; same = refl })
       (λ is site code. absurd (owned 2 2 (Unlock unlock.Subtract) is site refl code))
-      (λ is site code. record { steps = leaves l n 3 2 o m s p t (Mutex l (Unlock unlock.Enter)) site owner (own_doing l (p t) (Unlock unlock.Subtract) is) (ap (λ x. taken_at x l) is) refl refl refl refl refl (own_doing l (Mutex l (Unlock unlock.Enter)) (Unlock unlock.Enter) refl); code = refl; same = refl })
+      (λ is site code. record { steps = leaves l n 3 2 o m s p t (Mutex l (Unlock unlock.Enter)) site owner (own_role l (p t) (Unlock unlock.Subtract) is) (ap (λ x. taken_at x l) is) refl refl refl refl refl (own_role l (Mutex l (Unlock unlock.Enter)) (Unlock unlock.Enter) refl); code = refl; same = refl })
       w
 
   pub at_unlock_fair : (w : ℕ) → Fits w UnlockFair (op.Exchange 1 0)
@@ -315,9 +315,9 @@ module _ (l : ℕ) (n : Base) (o : Owners) (m s : List Waiter) (p : ℕ → Plac
   pub at_store_none : {one : ℕ → Type 0} → Hands one p → (bumps none_left : Bool) (w : ℕ)
       → Fits w (HandOff bumps (hand_off.Store false none_left)) (op.Store 0)
   at_store_none hands bumps none_left w is site code = record {
-    steps = hands_nobody l n w 0 o m s p t (Mutex l (HandOff bumps (hand_off.Leave false))) site (mutex_doing (HandOff bumps (hand_off.Store false none_left))) (own_doing l (p t) _ is) (ap (λ x. taken_at x l) is) refl refl
-        (λ u. untaken (p u) t l (λ h. let a : carried_at (p t) l ≡ Some false = hands.taken t u l false h in let b : carried_at (p t) l ≡ None = ap (λ (x : Station). x.carries) (own_stance l (p t) _ is) in cc))
-        refl refl refl refl refl refl (own_doing l (Mutex l (HandOff bumps (hand_off.Leave false))) (HandOff bumps (hand_off.Leave false)) refl);
+    steps = hands_nobody l n w 0 o m s p t (Mutex l (HandOff bumps (hand_off.Leave false))) site (mutex_role (HandOff bumps (hand_off.Store false none_left))) (own_role l (p t) _ is) (ap (λ x. taken_at x l) is) refl refl
+        (λ u. untaken (p u) t l (λ h. let a : carried_at (p t) l ≡ Some false = hands.taken t u l false h in let b : carried_at (p t) l ≡ None = ap (λ (x : Location). x.carries) (own_stance l (p t) _ is) in cc))
+        refl refl refl refl refl refl (own_role l (Mutex l (HandOff bumps (hand_off.Leave false))) (HandOff bumps (hand_off.Leave false)) refl);
     code = refl;
     same = refl;
   }

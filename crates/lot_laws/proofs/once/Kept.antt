@@ -38,7 +38,7 @@ use Rattle.steps_once.specs.declared.run.RunAt.TheVariants as run
 use Rattle.steps_once.specs.declared.places.OncePlace.{OncePlace}
 use Rattle.steps_once.specs.declared.places.OncePlace.TheVariants.{Look, Run, GiveUp}
 use Rattle.steps_once.specs.OnceCalls.{CallFollowsBy, next_row}
-use Rattle.steps_once.specs.OnceDeeds.{Follows, IsAt, OnceSectionsFollow, MayHear, closes, doing_next, exchanged_deeds, looked_deeds, once_deeds, once_doing}
+use Rattle.steps_once.specs.OnceDeeds.{Follows, IsAt, OnceSectionsFollow, MayHear, closes, role_next, exchanged_deeds, looked_deeds, once_deeds, once_role}
 use Rattle.steps_once.specs.OnceMoves.{OnceMoves, RestsBehind, TakesAll, once_hears, once_move}
 use Rattle.steps_once.specs.OnceProfiles.{once_profile}
 use Rattle.steps_once.specs.OnceSteps.{course_act, course_of, once_act, once_first, once_next, once_owners}
@@ -54,16 +54,16 @@ use Rattle.steps_rwlock.specs.declared.places.Admission.{Admission}
 use Rattle.steps_rwlock_fair.specs.declared.places.RwLockCallPlace.{RwLockCallPlace}
 use Rattle.lot_steps.specs.Steps.{calls, next_place, once_goes, profile}
 use Rattle.lot_machine.specs.Machine.{State, are_free, can_do, is_free, state_after_late_under, kind_at, owners_at, place_at, put, queue_at, reply_to, section_at, shares_at, state_after_act, word_at}
-use Rattle.lot_machine.specs.Fits.{IsShaped}
+use Rattle.lot_machine.specs.Fits.{IsWellFormed}
 use Rattle.lot_machine.proofs.Shape.{main_key_there}
 use Rattle.lot_laws.specs.Refinement.{taken_at}
 use Rattle.lot_laws.specs.MutexDeeds.{acts}
-use Rattle.lot_laws.specs.Stations.{doing_on, station}
-use Rattle.lot_laws.specs.SitesOf.{FitsItsLock, Goes, IsSteady, TakesOne, is_mutex, key_of, rules_in}
+use Rattle.lot_laws.specs.Locations.{role_on, location}
+use Rattle.lot_laws.specs.SitesOf.{FitsItsLock, Goes, IsInductive, TakesOne, is_mutex, key_of, rules_in}
 use Rattle.lot_laws.proofs.sites.ActsKept.{lock_by, place_goes}
 use Rattle.lot_laws.proofs.sites.OneStep.{steps_by}
 use Rattle.steps_condvar.specs.declared.places.CondvarPlace.{CondvarPlace}
-use Rattle.lot_laws.proofs.machine.Parts.{not_beside, IsOf, doing_here, free_of, next_of, parts_at}
+use Rattle.lot_laws.proofs.machine.Parts.{not_beside, IsOf, role_here, free_of, next_of, parts_at}
 use Rattle.lot_laws.proofs.sites.MovesKept.{IsFollowed, SleepsIfCalls, IsSleeper, entered_hears, goes_in, goes_out, leaves_line, left_hears, removed_hears, wakes_one}
 use Rattle.lot_laws.proofs.once.MovesKept.{all_hears, rests_or_turns, stays_unshared, takes_all, told_so}
 use Rattle.lot_laws.proofs.calls.OtherCalls.{IsCalm, WakesOwn}
@@ -77,9 +77,9 @@ goes_row : (l : ℕ) (n : Next OncePlace) → profile (once_goes l n) ≡ row_of
 goes_row l (next.At p) = refl
 goes_row l (next.End answer) = refl
 
-doing_is : (n : Next OncePlace) → doing_next n ≡ (row_of (next_row n)).doing
-doing_is (next.At p) = refl
-doing_is (next.End answer) = refl
+role_is : (n : Next OncePlace) → role_next n ≡ (row_of (next_row n)).role
+role_is (next.At p) = refl
+role_is (next.End answer) = refl
 
 -- ---------------------------------------------------------------- its word
 
@@ -181,7 +181,7 @@ nobody_is (Some u) h = absurd cc
 
 -- ---------------------------------------------------------------- one thread
 
-module _ (w : State) (t l : ℕ) (at : OncePlace) (steady : IsSteady w) (shape : IsShaped w) (there : t < length w.places)
+module _ (w : State) (t l : ℕ) (at : OncePlace) (steady : IsInductive w) (shape : IsWellFormed w) (there : t < length w.places)
     (lt : l < length w.locks) (is : place_at w t ≡ Once l at) where
   pub sort_is : (rules_in w l).sort ≡ locks.Once
   sort_is = subst (FitsItsLock w) is (steady.stands.calls t)
@@ -195,11 +195,11 @@ module _ (w : State) (t l : ℕ) (at : OncePlace) (steady : IsSteady w) (shape :
   abbrev here : Site
   here = lock_by w l (rules_in w l)
 
-  doing_now : here.doing t ≡ once_doing at
-  doing_now = doing_here l (place_at w t) own ∙ ap (λ (y : Profile). y.doing) same_row
+  role_now : here.role t ≡ once_role at
+  role_now = role_here l (place_at w t) own ∙ ap (λ (y : Profile). y.role) same_row
 
   pub at_now : IsAt (rules_in w l) here t at
-  at_now = record { sort = sort_is; site = steady.sites.site l; doing = doing_now }
+  at_now = record { sort = sort_is; site = steady.sites.site l; role = role_now }
 
   unshared : has_readers (rules_in w l).sort ≡ false
   unshared = ap has_readers sort_is
@@ -208,7 +208,7 @@ module _ (w : State) (t l : ℕ) (at : OncePlace) (steady : IsSteady w) (shape :
   fits_next k (next.At p) h = h
   fits_next k (next.End answer) h = tt
 
-  -- what its laws conclude
+  -- tells what its laws conclude
   abbrev Followed : Reply → Type 0
   Followed told = IsFollowed w t l steady there own (rules_in w l) refl (once_move at) same_row None told (next_place (place_at w t) told)
 
@@ -218,7 +218,7 @@ module _ (w : State) (t l : ℕ) (at : OncePlace) (steady : IsSteady w) (shape :
     fits = subst (λ q. FitsItsLock w (next_place q told)) (sym is) (fits_next l (once_next at told) sort_is);
     row = ap (λ q. profile (next_place q told)) is ∙ goes_row l (once_next at told);
     needed = f.needed;
-    doing = f.doing ∙ doing_is (once_next at told);
+    role = f.role ∙ role_is (once_next at told);
   }
 
   followed : (told : Reply) → MayHear (rules_in w l) here t at told → Followed told
@@ -411,7 +411,7 @@ module _ (w : State) (t l : ℕ) (at : OncePlace) (steady : IsSteady w) (shape :
 
 -- ---------------------------------------------------------------- a call begins
 
-module _ (w : State) (t l : ℕ) (c : OnceCall) (steady : IsSteady w) (there : t < length w.places) (idle_now : place_at w t ≡ Idle)
+module _ (w : State) (t l : ℕ) (c : OnceCall) (steady : IsInductive w) (there : t < length w.places) (idle_now : place_at w t ≡ Idle)
     (sort : (rules_in w l).sort ≡ locks.Once) where
   abbrev pub first : Place
   first = Once l (once_first c)
@@ -422,5 +422,5 @@ module _ (w : State) (t l : ℕ) (c : OnceCall) (steady : IsSteady w) (there : t
       (steps_by (rules_in w l) l (parts_at w l) (parts_at w l) (place_at w) t first [] tt tt
       (ap (λ q. taken_at q l) idle_now ∙ sym (free_of first l tt refl))
       refl refl refl refl
-      (doing_here l first refl ∙ sym (ap (λ q. doing_on q l) idle_now)))
-      (sym (ap station idle_now))
+      (role_here l first refl ∙ sym (ap (λ q. role_on q l) idle_now)))
+      (sym (ap location idle_now))

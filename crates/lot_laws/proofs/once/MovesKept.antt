@@ -13,9 +13,9 @@ use Rattle.steps_base.specs.declared.acts.Reply.{Reply}
 use Rattle.steps_base.specs.declared.acts.Reply.TheVariants.{Value, Parked, Took}
 use Rattle.steps_base.specs.declared.acts.Whom.TheVariants as whom
 use Rattle.steps_base.specs.Acts.{holds}
-use Rattle.steps_base.specs.Moves.{Move, Hears, StaysPut, inside_of, station_of}
+use Rattle.steps_base.specs.Moves.{Move, Hears, StaysPut, inside_of, location_of}
 use Rattle.steps_base.specs.Profiles.{in_hand}
-use Rattle.steps_base.specs.Stations.{Station}
+use Rattle.steps_base.specs.Locations.{Location}
 use Rattle.spec_locks.specs.Onces.{Rest, TakeAll}
 use Rattle.spec_locks.specs.Locks.{Rules, OfOnce, HasTakenNobody}
 use Rattle.spec_locks.specs.Sites.{Site, Deed, Main, Case, has_readers}
@@ -27,13 +27,13 @@ use Rattle.steps_once.specs.OnceMoves.{RestsBehind, TakesAll}
 use Rattle.lot_machine.specs.Machine.{State, filled_at, place_at, put, queue_at, queues_with_last, state_after_operation, state_after_park, state_after_take, word_at}
 use Rattle.lot_laws.specs.Refinement.{lock_state, taken_at}
 use Rattle.lot_laws.specs.MutexDeeds.{acts}
-use Rattle.lot_laws.specs.Stations.{station, station_at}
-use Rattle.lot_laws.specs.SitesOf.{Goes, IsSteady, TakesOne, after_acts, carried_at, rules_in, stood_in}
+use Rattle.lot_laws.specs.Locations.{location, location_at}
+use Rattle.lot_laws.specs.SitesOf.{Goes, IsInductive, TakesOne, after_acts, carried_at, rules_in, stood_in}
 use Rattle.lot_laws.proofs.sites.ActsKept.{lock_by, operated, park_goes, place_goes, with_line, word_goes}
 use Rattle.lot_laws.proofs.machine.AtPlaces.{in_no_hand}
 use Rattle.lot_laws.proofs.machine.Parts.{IsOf, differ, free_of, lock_in, nothing_at, parts_at, same, of_single}
 use Rattle.lot_laws.proofs.sites.LawsKept.{after_same}
-use Rattle.lot_laws.proofs.sites.MovesKept.{IsFollowed, SleepsIfCalls, needed_by, nowhere_here, own_by, single_of, site, sleeps_in, station_is, there_is, word_is}
+use Rattle.lot_laws.proofs.sites.MovesKept.{IsFollowed, SleepsIfCalls, needed_by, nowhere_here, own_by, single_of, site, sleeps_in, location_is, there_is, word_is}
 use Rattle.lot_laws.proofs.sites.OneStep.{Steps, noted, queued_behind, same_filled, steps_by}
 use Rattle.lot_laws.proofs.sites.PicksKept.{all_goes}
 use Rattle.lot_laws.proofs.sites.StandsKept.{in_main}
@@ -52,7 +52,7 @@ all_in : (q : List Waiter) (u : ℕ) → member u q ≡ true → in_hand (not (l
 all_in [] u h = absurd cc
 all_in (y ∷ q) u h = ap (λ c. in_hand (not c) false) (some_left y q)
 
-module _ (w : State) (t l : ℕ) (steady : IsSteady w) (there : t < length w.places) (own : IsOf l (place_at w t)) (r : Rules)
+module _ (w : State) (t l : ℕ) (steady : IsInductive w) (there : t < length w.places) (own : IsOf l (place_at w t)) (r : Rules)
     (rules : rules_in w l ≡ r) (x : Move) (same_row : profile (place_at w t) ≡ x.row) where
   abbrev Followed : Reply → Place → Type 0
   Followed told p2 = IsFollowed w t l steady there own r rules x same_row None told p2
@@ -60,12 +60,12 @@ module _ (w : State) (t l : ℕ) (steady : IsSteady w) (there : t < length w.pla
   abbrev now : Site
   now = lock_by w l r
 
-  is_now : station (place_at w t) ≡ station_of x
-  is_now = station_is w t l steady there own r rules x same_row
+  is_now : location (place_at w t) ≡ location_of x
+  is_now = location_is w t l steady there own r rules x same_row
 
   -- ---------------------------------------------------------------- the word
 
-  -- of a lock that nobody shares
+  -- for a lock that nobody shares
   module _ (unshared : has_readers r.sort ≡ false) (p p2 : Place) (op : Op) (g : StaysPut x)
       (f : Followed (Value (word_at w l)) p2) where
     abbrev does : List Deed
@@ -75,8 +75,8 @@ module _ (w : State) (t l : ℕ) (steady : IsSteady w) (there : t < length w.pla
     behind = laws.after_all r does now t
 
     hand : taken_at (place_at w t) l ≡ taken_at p2 l
-    hand = free_of (place_at w t) l (of_single l (place_at w t) own) (ap (λ (y : Station). y.hand) is_now ∙ g.free)
-        ∙ sym (free_of p2 l (of_single l p2 f.of) (ap (λ (y : Station). y.hand) (there_is w t l steady there own r rules x same_row None (Value (word_at w l)) p2 f ∙ g.goes (word_at w l)) ∙ g.free))
+    hand = free_of (place_at w t) l (of_single l (place_at w t) own) (ap (λ (y : Location). y.hand) is_now ∙ g.free)
+        ∙ sym (free_of p2 l (of_single l p2 f.of) (ap (λ (y : Location). y.hand) (there_is w t l steady there own r rules x same_row None (Value (word_at w l)) p2 f ∙ g.goes (word_at w l)) ∙ g.free))
 
     full : (operated w t p l op).base.filled ≡ (after_acts r (acts t does) now).filled
     full = ap (λ (y : Rules). filled_at w l || fills y (apply op (word_at w l))) rules ∙ ap (λ b. filled_at w l || (b && nat_le r.limit (count_in (apply op (word_at w l))))) unshared
@@ -103,34 +103,34 @@ module _ (w : State) (t l : ℕ) (steady : IsSteady w) (there : t < length w.pla
   -- ---------------------------------------------------------------- the queue
 
   -- it stays where it is, and does nothing
-  rests_there : (told : Reply) (p2 : Place) (s : Station) → station (place_at w t) ≡ s → s.hand ≡ None → x.deeds None told ≡ []
-      → station p2 ≡ s → Followed told p2 → Goes w (put w t p2) l (acts t (x.deeds None told))
+  rests_there : (told : Reply) (p2 : Place) (s : Location) → location (place_at w t) ≡ s → s.hand ≡ None → x.deeds None told ≡ []
+      → location p2 ≡ s → Followed told p2 → Goes w (put w t p2) l (acts t (x.deeds None told))
   rests_there told p2 s was free does is_then f = subst (λ ds. Goes w (put w t p2) l (acts t ds)) (sym does)
       (place_goes w t l steady own there r rules p2 f.of f.fits [] (λ h. tt)
       (steps_by r l (parts_at w l) (parts_at w l) (place_at w) t p2 [] tt tt
-      (free_of (place_at w t) l (of_single l (place_at w t) own) (ap (λ (y : Station). y.hand) was ∙ free) ∙ sym (free_of p2 l (of_single l p2 f.of) (ap (λ (y : Station). y.hand) is_then ∙ free)))
+      (free_of (place_at w t) l (of_single l (place_at w t) own) (ap (λ (y : Location). y.hand) was ∙ free) ∙ sym (free_of p2 l (of_single l p2 f.of) (ap (λ (y : Location). y.hand) is_then ∙ free)))
       refl refl refl refl (own_by w t l steady there own r rules x same_row None told p2 f [] does))
       (is_then ∙ sym was))
 
-  -- behind the last, where it still has to wait
+  -- after the last, where it still has to wait
   module _ (hears : Hears) (check : Check) (want : Want) (line : 2 * l < length w.queues) (g : RestsBehind x hears check want)
       (followed : (b : Bool) → hears r now t None (Parked b) → Followed (Parked b) (next_place (place_at w t) (Parked b))) where
     pub told_so : (b : Bool) → holds check (word_at w l) ≡ b → hears r now t None (Parked b)
     told_so b e = g.may r now t b (sym e ∙ ap (holds check) (word_is w t l steady there own r rules x same_row))
-        (nowhere_here w t l steady there own r rules x same_row (ap (λ (y : Station). y.stands) g.was) (ap (λ (y : Station). y.hand) g.was))
+        (nowhere_here w t l steady there own r rules x same_row (ap (λ (y : Location). y.stands) g.was) (ap (λ (y : Location). y.hand) g.was))
 
     stands_last : (p2 : Place) → Followed (Parked true) p2 → Goes w (put (record w { queues = queues_with_last w.queues (2 * l) t want }) t p2) l (acts t (x.deeds None (Parked true)))
     stands_last p2 f = subst (λ ds. Goes w (put (record w { queues = queues_with_last w.queues (2 * l) t want }) t p2) l (acts t ds)) (sym g.rests)
-        (park_goes w t l steady own there r rules p2 f.of f.fits Main want (Case (OfOnce (Rest want g.forced)) ∷ []) (λ h. ((λ k. k), tt)) line (ap (λ (y : Station). y.stands) (is_now ∙ g.was))
+        (park_goes w t l steady own there r rules p2 f.of f.fits Main want (Case (OfOnce (Rest want g.forced)) ∷ []) (λ h. ((λ k. k), tt)) line (ap (λ (y : Location). y.stands) (is_now ∙ g.was))
         (steps_by r l (parts_at w l) (with_line (parts_at w l) Main (queue_at w (2 * l) ++ waiter (2 * l) t want ∷ [])) (place_at w) t p2 (Case (OfOnce (Rest want g.forced)) ∷ [])
         (needed_by w t l steady there own r rules x same_row None (Parked true) p2 f (Case (OfOnce (Rest want g.forced)) ∷ []) g.rests) (tt, tt) hand
         (λ i. record now.lock { queue = queued_behind (2 * l) t want (queue_at w (2 * l)) i }) refl refl (noted r now (site w t l steady there own r rules x same_row))
         (own_by w t l steady there own r rules x same_row None (Parked true) p2 f (Case (OfOnce (Rest want g.forced)) ∷ []) g.rests))
-        (there_is w t l steady there own r rules x same_row None (Parked true) p2 f ∙ g.rested ∙ sym (ap (λ (y : Station). record y { stands = Some Main; waits = Some want }) (is_now ∙ g.was))))
+        (there_is w t l steady there own r rules x same_row None (Parked true) p2 f ∙ g.rested ∙ sym (ap (λ (y : Location). record y { stands = Some Main; waits = Some want }) (is_now ∙ g.was))))
       where
         hand : taken_at (place_at w t) l ≡ taken_at p2 l
-        hand = free_of (place_at w t) l (of_single l (place_at w t) own) (ap (λ (y : Station). y.hand) (is_now ∙ g.was))
-            ∙ sym (free_of p2 l (of_single l p2 f.of) (ap (λ (y : Station). y.hand) (there_is w t l steady there own r rules x same_row None (Parked true) p2 f ∙ g.rested)))
+        hand = free_of (place_at w t) l (of_single l (place_at w t) own) (ap (λ (y : Location). y.hand) (is_now ∙ g.was))
+            ∙ sym (free_of p2 l (of_single l p2 f.of) (ap (λ (y : Location). y.hand) (there_is w t l steady there own r rules x same_row None (Parked true) p2 f ∙ g.rested)))
 
     pub rests_or_turns : Goes w
         (put (state_after_park w t l (2 * l) check want) t (next_place (place_at w t) (Parked (holds check (word_at w l))))) l
@@ -153,7 +153,7 @@ module _ (w : State) (t l : ℕ) (steady : IsSteady w) (there : t < length w.pla
     then_at = next_place (place_at w t) (Took any true)
 
     bare : carried_at (place_at w t) l ≡ None
-    bare = nothing_at (place_at w t) l (of_single l (place_at w t) own) (λ y. y.carries) refl (ap (λ (y : Station). y.carries) (is_now ∙ g.was))
+    bare = nothing_at (place_at w t) l (of_single l (place_at w t) own) (λ y. y.carries) refl (ap (λ (y : Location). y.carries) (is_now ∙ g.was))
 
     nobody : HasTakenNobody (lock_state w l) t
     nobody = in_no_hand w steady t l (λ h. let e : ◌≡◌ {A = Option Bool} None (Some false) = sym bare ∙ h in cc)
@@ -164,18 +164,18 @@ module _ (w : State) (t l : ℕ) (steady : IsSteady w) (there : t < length w.pla
     follows : Followed (Took any true) then_at
     follows = followed any true all_hears
 
-    goes_then : station then_at ≡ record (inside_of Main) { carries = in_hand any false }
+    goes_then : location then_at ≡ record (inside_of Main) { carries = in_hand any false }
     goes_then = there_is w t l steady there own r rules x same_row None (Took any true) then_at follows ∙ g.goes any true
 
     sleeps : (u : ℕ) → member u (queue_at w (2 * l)) ≡ true → IsTakenFrom w t l Main (place_at w u)
-    sleeps u h = sleeps_in w t l steady there own r rules x same_row asleep Main u g.was (in_main (station_at (place_at w u) l).stands
-        (let a : 1 ≤ times u (queue_at w (2 * l)) = member_times u (queue_at w (2 * l)) h in let b : times u (queue_at w (2 * l)) ≡ stood_in (station_at (place_at w u) l).stands Main = steady.stands.lines u l Main in omega arith))
+    sleeps u h = sleeps_in w t l steady there own r rules x same_row asleep Main u g.was (in_main (location_at (place_at w u) l).stands
+        (let a : 1 ≤ times u (queue_at w (2 * l)) = member_times u (queue_at w (2 * l)) h in let b : times u (queue_at w (2 * l)) ≡ stood_in (location_at (place_at w u) l).stands Main = steady.stands.lines u l Main in omega arith))
 
     pub takes_all : Goes w (put (state_after_take w t (2 * l) whom.All) t then_at) l (acts t (x.deeds None (Took any true)))
     takes_all = subst (λ ds. Goes w (put (state_after_take w t (2 * l) whom.All) t then_at) l (acts t ds)) (sym (g.deeds any true))
-        (all_goes w t l steady own there then_at follows.of follows.fits many (ap (λ (y : Station). y.stands) (is_now ∙ g.was)) (ap (λ (y : Station). y.hand) (is_now ∙ g.was)) (ap (λ (y : Station). y.carries) (is_now ∙ g.was)) r rules
-        (free_of (place_at w t) l (of_single l (place_at w t) own) (ap (λ (y : Station). y.hand) (is_now ∙ g.was))) (free_of then_at l (of_single l then_at follows.of) (ap (λ (y : Station). y.hand) goes_then))
-        (ap (λ (y : Station). y.inside) goes_then ∙ sym (ap (λ (y : Station). y.inside) (is_now ∙ g.was))) (ap (λ (y : Station). y.stands) goes_then) (ap (λ (y : Station). y.hand) goes_then)
-        line sleeps (λ b h. some_in b (queue_at w (2 * l)) (sym (ap (λ (y : Station). y.carries) goes_then) ∙ h)) (λ u h. ap (λ (y : Station). y.carries) goes_then ∙ all_in (queue_at w (2 * l)) u h)
+        (all_goes w t l steady own there then_at follows.of follows.fits many (ap (λ (y : Location). y.stands) (is_now ∙ g.was)) (ap (λ (y : Location). y.hand) (is_now ∙ g.was)) (ap (λ (y : Location). y.carries) (is_now ∙ g.was)) r rules
+        (free_of (place_at w t) l (of_single l (place_at w t) own) (ap (λ (y : Location). y.hand) (is_now ∙ g.was))) (free_of then_at l (of_single l then_at follows.of) (ap (λ (y : Location). y.hand) goes_then))
+        (ap (λ (y : Location). y.inside) goes_then ∙ sym (ap (λ (y : Location). y.inside) (is_now ∙ g.was))) (ap (λ (y : Location). y.stands) goes_then) (ap (λ (y : Location). y.hand) goes_then)
+        line sleeps (λ b h. some_in b (queue_at w (2 * l)) (sym (ap (λ (y : Location). y.carries) goes_then) ∙ h)) (λ u h. ap (λ (y : Location). y.carries) goes_then ∙ all_in (queue_at w (2 * l)) u h)
         (needed_by w t l steady there own r rules x same_row None (Took any true) then_at follows (Case (OfOnce TakeAll) ∷ []) (g.deeds any true))
         (own_by w t l steady there own r rules x same_row None (Took any true) then_at follows (Case (OfOnce TakeAll) ∷ []) (g.deeds any true)))

@@ -40,14 +40,14 @@ found_owes : (r : Reply) → (run_row (found r)).owes ≡ None
 found_owes (reply.Value seen) = refl
 found_owes r = refl
 
--- behind its look: a run has begun, it gives up, or it looks on
+-- after its look: a run has begun, it gives up, or it looks on
 abbrev LooksOn : OnceCall → Bool → Bool → Reply → (b late : Bool) → Next LookAt → Next OncePlace
 LooksOn c again still r b late n =
     if b then next.At (Run (is_forced c) (found r)) else if late then next.At (GiveUp again give_up.Remove) else in_look c still n
 
 look_since : (l : ℕ) (c : OnceCall) (again still : Bool) (r : Reply) (b late : Bool) (n : Next LookAt) (m : Line)
     → (profile (once_goes l (LooksOn c again still r b late n))).owes ≡ Some m
-    → (profile (once_goes l (LooksOn c again still r b late n))).doing.inside ≡ Some m
+    → (profile (once_goes l (LooksOn c again still r b late n))).role.inside ≡ Some m
 look_since l c again still r true late n m h = absurd (let f : ◌≡◌ {A = Option Line} None (Some m) = sym (found_owes r) ∙ h in cc)
 look_since l c again still r false true n m h = h
 look_since l c again still r false false (next.At at) m h = look_owes (is_timed c) (again_of c still) at m h
@@ -70,7 +70,7 @@ closes_owing l word forced succeeded false marked = record { since = λ m h. abs
 
 -- inside the section it owes
 inside_owing : (l word : ℕ) (forced : Bool) (at to : RunAt) → (run_row to).owes ≡ Some Main
-    → (run_row to).doing.inside ≡ Some Main → RunOwes l word forced at (next.At to)
+    → (run_row to).role.inside ≡ Some Main → RunOwes l word forced at (next.At to)
 inside_owing l word forced at to owes within = record {
   since = λ m h. inl (within ∙ sym owes ∙ h);
   sees = λ m s step. owes ∙ ap Some s.1;
@@ -89,7 +89,7 @@ run_owing w t l forced (run.Leave succeeded any) = record { since = λ m h. absu
 
 -- a thread inside the section owes, until it leaves it
 give_up_since : (l : ℕ) (again : Bool) (n : Next GiveUpAt) (m : Line) → (profile (once_goes l (in_give_up again n))).owes ≡ Some m
-    → (profile (once_goes l (in_give_up again n))).doing.inside ≡ Some m
+    → (profile (once_goes l (in_give_up again n))).role.inside ≡ Some m
 give_up_since l again (next.At give_up.Remove) m h = h
 give_up_since l again (next.At give_up.Clear) m h = h
 give_up_since l again (next.At give_up.Leave) m h = h

@@ -16,7 +16,7 @@ use Rattle.lot_steps.specs.declared.places.Place.TheVariants.{Once}
 use Rattle.lot_steps.specs.Steps.{line_owed, next_place}
 use Rattle.lot_laws.proofs.promises.RowPromises.{Befalls, IsLateNext}
 
--- whatever befalls a thread, it owes what it owed
+-- a thread owes what it owed, with all that befalls it
 pub once_befallen : (l : ℕ) (at : OncePlace) (r : Reply) → Befalls r → (k : ℕ)
     → line_owed (next_place (Once l at) r) k ≡ line_owed (Once l at) k
 once_befallen l (Look c again look_at.Asleep) (TakenBy t) b k = refl

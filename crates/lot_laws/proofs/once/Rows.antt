@@ -33,7 +33,7 @@ gives_up_quietly l again at (inr h) = let f : false ≡ true = h.0 in cc
 gives_up_quietly l again at (inl h) = h
 
 pub look_owes : (timed : Bool) (wanted : Option Want) (at : LookAt) (m : Line) → (look_row timed wanted at).owes ≡ Some m
-    → (look_row timed wanted at).doing.inside ≡ Some m
+    → (look_row timed wanted at).role.inside ≡ Some m
 look_owes timed wanted look.Check m h = h
 look_owes timed wanted (look.Leave parked) m h = h
 look_owes timed wanted at m h = absurd cc

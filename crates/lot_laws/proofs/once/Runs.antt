@@ -37,10 +37,10 @@ use Rattle.steps_condvar.specs.CondvarSteps.{condvar_next}
 use Rattle.lot_steps.specs.declared.places.Place.{Place}
 use Rattle.lot_steps.specs.declared.places.Place.TheVariants.{Idle, Mutex, RwLock, Once, Condvar, Semaphore}
 use Rattle.lot_steps.specs.Steps.{act_of, lock_of, looking, mutex_goes, next_place, once_goes, rwlock_goes, condvar_goes, semaphore_goes}
-use Rattle.lot_machine.specs.Fits.{IsShaped}
+use Rattle.lot_machine.specs.Fits.{IsWellFormed}
 use Rattle.lot_machine.specs.Machine.{State, after, opening, place_at, put, runs_closure, step_outcome}
 use Rattle.lot_laws.specs.Refinement.{RunsClosure, call_at, call_state, lock_state, locks_of, sleeps}
-use Rattle.lot_laws.specs.SitesOf.{AreCondvars, AreCounted, IsSteady, RunsInClosures}
+use Rattle.lot_laws.specs.SitesOf.{AreCondvars, AreCounted, IsInductive, RunsInClosures}
 use Rattle.lot_laws.proofs.machine.Befallen.{others_keep_it}
 use Rattle.lot_laws.proofs.calls.Closures.{call_runs_none, course_runs_none, mutex_runs_none, runs_one, condvar_runs_none, semaphore_runs_none}
 use Rattle.lot_laws.proofs.machine.Parts.{put_here, put_other, same}
@@ -113,7 +113,7 @@ give_up_runs_none l again give_up.Remove = refl
 give_up_runs_none l again give_up.Clear = refl
 give_up_runs_none l again give_up.Leave = refl
 
--- of which lock a place is in the closure of a call
+-- the lock of whose call a place is in the closure
 abbrev closure_lock : Place → Option ℕ
 closure_lock p = if runs_closure (act_of p) then lock_of p else None
 
@@ -194,7 +194,7 @@ unmoved (Once l (Look c again at)) r h = looks (begins_run c at r) (gives_up c a
     looks false true e = refl
     looks false false e = by_next (next_look c at r)
 
--- whatever another thread does
+-- for every act of another thread
 stays_inside : (w : State) (s : Step) (t l : ℕ) → t ≢ s.thread → RunsClosure w t l → RunsClosure (after w s) t l
 stays_inside w s t l ne h = inside (place_at (after w s) t) (others_keep_it closure_lock unmoved w s t ne ∙ ap (λ b. if b then lock_of (place_at w t) else None) h.1 ∙ h.0)
   where
@@ -328,11 +328,11 @@ module _ (w : State) (s : Step) (o : Outcome) (step : IsStep (locks_of w) s o (l
     | inr refused ↦ unchanged refused.1.1
   ]
 
-pub running_after : (w : State) (s : Step) → IsShaped w → IsSteady w → AreCounted w → AreCondvars w → RunsInClosures w
+pub running_after : (w : State) (s : Step) → IsWellFormed w → IsInductive w → AreCounted w → AreCondvars w → RunsInClosures w
     → RunsInClosures (after w s)
 running_after w s shape steady counted condvars running = runs_on w s (step_outcome w s) (after_step w s shape steady counted condvars) running
 
--- who stands elsewhere in its call, and in no closure, has no run on
+-- a thread that stands elsewhere in its call, and in no closure, has no run on
 pub put_running : (w : State) (t : ℕ) (q : Place) → runs_closure (act_of (place_at w t)) ≡ false → RunsInClosures w
     → RunsInClosures (put w t q)
 put_running w t q outside_now running u l e = elim (cases_eq u t) [

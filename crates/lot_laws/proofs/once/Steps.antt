@@ -15,7 +15,7 @@ use Rattle.lot_laws.proofs.once.Kept.{sort_is}
 use Rattle.lot_laws.proofs.machine.Parts.{IsSingle, same}
 use Rattle.steps_base.specs.Acts.{outcome_of}
 use Rattle.steps_base.specs.Profiles.{Profile}
-use Rattle.steps_base.specs.Stations.{Station}
+use Rattle.steps_base.specs.Locations.{Location}
 use Rattle.steps_once.specs.declared.give_up.GiveUpAt.TheVariants as give_up
 use Rattle.steps_once.specs.declared.look.LookAt.TheVariants as look
 use Rattle.steps_once.specs.declared.look.Course.{Course}
@@ -40,23 +40,23 @@ use Rattle.steps_once.proofs.OnceWords as words
 use Rattle.lot_laws.proofs.promises.PlacePromises.{waiting_stands}
 use Rattle.lot_laws.proofs.promises.RowPromises.{IsWaiting}
 use Rattle.lot_laws.specs.Refinement.{lock_state}
-use Rattle.lot_laws.specs.Stations.{doing_on}
+use Rattle.lot_laws.specs.Locations.{role_on}
 use Rattle.std.specs.Prelude.{◌&&◌, if◌then◌else◌}
 use Rattle.spec_locks.specs.Sites.{Site, Runs as Running, idle}
 use Rattle.lot_machine.specs.Machine.{State, can_do, place_at, reply_to, state_after_act}
-use Rattle.lot_machine.specs.Fits.{IsShaped}
+use Rattle.lot_machine.specs.Fits.{IsWellFormed}
 use Rattle.lot_machine.proofs.Shape.{performed_counts}
 use Rattle.lot_laws.specs.Refinement.{locks_of}
 use Rattle.lot_laws.specs.MutexDeeds.{acts}
-use Rattle.lot_laws.specs.SitesOf.{Goes, IsSteady, carried_at}
-use Rattle.lot_laws.specs.Stations.{station}
+use Rattle.lot_laws.specs.SitesOf.{Goes, IsInductive, carried_at}
+use Rattle.lot_laws.specs.Locations.{location}
 use Rattle.lot_laws.proofs.machine.AtPlaces.{in_no_hand}
 use Rattle.lot_laws.proofs.calls.Events.{GoesAs, Happens, LeadsTo, OthersFollow, goes_by, goes_event, happens, others_follow}
 use Rattle.lot_laws.proofs.once.Kept.{GoesFrom, goes_once}
 use Rattle.lot_laws.proofs.promises.LineActs.{takes_here}
 use Rattle.lot_laws.proofs.machine.PlaceTest.{once_facts}
 use Rattle.lot_laws.proofs.calls.OtherCalls.{WakesOwn, hands_nothing, wakes_own}
-use Rattle.lot_laws.proofs.promises.PlacePromises.{station_own}
+use Rattle.lot_laws.proofs.promises.PlacePromises.{location_own}
 use Rattle.lot_laws.proofs.sites.SitesKept.{go_by}
 
 -- ---------------------------------------------------------------- what it is told
@@ -67,7 +67,7 @@ course_steps l v Runs = refl
 course_steps l v Marks = refl
 course_steps l v Parks = refl
 
--- what its closure is told is how far the `Once` has come
+-- its closure is told how far the `Once` has come
 told_so : (r : Rules) (s : Site) (c : OnceCall) → r.sort ≡ locks.Once → course_of c (code r s) ≡ Runs
     → state_before (is_poisoned (code r s)) ≡ state_told s.lock.phase
 told_so r s c sort runs = ap (λ v. state_before (is_poisoned v)) (words.coded r s sort)
@@ -117,7 +117,7 @@ module _ (w : LocksState) (l v : ℕ) where
 
 -- ---------------------------------------------------------------- its step
 
-module _ (w : State) (t l : ℕ) (at : OncePlace) (steady : IsSteady w) (shape : IsShaped w) (there : t < length w.places)
+module _ (w : State) (t l : ℕ) (at : OncePlace) (steady : IsInductive w) (shape : IsWellFormed w) (there : t < length w.places)
     (lt : l < length w.locks) (is : place_at w t ≡ Once l at) (can : can_do w (once_act l at) ≡ true) where
   abbrev told : Reply
   told = reply_to w t (once_act l at)
@@ -132,7 +132,7 @@ module _ (w : State) (t l : ℕ) (at : OncePlace) (steady : IsSteady w) (shape :
   of = ap lock_of is
 
   carries : carried_at (place_at w t) l ≡ (once_profile at).carries
-  carries = ap (λ (y : Station). y.carries) (station_own (place_at w t) l of) ∙ ap (λ q. (station q).carries) is
+  carries = ap (λ (y : Location). y.carries) (location_own (place_at w t) l of) ∙ ap (λ q. (location q).carries) is
 
   abbrev case : Option LockCase
   case = case_of (once_profile at).carries (once_deeds at told)
@@ -143,7 +143,7 @@ module _ (w : State) (t l : ℕ) (at : OncePlace) (steady : IsSteady w) (shape :
 
   others : OthersFollow w behind t (event_by l case)
   others = others_follow w behind t l case happened (hands_nothing w behind t l case happened (once_profile at).carries (once_act l at) case kept.others)
-      (wakes_own w t l steady (rw is refl) (next_place (Once l at) told) (λ e. let both : locks.Condvar ≡ locks.Once = sym e ∙ sort_is w t l at steady shape there lt is in cc) (Once l at) (once_act l at) (takes_here l (station (Once l at)) (once_act l at) (once_facts l at).line) case (subst (λ h. WakesOwn h (once_act l at) case) (sym carries) kept.others))
+      (wakes_own w t l steady (rw is refl) (next_place (Once l at) told) (λ e. let both : locks.Condvar ≡ locks.Once = sym e ∙ sort_is w t l at steady shape there lt is in cc) (Once l at) (once_act l at) (takes_here l (location (Once l at)) (once_act l at) (once_facts l at).line) case (subst (λ h. WakesOwn h (once_act l at) case) (sym carries) kept.others))
 
   -- where it is then
   waits : (q : OncePlace) → place_at behind t ≡ Once l q → IsWaiting (once_profile q) → 1 ≤ standing t (lock_state behind l)
@@ -160,7 +160,7 @@ module _ (w : State) (t l : ℕ) (at : OncePlace) (steady : IsSteady w) (shape :
     state_before poisoned,
     refl,
     (happened.after.sites.site l).held t Running
-        (ap (λ p. (doing_on p l).claims) e ∙ ap (λ (z : Bool). (if z then (once_profile (Run forced (run.Closure poisoned))).doing else idle).claims) (same l)),
+        (ap (λ p. (role_on p l).claims) e ∙ ap (λ (z : Bool). (if z then (once_profile (Run forced (run.Closure poisoned))).role else idle).claims) (same l)),
   ))
   rests (Run forced (run.Close succeeded)) e = inl refl
   rests (Run forced (run.Enter succeeded)) e = inl refl

@@ -5,7 +5,7 @@ use Rattle.std.proofs.lemmas.Bool.{eqb-true}
 use Rattle.core_base.specs.declared.keys.Keys.TheVariants.{One}
 use Rattle.steps_base.specs.declared.acts.Act.TheVariants.{Enter}
 use Rattle.steps_base.specs.Profiles.{in_line}
-use Rattle.steps_base.specs.Stations.{nowhere, station_by}
+use Rattle.steps_base.specs.Locations.{nowhere, location_by}
 use Rattle.steps_mutex.specs.declared.lock.Entry.TheVariants as entry
 use Rattle.steps_mutex.specs.declared.lock.LockAt.{LockAt}
 use Rattle.steps_mutex.specs.declared.lock.LockAt.TheVariants as lock
@@ -27,8 +27,8 @@ use Rattle.spec_locks.specs.Purposes.{Waits}
 use Rattle.spec_locks.specs.Sites.{Line, Main}
 use Rattle.lot_machine.specs.Machine.{State, place_at}
 use Rattle.lot_laws.specs.Refinement.{call_at, call_state}
-use Rattle.lot_laws.specs.Stations.{station, station_at}
-use Rattle.lot_laws.specs.SitesOf.{FitsCondvar, FitsItsLock, IsSteady, key_of}
+use Rattle.lot_laws.specs.Locations.{location, location_at}
+use Rattle.lot_laws.specs.SitesOf.{FitsCondvar, FitsItsLock, IsInductive, key_of}
 use Rattle.lot_laws.specs.Owing.{IsInside, IsWait, Owes}
 use Rattle.lot_laws.specs.Promises.{GoesToWake, HasReleased}
 use Rattle.lot_laws.proofs.calls.Events.{rights}
@@ -62,7 +62,7 @@ owes_there (Wait m timed at) = refl
 
 -- and at its mutex too, but for a wait that enters the section next
 abbrev OwesInside : CondvarPlace → Type 0
-OwesInside at = in_line (condvar_row at).owes_mutex Main ≡ (condvar_row at).doing.inside
+OwesInside at = in_line (condvar_row at).owes_mutex Main ≡ (condvar_row at).role.inside
 
 notifier_owes : (all : Bool) (m : ℕ) (at : NotifyAt) → OwesInside (Notify all m at)
 notifier_owes all m notify.Enter = refl
@@ -99,10 +99,10 @@ owes_beside (Wait m timed at) reached = inl refl
 abbrev pub EntersAt : CondvarPlace → ℕ → Line → Type 0
 EntersAt at l m = (mutex_beside at ≡ Some l) × (m ≡ Main) × IsEntering at
 
--- whoever does owes there, and is outside
+-- each thread that does owes there, and is outside
 record OwesOutside (at : CondvarPlace) : Type 0 where
   pub owes : (condvar_row at).owes_mutex ≡ true
-  pub inside : (condvar_row at).doing.inside ≡ None
+  pub inside : (condvar_row at).role.inside ≡ None
 
 owes_outside : (at : CondvarPlace) → IsEntering at → OwesOutside at
 owes_outside (Wait m timed (wait.Release s (mutex.Unlock unlock.Enter))) e = record { owes = refl; inside = refl }
@@ -113,10 +113,10 @@ module _ (k : ℕ) (at : CondvarPlace) (apart : (l : ℕ) → mutex_beside at �
   owed_by b c = or_else (if c then in_line (condvar_row at).owes_mutex Main else None) (if b then in_line (condvar_row at).owes Main else None)
 
   abbrev inside_by : Bool → Bool → Option Line
-  inside_by b c = (if b then station (Condvar k at) else if c then station_by (mutex_side at) else nowhere).inside
+  inside_by b c = (if b then location (Condvar k at) else if c then location_by (mutex_side at) else nowhere).inside
 
   -- it owes where it is inside, but for the mutex whose section it enters next
-  owes_where : (l : ℕ) → (line_owed (Condvar k at) l ≡ (station_at (Condvar k at) l).inside) ⊎ EntersAt at l Main
+  owes_where : (l : ℕ) → (line_owed (Condvar k at) l ≡ (location_at (Condvar k at) l).inside) ⊎ EntersAt at l Main
   owes_where l = by_lock (k == l) (is_lock l (mutex_beside at)) refl refl
     where
       names : (o : Option ℕ) → is_lock l o ≡ true → o ≡ Some l
@@ -146,7 +146,7 @@ module _ (k : ℕ) (at : CondvarPlace) (apart : (l : ℕ) → mutex_beside at �
     entering_owes : line_owed (Condvar k at) l ≡ Some m
     entering_owes = (λ i. owed_by (other i) (beside i)) ∙ ap (λ b. or_else (in_line b Main) None) (owes_outside at enters.2).owes ∙ ap Some (sym enters.1)
 
-    entering_outside : (station_at (Condvar k at) l).inside ≡ None
+    entering_outside : (location_at (Condvar k at) l).inside ≡ None
     entering_outside = (λ i. inside_by (other i) (beside i)) ∙ (owes_outside at enters.2).inside
 
 -- it does so by its act, in a wait that has released its mutex
@@ -160,7 +160,7 @@ entering_released : (k : ℕ) (at : CondvarPlace) (l : ℕ) (m : Line) → Enter
 entering_released k (Wait n timed (wait.Release s (mutex.Unlock unlock.Enter))) l m e r = let here : n ≡ l = cc in subst (HasReleased (Some (Waits k n timed)) true l) (sym e.1) (here, refl)
 entering_released k at l m e r = absurd e.2
 
--- who enters the section of one lock alone does so in a wait
+-- a thread that enters the section of one lock alone does so in a wait
 enters_waiting : (k : ℕ) (at : CondvarPlace) (key : ℕ) → act_of (Condvar k at) ≡ Enter (One key) → (r : ℕ → Rights)
     → IsWait (call_state (Condvar k at) r).purpose
 enters_waiting k (Wait n timed at) key e r = tt
@@ -185,7 +185,7 @@ enters_waiting k (Notify all n at) key e r = absurd (notifies at e)
 
 -- ---------------------------------------------------------------- in a state
 
-module _ (w : State) (t : ℕ) (steady : IsSteady w) where
+module _ (w : State) (t : ℕ) (steady : IsInductive w) where
   -- a thread in a call of two locks owes what it is inside, and on the mutex whose section it enters next
   module _ (k : ℕ) (at : CondvarPlace) (is : place_at w t ≡ Condvar k at) where
     fits : FitsCondvar w k at
@@ -195,24 +195,24 @@ module _ (w : State) (t : ℕ) (steady : IsSteady w) where
     two_owe l m = (
       (λ h. owing (subst (λ p. line_owed p l ≡ Some m) is h)),
       λ h. subst (λ p. line_owed p l ≡ Some m) (sym is) (elim h [
-        | inl i ↦ inside_owes (subst (λ p. (station_at p l).inside ≡ Some m) is ((steady.stands.sections t l m).1 i))
+        | inl i ↦ inside_owes (subst (λ p. (location_at p l).inside ≡ Some m) is ((steady.stands.sections t l m).1 i))
         | inr enters ↦ entering_owes k at (condvar_apart w k at fits) fits.reached l m enters
       ]),
     )
       where
         owing : line_owed (Condvar k at) l ≡ Some m → IsInside w t l m ⊎ EntersAt at l m
         owing owed = elim (owes_where k at (condvar_apart w k at fits) fits.reached l) [
-          | inl within ↦ inl ((steady.stands.sections t l m).0 (ap (λ p. (station_at p l).inside) is ∙ sym within ∙ owed))
+          | inl within ↦ inl ((steady.stands.sections t l m).0 (ap (λ p. (location_at p l).inside) is ∙ sym within ∙ owed))
           | inr enters ↦ inr (enters.0, (let main : Some m ≡ Some Main = sym owed ∙ entering_owes k at (condvar_apart w k at fits) fits.reached l Main enters in cc), enters.2)
         ]
 
-        inside_owes : (station_at (Condvar k at) l).inside ≡ Some m → line_owed (Condvar k at) l ≡ Some m
+        inside_owes : (location_at (Condvar k at) l).inside ≡ Some m → line_owed (Condvar k at) l ≡ Some m
         inside_owes i = elim (owes_where k at (condvar_apart w k at fits) fits.reached l) [
           | inl within ↦ within ∙ i
           | inr enters ↦ absurd (let out : ◌≡◌ {A = Option Line} None (Some m) = sym (entering_outside k at (condvar_apart w k at fits) fits.reached l Main enters) ∙ i in cc)
         ]
 
-  -- who owes is inside, or on its way
+  -- a thread that owes is inside, or on its way
   pub owing_so : (l : ℕ) (m : Line) → Owes w t l m → IsInside w t l m ⊎ GoesToWake w t l m
   owing_so l m h = elim (single_or_two (place_at w t)) [
     | inl single ↦ (owing_is w t steady single l m).0 h
@@ -225,7 +225,7 @@ module _ (w : State) (t : ℕ) (steady : IsSteady w) where
     ]
   ]
 
-  -- whoever is inside owes
+  -- each thread that is inside owes
   pub inside_owes_so : (l : ℕ) (m : Line) → IsInside w t l m → Owes w t l m
   inside_owes_so l m i = elim (single_or_two (place_at w t)) [
     | inl single ↦ (owing_is w t steady single l m).1 (inl i)

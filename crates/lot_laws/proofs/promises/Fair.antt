@@ -33,12 +33,12 @@ use Rattle.steps_condvar.specs.declared.places.CondvarPlace.TheVariants as condv
 use Rattle.steps_mutex.specs.MutexSteps.{is_locked, is_parked, lock_act, hand_off_act}
 use Rattle.lot_steps.specs.Steps.{act_of, looking, late_key, next_place, lock_of, profile}
 use Rattle.lot_machine.specs.Machine.{State, unlocked, place_at, word_at, owners_at, kind_at, queue_at, state_after_operation, queues_with_last, queues_without_first, state_after_act, state_after_taking, state_after_look, state_after_go, put, state_after_late_on, state_after_turn, can_turn, is_possible, after, step_outcome, can_do, reply_to}
-use Rattle.lot_machine.specs.Fits.{IsShaped, PlaceFits}
+use Rattle.lot_machine.specs.Fits.{IsWellFormed, PlaceFits}
 use Rattle.lot_laws.specs.MutexPromises.{IsMutexWord}
-use Rattle.lot_laws.specs.MutexDeeds.{mutex_station}
-use Rattle.lot_laws.specs.SitesOf.{AreCondvars, AreCounted, IsSteady, FitsItsLock, is_mutex, rules_in}
+use Rattle.lot_laws.specs.MutexDeeds.{mutex_location}
+use Rattle.lot_laws.specs.SitesOf.{AreCondvars, AreCounted, IsInductive, FitsItsLock, is_mutex, rules_in}
 use Rattle.spec_locks.specs.Sites.{Main}
-use Rattle.lot_laws.proofs.mutex.Words.{own_doing}
+use Rattle.lot_laws.proofs.mutex.Words.{own_role}
 use Rattle.lot_machine.proofs.Shape.{both, looking_shaped}
 use Rattle.lot_laws.proofs.calls.Looking.{looking_steady, locks_same, looks_now, calls_same}
 use Rattle.std.specs.Prelude.{nat_lt}
@@ -47,7 +47,7 @@ use Rattle.spec_locks.specs.Locks.{LockState, Rules, Taken, LockCase, Enter, Pen
 use Rattle.spec_locks.specs.Locks as locks
 use Rattle.spec_locks.specs.Runs.{CallState, AreLockStates, IsStep, MayMove, rules_at, locks_after, Moves}
 use Rattle.lot_laws.specs.Refinement.{call_at, lock_state, locks_of, call_state, owner_at}
-use Rattle.lot_laws.specs.Fair.{ReleasesFairly, IsFairRelease, OwnsOn, HandsOver, LetsGo, IsFair, IsToGiveAt, GivesUpFairly, ComesTo as GivesFrom}
+use Rattle.lot_laws.specs.Fair.{ReleasesFairly, IsFairRelease, OwnsOn, HandsMutexOver, LetsMutexGo, IsFair, IsToGiveAt, GivesUpFairly, FairReleaseComesTo as GivesFrom}
 use Rattle.steps_rwlock_fair.specs.FairGives.{IsToGive}
 use Rattle.steps_rwlock_fair.specs.FairSteps.{call_act}
 use Rattle.lot_laws.proofs.rwlock.FairHands.{goes_giving, owner_stays}
@@ -91,7 +91,7 @@ released_lock (Notifies k all) l h = absurd h
 
 -- ---------------------------------------------------------------- what others do to an owner
 
--- what is done to a `Once` changes no owner
+-- a deed at a `Once` changes no owner
 once_keeps : (case : OnceCase) (s : LockState) (u : ℕ)
     → ((locks.once_after case s u).exclusive ≡ s.exclusive) × ((locks.once_after case s u).upgradable ≡ s.upgradable)
 once_keeps (Start forced) s u = (refl, refl)
@@ -154,7 +154,7 @@ upgradable_keep r s t u is own ne (locks.OfCondvar case) n = (condvar_keeps case
 upgradable_keep r s t u is own ne (locks.SeeOwner owned) n = own
 upgradable_keep r s t u is own ne Rollback n = grind (arith, is.pending_alone)
 
--- whoever is taken from a mutex stood first
+-- each thread that is taken from a mutex stood first
 let_go_was : (t : ℕ) (o : Option Taken) (h : Taken) → keep_from t o ≡ Some h → o ≡ Some h
 let_go_was t o h e = grind arith
 
@@ -184,7 +184,7 @@ taken_was s t u a x is Rollback n h = inl (grind arith)
 
 -- ---------------------------------------------------------------- what a fair release does by its own step
 
--- what the mutex has come to
+-- tells what the mutex has come to
 abbrev ComesFrom : LockState → (word : ℕ) → ℕ → ℕ → State → Type 0
 ComesFrom s word t l v = (owner_at v l ≡ Some t) ⊎ (((u : ℕ) × IsTaken s t u Exclusive × (owner_at v l ≡ Some u))
     ⊎ ((owner_at v l ≡ None) × HasTakenNobody s t × ((is_parked word ≡ false) ⊎ (s.queue ≡ []))))
@@ -192,7 +192,7 @@ ComesFrom s word t l v = (owner_at v l ≡ Some t) ⊎ (((u : ℕ) × IsTaken s 
 abbrev ComesTo : State → ℕ → ℕ → State → Type 0
 ComesTo w t l v = ComesFrom (lock_state w l) (word_at w l) t l v
 
-module _ (w : State) (t l : ℕ) (shape : IsShaped w) (steady : IsSteady w) (own : owner_at w l ≡ Some t)
+module _ (w : State) (t l : ℕ) (shape : IsWellFormed w) (steady : IsInductive w) (own : owner_at w l ≡ Some t)
     (of_mutex : is_mutex (kind_at w l) ≡ true) where
   operated_owner : (at : MutexPlace) (f : Op) → l < length w.locks
       → owner_at (state_after_operation w t (Mutex l at) l f) l ≡ mutex_owner_after at t (word_at w l) (Some t)
@@ -230,7 +230,7 @@ module _ (w : State) (t l : ℕ) (shape : IsShaped w) (steady : IsSteady w) (own
     lock_keeps retries lock.Clear = inl (operated_owner (Lock entries.Bump retries lock.Clear) (op.TheVariants.And NOT_PARKED) lt)
     lock_keeps retries lock.GiveUp = inl own
 
-    carries_nobody : (at : MutexPlace) → place_at w t ≡ Mutex l at → ((mutex_station at).carries ≡ Some false → ⊥)
+    carries_nobody : (at : MutexPlace) → place_at w t ≡ Mutex l at → ((mutex_location at).carries ≡ Some false → ⊥)
         → HasTakenNobody (lock_state w l) t
     carries_nobody at is none = in_no_hand w steady t l (λ h. none (sym (ap (λ x. x.carries) (own_stance l (place_at w t) at is)) ∙ h))
 
@@ -256,7 +256,7 @@ module _ (w : State) (t l : ℕ) (shape : IsShaped w) (steady : IsSteady w) (own
     hand_off_gives bumps (hand_off.Store false none_left) is = inr (inr (
       operated_owner (HandOff bumps (hand_off.Store false none_left)) (op.TheVariants.Store 0) lt,
       carries_nobody (HandOff bumps (hand_off.Store false none_left)) is (λ g. absurd cc),
-      inr ((steady.sites.site l).emptied t Main (ap (λ d. d.empty) (own_doing l (place_at w t) _ is))).1,
+      inr ((steady.sites.site l).emptied t Main (ap (λ d. d.empty) (own_role l (place_at w t) _ is))).1,
     ))
     hand_off_gives bumps (hand_off.Store true none_left) is = let one = steady.stands.hands.carried t l false (ap (λ x. x.carries) (own_stance l (place_at w t) _ is)) in inr (inl (
       one.0,
@@ -269,7 +269,7 @@ module _ (w : State) (t l : ℕ) (shape : IsShaped w) (steady : IsSteady w) (own
   here : (k : ℕ) → k ≡ l → k < length w.locks → l < length w.locks
   here k e lt = rw (← e) lt
 
-  -- whatever the act, and wherever the thread goes then
+  -- for every act, and every place where the thread goes then
   go_gives : (p : Place) → place_at w t ≡ p → PlaceFits (length w.locks) p → IsFairRelease (call_state p (rights w t)).purpose l
       → ComesTo w t l (state_after_act w t p (act_of p))
   go_gives Idle is fits h = absurd h
@@ -305,7 +305,7 @@ module _ (w : State) (t l : ℕ) (shape : IsShaped w) (steady : IsSteady w) (own
   late_gives None = inl own
   late_gives (Some key) = inl own
 
-module _ (w : State) (t l : ℕ) (shape : IsShaped w) (steady : IsSteady w) (own : owner_at w l ≡ Some t)
+module _ (w : State) (t l : ℕ) (shape : IsWellFormed w) (steady : IsInductive w) (own : owner_at w l ≡ Some t)
     (of_mutex : is_mutex (kind_at w l) ≡ true) where
   -- it looks at the word once more, and goes on from there
   spin_gives : t < length w.places → IsFairRelease (call_state (place_at w t) (rights w t)).purpose l → (o : Option Place)
@@ -345,7 +345,7 @@ rights_keep r s t u Shared is more own ne c n = absurd (more refl)
 rights_keep r s t u Wait is more own ne c n = absurd own
 rights_keep r s t u CallOnce is more own ne c n = absurd own
 
-module _ (w : State) (t l : ℕ) (shape : IsShaped w) (steady : IsSteady w) (counted : AreCounted w) (x : Want) (more : x ≢ Shared)
+module _ (w : State) (t l : ℕ) (shape : IsWellFormed w) (steady : IsInductive w) (counted : AreCounted w) (x : Want) (more : x ≢ Shared)
     (readers : has_readers (rules_in w l).sort ≡ true) where
   abbrev Gives : State → Type 0
   Gives v = GivesFrom (rules_in w l) (lock_state w l) (lock_state v l) (word_at w l) t x
@@ -400,8 +400,8 @@ module _ (w : State) (t l : ℕ) (shape : IsShaped w) (steady : IsSteady w) (cou
 locked_by : (v : ℕ) (o : Option ℕ) (u : ℕ) → IsMutexWord v o → o ≡ Some u → is_locked v ≡ true
 locked_by v o u c e = by_code (λ v o. o ≡ Some u → is_locked v ≡ true) (λ g. absurd cc) (λ g. absurd cc) (λ x g. refl) (λ x g. refl) v o c e
 
--- whatever turn it takes
-module _ (w : State) (t l : ℕ) (shape : IsShaped w) (steady : IsSteady w) (counted : AreCounted w) (x : Want)
+-- for every turn that it takes
+module _ (w : State) (t l : ℕ) (shape : IsWellFormed w) (steady : IsInductive w) (counted : AreCounted w) (x : Want)
     (h : GivesUpFairly w t l x) where
   abbrev Comes : State → Type 0
   Comes v = GivesFrom (rules_in w l) (lock_state w l) (lock_state v l) (word_at w l) t x
@@ -434,7 +434,7 @@ module _ (w : State) (t l : ℕ) (shape : IsShaped w) (steady : IsSteady w) (cou
           subst (λ u. Comes (state_after_turn w u s.turn)) (sym e) (turned_gives_shared (rw e at (ltb-true s.thread (length w.places) parts.0)) s.turn (subst (λ u. can_turn w u s.turn ≡ true) e parts.1))
       either false can = inl h.2
 
-pub is_fair : (w : State) (s : Step) → IsShaped w → IsSteady w → AreCounted w → AreCondvars w → IsFair w (after w s)
+pub is_fair : (w : State) (s : Step) → IsWellFormed w → IsInductive w → AreCounted w → AreCondvars w → IsFair w (after w s)
 is_fair w s shape steady counted condvars = record {
   gives = λ t l h. elim (cases_eq s.thread t) [
     | inl e ↦ told t l h (after_gives w t l shape steady h.1 h.2 h.0 s e)
@@ -457,7 +457,7 @@ is_fair w s shape steady counted condvars = record {
     step : IsStep (locks_of w) s (step_outcome w s) (locks_of (after w s))
     step = after_step w s shape steady counted condvars
 
-    -- whom a notification takes is in its own hand
+    -- a thread that a notification takes is in its own hand
     takes_no_other : (t l u : ℕ) → IsFairRelease (call_at w t).purpose l → (c m : ℕ) (every owned : Bool) (number : ℕ)
         → MayMove (locks_of w) s.thread c m every owned number
         → IsTaken (locks_after (locks_of w) s.thread (Moves c m every owned number) l) t u Exclusive
@@ -475,7 +475,7 @@ is_fair w s shape steady counted condvars = record {
     owned t l h e = (e, locked_by (word_at (after w s) l) (owner_at (after w s) l) t (coded t l h) e)
 
     told : (t l : ℕ) → ReleasesFairly w t l → ComesTo w t l (after w s)
-        → OwnsOn (after w s) t l ⊎ (HandsOver w (after w s) t l ⊎ LetsGo w (after w s) t l)
+        → OwnsOn (after w s) t l ⊎ (HandsMutexOver w (after w s) t l ⊎ LetsMutexGo w (after w s) t l)
     told t l fair (inl e) = inl (owned t l fair e)
     told t l fair (inr (inl h)) = inr (inl (h.0, h.1, h.2, locked_by (word_at (after w s) l) (owner_at (after w s) l) h.0 (coded t l fair) h.2))
     told t l fair (inr (inr h)) = inr (inr h)

@@ -11,30 +11,30 @@ use Rattle.lot_steps.specs.declared.places.Place.{Place}
 use Rattle.lot_steps.specs.declared.places.Place.TheVariants.{Idle, Mutex, RwLock, Once, Condvar, Semaphore}
 use Rattle.spec_locks.specs.Sites.{Line, Main, Second}
 use Rattle.lot_machine.specs.Machine.{State, place_at, section_at, queue_at}
-use Rattle.lot_machine.specs.Fits.{IsShaped, PlaceFits}
-use Rattle.lot_laws.specs.Stations.{Station, station, station_at}
-use Rattle.lot_laws.specs.SitesOf.{IsSteady, key_of, stood_in}
+use Rattle.lot_machine.specs.Fits.{IsWellFormed, PlaceFits}
+use Rattle.lot_laws.specs.Locations.{Location, location, location_at}
+use Rattle.lot_laws.specs.SitesOf.{IsInductive, key_of, stood_in}
 use Rattle.lot_laws.proofs.hands.Counts.{without_absent}
 use Rattle.lot_laws.proofs.machine.PlaceTest.{IsLineAct, IsOfLine, IsWithinLine, StandsThere, call_facts, mutex_row_facts, once_facts, semaphore_facts}
-use Rattle.lot_laws.proofs.machine.Parts.{IsOf, station_here, station_elsewhere, IsSingle, single_late}
+use Rattle.lot_laws.proofs.machine.Parts.{IsOf, location_here, location_elsewhere, IsSingle, single_late}
 
--- whom it takes it takes of a line of the lock
+-- it takes each thread of a line of the lock
 abbrev pub TakesHere : ℕ → Act → Type 0
 TakesHere l (act.Take key x) = IsOfLine l key
 TakesHere l a = Unit {0}
 
-pub takes_here : (l : ℕ) (s : Station) (a : Act) → IsLineAct l s a → TakesHere l a
+pub takes_here : (l : ℕ) (s : Location) (a : Act) → IsLineAct l s a → TakesHere l a
 takes_here l s (act.Take key x) h = (h.0, h.2)
 takes_here l s a h = tt
 
 -- an act in a call of one lock is on a line of that
-pub line_act : (p : Place) (l : ℕ) → IsSingle p → lock_of p ≡ Some l → IsLineAct l (station p) (act_of p)
+pub line_act : (p : Place) (l : ℕ) → IsSingle p → lock_of p ≡ Some l → IsLineAct l (location p) (act_of p)
 line_act Idle l single h = absurd cc
-line_act (RwLock k a c) l single h = let e : k ≡ l = cc in subst (λ j. IsLineAct j (station (RwLock k a c)) (act_of (RwLock k a c))) e (call_facts k a c).line
-line_act (Once k at) l single h = let e : k ≡ l = cc in subst (λ j. IsLineAct j (station (Once k at)) (act_of (Once k at))) e (once_facts k at).line
-line_act (Semaphore k at) l single h = let e : k ≡ l = cc in subst (λ j. IsLineAct j (station (Semaphore k at)) (act_of (Semaphore k at))) e (semaphore_facts k at).line
+line_act (RwLock k a c) l single h = let e : k ≡ l = cc in subst (λ j. IsLineAct j (location (RwLock k a c)) (act_of (RwLock k a c))) e (call_facts k a c).line
+line_act (Once k at) l single h = let e : k ≡ l = cc in subst (λ j. IsLineAct j (location (Once k at)) (act_of (Once k at))) e (once_facts k at).line
+line_act (Semaphore k at) l single h = let e : k ≡ l = cc in subst (λ j. IsLineAct j (location (Semaphore k at)) (act_of (Semaphore k at))) e (semaphore_facts k at).line
 line_act (Condvar k at) l single h = absurd single
-line_act (Mutex k at) l single h = let e : k ≡ l = cc in subst (λ j. IsLineAct j (station (Mutex k at)) (act_of (Mutex k at))) e (mutex_row_facts k at).line
+line_act (Mutex k at) l single h = let e : k ≡ l = cc in subst (λ j. IsLineAct j (location (Mutex k at)) (act_of (Mutex k at))) e (mutex_row_facts k at).line
 
 -- a thread that may be late sleeps in a line of its lock
 pub late_line : (p : Place) (key : ℕ) → IsSingle p → late_key p ≡ Some key
@@ -73,21 +73,21 @@ line_of_key key = elim (parity key) [
   | inr h ↦ (h.0, Second, h.1)
 ]
 
-pub key_there : (w : State) (l : ℕ) (m : Line) → IsShaped w → l < length w.locks → key_of l m < length w.sections
+pub key_there : (w : State) (l : ℕ) (m : Line) → IsWellFormed w → l < length w.locks → key_of l m < length w.sections
 key_there w l Main shape lt = let n : length w.sections ≡ 2 * length w.locks = shape.sections in omega arith
 key_there w l Second shape lt = let n : length w.sections ≡ 2 * length w.locks = shape.sections in omega arith
 
-module _ (w : State) (t l : ℕ) (steady : IsSteady w) (is_of : IsOf l (place_at w t)) where
+module _ (w : State) (t l : ℕ) (steady : IsInductive w) (is_of : IsOf l (place_at w t)) where
   -- it holds the section of the line
-  pub holds_line : (key : ℕ) → IsWithinLine l (station (place_at w t)) key → section_at w key ≡ Some t
-  holds_line key h = ap (section_at w) h.2 ∙ (steady.stands.sections t l h.0).0 (ap (λ (x : Station). x.inside) (station_here l (place_at w t) is_of) ∙ h.1)
+  pub holds_line : (key : ℕ) → IsWithinLine l (location (place_at w t)) key → section_at w key ≡ Some t
+  holds_line key h = ap (section_at w) h.2 ∙ (steady.stands.sections t l h.0).0 (ap (λ (x : Location). x.inside) (location_here l (place_at w t) is_of) ∙ h.1)
 
   -- in no queue but that of its section it stands
-  stood_out : (k : ℕ) (m n : Line) → (station (place_at w t)).inside ≡ Some m → StandsThere (station (place_at w t))
+  stood_out : (k : ℕ) (m n : Line) → (location (place_at w t)).inside ≡ Some m → StandsThere (location (place_at w t))
       → key_of k n ≢ key_of l m → times t (queue_at w (key_of k n)) ≡ 0
   stood_out k m n within stands ne = steady.stands.lines t k n ∙ elim (cases_eq k l) [
-    | inl e ↦ ap (λ (x : Station). stood_in x.stands n) (ap (station_at (place_at w t)) e ∙ station_here l (place_at w t) is_of) ∙ here stands (λ f. ne (λ i. key_of (e i) (f i)))
-    | inr nk ↦ ap (λ (x : Station). stood_in x.stands n) (station_elsewhere l k (place_at w t) is_of nk)
+    | inl e ↦ ap (λ (x : Location). stood_in x.stands n) (ap (location_at (place_at w t)) e ∙ location_here l (place_at w t) is_of) ∙ here stands (λ f. ne (λ i. key_of (e i) (f i)))
+    | inr nk ↦ ap (λ (x : Location). stood_in x.stands n) (location_elsewhere l k (place_at w t) is_of nk)
   ]
     where
       other : (n m : Line) → n ≢ m → stood_in (Some m) n ≡ 0
@@ -96,12 +96,12 @@ module _ (w : State) (t l : ℕ) (steady : IsSteady w) (is_of : IsOf l (place_at
       other Second Main f = refl
       other Second Second f = absurd (f refl)
 
-      here : StandsThere (station (place_at w t)) → n ≢ m → stood_in (station (place_at w t)).stands n ≡ 0
+      here : StandsThere (location (place_at w t)) → n ≢ m → stood_in (location (place_at w t)).stands n ≡ 0
       here (inl none) f = ap (λ x. stood_in x n) none
       here (inr same) f = ap (λ x. stood_in x n) (same ∙ within) ∙ other n m f
 
   -- so where it leaves the queues, only that one changes
-  pub removed_at : (m : Line) → (station (place_at w t)).inside ≡ Some m → StandsThere (station (place_at w t)) → (key : ℕ)
+  pub removed_at : (m : Line) → (location (place_at w t)).inside ≡ Some m → StandsThere (location (place_at w t)) → (key : ℕ)
       → (get_or (map (without t) w.queues) key [] ≡ queue_at w key) ⊎ (section_at w key ≡ Some t)
   removed_at m within stands key = let of = line_of_key key in elim (cases_eq (key_of of.0 of.1) (key_of l m)) [
     | inl e ↦ inr (holds_line key (m, within, of.2 ∙ e))

@@ -27,10 +27,10 @@ use Rattle.lot_machine.specs.Machine.{State, place_at, word_at, state_after_go, 
 use Rattle.lot_laws.proofs.machine.Befallen.{others_keep_it}
 use Rattle.spec_locks.specs.Locks.{Rights}
 use Rattle.lot_laws.specs.Owing.{Owes, IsInside, IsWait, SeesWaiters, OwesSince, OnlyLooks, LooksFirst, LetsOthersIn, line_let_in, sort_at, tells_by}
-use Rattle.lot_machine.specs.Fits.{IsShaped}
+use Rattle.lot_machine.specs.Fits.{IsWellFormed}
 use Rattle.lot_laws.specs.Refinement.{call_at, call_state}
 use Rattle.spec_locks.specs.Sites.{Line}
-use Rattle.lot_laws.specs.SitesOf.{AreCondvars, AreCounted, IsSteady, key_of}
+use Rattle.lot_laws.specs.SitesOf.{AreCondvars, AreCounted, IsInductive, key_of}
 use Rattle.lot_machine.proofs.Shape.{both}
 use Rattle.lot_laws.proofs.sites.TurnsKept.{idle_is, after_steady}
 use Rattle.lot_laws.proofs.calls.SingleCalls.{call_none}
@@ -62,8 +62,8 @@ idle_shut w t l none h = by_call (subst (LetsBy w t l) (call_none (place_at w t)
     by_call (inl releases) = releases
     by_call (inr shared) = elim shared.1 [ inl less ↦ less | inr left ↦ let e : ◌≡◌ {A = Option ℕ} None (Some l) = left.0 in cc ]
 
--- who lets others in calls that lock
-lets_own : (w : State) (t l : ℕ) → IsSteady w → IsSingle (place_at w t) → LetsOthersIn w t l → lock_of (place_at w t) ≡ Some l
+-- a thread that lets others in calls that lock
+lets_own : (w : State) (t l : ℕ) → IsInductive w → IsSingle (place_at w t) → LetsOthersIn w t l → lock_of (place_at w t) ≡ Some l
 lets_own w t l steady single lets = by_lock (lock_of (place_at w t)) refl
   where
     by_row : (k : ℕ) (row : Profile) (r : ℕ → Rights) → lock_for (row.purpose k) ≡ k → CallsOneLock (Some (row.purpose k))
@@ -85,9 +85,9 @@ waits_not None one waits = waits
 waits_not (Some (Waits k n timed)) one waits = one
 waits_not (Some q) one waits = waits
 
-module _ (w v : State) (t : ℕ) (steady : IsSteady w) (behind : IsSteady v) (single : IsSingle (place_at w t))
+module _ (w v : State) (t : ℕ) (steady : IsInductive w) (behind : IsInductive v) (single : IsSingle (place_at w t))
     (single_then : IsSingle (place_at v t)) where
-  -- what it sees, by its row
+  -- tells what it sees, by its row
   sees_row : (l : ℕ) (m : Line) (o : Outcome) (own : lock_of (place_at w t) ≡ Some l) → SeesWaiters w t l m o v
       → RowFinds (sort_at w l) l (word_at w l) (profile (place_at w t)) m
   sees_row l m o own s = (
@@ -113,8 +113,8 @@ module _ (w v : State) (t : ℕ) (steady : IsSteady w) (behind : IsSteady v) (si
     inside_then : IsInside v t l m → Owes v t l m
     inside_then i = (owing_is v t behind single_then l m).1 (inl i)
 
-    within_then : Owes v t l m → (profile q).doing.inside ≡ Some m → IsInside v t l m
-    within_then h i = let own = owes_own (place_at v t) l m single_then h in (inside_own v t behind l single_then own m).0 (ap (λ p. (profile p).doing.inside) at_q ∙ i)
+    within_then : Owes v t l m → (profile q).role.inside ≡ Some m → IsInside v t l m
+    within_then h i = let own = owes_own (place_at v t) l m single_then h in (inside_own v t behind l single_then own m).0 (ap (λ p. (profile p).role.inside) at_q ∙ i)
 
     row_then : Owes v t l m → (profile q).owes ≡ Some m
     row_then h = ap (λ p. (profile p).owes) (sym at_q) ∙ sym (owed_own (place_at v t) l (owes_own (place_at v t) l m single_then h) single_then) ∙ h
@@ -134,7 +134,7 @@ module _ (w v : State) (t : ℕ) (steady : IsSteady w) (behind : IsSteady v) (si
       own_before own None e = absurd (let f : lock_of q ≡ None = ap (λ p. lock_of (next_place p (go_reply w t))) (calls_none (place_at w t) e) in let g : ◌≡◌ {A = Option ℕ} None (Some l) = sym f ∙ own in cc)
       own_before own (Some k) e = ap Some (sym (subst (IsLock k) own (of_lock_of k q (next_of k (place_at w t) (go_reply w t) (of_own k (place_at w t) single e)))))
 
-      -- who owes a wake that is outside goes in
+      -- a thread that owes a wake that is outside goes in
       since : Owes v t l m → IsInside v t l m ⊎ SeesWaiters w t l m o v
       since h =
           let own = own_before (ap lock_of (sym at_q) ∙ owes_own (place_at v t) l m single_then h) (lock_of (place_at w t)) refl in
@@ -166,7 +166,7 @@ module _ (w v : State) (t : ℕ) (steady : IsSteady w) (behind : IsSteady v) (si
               subst (λ (c : CallState). LooksFirst c.purpose l × (c.released ≡ false)) (sym (call_own v t behind l single_then own_then)) (subst (λ p. RowLooks l (profile p)) (sym at_q) looks)
 
   -- it owes nothing but what it is inside, and lets nobody in
-  quiet_owes : (q : Place) → place_at v t ≡ q → ((m : Line) → (profile q).owes ≡ Some m → (profile q).doing.inside ≡ Some m)
+  quiet_owes : (q : Place) → place_at v t ≡ q → ((m : Line) → (profile q).owes ≡ Some m → (profile q).role.inside ≡ Some m)
       → ((l : ℕ) → LetsOthersIn w t l → ⊥)
       → (l : ℕ) (m : Line) (o : Outcome) → Owes v t l m ↔ (IsInside v t l m ⊎ SeesWaiters w t l m o v)
   quiet_owes q at_q within shut l m o = (
@@ -175,7 +175,7 @@ module _ (w v : State) (t : ℕ) (steady : IsSteady w) (behind : IsSteady v) (si
   )
 
 -- a thread goes on, in a call of one lock or of two
-gone_owes : (w : State) (t : ℕ) (steady : IsSteady w) (there : t < length w.places) → IsSteady (state_after_go w t)
+gone_owes : (w : State) (t : ℕ) (steady : IsInductive w) (there : t < length w.places) → IsInductive (state_after_go w t)
     → (l : ℕ) (m : Line)
     → Owes (state_after_go w t) t l m
     ↔ (IsInside (state_after_go w t) t l m ⊎ SeesWaiters w t l m (go_outcome w t) (state_after_go w t))
@@ -187,12 +187,12 @@ gone_owes w t steady there behind l m = elim (single_or_two (place_at w t)) [
       (go_owes w v t steady behind single (subst IsSingle (sym at_q) (next_single (place_at w t) (go_reply w t) single)) at_q l m)
       )
   | inr two ↦ subst (λ p. Owes (state_after_going w t p) t l m ↔ (IsInside (state_after_going w t p) t l m ⊎ SeesWaiters w t l m (going_outcome w t p) (state_after_going w t p))) (sym two.is)
-      (went_owing w t two.lock two.at steady two.is there (subst (λ p. IsSteady (state_after_going w t p)) two.is behind) l m)
+      (went_owing w t two.lock two.at steady two.is there (subst (λ p. IsInductive (state_after_going w t p)) two.is behind) l m)
 ]
 
-module _ (w : State) (t : ℕ) (shape : IsShaped w) (steady : IsSteady w) (there : t < length w.places) where
+module _ (w : State) (t : ℕ) (shape : IsWellFormed w) (steady : IsInductive w) (there : t < length w.places) where
   -- a call begins, of one lock or of two
-  begun_owing : (c : Call) → can_begin w t c ≡ true → IsSteady (state_after_begin w t c) → (l : ℕ) (m : Line) (o : Outcome)
+  begun_owing : (c : Call) → can_begin w t c ≡ true → IsInductive (state_after_begin w t c) → (l : ℕ) (m : Line) (o : Outcome)
       → Owes (state_after_begin w t c) t l m
       ↔ (IsInside (state_after_begin w t c) t l m ⊎ SeesWaiters w t l m o (state_after_begin w t c))
   begun_owing c can behind = by_call c here behind
@@ -207,15 +207,15 @@ module _ (w : State) (t : ℕ) (shape : IsShaped w) (steady : IsSteady w) (there
       here = get_or-set_same w.places t (first_place (kind_at w (lock_in c)) c) Idle there
 
       by_call : (d : Call) → place_at (state_after_begin w t d) t ≡ first_place (kind_at w (lock_in d)) d
-          → IsSteady (state_after_begin w t d) → (l : ℕ) (m : Line) (o : Outcome)
+          → IsInductive (state_after_begin w t d) → (l : ℕ) (m : Line) (o : Outcome)
           → Owes (state_after_begin w t d) t l m
           ↔ (IsInside (state_after_begin w t d) t l m ⊎ SeesWaiters w t l m o (state_after_begin w t d))
       by_call (call.TheVariants.Condvar k d) is after = calm_owing w (state_after_begin w t (call.TheVariants.Condvar k d)) t k (condvar_first d) after is (first_calm d) shut
       by_call d is after = quiet_owes w (state_after_begin w t d) t steady after (subst IsSingle (sym at_rest) tt) (subst IsSingle (sym is) tt) (first_place (kind_at w (lock_in d)) d) is
           (λ m h. absurd (let e : ◌≡◌ {A = Option Line} None (Some m) = sym (first_owes (kind_at w (lock_in d)) d) ∙ h in cc)) shut
 
-  -- who enters the section of the line where it slept
-  late_owing : (o : Option ℕ) → late_key (place_at w t) ≡ o → is_free_under w o ≡ true → IsSteady (state_after_late_on w t o)
+  -- a thread that enters the section of the line where it slept
+  late_owing : (o : Option ℕ) → late_key (place_at w t) ≡ o → is_free_under w o ≡ true → IsInductive (state_after_late_on w t o)
       → (l : ℕ) (m : Line) (told : Outcome)
       → Owes (state_after_late_on w t o) t l m
       ↔ (IsInside (state_after_late_on w t o) t l m ⊎ SeesWaiters w t l m told (state_after_late_on w t o))
@@ -240,7 +240,7 @@ module _ (w : State) (t : ℕ) (shape : IsShaped w) (steady : IsSteady w) (there
       here = get_or-set_same w.places t (next_place (place_at w t) Late) Idle there
 
   -- it looks at the word once more, and is in its call as before
-  spun_owing : (o : Option Place) → looking (place_at w t) ≡ o → is_some o ≡ true → IsSteady (state_after_look w t o)
+  spun_owing : (o : Option Place) → looking (place_at w t) ≡ o → is_some o ≡ true → IsInductive (state_after_look w t o)
       → (l : ℕ) (m : Line)
       → Owes (state_after_look w t o) t l m
       ↔ (IsInside (state_after_look w t o) t l m ⊎ SeesWaiters w t l m (look_outcome w t o) (state_after_look w t o))
@@ -249,7 +249,7 @@ module _ (w : State) (t : ℕ) (shape : IsShaped w) (steady : IsSteady w) (there
       (gone_owes (put w t q) t (looking_steady w t there q is steady) (rw (length-set w.places t q) there) behind l m)
 
   -- its closure has answered, and it is in its call as before
-  closed_owing : (succeeded : Bool) (one : RunsOne (place_at w t)) → IsSteady (state_after_close w t succeeded)
+  closed_owing : (succeeded : Bool) (one : RunsOne (place_at w t)) → IsInductive (state_after_close w t succeeded)
       → (l : ℕ) (m : Line)
       → Owes (state_after_close w t succeeded) t l m
       ↔ (IsInside (state_after_close w t succeeded) t l m ⊎ SeesWaiters w t l m (close_outcome w t succeeded) (state_after_close w t succeeded))
@@ -260,7 +260,7 @@ module _ (w : State) (t : ℕ) (shape : IsShaped w) (steady : IsSteady w) (there
       v : State
       v = closing w t there succeeded one
 
-  turned_owing : (x : Turn) → can_turn w t x ≡ true → IsSteady (state_after_turn w t x) → (l : ℕ) (m : Line)
+  turned_owing : (x : Turn) → can_turn w t x ≡ true → IsInductive (state_after_turn w t x) → (l : ℕ) (m : Line)
       → Owes (state_after_turn w t x) t l m
       ↔ (IsInside (state_after_turn w t x) t l m ⊎ SeesWaiters w t l m (turn_outcome w t x) (state_after_turn w t x))
   turned_owing (turn.TheVariants.Begin c) can behind l m = begun_owing c can behind l m outcome.TheVariants.Step
@@ -270,14 +270,14 @@ module _ (w : State) (t : ℕ) (shape : IsShaped w) (steady : IsSteady w) (there
   turned_owing turn.TheVariants.Ok can behind l m = closed_owing true (closes_one w t true can) behind l m
   turned_owing turn.TheVariants.Err can behind l m = closed_owing false (closes_one w t false can) behind l m
 
-pub owes_since : (w : State) (s : Step) → IsShaped w → IsSteady w → AreCounted w → AreCondvars w
+pub owes_since : (w : State) (s : Step) → IsWellFormed w → IsInductive w → AreCounted w → AreCondvars w
     → OwesSince w s.thread (step_outcome w s) (after w s)
 owes_since w s shape steady counted condvars = record {
   own = own (is_possible w s) refl (after_steady w s shape steady counted condvars);
   others = λ u l ne. others_owe w s u l ne;
 }
   where
-    own : (b : Bool) → is_possible w s ≡ b → IsSteady (if b then state_after_turn w s.thread s.turn else w) → (l : ℕ) (m : Line)
+    own : (b : Bool) → is_possible w s ≡ b → IsInductive (if b then state_after_turn w s.thread s.turn else w) → (l : ℕ) (m : Line)
         → (if b then turn_outcome w s.thread s.turn else outcome.TheVariants.NotNow) ≢ outcome.TheVariants.NotNow
         → Owes (if b then state_after_turn w s.thread s.turn else w) s.thread l m
         ↔ (IsInside (if b then state_after_turn w s.thread s.turn else w) s.thread l m ⊎ SeesWaiters w s.thread l m (if b then turn_outcome w s.thread s.turn else outcome.TheVariants.NotNow) (if b then state_after_turn w s.thread s.turn else w))

@@ -15,11 +15,11 @@ use Rattle.spec_locks.specs.Locks as locks
 use Rattle.spec_locks.specs.Runs.{CallState}
 use Rattle.spec_locks.specs.Purposes.{Purpose, IsReleasing, Waits}
 use Rattle.std.proofs.lemmas.Bool.{cases_eq}
-use Rattle.spec_locks.specs.Sites.{Doing, Line, Main, Second, Pends, idle, has_readers}
+use Rattle.spec_locks.specs.Sites.{Role, Line, Main, Second, Pends, idle, has_readers}
 use Rattle.lot_machine.specs.Machine.{State, place_at, kind_at, queue_at}
 use Rattle.lot_laws.specs.Refinement.{lock_state, call_on, call_at, taken_at}
-use Rattle.lot_laws.specs.Stations.{Station, nowhere, station, station_at, doing_on, station_by}
-use Rattle.lot_laws.specs.SitesOf.{IsSteady, FitsItsLock, key_of, stood_in, rules_in}
+use Rattle.lot_laws.specs.Locations.{Location, nowhere, location, location_at, role_on, location_by}
+use Rattle.lot_laws.specs.SitesOf.{IsInductive, FitsItsLock, key_of, stood_in, rules_in}
 use Rattle.lot_laws.specs.Owing.{Owes, IsInside, LetsOthersIn, sort_at}
 use Rattle.steps_base.specs.Rows.{IsDowngrade}
 use Rattle.lot_laws.specs.Promises.{GoesToWake, HasReleased}
@@ -28,7 +28,7 @@ use Rattle.lot_laws.proofs.hands.Counts.{none_first, first_out}
 use Rattle.lot_laws.proofs.calls.SingleCalls.{call_here, call_none}
 use Rattle.lot_laws.proofs.condvar.Promises.{StandsAt, two_stand_main}
 use Rattle.lot_laws.proofs.machine.Parts.{single_or_two}
-use Rattle.lot_laws.proofs.machine.Parts.{same, differ, taken_out, calls_none, inside_is, IsSingle, single_station, single_doing, single_taken, single_owes}
+use Rattle.lot_laws.proofs.machine.Parts.{same, differ, taken_out, calls_none, inside_is, IsSingle, single_location, single_role, single_taken, single_owes}
 use Rattle.lot_laws.proofs.mutex.Words.{queued_times}
 use Rattle.lot_laws.proofs.sites.StandsMoved.{mutex_rules}
 use Rattle.lot_laws.proofs.promises.LineActs.{line_act}
@@ -53,11 +53,11 @@ called : (p : Place) (l : ℕ) → lock_of p ≡ Some l → calls p l ≡ true
 called p l own = ap (is_lock l) own ∙ same l
 
 module _ (p : Place) (l : ℕ) (own : lock_of p ≡ Some l) where
-  pub station_own : station_at p l ≡ station p
-  station_own = ap (λ b. if b then station p else if is_lock l (beside_of p) then station_by (profile_beside p) else nowhere) (called p l own)
+  pub location_own : location_at p l ≡ location p
+  location_own = ap (λ b. if b then location p else if is_lock l (beside_of p) then location_by (profile_beside p) else nowhere) (called p l own)
 
-  pub doing_own : doing_on p l ≡ (profile p).doing
-  doing_own = ap (λ b. if b then (profile p).doing else if is_lock l (beside_of p) then (profile_beside p).doing else idle) (called p l own)
+  pub role_own : role_on p l ≡ (profile p).role
+  role_own = ap (λ b. if b then (profile p).role else if is_lock l (beside_of p) then (profile_beside p).role else idle) (called p l own)
 
   pub taken_own : taken_at p l ≡ taken_of (profile p)
   taken_own = here (is_lock l (beside_of p)) (calls p l) (called p l own)
@@ -72,29 +72,29 @@ module _ (p : Place) (l : ℕ) (own : lock_of p ≡ Some l) where
   pub owed_own : IsSingle p → line_owed p l ≡ (profile p).owes
   owed_own single = single_owes p l single ∙ ap (λ b. if b then (profile p).owes else None) (called p l own)
 
--- of a lock that it doesn't call nothing is said
+-- nothing is said of a lock that it doesn't call
 module _ (p : Place) (l : ℕ) (single : IsSingle p) (other : calls p l ≡ false) where
-  station_other : station_at p l ≡ nowhere
-  station_other = single_station p l single ∙ ap (λ b. if b then station p else nowhere) other
+  location_other : location_at p l ≡ nowhere
+  location_other = single_location p l single ∙ ap (λ b. if b then location p else nowhere) other
 
   taken_other : taken_at p l ≡ None
   taken_other = single_taken p l single ∙ ap (taken_from (profile p).hand (profile p).wants) other ∙ taken_out (profile p).hand (profile p).wants
 
--- who does something about a lock, stands at it or owes on it, calls it
+-- a thread that does something about a lock, stands at it or owes on it, calls it
 pub owes_own : (p : Place) (l : ℕ) (m : Line) → IsSingle p → line_owed p l ≡ Some m → lock_of p ≡ Some l
 owes_own p l m single h = elim (calls_one p l) [
   | inl own ↦ own
   | inr other ↦ absurd (let e : None ≡ Some m = sym (single_owes p l single ∙ ap (λ b. if b then (profile p).owes else None) other) ∙ h in cc)
 ]
 
-pub doing_calls : (p : Place) (l : ℕ) → IsSingle p → (doing_on p l ≡ idle → ⊥) → lock_of p ≡ Some l
-doing_calls p l single busy = elim (calls_one p l) [
+pub role_calls : (p : Place) (l : ℕ) → IsSingle p → (role_on p l ≡ idle → ⊥) → lock_of p ≡ Some l
+role_calls p l single busy = elim (calls_one p l) [
   | inl own ↦ own
-  | inr other ↦ absurd (busy (single_doing p l single ∙ ap (λ b. if b then (profile p).doing else idle) other))
+  | inr other ↦ absurd (busy (single_role p l single ∙ ap (λ b. if b then (profile p).role else idle) other))
 ]
 
-pub station_calls : (p : Place) (l : ℕ) → IsSingle p → (station_at p l ≡ nowhere → ⊥) → lock_of p ≡ Some l
-station_calls p l single busy = elim (calls_one p l) [ inl own ↦ own | inr other ↦ absurd (busy (station_other p l single other)) ]
+pub location_calls : (p : Place) (l : ℕ) → IsSingle p → (location_at p l ≡ nowhere → ⊥) → lock_of p ≡ Some l
+location_calls p l single busy = elim (calls_one p l) [ inl own ↦ own | inr other ↦ absurd (busy (location_other p l single other)) ]
 
 -- a key is of one lock
 key_one : (l k : ℕ) (m n : Line) → key_of l m ≡ key_of k n → l ≡ k
@@ -117,7 +117,7 @@ not_released (Some q) one released l m h = h
 
 -- ---------------------------------------------------------------- each place
 
-module _ (w : State) (t : ℕ) (steady : IsSteady w) where
+module _ (w : State) (t : ℕ) (steady : IsInductive w) where
   -- in a call of one lock
   pub row_promises : (l : ℕ) → IsSingle (place_at w t) → lock_of (place_at w t) ≡ Some l
       → RowPromises (sort_at w l) l (profile (place_at w t)) (act_of (place_at w t))
@@ -186,23 +186,23 @@ module _ (w : State) (t : ℕ) (steady : IsSteady w) where
 
   -- a thread that stands in the second line of a lock is the one aside of it
   module _ (l : ℕ) where
-    pub in_second : (station_at (place_at w t) l).stands ≡ Some Second → (lock_state w l).aside ≡ Some t
+    pub in_second : (location_at (place_at w t) l).stands ≡ Some Second → (lock_state w l).aside ≡ Some t
     in_second stands = by_first (first_of (queue_at w (2 * l + 1))) refl
       where
-        -- who waits for a mutex, or with one, stands in no second line
+        -- a thread that waits for a mutex, or with one, stands in no second line
         single : IsSingle (place_at w t)
         single = elim (single_or_two (place_at w t)) [
           | inl one ↦ one
-          | inr two ↦ absurd (two_stand_main two.lock two.at l (subst (λ p. (station_at p l).stands ≡ Some Second) two.is stands))
+          | inr two ↦ absurd (two_stand_main two.lock two.at l (subst (λ p. (location_at p l).stands ≡ Some Second) two.is stands))
         ]
 
         own : lock_of (place_at w t) ≡ Some l
-        own = station_calls (place_at w t) l single (λ out. let e : ◌≡◌ {A = Option Line} None (Some Second) = sym (ap (λ (x : Station). x.stands) out) ∙ stands in cc)
+        own = location_calls (place_at w t) l single (λ out. let e : ◌≡◌ {A = Option Line} None (Some Second) = sym (ap (λ (x : Location). x.stands) out) ∙ stands in cc)
 
         pending : (b : Bool) × ((lock_state w l).pending ≡ Some (record { thread = t; falls_back = b }))
         pending =
-            let c = (row_promises l single own).aside (sym (ap (λ (x : Station). x.stands) (station_own (place_at w t) l own)) ∙ stands) in
-            (c.0, (steady.sites.site l).held t (Pends c.0) (ap (λ (d : Doing). d.claims) (doing_own (place_at w t) l own) ∙ c.1))
+            let c = (row_promises l single own).aside (sym (ap (λ (x : Location). x.stands) (location_own (place_at w t) l own)) ∙ stands) in
+            (c.0, (steady.sites.site l).held t (Pends c.0) (ap (λ (d : Role). d.claims) (role_own (place_at w t) l own) ∙ c.1))
 
         by_first : (o : Option ℕ) → first_of (queue_at w (2 * l + 1)) ≡ o → o ≡ Some t
         by_first None none = absurd (
@@ -215,31 +215,31 @@ module _ (w : State) (t : ℕ) (steady : IsSteady w) where
             ap Some (sym (subst (λ o. IsSomePending o u) pending.1 of))
 
     -- how often it stands anywhere about a lock
-    aside_by : is_thread t (lock_state w l).aside ≡ stood_in (station_at (place_at w t) l).stands Second
-    aside_by = by_line (station_at (place_at w t) l).stands refl
+    aside_by : is_thread t (lock_state w l).aside ≡ stood_in (location_at (place_at w t) l).stands Second
+    aside_by = by_line (location_at (place_at w t) l).stands refl
       where
         absent : Lines.times t (queue_at w (2 * l + 1)) ≡ 0 → is_thread t (lock_state w l).aside ≡ 0
         absent none = first_out t (queue_at w (2 * l + 1)) none
 
-        by_line : (o : Option Line) → (station_at (place_at w t) l).stands ≡ o
+        by_line : (o : Option Line) → (location_at (place_at w t) l).stands ≡ o
             → is_thread t (lock_state w l).aside ≡ stood_in o Second
         by_line None e = absent (steady.stands.lines t l Second ∙ ap (λ x. stood_in x Second) e)
         by_line (Some Main) e = absent (steady.stands.lines t l Second ∙ ap (λ x. stood_in x Second) e)
         by_line (Some Second) e = ap (is_thread t) (in_second e) ∙ ap (λ b. if b then 1 else 0) (same t)
 
     pub standing_by : standing t (lock_state w l)
-        ≡ stood_in (station_at (place_at w t) l).stands Main + stood_in (station_at (place_at w t) l).stands Second + one_if_some
+        ≡ stood_in (location_at (place_at w t) l).stands Main + stood_in (location_at (place_at w t) l).stands Second + one_if_some
         (taken_at (place_at w t) l)
     standing_by =
-        let a : locks.times t (lock_state w l).queue ≡ stood_in (station_at (place_at w t) l).stands Main = queued_times t (queue_at w (2 * l)) ∙ steady.stands.lines t l Main in
+        let a : locks.times t (lock_state w l).queue ≡ stood_in (location_at (place_at w t) l).stands Main = queued_times t (queue_at w (2 * l)) ∙ steady.stands.lines t l Main in
         let b = aside_by in
         omega arith
 
-    -- whoever stands about a lock stands in a line of it, or is taken there
+    -- each thread that stands about a lock stands in a line of it, or is taken there
     pub stands_there : 1 ≤ standing t (lock_state w l) → StandsAt (place_at w t) l
-    stands_there some = by_row (station_at (place_at w t) l).stands refl (taken_at (place_at w t) l) refl
+    stands_there some = by_row (location_at (place_at w t) l).stands refl (taken_at (place_at w t) l) refl
       where
-        by_row : (o : Option Line) → (station_at (place_at w t) l).stands ≡ o → (h : Option Taken) → taken_at (place_at w t) l ≡ h
+        by_row : (o : Option Line) → (location_at (place_at w t) l).stands ≡ o → (h : Option Taken) → taken_at (place_at w t) l ≡ h
             → StandsAt (place_at w t) l
         by_row (Some m) e h f = inl (λ none. let g : ◌≡◌ {A = Option Line} None (Some m) = sym none ∙ e in cc)
         by_row None e (Some x) f = inr (λ none. let g : ◌≡◌ {A = Option Taken} None (Some x) = sym none ∙ f in cc)
@@ -247,15 +247,15 @@ module _ (w : State) (t : ℕ) (steady : IsSteady w) where
 
     -- and whoever stands in a line of it, or is taken there, stands about it
     pub there_stands : StandsAt (place_at w t) l → 1 ≤ standing t (lock_state w l)
-    there_stands (inl in_line) = by_line (station_at (place_at w t) l).stands refl
+    there_stands (inl in_line) = by_line (location_at (place_at w t) l).stands refl
       where
-        by_line : (o : Option Line) → (station_at (place_at w t) l).stands ≡ o → 1 ≤ standing t (lock_state w l)
+        by_line : (o : Option Line) → (location_at (place_at w t) l).stands ≡ o → 1 ≤ standing t (lock_state w l)
         by_line None e = absurd (in_line e)
         by_line (Some Main) e =
-            let a : stood_in (station_at (place_at w t) l).stands Main ≡ 1 = ap (λ x. stood_in x Main) e in
+            let a : stood_in (location_at (place_at w t) l).stands Main ≡ 1 = ap (λ x. stood_in x Main) e in
             let n = standing_by in omega arith
         by_line (Some Second) e =
-            let a : stood_in (station_at (place_at w t) l).stands Second ≡ 1 = ap (λ x. stood_in x Second) e in
+            let a : stood_in (location_at (place_at w t) l).stands Second ≡ 1 = ap (λ x. stood_in x Second) e in
             let n = standing_by in omega arith
     there_stands (inr taken) = by_taken (taken_at (place_at w t) l) refl
       where
@@ -272,12 +272,12 @@ module _ (w : State) (t : ℕ) (steady : IsSteady w) where
       | inl own ↦ (
         own,
         elim (stands_there some) [
-          | inl in_line ↦ inl (λ none. in_line (ap (λ (x : Station). x.stands) (station_own (place_at w t) l own) ∙ none))
+          | inl in_line ↦ inl (λ none. in_line (ap (λ (x : Location). x.stands) (location_own (place_at w t) l own) ∙ none))
           | inr taken ↦ inr (λ none. taken (taken_own (place_at w t) l own ∙ none))
         ],
       )
       | inr other ↦ absurd (elim (stands_there some) [
-        | inl in_line ↦ in_line (ap (λ (x : Station). x.stands) (station_other (place_at w t) l single other))
+        | inl in_line ↦ in_line (ap (λ (x : Location). x.stands) (location_other (place_at w t) l single other))
         | inr taken ↦ taken (taken_other (place_at w t) l single other)
       ])
     ]
@@ -292,10 +292,10 @@ module _ (w : State) (t : ℕ) (steady : IsSteady w) where
         by_line : (o : Option Line) → (profile (place_at w t)).stands ≡ o → o ≢ None → 1 ≤ standing t (lock_state w l)
         by_line None e some = absurd (some refl)
         by_line (Some Main) e some =
-            let a : stood_in (station_at (place_at w t) l).stands Main ≡ 1 = ap (λ (x : Station). stood_in x.stands Main) (station_own (place_at w t) l own) ∙ ap (λ x. stood_in x Main) e in
+            let a : stood_in (location_at (place_at w t) l).stands Main ≡ 1 = ap (λ (x : Location). stood_in x.stands Main) (location_own (place_at w t) l own) ∙ ap (λ x. stood_in x Main) e in
             let n = standing_by in omega arith
         by_line (Some Second) e some =
-            let a : stood_in (station_at (place_at w t) l).stands Second ≡ 1 = ap (λ (x : Station). stood_in x.stands Second) (station_own (place_at w t) l own) ∙ ap (λ x. stood_in x Second) e in
+            let a : stood_in (location_at (place_at w t) l).stands Second ≡ 1 = ap (λ (x : Location). stood_in x.stands Second) (location_own (place_at w t) l own) ∙ ap (λ x. stood_in x Second) e in
             let n = standing_by in omega arith
 
         by_taken : (o : Option Taken) → taken_of (profile (place_at w t)) ≡ o → o ≢ None → 1 ≤ standing t (lock_state w l)
@@ -311,16 +311,16 @@ module _ (w : State) (t : ℕ) (steady : IsSteady w) where
     pub call_own : call_at w t ≡ call_on (Some l) (profile (place_at w t)) (rights w t)
     call_own = call_here (place_at w t) l single own (rights w t)
 
-    pub inside_own : (m : Line) → (profile (place_at w t)).doing.inside ≡ Some m ↔ IsInside w t l m
+    pub inside_own : (m : Line) → (profile (place_at w t)).role.inside ≡ Some m ↔ IsInside w t l m
     inside_own m = (
-      (λ h. (steady.stands.sections t l m).0 (ap (λ (x : Station). x.inside) (station_own (place_at w t) l own) ∙ h)),
-      λ h. sym (ap (λ (x : Station). x.inside) (station_own (place_at w t) l own)) ∙ (steady.stands.sections t l m).1 h,
+      (λ h. (steady.stands.sections t l m).0 (ap (λ (x : Location). x.inside) (location_own (place_at w t) l own) ∙ h)),
+      λ h. sym (ap (λ (x : Location). x.inside) (location_own (place_at w t) l own)) ∙ (steady.stands.sections t l m).1 h,
     )
 
-    outside_own : ((m : Line) → IsInside w t l m → ⊥) → (profile (place_at w t)).doing.inside ≡ None
-    outside_own out = by_line (profile (place_at w t)).doing.inside refl
+    outside_own : ((m : Line) → IsInside w t l m → ⊥) → (profile (place_at w t)).role.inside ≡ None
+    outside_own out = by_line (profile (place_at w t)).role.inside refl
       where
-        by_line : (o : Option Line) → (profile (place_at w t)).doing.inside ≡ o → o ≡ None
+        by_line : (o : Option Line) → (profile (place_at w t)).role.inside ≡ o → o ≡ None
         by_line None e = refl
         by_line (Some m) e = absurd (out m ((inside_own m).0 e))
 
@@ -361,7 +361,7 @@ module _ (w : State) (t : ℕ) (steady : IsSteady w) where
         ⊎ (WakesAside (call_at w t).purpose l m ⊎ HasReleased (call_at w t).purpose (call_at w t).released l m)
     lets_out_at m h = elim h [ inl lets ↦ inl (lets_out lets) | inr wakes ↦ inr (inl (subst (λ (c : CallState). WakesAside c.purpose l m) (sym call_own) wakes)) ]
 
-  -- who owes a wake on a line is inside its section, or lets others in and is on its way into it
+  -- a thread that owes a wake on a line is inside its section, or lets others in and is on its way into it
   pub owing_is : IsSingle (place_at w t) → (l : ℕ) (m : Line) → Owes w t l m ↔ (IsInside w t l m ⊎ GoesToWake w t l m)
   owing_is single l m = (
     (λ h. let own = owes_own (place_at w t) l m single h in
@@ -374,12 +374,12 @@ module _ (w : State) (t : ℕ) (steady : IsSteady w) where
   )
     where
       inside_calls : (o : Option ℕ) → lock_of (place_at w t) ≡ o → IsInside w t l m → lock_of (place_at w t) ≡ Some l
-      inside_calls o e i = doing_calls (place_at w t) l single (λ idles. let f : (station_at (place_at w t) l).inside ≡ Some m = (steady.stands.sections t l m).1 i in
-          let g : ◌≡◌ {A = Option Line} None (Some m) = sym (ap (λ (d : Doing). d.inside) idles) ∙ inside_is (place_at w t) l ∙ f in cc)
+      inside_calls o e i = role_calls (place_at w t) l single (λ idles. let f : (location_at (place_at w t) l).inside ≡ Some m = (steady.stands.sections t l m).1 i in
+          let g : ◌≡◌ {A = Option Line} None (Some m) = sym (ap (λ (d : Role). d.inside) idles) ∙ inside_is (place_at w t) l ∙ f in cc)
 
       entering_calls : (o : Option ℕ) → lock_of (place_at w t) ≡ o → act_of (place_at w t) ≡ Enter (One (key_of l m))
           → lock_of (place_at w t) ≡ Some l
       entering_calls None e a = absurd (let f : Rest ≡ Enter (One (key_of l m)) = sym (ap act_of (calls_none (place_at w t) e)) ∙ a in cc)
       entering_calls (Some k) e a =
-          let of : IsOfLine k (key_of l m) = subst (IsLineAct k (station (place_at w t))) a (line_act (place_at w t) k single e) in
+          let of : IsOfLine k (key_of l m) = subst (IsLineAct k (location (place_at w t))) a (line_act (place_at w t) k single e) in
           e ∙ ap Some (sym (key_one l k m of.0 of.1))

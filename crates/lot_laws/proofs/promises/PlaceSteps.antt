@@ -23,9 +23,9 @@ use Rattle.spec_locks.specs.Locks as locks
 use Rattle.lot_laws.specs.Owing.{sort_at}
 use Rattle.core_base.specs.declared.wants.Want.TheVariants.{Exclusive}
 use Rattle.spec_locks.specs.Sites.{Has, Line, has_readers, idle}
-use Rattle.lot_laws.specs.Stations.{doing_on}
+use Rattle.lot_laws.specs.Locations.{role_on}
 use Rattle.lot_laws.proofs.machine.Parts.{same, IsSingle}
-use Rattle.lot_laws.specs.SitesOf.{IsSteady, FitsItsLock, rules_in, site_of}
+use Rattle.lot_laws.specs.SitesOf.{IsInductive, FitsItsLock, rules_in, site_of}
 use Rattle.lot_laws.proofs.promises.RowPromises.{Befalls, RowOwesThen, IsLateNext, owes_then, mutex_tells}
 use Rattle.lot_laws.proofs.mutex.Owing.{mutex_befallen, mutex_owes_next, mutex_first_owes, mutex_late}
 use Rattle.lot_laws.proofs.sites.StandsMoved.{mutex_rules}
@@ -50,7 +50,7 @@ use Rattle.lot_laws.proofs.calls.PlainCalls.{never_given, plain_acts, plain_lead
 
 -- ---------------------------------------------------------------- each place
 
--- whatever befalls a thread, it owes what it owed
+-- a thread owes what it owed, with all that befalls it
 pub owes_befallen : (p : Place) (r : Reply) → Befalls r → (k : ℕ) → line_owed (next_place p r) k ≡ line_owed p k
 owes_befallen Idle r b k = refl
 owes_befallen (Mutex l at) r b k = mutex_befallen l at r b k
@@ -86,7 +86,7 @@ call_owes w t k a c admits stands alone = leads (call_next a c (reply_to w t (ca
     leads (next.End answer) h = record { since = h.since; sees = λ m s step looks. absurd cc }
 
 -- the reply to its act leads a thread on, in a call of one lock
-pub owes_next : (w : State) (t l : ℕ) → IsSteady w → IsSingle (place_at w t) → lock_of (place_at w t) ≡ Some l
+pub owes_next : (w : State) (t l : ℕ) → IsInductive w → IsSingle (place_at w t) → lock_of (place_at w t) ≡ Some l
     → OwesAt w t (sort_at w l) l (place_at w t)
 owes_next w t l steady single own = by_place (place_at w t) refl own
   where
@@ -95,8 +95,8 @@ owes_next w t l steady single own = by_place (place_at w t) refl own
         → (b : Bool) (seen : ℕ) → c ≡ HandOver access.Exclusive b (handing.Free seen) → IsOwners (word_at w k)
     alone k a c is readers b seen e = subst IsOwners (sym (steady.sites.word k)) (owners_word (rules_in w k) (site_of w k) t readers (steady.sites.site k) ((steady.sites.site k).held t (Has Exclusive) claims))
       where
-        claims : (doing_on (place_at w t) k).claims ≡ Some (Has Exclusive)
-        claims = ap (λ p. (doing_on p k).claims) (is ∙ ap (RwLock k a) e) ∙ ap (λ (z : Bool). (if z then (call_profile a (HandOver access.Exclusive b (handing.Free seen))).doing else idle).claims) (same k)
+        claims : (role_on (place_at w t) k).claims ≡ Some (Has Exclusive)
+        claims = ap (λ p. (role_on p k).claims) (is ∙ ap (RwLock k a) e) ∙ ap (λ (z : Bool). (if z then (call_profile a (HandOver access.Exclusive b (handing.Free seen))).role else idle).claims) (same k)
 
     by_place : (p : Place) → place_at w t ≡ p → lock_of p ≡ Some l → OwesAt w t (sort_at w l) l p
     by_place Idle is own = absurd cc

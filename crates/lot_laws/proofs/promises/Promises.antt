@@ -9,8 +9,8 @@ use Rattle.lot_steps.specs.declared.places.Place.{Place}
 use Rattle.lot_steps.specs.declared.places.Place.TheVariants.{Condvar}
 use Rattle.lot_steps.specs.Steps.{act_of, calls, is_lock, lock_of, or_else, profile, retries_on, taker}
 use Rattle.lot_machine.specs.Machine.{State, opening, place_at, kind_at, filled_at, section_at}
-use Rattle.lot_laws.specs.Stations.{Station, station_at, doing_on}
-use Rattle.lot_laws.specs.SitesOf.{AreCondvars, IsSteady, RunsInClosures, rules_in, site_of}
+use Rattle.lot_laws.specs.Locations.{Location, location_at, role_on}
+use Rattle.lot_laws.specs.SitesOf.{AreCondvars, IsInductive, RunsInClosures, rules_in, site_of}
 use Rattle.spec_locks.specs.Permits.{HasPermits}
 use Rattle.steps_semaphore.specs.Tended.{IsTended, semaphore}
 use Rattle.steps_semaphore.proofs.TendedKept.{nobody_forgotten}
@@ -18,7 +18,7 @@ use Rattle.spec_locks.specs.Runs.{CallState, IsOpening}
 use Rattle.spec_locks.specs.Locks.{LockState, Sort, Queued, Rights, opening_lock, Rules, IsSomePending, has_caller, rights_of, readers, count, standing}
 use Rattle.spec_locks.specs.Onces.{InProgress, IsRunning}
 use Rattle.spec_locks.specs.Locks as sorts
-use Rattle.spec_locks.specs.Sites.{Doing, Line, Main, Second, Has, Pends, Runs, IsOpen, counts_some, has_readers, IsDebtor, IsSite}
+use Rattle.spec_locks.specs.Sites.{Role, Line, Main, Second, Has, Pends, Runs, IsOpen, counts_some, has_readers, IsDebtor, IsSite}
 use Rattle.spec_locks.specs.Codes.{HasLimit}
 use Rattle.spec_locks.specs.Purposes.{Enters, Converts, Bumps, CallsOnce, Awaits, Purpose, MayWait, Waits}
 use Rattle.lot_laws.specs.Refinement.{RunsClosure, locks_of, lock_state, lock_seen, taken_at, call_at, call_on, call_state, stance_of}
@@ -34,7 +34,7 @@ use Rattle.lot_laws.proofs.calls.TriesPass.{tries_go}
 use Rattle.lot_laws.proofs.condvar.ShownMutex.{shows_waiters}
 use Rattle.lot_laws.proofs.promises.SitesPromise.{not_empty}
 use Rattle.lot_laws.proofs.promises.RowPromises.{CallsOneLock, IsDebtorIn, HasClaimed, HasDebt, WasHanded, RowLooksAfter}
-use Rattle.lot_laws.proofs.promises.PlacePromises.{row_promises, station_own, doing_own, owed_own, owes_own, calls_one_lock, doing_calls, station_calls, stands_waiting, waiting_stands, call_own, inside_own}
+use Rattle.lot_laws.proofs.promises.PlacePromises.{row_promises, location_own, role_own, owed_own, owes_own, calls_one_lock, role_calls, location_calls, stands_waiting, waiting_stands, call_own, inside_own}
 use Rattle.lot_laws.proofs.calls.SingleCalls.{call_none, single_call}
 use Rattle.steps_condvar.specs.declared.places.CondvarPlace.{CondvarPlace}
 use Rattle.lot_steps.specs.Steps.{line_owed}
@@ -44,7 +44,7 @@ use Rattle.lot_laws.proofs.condvar.Promises.{StandsAt, two_know, two_one, two_ow
 use Rattle.lot_laws.proofs.machine.Parts.{IsOfTwo, condvar_apart, fits_two, single_or_two}
 use Rattle.lot_laws.proofs.promises.PlacePromises.{stands_there, there_stands}
 use Rattle.lot_laws.proofs.condvar.Asleep.{WasHandedBeside, two_asleep, two_hand_none}
-use Rattle.lot_laws.proofs.mutex.Waiters.{doing_beside, station_beside}
+use Rattle.lot_laws.proofs.mutex.Waiters.{role_beside, location_beside}
 use Rattle.core_base.specs.declared.keys.Keys.TheVariants.{One}
 use Rattle.core_base.specs.declared.notes.Note as note
 use Rattle.steps_base.specs.declared.acts.Wakes as wakes
@@ -66,7 +66,7 @@ one_purpose (Some (Awaits j forced timed)) l k one h g = sym h ∙ g
 one_purpose (Some (Waits j m timed)) l k one h g = absurd one
 one_purpose o l k one h g = absurd h
 
--- who is shown to try again does
+-- a thread that is shown to try again does
 retry_shown : (o : Option ℕ) (row : Profile) (r : ℕ → Rights) (l : ℕ)
     → ((row.retries && is_lock l o) ≡ true) ↔ ((call_on o row r).retries ≡ Some l)
 retry_shown None row r l = ((λ h. absurd (none row.retries h)), λ h. absurd cc)
@@ -90,7 +90,7 @@ open_unowned sorts.Semaphore s none h = absurd h
 open_unowned sorts.Condvar s none h = absurd h
 open_unowned sorts.Once s none h = none (λ k. k)
 
--- whoever has released a mutex is in a wait with it
+-- each thread that has released a mutex is in a wait with it
 released_mutex : (sort : ℕ → Sort) (q : Option Purpose) (released : Bool) (l : ℕ) → KnowsRights sort q
     → HasReleased q released l Main → sort l ≡ sorts.Mutex
 released_mutex sort (Some (Waits k n timed)) released l knows h = ap sort (sym h.0) ∙ knows.1
@@ -108,7 +108,7 @@ within r s shared h = by_sort r.sort refl shared
         by_count (inr few) = inl few
     by_sort sort e f = absurd (grind arith)
 
-module _ (w : State) (steady : IsSteady w) where
+module _ (w : State) (steady : IsInductive w) where
   -- in a call of one lock, or of two
   by_call : (t : ℕ) (T : Place → Type 0) → (IsSingle (place_at w t) → T (place_at w t))
       → ((k : ℕ) (at : CondvarPlace) → place_at w t ≡ Condvar k at → FitsItsLock w (Condvar k at) → T (Condvar k at))
@@ -160,15 +160,15 @@ module _ (w : State) (steady : IsSteady w) where
 
   -- ---------------------------------------------------------------- nobody is forgotten
 
-  -- who is to look after the waiters of a line does so
+  -- a thread that is to look after the waiters of a line does so
   module _ (t l : ℕ) (m : Line) (single : IsSingle (place_at w t))
-      (debtor : IsDebtorIn (sort_at w l) (doing_on (place_at w t) l) m) (unowned : (lock_state w l).exclusive ≢ Some t) where
+      (debtor : IsDebtorIn (sort_at w l) (role_on (place_at w t) l) m) (unowned : (lock_state w l).exclusive ≢ Some t) where
     own : lock_of (place_at w t) ≡ Some l
-    own = doing_calls (place_at w t) l single (λ idles. idle_owes (sort_at w l) m (subst (λ d. IsDebtorIn (sort_at w l) d m) idles debtor))
+    own = role_calls (place_at w t) l single (λ idles. idle_owes (sort_at w l) m (subst (λ d. IsDebtorIn (sort_at w l) d m) idles debtor))
 
     row : RowLooksAfter (sort_at w l) l (profile (place_at w t)) (act_of (place_at w t)) m
-    row = (row_promises w t steady l single own).debtor m (subst (λ d. IsDebtorIn (sort_at w l) d m) (doing_own (place_at w t) l own) debtor)
-        (λ claims. unowned ((steady.sites.site l).held t (Has Exclusive) (ap (λ (d : Doing). d.claims) (doing_own (place_at w t) l own) ∙ claims)))
+    row = (row_promises w t steady l single own).debtor m (subst (λ d. IsDebtorIn (sort_at w l) d m) (role_own (place_at w t) l own) debtor)
+        (λ claims. unowned ((steady.sites.site l).held t (Has Exclusive) (ap (λ (d : Role). d.claims) (role_own (place_at w t) l own) ∙ claims)))
 
     debt_of : (n : Line) → HasDebt (sort_at w l) l (profile (place_at w t)) n → IsDebtorOf w t l n
     debt_of Main (inl wakes) = inl (owed_own (place_at w t) l own single ∙ wakes.0, subst (λ (c : CallState). WakesWaiters (sort_at w l) c.purpose c.gave_up c.recalls l) (sym (call_own w t steady l single own)) wakes.1)
@@ -186,9 +186,9 @@ module _ (w : State) (steady : IsSteady w) where
 
   -- in a call of a condition variable, beside it
   module _ (t l : ℕ) (two : IsOfTwo (place_at w t)) where
-    named_there : (m : Line) → IsDebtorIn (sort_at w l) (doing_on (place_at w t) l) m
-        → (mutex_beside two.at ≡ Some l) × (doing_on (place_at w t) l ≡ (condvar_row two.at).doing)
-    named_there m debtor = let b = debtor_beside (sort_at w l) two.lock two.at l m (subst (λ p. IsDebtorIn (sort_at w l) (doing_on p l) m) two.is debtor) in (b.0, ap (λ p. doing_on p l) two.is ∙ b.1)
+    named_there : (m : Line) → IsDebtorIn (sort_at w l) (role_on (place_at w t) l) m
+        → (mutex_beside two.at ≡ Some l) × (role_on (place_at w t) l ≡ (condvar_row two.at).role)
+    named_there m debtor = let b = debtor_beside (sort_at w l) two.lock two.at l m (subst (λ p. IsDebtorIn (sort_at w l) (role_on p l) m) two.is debtor) in (b.0, ap (λ p. role_on p l) two.is ∙ b.1)
 
     mutex_sort : mutex_beside two.at ≡ Some l → sort_at w l ≡ sorts.Mutex
     mutex_sort names = ap (λ (r : Rules). r.sort) (plain_rules (kind_at w l) ((fits_two w t steady two).mutex l names))
@@ -236,19 +236,19 @@ module _ (w : State) (steady : IsSteady w) where
       looks_two : IsLookedAfter w l Main
       looks_two = record { debtor = t; debt = debt_two; awake = λ asleep. looks.awake (sym (ap act_of two.is) ∙ asleep); stands_nowhere = nowhere_two }
 
-    looked_main : IsDebtorIn (sort_at w l) (doing_on (place_at w t) l) Main → (lock_state w l).exclusive ≢ Some t
+    looked_main : IsDebtorIn (sort_at w l) (role_on (place_at w t) l) Main → (lock_state w l).exclusive ≢ Some t
         → IsLookedAfter w l Main
     looked_main debtor unowned = let there = named_there Main debtor in
         looks_two there.0 (looks_beside two.lock two.at l (fits_two w t steady two).reached there.0
-        (subst (λ s. IsDebtorIn s (condvar_row two.at).doing Main) (mutex_sort there.0) (subst (λ d. IsDebtorIn (sort_at w l) d Main) there.1 debtor))
-        (λ claims. unowned ((steady.sites.site l).held t (Has Exclusive) (ap (λ (d : Doing). d.claims) there.1 ∙ claims))))
+        (subst (λ s. IsDebtorIn s (condvar_row two.at).role Main) (mutex_sort there.0) (subst (λ d. IsDebtorIn (sort_at w l) d Main) there.1 debtor))
+        (λ claims. unowned ((steady.sites.site l).held t (Has Exclusive) (ap (λ (d : Role). d.claims) there.1 ∙ claims))))
 
-    looked_two : (m : Line) → IsDebtorIn (sort_at w l) (doing_on (place_at w t) l) m → (lock_state w l).exclusive ≢ Some t
+    looked_two : (m : Line) → IsDebtorIn (sort_at w l) (role_on (place_at w t) l) m → (lock_state w l).exclusive ≢ Some t
         → IsLookedAfter w l m
     looked_two Main debtor unowned = looked_main debtor unowned
     looked_two Second debtor unowned = let there = named_there Second debtor in absurd (no_second two.at (fits_two w t steady two).reached (subst (λ d. IsDebtorIn (sort_at w l) d Second) there.1 debtor))
 
-  looked_after : (t l : ℕ) (m : Line) → IsDebtorIn (sort_at w l) (doing_on (place_at w t) l) m
+  looked_after : (t l : ℕ) (m : Line) → IsDebtorIn (sort_at w l) (role_on (place_at w t) l) m
       → (lock_state w l).exclusive ≢ Some t → IsLookedAfter w l m
   looked_after t l m debtor unowned = elim (single_or_two (place_at w t)) [ inl single ↦ looks_after t l m single debtor unowned | inr two ↦ looked_two t l two m debtor unowned ]
 
@@ -259,7 +259,7 @@ module _ (w : State) (steady : IsSteady w) where
       by_sort true e = full e
       by_sort false e = steady.sites.unfilled l e
 
-  -- whoever waits in a line whose way is open
+  -- each thread that waits in a line whose way is open
   in_line : (l : ℕ) → (lock_state w l).queue ≢ [] → IsOpen (sort_at w l) (lock_state w l) → filled_at w l ≡ false
       → IsLookedAfter w l Main
   in_line l some now empty =
@@ -273,7 +273,7 @@ module _ (w : State) (steady : IsSteady w) where
   beside_permit l sort some fewer =
       let d = nobody_forgotten (rules_in w l).limit (site_of w l) tended some fewer in
       let free = (steady.sites.site l).state.unwritten (λ k. subst (λ x. sorts.Knows x Exclusive) sort k) in
-      looked_after d.0 l Main (subst (λ x. IsDebtor x ((site_of w l).doing d.0)) (sym sort) d.1) (λ own. let e : ◌≡◌ {A = Option ℕ} None (Some d.0) = sym free ∙ own in cc)
+      looked_after d.0 l Main (subst (λ x. IsDebtor x ((site_of w l).role d.0)) (sym sort) d.1) (λ own. let e : ◌≡◌ {A = Option ℕ} None (Some d.0) = sym free ∙ own in cc)
     where
       same_rules : rules_in w l ≡ semaphore (rules_in w l).limit
       same_rules = λ i. record { sort = sort i; limit = (rules_in w l).limit }
@@ -320,7 +320,7 @@ module _ (w : State) (steady : IsSteady w) where
   closures : (t l : ℕ) → RunsClosure w t l → (lock_state w l).phase ≡ InProgress t
   closures t l h =
       let one = runs_one (place_at w t) h.1 in
-      (steady.sites.site l).held t Runs (ap (λ (d : Doing). d.claims) (doing_own (place_at w t) l h.0) ∙ ap (λ p. (profile p).doing.claims) one.is)
+      (steady.sites.site l).held t Runs (ap (λ (d : Role). d.claims) (role_own (place_at w t) l h.0) ∙ ap (λ p. (profile p).role.claims) one.is)
 
   second : (l : ℕ) → (lock_state w l).aside ≢ None → readers (lock_state w l) ≡ 0 → IsLookedAfter w l Second
   second l aside none =
@@ -338,33 +338,33 @@ module _ (w : State) (steady : IsSteady w) where
   -- ---------------------------------------------------------------- who was handed a lock
 
   module _ (t : ℕ) (asleep : act_of (place_at w t) ≡ Sleep) (nowhere : (l : ℕ) → standing t (lock_state w l) ≡ 0) where
-    -- what it has, by what it claims
+    -- tells what it has, by what it claims
     claimed_at : (l : ℕ) → lock_of (place_at w t) ≡ Some l → (x : Want)
-        → HasClaimed (sort_at w l) (profile (place_at w t)).doing.claims x → HasOrPends (sort_at w l) (lock_state w l) t x
+        → HasClaimed (sort_at w l) (profile (place_at w t)).role.claims x → HasOrPends (sort_at w l) (lock_state w l) t x
     claimed_at l own x h = elim h [
       | inl has ↦ inl ((steady.sites.site l).held t (Has x) (claims ∙ has))
       | inr pends ↦ inr (pends.0, pends.1, subst (λ o. IsSomePending o t) (sym ((steady.sites.site l).held t (Pends pends.2.0) (claims ∙ pends.2.1))) refl)
     ]
       where
-        claims : (doing_on (place_at w t) l).claims ≡ (profile (place_at w t)).doing.claims
-        claims = ap (λ (d : Doing). d.claims) (doing_own (place_at w t) l own)
+        claims : (role_on (place_at w t) l).claims ≡ (profile (place_at w t)).role.claims
+        claims = ap (λ (d : Role). d.claims) (role_own (place_at w t) l own)
 
-    -- whoever hands over is inside, and wakes all whom it has in hand as it leaves
-    tells_inside : (by l : ℕ) → (station_at (place_at w by) l).carries ≡ Some true
+    -- each thread that hands over is inside, and wakes all whom it has in hand as it leaves
+    tells_inside : (by l : ℕ) → (location_at (place_at w by) l).carries ≡ Some true
         → (section_at w (2 * l) ≡ Some by)
         × (act_of (place_at w by) ≡ Leave (One (2 * l)) (wakes.TheVariants.All note.TheVariants.HandOff))
     tells_inside by l carries = elim (single_or_two (place_at w by)) [
-      | inl single ↦ (let own = station_calls (place_at w by) l single (λ out. let e : ◌≡◌ {A = Option Bool} None (Some true) = sym (ap (λ (x : Station). x.carries) out) ∙ carries in cc) in
-          let told = (row_promises w by steady l single own).tells (sym (ap (λ (x : Station). x.carries) (station_own (place_at w by) l own)) ∙ carries) in
+      | inl single ↦ (let own = location_calls (place_at w by) l single (λ out. let e : ◌≡◌ {A = Option Bool} None (Some true) = sym (ap (λ (x : Location). x.carries) out) ∙ carries in cc) in
+          let told = (row_promises w by steady l single own).tells (sym (ap (λ (x : Location). x.carries) (location_own (place_at w by) l own)) ∙ carries) in
           ((inside_own w by steady l single own Main).0 told.1, told.0))
-      | inr two ↦ absurd (two_hand_none two.lock two.at (fits_two w by steady two).reached l (sym (ap (λ p. (station_at p l).carries) two.is) ∙ carries))
+      | inr two ↦ absurd (two_hand_none two.lock two.at (fits_two w by steady two).reached l (sym (ap (λ p. (location_at p l).carries) two.is) ∙ carries))
     ]
 
     handed_beside : (two : IsOfTwo (place_at w t)) → WasHandedBeside two.lock two.at → IsHandedOver w t
     handed_beside two handed =
         let apart = condvar_apart w two.lock two.at (fits_two w t steady two) handed.mutex handed.beside in
-        let in_hand : (station_at (place_at w t) handed.mutex).hand ≡ hand handed.by true = ap (λ p. (station_at p handed.mutex).hand) two.is ∙ ap (λ (x : Station). x.hand) (station_beside two.lock handed.mutex apart two.at handed.beside) ∙ handed.in_hand in
-        let claims : (doing_on (place_at w t) handed.mutex).claims ≡ Some (Has Exclusive) = ap (λ p. (doing_on p handed.mutex).claims) two.is ∙ ap (λ (d : Doing). d.claims) (doing_beside two.lock handed.mutex apart two.at handed.beside) ∙ handed.claims in
+        let in_hand : (location_at (place_at w t) handed.mutex).hand ≡ hand handed.by true = ap (λ p. (location_at p handed.mutex).hand) two.is ∙ ap (λ (x : Location). x.hand) (location_beside two.lock handed.mutex apart two.at handed.beside) ∙ handed.in_hand in
+        let claims : (role_on (place_at w t) handed.mutex).claims ≡ Some (Has Exclusive) = ap (λ p. (role_on p handed.mutex).claims) two.is ∙ ap (λ (d : Role). d.claims) (role_beside two.lock handed.mutex apart two.at handed.beside) ∙ handed.claims in
         let told = tells_inside handed.by handed.mutex (steady.stands.hands.taken handed.by t handed.mutex true in_hand) in
         record {
           lock = handed.mutex;
@@ -380,7 +380,7 @@ module _ (w : State) (steady : IsSteady w) where
     handed_at : (l : ℕ) → IsSingle (place_at w t) → lock_of (place_at w t) ≡ Some l
         → WasHanded (sort_at w l) l (profile (place_at w t)) → IsHandedOver w t
     handed_at l single own handed =
-        let in_hand : (station_at (place_at w t) l).hand ≡ hand handed.by true = ap (λ (x : Station). x.hand) (station_own (place_at w t) l own) ∙ handed.in_hand in
+        let in_hand : (location_at (place_at w t) l).hand ≡ hand handed.by true = ap (λ (x : Location). x.hand) (location_own (place_at w t) l own) ∙ handed.in_hand in
         let carries = steady.stands.hands.taken handed.by t l true in_hand in
         let told = tells_inside handed.by l carries in
         record {

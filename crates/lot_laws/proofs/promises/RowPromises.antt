@@ -64,7 +64,7 @@ RowSees sort l word row m =
 
 -- a thread that goes on to the next row owes a wake on a line since it saw waiters there, or is inside its section
 pub record RowOwesNext (sort : Sort) (l word : ℕ) (row : Profile) (o : Outcome) (next : Profile) : Type 0 where
-  pub since : (m : Line) → next.owes ≡ Some m → (next.doing.inside ≡ Some m) ⊎ (RowSees sort l word row m × (o ≡ told.Step))
+  pub since : (m : Line) → next.owes ≡ Some m → (next.role.inside ≡ Some m) ⊎ (RowSees sort l word row m × (o ≡ told.Step))
   pub sees : (m : Line) → RowSees sort l word row m → o ≡ told.Step → next.owes ≡ Some m
 
 -- the word says so by what its call is for
@@ -79,7 +79,7 @@ RowLooks l row = LooksFirst (Some (row.purpose l)) l × (row.released ≡ false)
 
 -- and a thread that may hand its lock over, or bump, which does this next
 pub record RowOwesThen (sort : Sort) (l word : ℕ) (row : Profile) (o : Outcome) (next : Profile) (a : Act) : Type 0 where
-  pub since : (m : Line) → next.owes ≡ Some m → (next.doing.inside ≡ Some m) ⊎ (RowFinds sort l word row m × (o ≡ told.Step))
+  pub since : (m : Line) → next.owes ≡ Some m → (next.role.inside ≡ Some m) ⊎ (RowFinds sort l word row m × (o ≡ told.Step))
   pub sees : (m : Line) → RowFinds sort l word row m → o ≡ told.Step → (RowLooks l next → a ≡ Enter (One (key_of l m)))
       → next.owes ≡ Some m
 
@@ -115,7 +115,7 @@ mutex_tells (Some (Bumps l x)) m v = by_right x m
     by_right Exclusive Second = refl
     by_right x m = refl
 
--- who looks nowhere first owes since it saw waiters
+-- a thread that looks nowhere first owes since it saw waiters
 pub owes_then : {sort : Sort} {l word : ℕ} {row : Profile} {o : Outcome} {next : Profile} {a : Act}
     → ((m : Line) → tells_by sort (Some (row.purpose l)) m word ≡ tells_of sort m word) → RowOwesNext sort l word row o next
     → RowOwesThen sort l word row o next a
@@ -124,8 +124,8 @@ owes_then same k = record {
   sees = λ m s step looks. k.sees m (s.0, s.1, sym (same m) ∙ s.2) step;
 }
 
--- whose time is up is then awake, inside the section of the line where it slept
+-- a thread whose time is up is then awake, inside the section of the line where it slept
 pub record IsLateNext (q : Place) (m : Line) : Type 0 where
-  pub inside : (profile q).doing.inside ≡ Some m
+  pub inside : (profile q).role.inside ≡ Some m
   pub owes : (profile q).owes ≡ Some m
   pub awake : act_of q ≢ Sleep

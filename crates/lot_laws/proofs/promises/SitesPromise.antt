@@ -10,7 +10,7 @@ use Rattle.lot_machine.specs.Machine.{State, place_at, word_at, owners_at, queue
 use Rattle.lot_laws.specs.Refinement.{lock_state}
 use Rattle.lot_laws.specs.Promises.{IsAboutToMark, WaitsFor}
 use Rattle.lot_laws.specs.MutexPromises.{IsMutexWord}
-use Rattle.lot_laws.specs.SitesOf.{IsSteady, rules_in}
+use Rattle.lot_laws.specs.SitesOf.{IsInductive, rules_in}
 use Rattle.lot_laws.proofs.machine.Parts.{inside_is}
 use Rattle.lot_laws.proofs.mutex.Words.{mutex, queued_times}
 use Rattle.lot_laws.proofs.sites.SitesKept.{lock_by}
@@ -20,15 +20,15 @@ codes_by e true w h = inr h
 codes_by e false w h = inl (omega arith)
 
 -- the word of a mutex says whether there is an owner
-pub coded_at : (w : State) → IsSteady w → (l : ℕ) → rules_in w l ≡ mutex → IsMutexWord (word_at w l) (owners_at w l).exclusive
+pub coded_at : (w : State) → IsInductive w → (l : ℕ) → rules_in w l ≡ mutex → IsMutexWord (word_at w l) (owners_at w l).exclusive
 coded_at w s l rules = codes_by (owners_at w l).exclusive (is_parked (word_at w l)) (word_at w l) (s.sites.word l ∙ (λ i. code (rules i) (lock_by w l (rules i))))
 
 pub not_empty : (t : ℕ) (q : List Queued) → 1 ≤ times t q → q ≢ []
 not_empty t [] h e = omega arith
 not_empty t (x ∷ q) h e = cc
 
-module _ (w : State) (s : IsSteady w) (l : ℕ) (rules : rules_in w l ≡ mutex) where
-  -- who is about to set the parked bit of a mutex is inside its section
+module _ (w : State) (s : IsInductive w) (l : ℕ) (rules : rules_in w l ≡ mutex) where
+  -- a thread that is about to set the parked bit of a mutex is inside its section
   pub marks_inside : (u : ℕ) → IsAboutToMark w u l → section_at w (2 * l) ≡ Some u
   marks_inside u sets = elim ((s.sites.site l).setting u sets) [
     | inl covers ↦ (s.stands.sections u l Main).0 (sym (inside_is (place_at w u) l) ∙ ((s.sites.site l).covered u covers).0)
@@ -43,7 +43,7 @@ module _ (w : State) (s : IsSteady w) (l : ℕ) (rules : rules_in w l ≡ mutex)
   ]
 
 -- so it implies the bit where nobody is inside the section
-pub parked_at : (w : State) → IsSteady w → (t l : ℕ) → rules_in w l ≡ mutex → section_at w (2 * l) ≡ None
+pub parked_at : (w : State) → IsInductive w → (t l : ℕ) → rules_in w l ≡ mutex → section_at w (2 * l) ≡ None
     → 1 ≤ Lines.times t (queue_at w (2 * l)) → is_parked (word_at w l) ≡ true
 parked_at w s t l rules free h = elim (parked_or_marks w s l rules t (subst (λ n. 1 ≤ n) (sym (queued_times t (queue_at w (2 * l)))) h)) [
   | inl set ↦ set

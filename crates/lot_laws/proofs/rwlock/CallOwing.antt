@@ -60,7 +60,7 @@ use Rattle.lot_laws.proofs.promises.RowPromises.{LetsIn, RowFinds, RowLooks, Row
 use Rattle.lot_laws.proofs.rwlock.Rows.{of, some_line, IsBefore, shut_before}
 use Rattle.lot_laws.proofs.rwlock.Owing.{parked_is, aside_is, IsWithin, quiet_next, before_quiet}
 
--- what the thread does next
+-- tells what the thread does next
 abbrev pub call_does : ℕ → Admission → Next RwLockCallPlace → Act
 call_does l a (next.At c) = call_act l a c
 call_does l a (next.End answer) = act.End answer
@@ -123,11 +123,11 @@ module _ (r : Rules) (shared : has_readers r.sort ≡ true) (a : Admission) (l w
 
   -- it owes on the line that it lets in, since it saw somebody wait there, or inside
   owes_on : (c : RwLockCallPlace) (n : Next RwLockCallPlace) (m : Line) → (then_row n).owes ≡ Some m → line_by c ≡ m
-      → ((then_row n).doing.inside ≡ Some m)
+      → ((then_row n).role.inside ≡ Some m)
       ⊎ (RowFinds r.sort l word (call_profile a c) m × (outcome_of (call_does l a n) ≡ told.Step))
       → Owing c n
   owes_on c n m owes line finds = record {
-    since = λ k h. subst (λ k. ((then_row n).doing.inside ≡ Some k) ⊎ (RowFinds r.sort l word (call_profile a c) k × (outcome_of (call_does l a n) ≡ told.Step))) (some_line m k (sym owes ∙ h)) finds;
+    since = λ k h. subst (λ k. ((then_row n).role.inside ≡ Some k) ⊎ (RowFinds r.sort l word (call_profile a c) k × (outcome_of (call_does l a n) ≡ told.Step))) (some_line m k (sym owes ∙ h)) finds;
     sees = λ k s step looks. owes ∙ ap Some (sym line ∙ s.1);
   }
 
@@ -218,12 +218,12 @@ module _ (r : Rules) (shared : has_readers r.sort ≡ true) (a : Admission) (l w
 
     -- inside the section
     within : (x : Access) (to to2 : HandOverAt) → HandsOverAt x to → (call_profile a (HandOver x b to2)).owes ≡ Some Main
-        → (call_profile a (HandOver x b to2)).doing.inside ≡ Some Main → Owing (HandOver x b to) (next.At (HandOver x b to2))
+        → (call_profile a (HandOver x b to2)).role.inside ≡ Some Main → Owing (HandOver x b to) (next.At (HandOver x b to2))
     within access.Shared to to2 fits owes inside = absurd fits
     within access.Upgradable to to2 fits owes inside = owes_on (up to) (next.At (up to2)) Main owes (line_up to) (inl inside)
     within access.Exclusive to to2 fits owes inside = owes_on (ex to) (next.At (ex to2)) Main owes (line_ex to) (inl inside)
 
-  -- who has left the section lets nobody in
+  -- a thread that has left the section lets nobody in
   left_owes : (x : Access) (b any told : Bool) → Owing (HandOver x b (handing.Leave any told)) (released x b)
   left_owes x true any told = rests (HandOver x true (handing.Leave any told)) (released x true) (released_owes true x) (λ m s looks. shut s.0)
     where
@@ -284,7 +284,7 @@ module _ (r : Rules) (shared : has_readers r.sort ≡ true) (a : Admission) (l w
   bumping_owes (purpose.Downgrade d) row = refl
   bumping_owes (purpose.Upgrade how) row = refl
 
-  bumping_inside : (q : RwLockPurpose) (row : Profile) → (bumping q row).doing.inside ≡ row.doing.inside
+  bumping_inside : (q : RwLockPurpose) (row : Profile) → (bumping q row).role.inside ≡ row.role.inside
   bumping_inside (purpose.Enter x how) row = refl
   bumping_inside (purpose.Release x) row = refl
   bumping_inside (purpose.Downgrade d) row = refl
@@ -292,7 +292,7 @@ module _ (r : Rules) (shared : has_readers r.sort ≡ true) (a : Admission) (l w
 
   within_again : (x : Access) (n : Next RwLockPlace) → IsWithin n → (m : Line)
       → (then_row (bump_next (purpose.Enter x Patient) n)).owes ≡ Some m
-      → (then_row (bump_next (purpose.Enter x Patient) n)).doing.inside ≡ Some m
+      → (then_row (bump_next (purpose.Enter x Patient) n)).role.inside ≡ Some m
   within_again x (next.At p) h m e = bumping_inside p.purpose (rwlock_profile a p) ∙ h m (sym (bumping_owes p.purpose (rwlock_profile a p)) ∙ e)
   within_again x (next.End answer) h m e = absurd cc
 
@@ -339,12 +339,12 @@ module _ (r : Rules) (shared : has_readers r.sort ≡ true) (a : Admission) (l w
   shut_waking to (inr h) = elim h.1 [ inl less ↦ less | inr left ↦ let e : false ≡ true = left.0 in cc ]
 
   wakes_owe : (to : WakeAt) (n : Next RwLockCallPlace)
-      → ((m : Line) → (then_row n).owes ≡ Some m → (then_row n).doing.inside ≡ Some m) → Owing (leaving (at.Wake Second to)) n
+      → ((m : Line) → (then_row n).owes ≡ Some m → (then_row n).role.inside ≡ Some m) → Owing (leaving (at.Wake Second to)) n
   wakes_owe to n inside = record { since = λ m h. inl (inside m h); sees = λ m s step looks. absurd (shut_waking to s.0) }
 
 -- ---------------------------------------------------------------- each place
 
--- of a call that may hand the lock over, or was handed it
+-- for a call that may hand the lock over, or was handed it
 abbrev pub IsNoPlain : RwLockCallPlace → Type 0
 IsNoPlain (Plain p) = ⊥
 IsNoPlain c = Unit {0}
@@ -421,7 +421,8 @@ module _ (w : State) (t l : ℕ) (a : Admission) (admits : Admits (rules_in w l)
   handed_goes access.Shared how b handed.Accept = handed_owes (rules_in w l) admits.0 a l (word_at w l) access.Shared how b handed.Accept (next_of (Handed access.Shared how b handed.Accept)) refl
   handed_goes access.Upgradable how b handed.Accept = handed_owes (rules_in w l) admits.0 a l (word_at w l) access.Upgradable how b handed.Accept (next_of (Handed access.Upgradable how b handed.Accept)) refl
 
-  -- what the reply to its act makes of what a thread owes, where an owner that tries its word has the lock alone
+  -- tells what the reply to its act makes of what a thread owes, where an owner that tries its word has the
+  -- lock alone
   pub call_owes_next : (c : RwLockCallPlace) → CallStands a c → IsNoPlain c
       → ((b : Bool) (seen : ℕ) → c ≡ HandOver access.Exclusive b (handing.Free seen) → IsOwners (word_at w l)) → Goes c
   call_owes_next (Plain p) stands other alone = absurd other

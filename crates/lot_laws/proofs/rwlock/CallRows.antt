@@ -94,7 +94,7 @@ never_gives_up x again to stands = by_place to (parks x to stands)
     by_place (at.Wake m to) h = absurd h
     by_place to h = refl
 
--- who shares again never goes aside
+-- a thread that shares again never goes aside
 enters_main : (l : ℕ) (a : Admission) (again : Bool) (to : RwLockAt) → StandsAt (purpose.Enter access.Shared Patient) again to
     → rwlock_act l a (of (purpose.Enter access.Shared Patient) again to) ≡ act.Enter (One (2 * l + 1)) → ⊥
 enters_main l a again at.Load stands e = cc
@@ -134,7 +134,7 @@ module _ (r : Rules) (a : Admission) (l : ℕ) (admits : Admits r a) where
     plain_lets (inr h) = inr (h.0, elim h.1 [ inl less ↦ absurd less | inr left ↦ inr left ])
 
     owes_on : (m : Line) → row.owes ≡ Some m
-        → (row.doing.inside ≡ Some m) ⊎ ((rwlock_act l a p ≡ act.Enter (One (key_of l m))) × LetsInAt r.sort l row m)
+        → (row.role.inside ≡ Some m) ⊎ ((rwlock_act l a p ≡ act.Enter (One (key_of l m))) × LetsInAt r.sort l row m)
     owes_on m h = elim (plain.owing.owes m h) [
       | inl i ↦ inl i
       | inr g ↦ inr (g.0, elim g.1 [ inl lets ↦ inl (plain_lets lets) | inr wakes ↦ absurd (no_bump l (purpose.Enter x Patient) m wakes) ])
@@ -204,7 +204,7 @@ module _ (r : Rules) (a : Admission) (l : ℕ) (admits : Admits r a) where
     second_alone to fits m h = absurd fits
 
     owes_second : (m : Line) → its_row.owes ≡ Some m
-        → (its_row.doing.inside ≡ Some m) ⊎ ((rwlock_act l a leaves ≡ act.Enter (One (key_of l m))) × LetsInAt r.sort l its_row m)
+        → (its_row.role.inside ≡ Some m) ⊎ ((rwlock_act l a leaves ≡ act.Enter (One (key_of l m))) × LetsInAt r.sort l its_row m)
     owes_second m h = elim (released.owing.owes m h) [
       | inl i ↦ inl i
       | inr g ↦ inr (g.0, inr (subst (WakesAside (Some (Bumps l (wanted access.Shared))) l) (sym (second_alone to stands.place m h)) refl))
@@ -254,8 +254,8 @@ module _ (r : Rules) (a : Admission) (l : ℕ) (admits : Admits r a) where
     may_be_late = λ m s sleeps timed. absurd cc;
   }
     where
-      owes_none : (m : Line) → IsDebtorIn r.sort (call_profile a (Glance x)).doing m
-          → ((call_profile a (Glance x)).doing.claims ≡ Some (Has Exclusive) → ⊥)
+      owes_none : (m : Line) → IsDebtorIn r.sort (call_profile a (Glance x)).role m
+          → ((call_profile a (Glance x)).role.claims ≡ Some (Has Exclusive) → ⊥)
           → RowLooksAfter r.sort l (call_profile a (Glance x)) (call_act l a (Glance x)) m
       owes_none Main d free = absurd (elim d [ inl h ↦ cc | inr h ↦ elim h [ inl k ↦ cc | inr k ↦ cc ] ])
       owes_none Second d free = absurd cc
@@ -315,7 +315,7 @@ module _ (r : Rules) (a : Admission) (l : ℕ) (admits : Admits r a) where
         by_bump false = inl refl
 
     hands_owe : (to : HandOverAt) (m : Line) → (over_row to).owes ≡ Some m
-        → ((over_row to).doing.inside ≡ Some m)
+        → ((over_row to).role.inside ≡ Some m)
         ⊎ ((hand_over_act l a x to ≡ act.Enter (One (key_of l m))) × LetsInAt r.sort l (over_row to) m)
     hands_owe handing.Load m h = absurd cc
     hands_owe (handing.Free seen) m h = absurd cc
@@ -327,7 +327,7 @@ module _ (r : Rules) (a : Admission) (l : ℕ) (admits : Admits r a) where
     hands_owe (handing.Exchange k seen) m h = inl h
     hands_owe (handing.Leave any told) m h = inl h
 
-    hands_inside : (to : HandOverAt) (m : Line) → (over_row to).doing.inside ≡ Some m → (over_row to).owes ≡ Some m
+    hands_inside : (to : HandOverAt) (m : Line) → (over_row to).role.inside ≡ Some m → (over_row to).owes ≡ Some m
     hands_inside handing.Load m h = absurd cc
     hands_inside (handing.Free seen) m h = absurd cc
     hands_inside handing.Enter m h = absurd cc
@@ -356,8 +356,8 @@ module _ (r : Rules) (a : Admission) (l : ℕ) (admits : Admits r a) where
   debt_over false to owes = inl (owes, (refl, inr refl))
 
   hands_debtor : (x : Access) (b : Bool) (to : HandOverAt) → HandsOverAt x to → (m : Line)
-      → IsDebtorIn r.sort (call_profile a (HandOver x b to)).doing m
-      → ((call_profile a (HandOver x b to)).doing.claims ≡ Some (Has Exclusive) → ⊥)
+      → IsDebtorIn r.sort (call_profile a (HandOver x b to)).role m
+      → ((call_profile a (HandOver x b to)).role.claims ≡ Some (Has Exclusive) → ⊥)
       → RowLooksAfter r.sort l (call_profile a (HandOver x b to)) (hand_over_act l a x to) m
   hands_debtor access.Shared b to fits m d free = absurd fits
   hands_debtor access.Upgradable b (handing.Look k) fits Main d free = record { debt = debt_over b (handing.Look k) refl; awake = hands_awake access.Upgradable (handing.Look k); stands = refl; taken = refl }
@@ -372,7 +372,7 @@ module _ (r : Rules) (a : Admission) (l : ℕ) (admits : Admits r a) where
   hands_debtor x b to fits Main d free = absurd (elim d [ inl h ↦ cc | inr h ↦ elim h [ inl k ↦ cc | inr k ↦ cc ] ])
   hands_debtor x b to fits Second d free = absurd cc
 
-  -- who has handed the lock over leaves its section next, and tells so
+  -- a thread that has handed the lock over leaves its section next, and tells so
   none_handed : (k : Taken) → carries_taken (Some k) ≢ Some true
   none_handed k h = either (any_taken k) h
     where
@@ -382,7 +382,7 @@ module _ (r : Rules) (a : Admission) (l : ℕ) (admits : Admits r a) where
 
   hands_tell : (x : Access) (b : Bool) (to : HandOverAt) → (call_profile a (HandOver x b to)).carries ≡ Some true
       → (hand_over_act l a x to ≡ act.Leave (One (2 * l)) (wakes.TheVariants.All note.HandOff))
-      × ((call_profile a (HandOver x b to)).doing.inside ≡ Some Main)
+      × ((call_profile a (HandOver x b to)).role.inside ≡ Some Main)
   hands_tell x b (handing.Leave true true) h = (refl, refl)
   hands_tell x b (handing.Leave true false) h = absurd cc
   hands_tell x b (handing.Leave false told) h = absurd cc
@@ -447,7 +447,7 @@ module _ (r : Rules) (a : Admission) (l : ℕ) (admits : Admits r a) where
     has_claimed access.Exclusive by true = inl refl
     has_claimed access.Exclusive by false = inr (refl, admits.0, (false, refl))
 
-    quiet : (to : HandedAt) (m : Line) → IsDebtorIn r.sort (call_profile a (Handed x how b to)).doing m → ⊥
+    quiet : (to : HandedAt) (m : Line) → IsDebtorIn r.sort (call_profile a (Handed x how b to)).role m → ⊥
     quiet to Main d = elim d [ inl h ↦ cc | inr h ↦ elim h [ inl k ↦ cc | inr k ↦ cc ] ]
     quiet to Second d = cc
 

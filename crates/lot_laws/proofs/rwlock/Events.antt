@@ -21,7 +21,7 @@ use Rattle.steps_base.specs.declared.acts.Reply.{Reply}
 use Rattle.steps_base.specs.Acts.{outcome_of}
 use Rattle.steps_base.specs.declared.acts.Whom.TheVariants as whom
 use Rattle.steps_base.specs.Profiles.{Hand, Profile, hand, taken_from}
-use Rattle.steps_base.specs.Stations.{Station}
+use Rattle.steps_base.specs.Locations.{Location}
 use Rattle.steps_rwlock.specs.declared.places.Admission.{Admission}
 use Rattle.steps_rwlock.specs.declared.places.RwLockPlace.{RwLockPlace}
 use Rattle.steps_rwlock.specs.RwLockBegins.{has_access}
@@ -51,10 +51,10 @@ use Rattle.spec_locks.specs.Purposes.{purpose_of, rules_of, rwlock_purpose}
 use Rattle.spec_locks.specs.Runs.{GoesOn, HasRight, new_call}
 use Rattle.spec_locks.specs.Sites.{has_readers}
 use Rattle.lot_machine.specs.Machine.{State, can_do, owners_at, place_at, reply_to, share_at, state_after_act}
-use Rattle.lot_machine.specs.Fits.{IsShaped}
+use Rattle.lot_machine.specs.Fits.{IsWellFormed}
 use Rattle.lot_machine.proofs.Shape.{performed_counts}
 use Rattle.lot_laws.specs.Refinement.{call_state, lock_state, locks_of, taken_at}
-use Rattle.lot_laws.specs.SitesOf.{AreCounted, FitsItsLock, IsSteady, rules_in}
+use Rattle.lot_laws.specs.SitesOf.{AreCounted, FitsItsLock, IsInductive, rules_in}
 use Rattle.lot_laws.proofs.calls.Events.{LeadsTo, goes_by}
 use Rattle.lot_laws.proofs.machine.Parts.{IsSingle, is_owner, thread_is}
 use Rattle.lot_laws.proofs.promises.PlacePromises.{waiting_stands}
@@ -65,7 +65,7 @@ use Rattle.lot_laws.proofs.sites.SitesKept.{go_by}
 
 -- ---------------------------------------------------------------- a thread goes on
 
--- who goes on by an act of its own, and sleeps, was not handed the lock
+-- a thread that goes on by an act of its own, and sleeps, was not handed the lock
 abbrev CallAwake : Profile → Act → Type 0
 CallAwake row y = (u : ℕ) → row.hand ≡ hand u true → ⊥
 
@@ -94,7 +94,7 @@ gives_up_awake l a access.Exclusive true = in_no_hand_now a (gives_up_at access.
 gives_up_awake l a x false = tt
 
 module _ (l : ℕ) (a : Admission) (x : Access) (b : Bool) where
-  -- who hands over is in nobody's hand
+  -- a thread that hands over is in nobody's hand
   goes_bare : (to : HandOverAt) → NextAwake a l (next.At (HandOver x b to))
   goes_bare to = in_no_hand_now a (HandOver x b to) refl
 
@@ -169,7 +169,7 @@ own_reply w t act.Accept = tt
 own_reply w t (act.Closure state) = tt
 own_reply w t (act.End answer) = tt
 
-module _ (w : State) (t l : ℕ) (a : Admission) (c : RwLockCallPlace) (steady : IsSteady w) (shape : IsShaped w)
+module _ (w : State) (t l : ℕ) (a : Admission) (c : RwLockCallPlace) (steady : IsInductive w) (shape : IsWellFormed w)
     (there : t < length w.places) (lt : l < length w.locks) (is : place_at w t ≡ RwLock l a c) (counted : AreCounted w)
     (can : can_do w (call_act l a c) ≡ true) where
   kept : GoesOnBy w t l a c (call_act l a c)
@@ -184,7 +184,7 @@ module _ (w : State) (t l : ℕ) (a : Admission) (c : RwLockCallPlace) (steady :
   abbrev happened : Option LockCase
   happened = case_by w t l a c kept.whom (call_act l a c)
 
-  -- who sleeps in a call stands about its lock
+  -- a thread that sleeps in a call stands about its lock
   rests : (q : RwLockCallPlace) → place_at behind t ≡ RwLock l a q → CallAwake (call_profile a q) (call_act l a q)
       → (outcome_of (call_act l a q) ≡ outcome.Step)
       ⊎ ((outcome_of (call_act l a q) ≡ outcome.Sleep) × (1 ≤ standing t (lock_state behind l)))
@@ -305,4 +305,4 @@ module _ (l : ℕ) (a : Admission) (c : RwLockCall) where
   }
 
   pub rwlock_untaken_first : (k : ℕ) → taken_at (RwLock l a (call_first c)) k ≡ None
-  rwlock_untaken_first k = ap (λ (h : Option Hand). taken_from h (call_profile a (call_first c)).wants (calls (RwLock l a (call_first c)) k)) (ap (λ (y : Station). y.hand) opens.opening.station)
+  rwlock_untaken_first k = ap (λ (h : Option Hand). taken_from h (call_profile a (call_first c)).wants (calls (RwLock l a (call_first c)) k)) (ap (λ (y : Location). y.hand) opens.opening.location)

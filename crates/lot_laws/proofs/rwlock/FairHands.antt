@@ -34,11 +34,11 @@ use Rattle.spec_locks.proofs.Deeds.{deeds_lead}
 use Rattle.lot_steps.specs.declared.places.Place.{Place}
 use Rattle.lot_steps.specs.declared.places.Place.TheVariants.{RwLock}
 use Rattle.lot_steps.specs.Steps.{profile}
-use Rattle.lot_machine.specs.Fits.{IsShaped}
+use Rattle.lot_machine.specs.Fits.{IsWellFormed}
 use Rattle.lot_machine.specs.Machine.{State, can_do, owners_at, place_at, queue_at, queues_without_first, reply_to, state_after_act, state_after_taking, successor_from, word_at}
-use Rattle.lot_laws.specs.Fair.{ComesTo}
+use Rattle.lot_laws.specs.Fair.{FairReleaseComesTo}
 use Rattle.lot_laws.specs.Refinement.{lock_state}
-use Rattle.lot_laws.specs.SitesOf.{AreCounted, IsSteady, rules_in}
+use Rattle.lot_laws.specs.SitesOf.{AreCounted, IsInductive, rules_in}
 use Rattle.lot_laws.proofs.sites.ActsKept.{lock_by}
 use Rattle.lot_laws.proofs.machine.AtPlaces.{in_no_hand}
 use Rattle.lot_laws.proofs.machine.Parts.{IsSingle, free_of}
@@ -88,7 +88,7 @@ owner_stays w v l t CallOnce e more own = own
 
 -- ---------------------------------------------------------------- deeds of an operation on the word
 
--- who is handed the lock is in no deed of a step that hands nothing over
+-- a thread that is handed the lock is in no deed of a step that hands nothing over
 module _ (l : ℕ) (a : Admission) (whom : Option ℕ) (v : ℕ) where
   exchange_same : (b : Bool) (k : Counted) (expected : ℕ) (op : Op) (x : Access) (room won : Bool)
       → has_room a.limit k expected ≡ room
@@ -118,7 +118,7 @@ module _ (l : ℕ) (a : Admission) (whom : Option ℕ) (v : ℕ) where
 
 -- ---------------------------------------------------------------- a thread goes on
 
-module _ (w : State) (t l : ℕ) (a : Admission) (c : RwLockCallPlace) (shape : IsShaped w) (steady : IsSteady w)
+module _ (w : State) (t l : ℕ) (a : Admission) (c : RwLockCallPlace) (shape : IsWellFormed w) (steady : IsInductive w)
     (counted : AreCounted w) (there : t < length w.places) (lt : l < length w.locks) (is : place_at w t ≡ RwLock l a c)
     (x : Want) (more : x ≢ Shared) (gives : IsToGive ((call_profile a c).purpose l) (call_profile a c).released x) (owns : Owns (lock_state w l) t x) where
   abbrev r : Rules
@@ -128,12 +128,12 @@ module _ (w : State) (t l : ℕ) (a : Admission) (c : RwLockCallPlace) (shape : 
   here = lock_by w l r
 
   abbrev Comes : State → Type 0
-  Comes v = ComesTo r (lock_state w l) (lock_state v l) (word_at w l) t x
+  Comes v = FairReleaseComesTo r (lock_state w l) (lock_state v l) (word_at w l) t x
 
   may : CallStands a c
   may = stands w t l a c steady shape there lt is
 
-  -- who gives a right up is in nobody's hand, and says whom it has in its own
+  -- a thread that gives a right up is in nobody's hand, and says whom it has in its own
   bare : (c : RwLockCallPlace) → CallStands a c → IsToGive ((call_profile a c).purpose l) (call_profile a c).released x
       → (call_profile a c).hand ≡ None
   bare (Plain p) may gives = absurd (plain_keeps l p.purpose (call_profile a (Plain p)).released x gives)
@@ -173,8 +173,8 @@ module _ (w : State) (t l : ℕ) (a : Admission) (c : RwLockCallPlace) (shape : 
       → (g : GoesOnBy w t l a c y) → call_deeds a c g.whom (Value (word_at w l)) ≡ call_deeds a c heir (Value (word_at w l))
       → Comes (then_by w t l a c y)
   by_word y op acts told g same =
-      subst (λ s. ComesTo r (lock_state w l) s (word_at w l) t x) (sym (led y g ∙ ap (λ reply. (after_all r (call_deeds a c g.whom reply) here t).lock) told ∙ ap (λ ds. (after_all r ds here t).lock) same))
-      (subst (λ v. ComesTo r (lock_state w l) (after_all r (call_deeds a c heir (Value v)) here t).lock v t x) (sym (steady.sites.word l))
+      subst (λ s. FairReleaseComesTo r (lock_state w l) s (word_at w l) t x) (sym (led y g ∙ ap (λ reply. (after_all r (call_deeds a c g.whom reply) here t).lock) told ∙ ap (λ ds. (after_all r ds here t).lock) same))
+      (subst (λ v. FairReleaseComesTo r (lock_state w l) (after_all r (call_deeds a c heir (Value v)) here t).lock v t x) (sym (steady.sites.word l))
       (fair_releases_give r a here t l c op heir x (at_now w t l a c steady shape there lt is) free in_hand_now gives more acts))
 
   off_word : (y : Act) → IsOffWord y → Comes (then_by w t l a c y)

@@ -25,7 +25,7 @@ use Rattle.steps_base.specs.declared.acts.Whom as whom
 use Rattle.steps_base.specs.Acts.{holds, wakes_taken}
 use Rattle.steps_base.specs.Moves.{StaysPut, GoesIn, GoesOut, Parks, Picks, TakesAside, LeavesLine, TellsHanded, Accepts, AreOfWord, AreLeaving, parks_in, takes_aside, row_of}
 use Rattle.steps_base.specs.Profiles.{Profile, hand, in_hand, taken_from}
-use Rattle.steps_base.specs.Stations.{Station, nowhere, station_by}
+use Rattle.steps_base.specs.Locations.{Location, nowhere, location_by}
 use Rattle.steps_base.specs.Owners.{lock_seen, shares_then}
 use Rattle.steps_rwlock.specs.declared.places.Admission.{Admission}
 use Rattle.steps_rwlock.specs.declared.places.RwLockPlace.{RwLockPlace}
@@ -40,7 +40,7 @@ use Rattle.steps_rwlock.specs.RwLockBegins.{admission_of}
 use Rattle.steps_rwlock_fair.specs.declared.places.RwLockCallPlace.{RwLockCallPlace}
 use Rattle.steps_rwlock_fair.specs.declared.places.RwLockCallPlace.TheVariants.{Plain, Glance, HandOver, Bump, Handed}
 use Rattle.steps_rwlock_fair.specs.FairCalls.{CallMayBeTold, CallMayHear, CallStands, CallStandsNext, IsInCall}
-use Rattle.steps_rwlock_fair.specs.FairDeeds.{call_deeds, call_doing, call_doing_next}
+use Rattle.steps_rwlock_fair.specs.FairDeeds.{call_deeds, call_role, call_role_next}
 use Rattle.steps_rwlock_fair.specs.FairMoves.{CallMoves, call_hears, call_move}
 use Rattle.steps_rwlock_fair.specs.FairProfiles.{call_late_line, call_profile}
 use Rattle.steps_rwlock_fair.proofs.FairActs.{fair_acts_move, fair_late_moves, fair_sleepers_move}
@@ -69,17 +69,17 @@ use Rattle.spec_locks.specs.Deeds.{case_of}
 use Rattle.spec_locks.specs.Deeds as laws
 use Rattle.spec_locks.specs.Purposes.{rules_of}
 use Rattle.lot_machine.specs.Machine.{State, place_at, word_at, kind_at, owners_at, shares_at, share_at, queue_at, section_at, can_do, are_free, is_free, put, state_after_act, state_after_late_under, reply_to}
-use Rattle.lot_machine.specs.Fits.{IsShaped}
+use Rattle.lot_machine.specs.Fits.{IsWellFormed}
 use Rattle.lot_machine.proofs.Shape.{main_key_there}
 use Rattle.lot_laws.specs.Refinement.{taken_at}
 use Rattle.lot_laws.specs.MutexDeeds.{acts}
-use Rattle.lot_laws.specs.Stations.{station, doing_on}
-use Rattle.lot_laws.specs.SitesOf.{IsSteady, Goes, FitsItsLock, TakesOne, HasRoom, carried_at, hand_at, is_mutex, rules_in, key_of}
+use Rattle.lot_laws.specs.Locations.{location, role_on}
+use Rattle.lot_laws.specs.SitesOf.{IsInductive, Goes, FitsItsLock, TakesOne, LimitHasRoom, carried_at, hand_at, is_mutex, rules_in, key_of}
 use Rattle.steps_condvar.specs.declared.places.CondvarPlace.{CondvarPlace}
 use Rattle.lot_steps.specs.Steps.{is_lock}
 use Rattle.steps_base.specs.Profiles.{Hand}
 use Rattle.steps_condvar.specs.CondvarSteps.{mutex_beside}
-use Rattle.lot_laws.proofs.machine.Parts.{not_beside, condvar_unheld, free_of, IsOf, next_of, parts_at, put_here, doing_here, station_here, of_single}
+use Rattle.lot_laws.proofs.machine.Parts.{not_beside, condvar_unheld, free_of, IsOf, next_of, parts_at, put_here, role_here, location_here, of_single}
 use Rattle.lot_laws.proofs.hands.Moved.{accepts, tells_handed, told_hears}
 use Rattle.lot_laws.proofs.sites.WakesAt.{IsWokenAt}
 use Rattle.lot_laws.proofs.sites.WakesKept.{woken_of}
@@ -96,16 +96,16 @@ pub goes_row : (l : ℕ) (a : Admission) (n : Next RwLockCallPlace) → profile 
 goes_row l a (next.At c) = refl
 goes_row l a (next.End answer) = refl
 
-doing_row : (a : Admission) (c : RwLockCallPlace) → (call_profile a c).doing ≡ call_doing c
-doing_row a (Plain p) = refl
-doing_row a (Glance x) = refl
-doing_row a (HandOver x b to) = refl
-doing_row a (Bump p) = refl
-doing_row a (Handed x how b to) = refl
+role_row : (a : Admission) (c : RwLockCallPlace) → (call_profile a c).role ≡ call_role c
+role_row a (Plain p) = refl
+role_row a (Glance x) = refl
+role_row a (HandOver x b to) = refl
+role_row a (Bump p) = refl
+role_row a (Handed x how b to) = refl
 
-doing_is : (a : Admission) (n : Next RwLockCallPlace) → call_doing_next n ≡ (row_of (next_rows a n)).doing
-doing_is a (next.At c) = sym (doing_row a c)
-doing_is a (next.End answer) = refl
+role_is : (a : Admission) (n : Next RwLockCallPlace) → call_role_next n ≡ (row_of (next_rows a n)).role
+role_is a (next.At c) = sym (role_row a c)
+role_is a (next.End answer) = refl
 
 -- ---------------------------------------------------------------- what a thread may be told
 
@@ -255,7 +255,7 @@ aside_calm : (o : Option ℕ) → AreCalm (takes_aside o ∷ [])
 aside_calm None = tt
 aside_calm (Some u) = tt
 
--- who leaves a section wakes those in its hand, if anybody
+-- a thread that leaves a section wakes those in its hand, if anybody
 pub left_calm : (ds : List Deed) → AreLeaving ds → IsCalm (case_of None ds)
 left_calm (Out ∷ []) h = tt
 left_calm (Out ∷ End ∷ []) h = tt
@@ -274,7 +274,7 @@ left_wakes ds h = absurd h
 
 -- ---------------------------------------------------------------- one thread
 
-module _ (w : State) (t l : ℕ) (a : Admission) (c : RwLockCallPlace) (steady : IsSteady w) (shape : IsShaped w)
+module _ (w : State) (t l : ℕ) (a : Admission) (c : RwLockCallPlace) (steady : IsInductive w) (shape : IsWellFormed w)
     (there : t < length w.places) (lt : l < length w.locks) (is : place_at w t ≡ RwLock l a c) where
   pub fits_now : FitsItsLock w (RwLock l a c)
   fits_now = subst (FitsItsLock w) is (steady.stands.calls t)
@@ -297,35 +297,35 @@ module _ (w : State) (t l : ℕ) (a : Admission) (c : RwLockCallPlace) (steady :
   pub site : IsSite (rules_in w l) here
   site = steady.sites.site l
 
-  pub doing_now : here.doing t ≡ call_doing c
-  doing_now = doing_here l (place_at w t) own ∙ ap (λ (y : Profile). y.doing) same_row ∙ doing_row a c
+  pub role_now : here.role t ≡ call_role c
+  role_now = role_here l (place_at w t) own ∙ ap (λ (y : Profile). y.role) same_row ∙ role_row a c
 
   pub at_now : IsInCall (rules_in w l) a here t c
-  at_now = record { admits = admits; site = site; doing = doing_now; stands = stands; there = subst (λ n. t < n) (sym (steady.numbers.threads l)) there }
+  at_now = record { admits = admits; site = site; role = role_now; stands = stands; there = subst (λ n. t < n) (sym (steady.numbers.threads l)) there }
 
   pub fits_next : (k : ℕ) (b : Admission) (n : Next RwLockCallPlace) → Admits (rules_in w k) b → CallStandsNext b n
       → FitsItsLock w (rwlock_goes k b n)
   fits_next k b (next.At q) admitted may = (admitted, may)
   fits_next k b (next.End answer) admitted may = tt
 
-  -- what its laws conclude
+  -- tells what its laws conclude
   abbrev Followed : Option ℕ → Reply → Type 0
   Followed whom told = IsFollowed w t l steady there own (rules_in w l) refl (call_move a c) same_row whom told (next_place (place_at w t) told)
 
   pub followed_by : (whom : Option ℕ) (told : Reply) → laws.AllNeeded (rules_in w l) (call_deeds a c whom told) here t
-      → (laws.after_all (rules_in w l) (call_deeds a c whom told) here t).doing t ≡ call_doing_next (call_next a c told)
+      → (laws.after_all (rules_in w l) (call_deeds a c whom told) here t).role t ≡ call_role_next (call_next a c told)
       → CallMayBeTold a c told → Followed whom told
   followed_by whom told needed does may = record {
     of = next_of l (place_at w t) told own;
     fits = subst (λ q. FitsItsLock w (next_place q told)) (sym is) (fits_next l a (call_next a c told) admits (fair_calls_stand a c told stands may));
     row = ap (λ q. profile (next_place q told)) is ∙ goes_row l a (call_next a c told);
     needed = needed;
-    doing = does ∙ doing_is a (call_next a c told);
+    role = does ∙ role_is a (call_next a c told);
   }
 
   followed : (whom : Option ℕ) (told : Reply) → CallMayHear (rules_in w l) a here t c whom told → CallMayBeTold a c told
       → Followed whom told
-  followed whom told hears may = let f = fair_sections_follow (rules_in w l) a here t c whom told at_now hears in followed_by whom told f.needed f.doing may
+  followed whom told hears may = let f = fair_sections_follow (rules_in w l) a here t c whom told at_now hears in followed_by whom told f.needed f.role may
 
   -- ---------------------------------------------------------------- who else calls the lock
 
@@ -425,7 +425,7 @@ module _ (w : State) (t l : ℕ) (a : Admission) (c : RwLockCallPlace) (steady :
       nowhere : standing t here.lock ≡ 0
       nowhere = nowhere_here w t l steady there own (rules_in w l) refl (call_move a c) same_row g.out g.free
 
-      limits : HasRoom (length w.places) (rules_in w l) × HasLimit (rules_in w l) here.lock
+      limits : LimitHasRoom (length w.places) (rules_in w l) × HasLimit (rules_in w l) here.lock
       limits = steady.sites.limits l admits.0
 
       room : a.limit < 2 ^ 60 - 1
@@ -441,7 +441,7 @@ module _ (w : State) (t l : ℕ) (a : Admission) (c : RwLockCallPlace) (steady :
 
       on : at_word (word_at w l)
       on = subst at_word (sym word_is) (let f = fair_steps_follow (rules_in w l) a here t l c op at_now nowhere e in (
-        followed_by None (Value (code (rules_in w l) here)) f.needed f.doing (call_told_value a c (code (rules_in w l) here) few),
+        followed_by None (Value (code (rules_in w l) here)) f.needed f.role (call_told_value a c (code (rules_in w l) here) few),
         fair_owners_follow (rules_in w l) a here t l c op (shares_at w l) (owners_at w l) (queue_at w (2 * l)) (queue_at w (2 * l + 1)) (λ u. taken_at (place_at w u) l) at_now e room limits.1 refl,
         fair_steps_code (rules_in w l) a here t l c op at_now nowhere e few room limits.1,
       ))
@@ -489,7 +489,7 @@ module _ (w : State) (t l : ℕ) (a : Admission) (c : RwLockCallPlace) (steady :
       parks_calm true = calm_by (parks_in m x ∷ []) g.parks (in_line_calm m x)
       parks_calm false = calm_by [] g.turns tt
 
-  -- whom it has handed the lock goes on where its wake leads it
+  -- a thread that it has handed the lock goes on where its wake leads it
   hears_so : (u : ℕ) → hand_at (place_at w u) l ≡ hand t true → IsWokenAt w t l HandOff (place_at w u)
   hears_so u held = by_place (place_at w u) refl held
     where
@@ -498,19 +498,19 @@ module _ (w : State) (t l : ℕ) (a : Admission) (c : RwLockCallPlace) (steady :
       by_place (Condvar k at) e h = absurd (let none : hand_at (Condvar k at) l ≡ None = condvar_unheld k at l (beside_no_call u k at e) in let both : ◌≡◌ {A = Option Hand} None (hand t true) = sym none ∙ h in cc)
       by_place (Once k at) e h = either (k == l) refl h
         where
-          either : (b : Bool) → (k == l) ≡ b → (if b then station (Once k at) else nowhere).hand ≡ hand t true
+          either : (b : Bool) → (k == l) ≡ b → (if b then location (Once k at) else nowhere).hand ≡ hand t true
               → IsWokenAt w t l HandOff (Once k at)
           either true same_lock g = absurd (of_no_once u k at e (eqb-true k l same_lock))
           either false same_lock g = absurd cc
       by_place (OfSemaphore k at) e h = either (k == l) refl h
         where
-          either : (b : Bool) → (k == l) ≡ b → (if b then station (OfSemaphore k at) else nowhere).hand ≡ hand t true
+          either : (b : Bool) → (k == l) ≡ b → (if b then location (OfSemaphore k at) else nowhere).hand ≡ hand t true
               → IsWokenAt w t l HandOff (OfSemaphore k at)
           either true same_lock g = absurd (of_no_semaphore u k at e (eqb-true k l same_lock))
           either false same_lock g = absurd cc
       by_place (Mutex k m) e h = either (k == l) refl h
         where
-          either : (b : Bool) → (k == l) ≡ b → (if b then station (Mutex k m) else nowhere).hand ≡ hand t true
+          either : (b : Bool) → (k == l) ≡ b → (if b then location (Mutex k m) else nowhere).hand ≡ hand t true
               → IsWokenAt w t l HandOff (Mutex k m)
           either true same_lock g = absurd (of_no_mutex u k m e (eqb-true k l same_lock))
           either false same_lock g = absurd cc
@@ -527,15 +527,15 @@ module _ (w : State) (t l : ℕ) (a : Admission) (c : RwLockCallPlace) (steady :
 
           at_lock : k ≡ l → (call_profile b q).hand ≡ hand t true → IsWokenAt w t l HandOff (RwLock k b q)
           at_lock same_lock g = let z = (handed_move b q fits_u.1).was_given t g in woken_of w t l HandOff (RwLock k b q) true same_lock (record {
-            taken = free_of then_u l (of_single l then_u (next_of l (RwLock k b q) (Woken HandOff) same_lock)) (ap (λ (y : Station). y.hand) (ap station_by then_row ∙ z.goes)) ∙ sym (ap (keep_from t) untaken);
-            doing = doing_here l then_u (next_of l (RwLock k b q) (Woken HandOff) same_lock) ∙ ap (λ (y : Profile). y.doing) then_row ∙ z.doing ∙ sym (ap (λ o. wakened t o (doing_on (RwLock k b q) l)) untaken ∙ doing_here l (RwLock k b q) same_lock);
-          }) z.was (ap station_by then_row ∙ z.goes)
+            taken = free_of then_u l (of_single l then_u (next_of l (RwLock k b q) (Woken HandOff) same_lock)) (ap (λ (y : Location). y.hand) (ap location_by then_row ∙ z.goes)) ∙ sym (ap (keep_from t) untaken);
+            role = role_here l then_u (next_of l (RwLock k b q) (Woken HandOff) same_lock) ∙ ap (λ (y : Profile). y.role) then_row ∙ z.role ∙ sym (ap (λ o. wakened t o (role_on (RwLock k b q) l)) untaken ∙ role_here l (RwLock k b q) same_lock);
+          }) z.was (ap location_by then_row ∙ z.goes)
               (fits_next k b (call_next b q (Woken HandOff)) fits_u.0 (fair_calls_stand b q (Woken HandOff) fits_u.1 (call_told_other b q (Woken HandOff) tt)))
             where
               untaken : taken_at (RwLock k b q) l ≡ None
               untaken = ap (λ o. taken_from o (call_profile b q).wants (calls (RwLock k b q) l)) g
 
-          either : (d : Bool) → (k == l) ≡ d → (if d then station (RwLock k b q) else nowhere).hand ≡ hand t true
+          either : (d : Bool) → (k == l) ≡ d → (if d then location (RwLock k b q) else nowhere).hand ≡ hand t true
               → IsWokenAt w t l HandOff (RwLock k b q)
           either true same_lock g = at_lock (eqb-true k l same_lock) g
           either false same_lock g = absurd cc
@@ -547,7 +547,7 @@ module _ (w : State) (t l : ℕ) (a : Admission) (c : RwLockCallPlace) (steady :
     goes = tells_handed w t l steady there own (rules_in w l) refl admits.0 (call_move a c) same_row (call_hears a c) wakes g (next_place (place_at w t) Done) (section_there Main)
         (followed None Done hears_done (call_told_done a (rules_in w l) here t c None hears_done)) told_so;
     tells = tells_by None Done tt hears_done;
-    others = subst (λ x. WakesOwn (call_profile a c).carries (act.Leave (One (key_of l Main)) x) (case_of (call_profile a c).carries (call_deeds a c None Done))) (sym g.notes) (tells_any (call_profile a c).carries g.any (ap (λ (y : Station). y.carries) g.was) (call_deeds a c None Done) g.deeds);
+    others = subst (λ x. WakesOwn (call_profile a c).carries (act.Leave (One (key_of l Main)) x) (case_of (call_profile a c).carries (call_deeds a c None Done))) (sym g.notes) (tells_any (call_profile a c).carries g.any (ap (λ (y : Location). y.carries) g.was) (call_deeds a c None Done) g.deeds);
   })
     where
       hears_done : CallMayHear (rules_in w l) a here t c None Done
@@ -555,10 +555,10 @@ module _ (w : State) (t l : ℕ) (a : Admission) (c : RwLockCallPlace) (steady :
 
       -- they were handed it
       told_so : (u : ℕ) (b : Bool) → hand_at (place_at w u) l ≡ hand t b → IsWokenAt w t l HandOff (place_at w u)
-      told_so u b held = by_handed b held (sym (carried_now ∙ ap (λ (y : Station). y.carries) g.was) ∙ steady.stands.hands.taken t u l b held) g.any
+      told_so u b held = by_handed b held (sym (carried_now ∙ ap (λ (y : Location). y.carries) g.was) ∙ steady.stands.hands.taken t u l b held) g.any
         where
           carried_now : carried_at (place_at w t) l ≡ (call_profile a c).carries
-          carried_now = ap (λ (y : Station). y.carries) (station_here l (place_at w t) own) ∙ ap (λ (y : Profile). y.carries) same_row
+          carried_now = ap (λ (y : Location). y.carries) (location_here l (place_at w t) own) ∙ ap (λ (y : Profile). y.carries) same_row
 
           by_handed : (b : Bool) → hand_at (place_at w u) l ≡ hand t b → in_hand g.any true ≡ Some b → (any : Bool)
               → IsWokenAt w t l HandOff (place_at w u)
@@ -658,7 +658,7 @@ first_fits : (w : State) (l : ℕ) (a : Admission) (c : RwLockCall) → Admits (
     → FitsItsLock w (RwLock l a (call_first c))
 first_fits w l a c admits = (admits, (calls_open a c).stands)
 
-module _ (w : State) (t l : ℕ) (c : RwLockCall) (steady : IsSteady w) (there : t < length w.places)
+module _ (w : State) (t l : ℕ) (c : RwLockCall) (steady : IsInductive w) (there : t < length w.places)
     (idle_now : place_at w t ≡ Idle) (readers : has_readers (rules_in w l).sort ≡ true)
     (right : call_right c t (owners_at w l) (share_at w l t) ≡ true) where
   abbrev pub first : Place
@@ -675,7 +675,7 @@ module _ (w : State) (t l : ℕ) (c : RwLockCall) (steady : IsSteady w) (there :
   rwlock_begins = place_goes w t l steady (rw idle_now tt) there (rules_in w l) refl first refl (first_fits w l (admission_of (kind_at w l)) c (admits_by (kind_at w l) readers)) (Begin opens.opening.claims ∷ []) (λ h. tt)
       (steps_by (rules_in w l) l (parts_at w l) (parts_at w l) (place_at w) t first (Begin opens.opening.claims ∷ [])
       (opens.has t (shares_at w l) (owners_at w l) (queue_at w (2 * l)) (queue_at w (2 * l + 1)) (λ u. taken_at (place_at w u) l) right, tt) (tt, tt)
-      (free_now ∙ sym (free_of first l tt (ap (λ (y : Station). y.hand) opens.opening.station)))
+      (free_now ∙ sym (free_of first l tt (ap (λ (y : Location). y.hand) opens.opening.location)))
       refl refl refl refl
-      (doing_here l first refl ∙ opens.opening.doing ∙ sym (put_here (λ u. doing_on (place_at w u) l) t (record (doing_on (place_at w t) l) { claims = opens.opening.claims }) ∙ ap (λ q. record (doing_on q l) { claims = opens.opening.claims }) idle_now)))
-      (opens.opening.station ∙ sym (ap station idle_now))
+      (role_here l first refl ∙ opens.opening.role ∙ sym (put_here (λ u. role_on (place_at w u) l) t (record (role_on (place_at w t) l) { claims = opens.opening.claims }) ∙ ap (λ q. record (role_on q l) { claims = opens.opening.claims }) idle_now)))
+      (opens.opening.location ∙ sym (ap location idle_now))

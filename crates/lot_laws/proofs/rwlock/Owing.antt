@@ -32,7 +32,7 @@ use Rattle.steps_rwlock.specs.declared.park.ParkAt.TheVariants as parking
 use Rattle.steps_rwlock.specs.declared.release.WakeAt.{WakeAt}
 use Rattle.steps_rwlock.specs.declared.release.WakeAt.TheVariants as waking
 use Rattle.steps_rwlock.specs.RwLockSteps.{plus, decided, patience_of, patience_at, entered, looked, looked_by, missed, came_in, came_in_for, exchanged_next, counted, rolled_back, gave_way_by, park_next, parks_at, looks_again, clears, wake_next, next_at, rwlock_act, rwlock_next, act_at}
-use Rattle.steps_rwlock.specs.RwLockDeeds.{Admits, rwlock_doing, pends}
+use Rattle.steps_rwlock.specs.RwLockDeeds.{Admits, rwlock_role, pends}
 use Rattle.steps_rwlock.specs.RwLockCalls.{StandsAt, MayStand}
 use Rattle.steps_rwlock_fair.specs.declared.places.RwLockCallPlace.{RwLockCallPlace}
 use Rattle.steps_rwlock_fair.specs.declared.places.RwLockCallPlace.TheVariants.{Plain, Glance, HandOver, Bump, Handed}
@@ -196,7 +196,7 @@ nothing : (b : Bool) → ◌≡◌ {A = Option Line} (if b then None else None) 
 nothing true = refl
 nothing false = refl
 
--- who is handed the lock owes nothing, and owed nothing
+-- a thread that is handed the lock owes nothing, and owed nothing
 woken_owes : (a : Admission) (x : Access) (how : Patience) (b alone : Bool)
     → (call_profile a (handed_woken x how b alone)).owes ≡ None
 woken_owes a access.Exclusive how b true = refl
@@ -236,7 +236,7 @@ bump_owed l a q (next.End answer) k = by_purpose q
     by_purpose (purpose.Release access.Exclusive) = nothing (l == k)
     by_purpose q = refl
 
--- whatever befalls a thread, it owes what it owed
+-- a thread owes what it owed, with all that befalls it
 module _ (l : ℕ) (a : Admission) (r : Reply) (k : ℕ) where
   if_given : (p : RwLockPlace) (o : Option RwLockCallPlace) (n : Next RwLockCallPlace)
       → ((c : RwLockCallPlace) → o ≡ Some c → ((call_profile a c).owes ≡ None) × (owes_at p.at ≡ None))
@@ -282,7 +282,7 @@ module _ (l : ℕ) (a : Admission) (r : Reply) (k : ℕ) where
 
 -- it owes only where it is inside
 abbrev pub IsWithin : Next RwLockPlace → Type 0
-IsWithin (next.At p) = (m : Line) → owes_at p.at ≡ Some m → (rwlock_doing p).inside ≡ Some m
+IsWithin (next.At p) = (m : Line) → owes_at p.at ≡ Some m → (rwlock_role p).inside ≡ Some m
 IsWithin (next.End x) = Unit {0}
 
 -- at a place that is no wake's
@@ -406,7 +406,7 @@ OwesNext r a l word p n = RowOwesNext r.sort l word (rwlock_profile a p) (outcom
 
 module _ (r : Rules) (readers : has_readers r.sort ≡ true) (a : Admission) (l word : ℕ) where
   next_within : (n : Next RwLockPlace) → IsWithin n → (m : Line) → (profile (plain_goes l a n)).owes ≡ Some m
-      → (profile (plain_goes l a n)).doing.inside ≡ Some m
+      → (profile (plain_goes l a n)).role.inside ≡ Some m
   next_within (next.At p) h m e = h m e
   next_within (next.End x) h m e = absurd cc
 
@@ -481,7 +481,7 @@ module _ (r : Rules) (readers : has_readers r.sort ≡ true) (a : Admission) (l 
 
   -- it goes on inside the section of the line that it wakes
   goes_on : (q : RwLockPurpose) (again : Bool) (m : Line) (to then_at : WakeAt) → StandsAt q again (at.Wake m to)
-      → (rwlock_doing (of q again (at.Wake m then_at))).inside ≡ Some m
+      → (rwlock_role (of q again (at.Wake m then_at))).inside ≡ Some m
       → OwesNext r a l word (of q again (at.Wake m to)) (next.At (of q again (at.Wake m then_at)))
   goes_on q again m to then_at stands inside = record {
     since = λ n h. inl (inside ∙ h);
@@ -532,7 +532,7 @@ rwlock_first_owes a (rwlock_call.ReleaseFair access.Upgradable) = refl
 rwlock_first_owes a (rwlock_call.ReleaseFair access.Exclusive) = refl
 rwlock_first_owes a (rwlock_call.Bump x) = refl
 
--- whose time is up is then awake, inside the section of the line where it slept
+-- a thread whose time is up is then awake, inside the section of the line where it slept
 asleep_in : (b : Bool) (n m : Line) → in_line b n ≡ Some m → n ≡ m
 asleep_in true n m h = some_line n m h
 asleep_in false n m h = absurd cc

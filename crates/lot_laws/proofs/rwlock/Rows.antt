@@ -27,7 +27,7 @@ use Rattle.steps_rwlock.specs.declared.park.ParkAt.TheVariants as parking
 use Rattle.steps_rwlock.specs.declared.release.WakeAt.{WakeAt}
 use Rattle.steps_rwlock.specs.declared.release.WakeAt.TheVariants as waking
 use Rattle.steps_rwlock.specs.RwLockSteps.{wanted, to_of, start_of, patience_of, want_at, decided, decided_act, park_act, act_at, rwlock_act, exchange, plus}
-use Rattle.steps_rwlock.specs.RwLockDeeds.{Admits, parking_doing, waking_doing, doing_at, again_of, rwlock_doing, falls_back, pends, claimed}
+use Rattle.steps_rwlock.specs.RwLockDeeds.{Admits, parking_role, waking_role, role_at, again_of, rwlock_role, falls_back, pends, claimed}
 use Rattle.steps_rwlock.specs.RwLockCalls.{ParksBy, StandsAt, IsNoRefusal, IsDecided, MayStand}
 use Rattle.steps_rwlock.specs.RwLockProfiles.{rwlock_profile, is_inside, is_timed, owes_at, stands_at, hand_at, carries_at, late_line_at, late_at, has_given_up, purpose_by, wants_for}
 use Rattle.steps_base.specs.Profiles.{Profile, hand, in_line, taken_from}
@@ -224,7 +224,7 @@ waits_at l (purpose.Downgrade d) again (at.Park to) stands h = absurd stands
 waits_at l (purpose.Downgrade d) again (at.Aside to) stands h = absurd stands
 waits_at l q again to stands h = absurd h
 
--- who waits is in a line, or on its way out of it
+-- a thread that waits is in a line, or on its way out of it
 waiting_parks : (a : Admission) (p : RwLockPlace) (to : RwLockAt)
     → (stands_at to ≢ None) ⊎ (taken_from (hand_at to) (wants_for p.purpose) true ≢ None) → IsParking to
 waiting_parks a p (at.Park to) h = tt
@@ -233,7 +233,7 @@ waiting_parks a p to h = absurd (elim h [ inl n ↦ n refl | inr n ↦ n refl ])
 
 -- only who is pending stands in the second line
 aside_claims : (again : Option Want) (q : RwLockPurpose) (to : RwLockAt) → stands_at to ≡ Some Second
-    → (b : Bool) × ((doing_at again q to).claims ≡ Some (Pends b))
+    → (b : Bool) × ((role_at again q to).claims ≡ Some (Pends b))
 aside_claims again q (at.Aside (parking.Leave true)) h = (falls_back q, refl)
 aside_claims again q (at.Aside parking.Asleep) h = (falls_back q, refl)
 aside_claims again q (at.Aside parking.Remove) h = (falls_back q, refl)
@@ -269,7 +269,7 @@ hands_nothing (at.Wake m (waking.Leave false)) h = cc
 hands_nothing (at.Wake m to) h = cc
 hands_nothing to h = cc
 
--- whose call has a deadline
+-- a thread whose call has a deadline
 timed_is : (q : RwLockPurpose) (l : ℕ) → IsTimed (Some (purpose_by q l)) Blank l → is_timed (patience_of q) ≡ true
 timed_is (purpose.Enter x how) l h = ap is_timed h.1
 timed_is (purpose.Upgrade how) l h = ap is_timed h.1
@@ -282,7 +282,7 @@ some_line n m e = cc
 -- ---------------------------------------------------------------- owing
 
 pub parking_inside : (m : Line) (again : Option Want) (claims : Option Claim) (to : ParkAt)
-    → (parking_doing m again claims to).inside ≡ in_line (is_inside to) m
+    → (parking_role m again claims to).inside ≡ in_line (is_inside to) m
 parking_inside m again claims parking.Check = refl
 parking_inside m again claims (parking.Leave true) = refl
 parking_inside m again claims (parking.Leave false) = refl
@@ -294,9 +294,9 @@ of q again to = record { purpose = q; retries = again; at = to }
 abbrev pub row_of : Admission → RwLockPurpose → Bool → RwLockAt → Profile
 row_of a q again to = rwlock_profile a (of q again to)
 
--- who waits for a right, and has not given up, or is still inside
+-- a thread that waits for a right, and has not given up, or is still inside
 abbrev pub IsShut : RwLockPurpose → Bool → RwLockAt → Type 0
-IsShut q again to = late_at has_given_up q to ≡ true → (rwlock_doing (of q again to)).inside ≡ None → ⊥
+IsShut q again to = late_at has_given_up q to ≡ true → (rwlock_role (of q again to)).inside ≡ None → ⊥
 
 pub before_shut : (q : RwLockPurpose) (again : Bool) (to : RwLockAt) → IsBefore to → IsShut q again to
 before_shut (purpose.Enter x how) again (at.Park parking.Clear) before h out = cc
@@ -343,7 +343,7 @@ module _ (r : Rules) (readers : has_readers r.sort ≡ true) (a : Admission) (l 
   lets_waking (purpose.Downgrade d) again m = inr (readers, inl (refl, lesser d))
 
   owes_is : (q : RwLockPurpose) (again : Bool) (to : RwLockAt) (m : Line) → owes_at to ≡ Some m
-      → ((rwlock_doing (of q again to)).inside ≡ Some m)
+      → ((rwlock_role (of q again to)).inside ≡ Some m)
       ⊎ ((act_at l a (of q again to) to ≡ act.Enter (One (key_of l m))) × LetsIn r.sort l (row_of a q again to))
   owes_is q again (at.Park to) m h = inl (parking_inside Main _ None to ∙ h)
   owes_is q again (at.Aside to) m h = inl (parking_inside Second _ (pends q) to ∙ h)
@@ -353,7 +353,7 @@ module _ (r : Rules) (readers : has_readers r.sort ≡ true) (a : Admission) (l 
   owes_is q again (at.Wake n (waking.Leave any)) m h = inl h
   owes_is q again to m h = absurd cc
 
-  inside_owes : (q : RwLockPurpose) (again : Bool) (to : RwLockAt) (m : Line) → (rwlock_doing (of q again to)).inside ≡ Some m
+  inside_owes : (q : RwLockPurpose) (again : Bool) (to : RwLockAt) (m : Line) → (rwlock_role (of q again to)).inside ≡ Some m
       → owes_at to ≡ Some m
   inside_owes q again (at.Park to) m h = sym (parking_inside Main _ None to) ∙ h
   inside_owes q again (at.Aside to) m h = sym (parking_inside Second _ (pends q) to) ∙ h
@@ -413,7 +413,7 @@ module _ (r : Rules) (readers : has_readers r.sort ≡ true) (a : Admission) (l 
       debt q Second e = ap Some e
 
   debtor : (q : RwLockPurpose) (again : Bool) (to : RwLockAt) → StandsAt q again to → (m : Line)
-      → IsDebtorIn r.sort (rwlock_doing (of q again to)) m
+      → IsDebtorIn r.sort (rwlock_role (of q again to)) m
       → RowLooksAfter r.sort l (row_of a q again to) (act_at l a (of q again to) to) m
   debtor q again at.First stands m d = tries q again at.First (before_waits q again at.First stands tt) tt refl refl m None d
   debtor q again at.Load stands m d = tries q again at.Load (before_waits q again at.Load stands tt) tt refl refl m (claimed q) d
@@ -423,43 +423,43 @@ module _ (r : Rules) (readers : has_readers r.sort ≡ true) (a : Admission) (l 
   debtor q again at.Marked stands m d = tries q again at.Marked (before_waits q again at.Marked stands tt) tt refl refl m (pends q) d
   debtor q again (at.Park parking.Check) stands m d = tries q again (at.Park parking.Check) (before_waits q again (at.Park parking.Check) stands tt) tt refl refl m None (bare m d)
     where
-      bare : (m : Line) → IsDebtorIn r.sort (rwlock_doing (of q again (at.Park parking.Check))) m → IsDebtorIn r.sort (record idle { retries = again_of (of q again (at.Park parking.Check)); claims = None }) m
+      bare : (m : Line) → IsDebtorIn r.sort (rwlock_role (of q again (at.Park parking.Check))) m → IsDebtorIn r.sort (record idle { retries = again_of (of q again (at.Park parking.Check)); claims = None }) m
       bare Main d = d
       bare Second d = d
   debtor q again (at.Park (parking.Leave false)) stands m d = tries q again (at.Park (parking.Leave false)) (before_waits q again (at.Park (parking.Leave false)) stands tt) tt refl refl m None (bare m d)
     where
-      bare : (m : Line) → IsDebtorIn r.sort (rwlock_doing (of q again (at.Park (parking.Leave false)))) m → IsDebtorIn r.sort (record idle { retries = again_of (of q again (at.Park (parking.Leave false))); claims = None }) m
+      bare : (m : Line) → IsDebtorIn r.sort (rwlock_role (of q again (at.Park (parking.Leave false)))) m → IsDebtorIn r.sort (record idle { retries = again_of (of q again (at.Park (parking.Leave false))); claims = None }) m
       bare Main d = d
       bare Second d = d
   debtor q again (at.Aside parking.Check) stands m d = tries q again (at.Aside parking.Check) (before_waits q again (at.Aside parking.Check) stands tt) tt refl refl m (pends q) (bare m d)
     where
-      bare : (m : Line) → IsDebtorIn r.sort (rwlock_doing (of q again (at.Aside parking.Check))) m → IsDebtorIn r.sort (record idle { retries = again_of (of q again (at.Aside parking.Check)); claims = pends q }) m
+      bare : (m : Line) → IsDebtorIn r.sort (rwlock_role (of q again (at.Aside parking.Check))) m → IsDebtorIn r.sort (record idle { retries = again_of (of q again (at.Aside parking.Check)); claims = pends q }) m
       bare Main d = d
       bare Second d = d
   debtor q again (at.Aside (parking.Leave false)) stands m d = tries q again (at.Aside (parking.Leave false)) (before_waits q again (at.Aside (parking.Leave false)) stands tt) tt refl refl m (pends q) (bare m d)
     where
-      bare : (m : Line) → IsDebtorIn r.sort (rwlock_doing (of q again (at.Aside (parking.Leave false)))) m → IsDebtorIn r.sort (record idle { retries = again_of (of q again (at.Aside (parking.Leave false))); claims = pends q }) m
+      bare : (m : Line) → IsDebtorIn r.sort (rwlock_role (of q again (at.Aside (parking.Leave false)))) m → IsDebtorIn r.sort (record idle { retries = again_of (of q again (at.Aside (parking.Leave false))); claims = pends q }) m
       bare Main d = d
       bare Second d = d
   debtor q again (at.Wake n waking.Enter) stands m d = wakes_on q again n m waking.Enter (wakes_line n m (start_of q) d) (λ h. cc)
     where
-      wakes_line : (n m : Line) (start : Option Want) → IsDebtorIn r.sort (waking_doing start n waking.Enter) m → n ≡ m
+      wakes_line : (n m : Line) (start : Option Want) → IsDebtorIn r.sort (waking_role start n waking.Enter) m → n ≡ m
       wakes_line n Main start d = elim d [ inl h ↦ some_line n Main h | inr h ↦ absurd (elim h [ inl k ↦ cc | inr k ↦ cc ]) ]
       wakes_line n Second start d = some_line n Second d
   debtor q again (at.Wake n waking.Take) stands m d = wakes_on q again n m waking.Take (wakes_line n m (start_of q) d) (λ h. cc)
     where
-      wakes_line : (n m : Line) (start : Option Want) → IsDebtorIn r.sort (waking_doing start n waking.Take) m → n ≡ m
+      wakes_line : (n m : Line) (start : Option Want) → IsDebtorIn r.sort (waking_role start n waking.Take) m → n ≡ m
       wakes_line n Main start d = elim d [ inl h ↦ some_line n Main h | inr h ↦ absurd (elim h [ inl k ↦ cc | inr k ↦ cc ]) ]
       wakes_line n Second start d = some_line n Second d
   debtor q again (at.Wake n (waking.Clear any)) stands m d = wakes_on q again n m (waking.Clear any) (covers_only n m (start_of q) d) (λ h. cc)
     where
-      covers_only : (n m : Line) (start : Option Want) → IsDebtorIn r.sort (waking_doing start n (waking.Clear any)) m → n ≡ m
+      covers_only : (n m : Line) (start : Option Want) → IsDebtorIn r.sort (waking_role start n (waking.Clear any)) m → n ≡ m
       covers_only Main Main start d = refl
       covers_only Second Main start d = absurd (elim d [ inl h ↦ cc | inr h ↦ elim h [ inl k ↦ cc | inr k ↦ cc ] ])
       covers_only n Second start d = absurd cc
   debtor q again (at.Wake n (waking.Leave any)) stands m d = wakes_on q again n m (waking.Leave any) (covers_only n m (start_of q) d) (λ h. cc)
     where
-      covers_only : (n m : Line) (start : Option Want) → IsDebtorIn r.sort (waking_doing start n (waking.Leave any)) m → n ≡ m
+      covers_only : (n m : Line) (start : Option Want) → IsDebtorIn r.sort (waking_role start n (waking.Leave any)) m → n ≡ m
       covers_only Main Main start d = refl
       covers_only Second Main start d = absurd (elim d [ inl h ↦ cc | inr h ↦ elim h [ inl k ↦ cc | inr k ↦ cc ] ])
       covers_only n Second start d = absurd cc

@@ -6,7 +6,7 @@ use Rattle.steps_base.specs.declared.acts.Act.{Act}
 use Rattle.steps_base.specs.declared.acts.Act.TheVariants as act
 use Rattle.steps_base.specs.declared.acts.Reply.TheVariants.{Value}
 use Rattle.steps_base.specs.Acts.{takes_effect}
-use Rattle.steps_base.specs.Stations.{Station}
+use Rattle.steps_base.specs.Locations.{Location}
 use Rattle.steps_rwlock.specs.declared.places.Admission.{Admission}
 use Rattle.steps_rwlock.specs.declared.places.RwLockPlace.{RwLockPlace}
 use Rattle.steps_rwlock.specs.RwLockCalls.{MayStand}
@@ -32,10 +32,10 @@ use Rattle.spec_locks.specs.Deeds.{case_of, event_by}
 use Rattle.spec_locks.specs.Locks.{LockCase}
 use Rattle.spec_locks.specs.Sites.{Deed}
 use Rattle.lot_machine.specs.Machine.{State, can_do, place_at, put, reply_to, state_after_hand_over_by, word_at}
-use Rattle.lot_machine.specs.Fits.{IsShaped}
+use Rattle.lot_machine.specs.Fits.{IsWellFormed}
 use Rattle.lot_laws.specs.MutexDeeds.{acts}
-use Rattle.lot_laws.specs.SitesOf.{AreCounted, Goes, IsSteady, carried_at, rules_in}
-use Rattle.lot_laws.specs.Stations.{station}
+use Rattle.lot_laws.specs.SitesOf.{AreCounted, Goes, IsInductive, carried_at, rules_in}
+use Rattle.lot_laws.specs.Locations.{location}
 use Rattle.lot_laws.proofs.sites.ActsKept.{lock_by}
 use Rattle.lot_laws.proofs.machine.AtPlaces.{in_no_hand}
 use Rattle.lot_laws.proofs.calls.Events.{Happens, OthersFollow, happens, others_follow}
@@ -46,7 +46,7 @@ use Rattle.lot_laws.proofs.rwlock.Kept.{admits}
 use Rattle.lot_laws.proofs.promises.LineActs.{TakesHere, takes_here}
 use Rattle.lot_laws.proofs.machine.PlaceTest.{call_facts}
 use Rattle.lot_laws.proofs.calls.OtherCalls.{Stay, IsCalm, WakesOwn, calm, hands_nothing, lonely, no_hand_off, wakes_own}
-use Rattle.lot_laws.proofs.promises.PlacePromises.{station_own}
+use Rattle.lot_laws.proofs.promises.PlacePromises.{location_own}
 use Rattle.lot_laws.proofs.rwlock.Kept.{GoesFrom, goes_unhanded, stands}
 use Rattle.lot_laws.proofs.sites.SitesKept.{go_by}
 
@@ -56,7 +56,7 @@ use Rattle.lot_laws.proofs.sites.SitesKept.{go_by}
 plain_gives : (l k : ℕ) (a : Admission) (p : RwLockPlace) (op : Op) → MayStand a p → rwlock_act l a p ≡ act.HandOver k op → ⊥
 plain_gives l k a p op may e = subst (λ x. Moves l a.recursive (rwlock_move a p) (rwlock_hears a p) x) e (rwlock_acts_move l a p may)
 
--- who hands over says whom it has in hand
+-- a thread that hands over says whom it has in hand
 pub gives_counted : (l k : ℕ) (a : Admission) (c : RwLockCallPlace) (op : Op) → CallStands a c
     → call_act l a c ≡ act.HandOver k op → (n : Counted) × (in_hand_of c ≡ Some n)
 gives_counted l k a (HandOver x b (handing.Store n)) op may e = (n, refl)
@@ -92,14 +92,14 @@ module _ (w : State) (t l : ℕ) (a : Admission) (c : RwLockCallPlace) where
     pub happened : Happens w (then_by y) t (event_by l (case_by whom y))
     pub others : OthersFollow w (then_by y) t (event_by l (case_by whom y))
 
-module _ (w : State) (t l : ℕ) (a : Admission) (c : RwLockCallPlace) (steady : IsSteady w) (shape : IsShaped w)
+module _ (w : State) (t l : ℕ) (a : Admission) (c : RwLockCallPlace) (steady : IsInductive w) (shape : IsWellFormed w)
     (there : t < length w.places) (lt : l < length w.locks) (is : place_at w t ≡ RwLock l a c) where
   of : lock_of (place_at w t) ≡ Some l
   of = ap lock_of is
 
-  -- whom it has in hand, by its place
+  -- a thread that it has in hand, by its place
   pub carries : carried_at (place_at w t) l ≡ (call_profile a c).carries
-  carries = ap (λ (y : Station). y.carries) (station_own (place_at w t) l of) ∙ ap (λ q. (station q).carries) is
+  carries = ap (λ (y : Location). y.carries) (location_own (place_at w t) l of) ∙ ap (λ q. (location q).carries) is
 
   abbrev goes : Option ℕ → Act → Type 0
   goes whom y = Goes w (then_by w t l a c y) l (acts t (deeds_by w t l a c whom y))
@@ -188,7 +188,7 @@ module _ (w : State) (t l : ℕ) (a : Admission) (c : RwLockCallPlace) (steady :
       may = stands w t l a c steady shape there lt is
 
       alone : ((k : ℕ) (op : Op) → call_act l a c ≢ act.HandOver k op) → GoesOnBy w t l a c (call_act l a c)
-      alone plain = by_own (call_act l a c) (takes_here l (station (RwLock l a c)) (call_act l a c) (call_facts l a c).line) (goes_unhanded w t l a c steady shape there lt is plain can)
+      alone plain = by_own (call_act l a c) (takes_here l (location (RwLock l a c)) (call_act l a c) (call_facts l a c).line) (goes_unhanded w t l a c steady shape there lt is plain can)
 
       by_act : (y : Act) → call_act l a c ≡ y → GoesOnBy w t l a c (call_act l a c)
       by_act (act.HandOver k op) e =

@@ -41,7 +41,7 @@ use Rattle.steps_semaphore.specs.declared.release.ReleaseAt.TheVariants as relea
 use Rattle.steps_semaphore.specs.declared.places.SemaphorePlace.{SemaphorePlace}
 use Rattle.steps_semaphore.specs.declared.places.SemaphorePlace.TheVariants.{Acquire, Try, Release}
 use Rattle.steps_semaphore.specs.SemaphoreDeeds.{enters, semaphore_deeds, takes}
-use Rattle.steps_semaphore.specs.SemaphoreLaws.{Follows, IsAt, LeavesWord, MayHear, doing_next, next_row, semaphore_doing}
+use Rattle.steps_semaphore.specs.SemaphoreLaws.{Follows, IsAt, LeavesWord, MayHear, role_next, next_row, semaphore_role}
 use Rattle.steps_semaphore.specs.SemaphoreProfiles.{semaphore_profile}
 use Rattle.steps_semaphore.specs.SemaphoreSteps.{is_free, semaphore_act, semaphore_first, semaphore_next, semaphore_right, semaphore_shares}
 use Rattle.steps_semaphore.proofs.SemaphoreCode.{semaphore_steps_code}
@@ -57,15 +57,15 @@ use Rattle.steps_rwlock_fair.specs.declared.places.RwLockCallPlace.{RwLockCallPl
 use Rattle.steps_condvar.specs.declared.places.CondvarPlace.{CondvarPlace}
 use Rattle.lot_steps.specs.Steps.{calls, next_place, profile, semaphore_goes}
 use Rattle.lot_machine.specs.Machine.{State, are_free, can_do, is_free as is_free_in, state_after_late_under, kind_at, owners_at, place_at, put, queue_at, reply_to, section_at, share_at, shares_at, state_after_act, word_at}
-use Rattle.lot_machine.specs.Fits.{IsShaped}
+use Rattle.lot_machine.specs.Fits.{IsWellFormed}
 use Rattle.lot_machine.proofs.Shape.{main_key_there}
 use Rattle.lot_laws.specs.Refinement.{taken_at}
 use Rattle.lot_laws.specs.MutexDeeds.{acts}
-use Rattle.lot_laws.specs.Stations.{doing_on, station}
-use Rattle.lot_laws.specs.SitesOf.{FitsItsLock, GivesUpTimed, Goes, IsSteady, TakesOne, is_mutex, key_of, rules_in}
+use Rattle.lot_laws.specs.Locations.{role_on, location}
+use Rattle.lot_laws.specs.SitesOf.{FitsItsLock, LateIsTimed, Goes, IsInductive, TakesOne, is_mutex, key_of, rules_in}
 use Rattle.lot_laws.proofs.sites.ActsKept.{lock_by, place_goes}
 use Rattle.lot_laws.proofs.sites.OneStep.{steps_by}
-use Rattle.lot_laws.proofs.machine.Parts.{not_beside, IsOf, doing_here, free_of, next_of, parts_at, put_here}
+use Rattle.lot_laws.proofs.machine.Parts.{not_beside, IsOf, role_here, free_of, next_of, parts_at, put_here}
 use Rattle.lot_laws.proofs.sites.MovesKept.{IsFollowed, SleepsIfCalls, IsSleeper, entered_hears, goes_in, goes_out, leaves_line, left_hears, parked_hears, parks_or_turns, removed_hears, wakes_one}
 use Rattle.lot_laws.proofs.once.MovesKept.{stays_unshared}
 use Rattle.lot_laws.proofs.calls.OtherCalls.{IsCalm, WakesOwn}
@@ -81,9 +81,9 @@ goes_row : (l : ℕ) (n : Next SemaphorePlace) → profile (semaphore_goes l n) 
 goes_row l (next.At p) = refl
 goes_row l (next.End answer) = refl
 
-doing_is : (n : Next SemaphorePlace) → doing_next n ≡ (row_of (next_row n)).doing
-doing_is (next.At p) = refl
-doing_is (next.End answer) = refl
+role_is : (n : Next SemaphorePlace) → role_next n ≡ (row_of (next_row n)).role
+role_is (next.At p) = refl
+role_is (next.End answer) = refl
 
 -- ---------------------------------------------------------------- its word
 
@@ -141,7 +141,7 @@ takes_calm : (who : Option ℕ) → AreCalm (takes who)
 takes_calm None = tt
 takes_calm (Some u) = tt
 
--- whom an act takes, if anybody
+-- a thread that an act takes, if anybody
 abbrev pub whom_by : State → Act → Option ℕ
 whom_by w (act.Take key whom.First) = first_of (queue_at w key)
 whom_by w y = None
@@ -152,7 +152,7 @@ late_tells_timed timed told ne e = absurd (ne e)
 
 -- ---------------------------------------------------------------- one thread
 
-module _ (w : State) (t l : ℕ) (at : SemaphorePlace) (steady : IsSteady w) (shape : IsShaped w) (there : t < length w.places)
+module _ (w : State) (t l : ℕ) (at : SemaphorePlace) (steady : IsInductive w) (shape : IsWellFormed w) (there : t < length w.places)
     (lt : l < length w.locks) (is : place_at w t ≡ Semaphore l at) where
   pub fits_now : FitsItsLock w (Semaphore l at)
   fits_now = subst (FitsItsLock w) is (steady.stands.calls t)
@@ -169,8 +169,8 @@ module _ (w : State) (t l : ℕ) (at : SemaphorePlace) (steady : IsSteady w) (sh
   abbrev here : Site
   here = lock_by w l (rules_in w l)
 
-  doing_now : here.doing t ≡ semaphore_doing at
-  doing_now = doing_here l (place_at w t) own ∙ ap (λ (y : Profile). y.doing) same_row
+  role_now : here.role t ≡ semaphore_role at
+  role_now = role_here l (place_at w t) own ∙ ap (λ (y : Profile). y.role) same_row
 
   pub at_now : IsAt (rules_in w l) here t at
   at_now = record {
@@ -179,7 +179,7 @@ module _ (w : State) (t l : ℕ) (at : SemaphorePlace) (steady : IsSteady w) (sh
     site = steady.sites.site l;
     few = (steady.sites.site l).state.within sort_is;
     here = subst (λ n. t < n) (sym (steady.numbers.threads l)) there;
-    doing = doing_now;
+    role = role_now;
   }
 
   unshared : has_readers (rules_in w l).sort ≡ false
@@ -189,7 +189,7 @@ module _ (w : State) (t l : ℕ) (at : SemaphorePlace) (steady : IsSteady w) (sh
   fits_next k (next.At p) h timed = (h, timed)
   fits_next k (next.End answer) h timed = tt
 
-  -- what its laws conclude
+  -- tells what its laws conclude
   abbrev Followed : Option ℕ → Reply → Type 0
   Followed who told = IsFollowed w t l steady there own (rules_in w l) refl (semaphore_move at) same_row who told (next_place (place_at w t) told)
 
@@ -199,7 +199,7 @@ module _ (w : State) (t l : ℕ) (at : SemaphorePlace) (steady : IsSteady w) (sh
     fits = subst (λ q. FitsItsLock w (next_place q told)) (sym is) (fits_next l (semaphore_next at told) sort_is (next_timed at told fits_now.1 late));
     row = ap (λ q. profile (next_place q told)) is ∙ goes_row l (semaphore_next at told);
     needed = f.needed;
-    doing = f.doing ∙ doing_is (semaphore_next at told);
+    role = f.role ∙ role_is (semaphore_next at told);
   }
 
   followed : (who : Option ℕ) (told : Reply) → told ≢ Late → MayHear (rules_in w l) here t at who told → Followed who told
@@ -436,26 +436,26 @@ module _ (w : State) (t l : ℕ) (at : SemaphorePlace) (steady : IsSteady w) (sh
 
 -- ---------------------------------------------------------------- a call begins
 
--- what it claims: who is to give a permit back holds one
+-- tells what it claims: who is to give a permit back holds one
 abbrev pub claims_first : SemaphoreCall → Option Claim
 claims_first (semaphore_call.Acquire patience) = None
 claims_first semaphore_call.Release = Some (Has Shared)
 
 pub record Opens (c : SemaphoreCall) : Type 0 where
-  pub station : station (Semaphore 0 (semaphore_first c)) ≡ station Idle
-  pub doing : semaphore_doing (semaphore_first c) ≡ record (semaphore_doing (Try tries.Load)) { claims = claims_first c }
-  pub timed : GivesUpTimed (semaphore_first c)
+  pub location : location (Semaphore 0 (semaphore_first c)) ≡ location Idle
+  pub role : semaphore_role (semaphore_first c) ≡ record (semaphore_role (Try tries.Load)) { claims = claims_first c }
+  pub timed : LateIsTimed (semaphore_first c)
 
 pub opens : (c : SemaphoreCall) → Opens c
-opens (semaphore_call.Acquire how.Patient) = record { station = refl; doing = refl; timed = λ e. absurd cc }
-opens (semaphore_call.Acquire how.Timed) = record { station = refl; doing = refl; timed = λ e. absurd cc }
-opens (semaphore_call.Acquire how.Try) = record { station = refl; doing = refl; timed = λ e. absurd cc }
-opens semaphore_call.Release = record { station = refl; doing = refl; timed = λ e. absurd cc }
+opens (semaphore_call.Acquire how.Patient) = record { location = refl; role = refl; timed = λ e. absurd cc }
+opens (semaphore_call.Acquire how.Timed) = record { location = refl; role = refl; timed = λ e. absurd cc }
+opens (semaphore_call.Acquire how.Try) = record { location = refl; role = refl; timed = λ e. absurd cc }
+opens semaphore_call.Release = record { location = refl; role = refl; timed = λ e. absurd cc }
 
 some_held : (n : ℕ) → not (n == 0) ≡ true → 1 ≤ n
 some_held n h = grind (arith, nat_tests)
 
-module _ (w : State) (t l : ℕ) (c : SemaphoreCall) (steady : IsSteady w) (there : t < length w.places) (idle_now : place_at w t ≡ Idle)
+module _ (w : State) (t l : ℕ) (c : SemaphoreCall) (steady : IsInductive w) (there : t < length w.places) (idle_now : place_at w t ≡ Idle)
     (sort : (rules_in w l).sort ≡ locks.Semaphore) (right : semaphore_right c (share_at w l t) ≡ true) where
   abbrev pub first : Place
   first = Semaphore l (semaphore_first c)
@@ -467,7 +467,7 @@ module _ (w : State) (t l : ℕ) (c : SemaphoreCall) (steady : IsSteady w) (ther
   pub semaphore_begins : Goes w (put w t first) l (acts t (Begin (claims_first c) ∷ []))
   semaphore_begins = place_goes w t l steady (rw idle_now tt) there (rules_in w l) refl first refl (sort, (opens c).timed) (Begin (claims_first c) ∷ []) (λ h. tt)
       (steps_by (rules_in w l) l (parts_at w l) (parts_at w l) (place_at w) t first (Begin (claims_first c) ∷ []) (has_claim c right) (tt, tt)
-      (ap (λ q. taken_at q l) idle_now ∙ sym (free_of first l tt (ap (λ y. y.hand) (opens c).station)))
+      (ap (λ q. taken_at q l) idle_now ∙ sym (free_of first l tt (ap (λ y. y.hand) (opens c).location)))
       refl refl refl refl
-      (doing_here l first refl ∙ (opens c).doing ∙ sym (put_here (λ u. doing_on (place_at w u) l) t (record (doing_on (place_at w t) l) { claims = claims_first c }) ∙ ap (λ q. record (doing_on q l) { claims = claims_first c }) idle_now)))
-      ((opens c).station ∙ sym (ap station idle_now))
+      (role_here l first refl ∙ (opens c).role ∙ sym (put_here (λ u. role_on (place_at w u) l) t (record (role_on (place_at w t) l) { claims = claims_first c }) ∙ ap (λ q. record (role_on q l) { claims = claims_first c }) idle_now)))
+      ((opens c).location ∙ sym (ap location idle_now))

@@ -12,9 +12,9 @@ use Rattle.steps_base.specs.declared.acts.Next.TheVariants.{At, End as Over}
 use Rattle.steps_base.specs.declared.acts.Reply.TheVariants as reply
 use Rattle.steps_base.specs.declared.acts.Whom.TheVariants.{First}
 use Rattle.spec_locks.specs.declared.outcomes.Answer.TheVariants as answer
-use Rattle.steps_base.specs.Moves.{AreOfWord, GoesIn, Hears, IsHeld, Move, Moves, Sleeps, StaysPut, Waits, inside_of, row_of, station_of, station_then}
+use Rattle.steps_base.specs.Moves.{AreOfWord, GoesIn, Hears, IsHeld, Move, Moves, Sleeps, StaysPut, Waits, inside_of, row_of, location_of, location_then}
 use Rattle.steps_base.specs.Profiles.{Hand, hand, in_hand}
-use Rattle.steps_base.specs.Stations.{Station, nowhere, station_by}
+use Rattle.steps_base.specs.Locations.{Location, nowhere, location_by}
 use Rattle.spec_locks.specs.Codes.{has_parked}
 use Rattle.spec_locks.specs.Locks.{HasTakenNobody, Leave as GivesBack, Rules}
 use Rattle.spec_locks.specs.Sites.{Case, End, Line, Main, Mark, Second, Site}
@@ -32,7 +32,7 @@ use Rattle.steps_semaphore.specs.SemaphoreLaws.{MayHear, next_row}
 use Rattle.steps_semaphore.specs.SemaphoreLaws as laws
 use Rattle.steps_semaphore.specs.SemaphoreProfiles.{semaphore_late_line, semaphore_profile}
 use Rattle.steps_semaphore.specs.SemaphoreSteps.{acquired, in_acquire, in_release, in_try, is_free, next_release, next_try, semaphore_act, semaphore_next}
-use Rattle.lot_laws.specs.SitesOf.{GivesUpTimed}
+use Rattle.lot_laws.specs.SitesOf.{LateIsTimed}
 
 abbrev pub semaphore_move : SemaphorePlace → Move
 semaphore_move p = record {
@@ -41,16 +41,16 @@ semaphore_move p = record {
   deeds = λ whom told. semaphore_deeds p whom told;
 }
 
--- what it may be told
+-- tells what it may be told
 abbrev pub semaphore_hears : SemaphorePlace → Hears
 semaphore_hears p r s t whom told = MayHear r s t p whom told
 
 -- it takes the first who waits, if there is one
 pub record TakesFirst (x : Move) (hears : Hears) : Type 0 where
-  pub was : station_of x ≡ inside_of Main
+  pub was : location_of x ≡ inside_of Main
   pub deeds : (whom : Option ℕ) (any none_left : Bool) → x.deeds whom (reply.Took any none_left) ≡ takes whom
   pub goes : (any none_left : Bool)
-      → station_then x (reply.Took any none_left) ≡ record (inside_of Main) { carries = in_hand any false }
+      → location_then x (reply.Took any none_left) ≡ record (inside_of Main) { carries = in_hand any false }
   pub may : (r : Rules) (s : Site) (t : ℕ) (whom : Option ℕ) (any none_left : Bool) → laws.TakesFirst s whom any none_left → HasTakenNobody s.lock t
       → hears r s t whom (reply.Took any none_left)
 
@@ -59,8 +59,8 @@ abbrev pub SemaphoreMoves : ℕ → Move → Hears → Act → Type 0
 SemaphoreMoves l x hears (act.Take key First) = (key ≡ key_of l Main) × TakesFirst x hears
 SemaphoreMoves l x hears y = Moves l false x hears y
 
-abbrev station_next : Next SemaphorePlace → Station
-station_next n = station_by (row_of (next_row n))
+abbrev location_next : Next SemaphorePlace → Location
+location_next n = location_by (row_of (next_row n))
 
 -- ---------------------------------------------------------------- the word
 
@@ -71,7 +71,7 @@ exchanged_word false true = tt
 exchanged_word false false = tt
 
 exchanged_rest : (timed again other free : Bool) (seen : ℕ)
-    → station_next (in_acquire timed again (if other then At (acquire.Decide seen) else if free then Over (acquired timed) else At (acquire.Decide 1))) ≡ nowhere
+    → location_next (in_acquire timed again (if other then At (acquire.Decide seen) else if free then Over (acquired timed) else At (acquire.Decide 1))) ≡ nowhere
 exchanged_rest timed again true free seen = refl
 exchanged_rest timed again false true seen = refl
 exchanged_rest timed again false false seen = refl
@@ -80,7 +80,7 @@ looked_word : (free : Bool) → AreOfWord (if free then [] else End ∷ [])
 looked_word true = tt
 looked_word false = tt
 
-looked_rest : (free : Bool) (seen : ℕ) → station_next (in_try (if free then At (tries.Decide seen) else Over answer.No)) ≡ nowhere
+looked_rest : (free : Bool) (seen : ℕ) → location_next (in_try (if free then At (tries.Decide seen) else Over answer.No)) ≡ nowhere
 looked_rest true seen = refl
 looked_rest false seen = refl
 
@@ -90,7 +90,7 @@ attempted_word false true = tt
 attempted_word false false = tt
 
 attempted_rest : (won free : Bool) (seen : ℕ)
-    → station_next (in_try (if won then Over answer.Yes else if free then At (tries.Decide seen) else Over answer.No)) ≡ nowhere
+    → location_next (in_try (if won then Over answer.Yes else if free then At (tries.Decide seen) else Over answer.No)) ≡ nowhere
 attempted_rest true free seen = refl
 attempted_rest false free seen = looked_rest free seen
 
@@ -98,7 +98,7 @@ given_word : (parked : Bool) → AreOfWord (Case (GivesBack Shared) ∷ (if park
 given_word true = tt
 given_word false = tt
 
-given_rest : (parked : Bool) → station_next (in_release (if parked then At release.Enter else Over answer.Ok)) ≡ nowhere
+given_rest : (parked : Bool) → location_next (in_release (if parked then At release.Enter else Over answer.Ok)) ≡ nowhere
 given_rest true = refl
 given_rest false = refl
 
@@ -133,7 +133,7 @@ attempts : (l was : ℕ) (free : Bool)
 attempts l was true = (refl, attempts_put was)
 attempts l was false = (refl, attempts_put was)
 
-pub semaphore_acts_move : (l : ℕ) (p : SemaphorePlace) → GivesUpTimed p → SemaphoreMoves l (semaphore_move p) (semaphore_hears p) (semaphore_act l p)
+pub semaphore_acts_move : (l : ℕ) (p : SemaphorePlace) → LateIsTimed p → SemaphoreMoves l (semaphore_move p) (semaphore_hears p) (semaphore_act l p)
 semaphore_acts_move l (Acquire timed again acquire.Load) h = (refl, record { out = refl; free = refl; deeds = λ seen. tt; goes = λ seen. refl })
 semaphore_acts_move l (Acquire timed again (acquire.Decide was)) h = decides l timed again was (is_free was) (was == 0)
 semaphore_acts_move l (Acquire timed again acquire.Check) h = (Main, refl, refl, record { was = refl; parks = refl; parked = refl; turns = refl; turned = refl; may = λ r s t b e out. (e, out) })
@@ -143,7 +143,7 @@ semaphore_acts_move l (Acquire timed again acquire.Asleep) h = tt
 semaphore_acts_move l (Acquire timed again (acquire.Taken by)) h = tt
 semaphore_acts_move l (Acquire timed again acquire.Remove) h = (Main, refl, record { want = Shared; was = refl; deeds = λ none_left. refl; goes = removed; may = λ r s t none_left stands. (h refl, stands) })
   where
-    removed : (none_left : Bool) → station_then (semaphore_move (Acquire timed again acquire.Remove)) (reply.Removed none_left) ≡ inside_of Main
+    removed : (none_left : Bool) → location_then (semaphore_move (Acquire timed again acquire.Remove)) (reply.Removed none_left) ≡ inside_of Main
     removed true = refl
     removed false = refl
 semaphore_acts_move l (Acquire timed again acquire.Clear) h = (refl, record { out = refl; free = refl; deeds = λ seen. tt; goes = λ seen. refl })
@@ -154,7 +154,7 @@ semaphore_acts_move l (Release release.Add) h = (refl, record { out = refl; free
 semaphore_acts_move l (Release release.Enter) h = (Main, refl, record { out = refl; free = refl; deeds = refl; goes = refl; may = λ r s t free. free })
 semaphore_acts_move l (Release release.Take) h = (refl, record { was = refl; deeds = λ whom any none_left. refl; goes = took; may = λ r s t whom any none_left first nobody. (first, nobody) })
   where
-    took : (any none_left : Bool) → station_then (semaphore_move (Release release.Take)) (reply.Took any none_left) ≡ record (inside_of Main) { carries = in_hand any false }
+    took : (any none_left : Bool) → location_then (semaphore_move (Release release.Take)) (reply.Took any none_left) ≡ record (inside_of Main) { carries = in_hand any false }
     took any true = refl
     took any false = refl
 semaphore_acts_move l (Release (release.Clear any)) h = (refl, record { out = refl; free = refl; deeds = λ seen. tt; goes = λ seen. refl })
@@ -176,7 +176,7 @@ asleep_in timed again m e = record {
   was = ap (λ (n : Line). record nowhere { stands = Some n; waits = Some Shared }) (sym e);
   taken = λ u. refl;
   wants = λ u. refl;
-  doing = λ u. refl;
+  role = λ u. refl;
 }
 
 pub semaphore_sleepers_move : (p : SemaphorePlace) → Waits (semaphore_move p)
@@ -199,7 +199,7 @@ semaphore_sleepers_move (Acquire timed again (acquire.Taken by)) = record {
         wants = refl;
         was = ap (λ n. record nowhere { hand = hand n false }) whose;
         woken = refl;
-        doing = refl;
+        role = refl;
       },
     )
 semaphore_sleepers_move (Acquire timed again (acquire.Leave true)) = record {
@@ -236,7 +236,7 @@ semaphore_late_move (Release at) m h = absurd cc
 -- ---------------------------------------------------------------- only a timed call gives up
 
 abbrev pub NextTimed : Next SemaphorePlace → Type 0
-NextTimed (At p) = GivesUpTimed p
+NextTimed (At p) = LateIsTimed p
 NextTimed (Over answer) = Unit {0}
 
 exchanged_timed : (timed again other free : Bool) (seen : ℕ)
@@ -257,7 +257,7 @@ releasing_timed (At (release.Clear any)) = λ e. absurd cc
 releasing_timed (At (release.Leave any)) = λ e. absurd cc
 releasing_timed (Over answer) = tt
 
-pub next_timed : (p : SemaphorePlace) (told : Reply) → GivesUpTimed p → (told ≡ reply.Late → (semaphore_profile p).timed ≡ true) → NextTimed (semaphore_next p told)
+pub next_timed : (p : SemaphorePlace) (told : Reply) → LateIsTimed p → (told ≡ reply.Late → (semaphore_profile p).timed ≡ true) → NextTimed (semaphore_next p told)
 next_timed (Acquire timed again acquire.Load) (reply.Value seen) h late = λ e. absurd cc
 next_timed (Acquire timed again (acquire.Decide was)) (reply.Value seen) h late = exchanged_timed timed again (not (seen == was)) (is_free seen) seen
 next_timed (Acquire timed again (acquire.Decide was)) reply.Done h late = λ e. absurd cc

@@ -9,7 +9,7 @@ use Rattle.steps_base.specs.declared.acts.Reply.TheVariants.{TakenBy, Took}
 use Rattle.steps_base.specs.declared.acts.Whom.TheVariants as whom
 use Rattle.steps_base.specs.Moves.{Hears, Move, inside_of}
 use Rattle.steps_base.specs.Profiles.{in_hand}
-use Rattle.steps_base.specs.Stations.{Station}
+use Rattle.steps_base.specs.Locations.{Location}
 use Rattle.spec_locks.specs.Locks.{HasTakenNobody, Knows, KnowsAll, Rules, Semaphore, TakeFirst, first_thread, putting}
 use Rattle.spec_locks.specs.Locks as locks
 use Rattle.spec_locks.specs.Picks.{queued_of}
@@ -21,31 +21,31 @@ use Rattle.lot_machine.specs.Machine.{State, is_there, place_at, places_told, pu
 use Rattle.lot_machine.proofs.QueueLemmas.{told_count}
 use Rattle.lot_laws.specs.Refinement.{lock_state, taken_at}
 use Rattle.lot_laws.specs.MutexDeeds.{acts}
-use Rattle.lot_laws.specs.Stations.{doing_on, station, station_at}
-use Rattle.lot_laws.specs.SitesOf.{ActsNeeded, AreWaiting, FitsItsLock, Goes, IsSteady, TakesOne, after_acts, carried_at, rules_in, stations_of, stood_in}
+use Rattle.lot_laws.specs.Locations.{role_on, location, location_at}
+use Rattle.lot_laws.specs.SitesOf.{ActsNeeded, AreWaiting, FitsItsLock, Goes, IsInductive, TakesOne, after_acts, carried_at, rules_in, locations_of, stood_in}
 use Rattle.lot_laws.proofs.sites.ActsKept.{finds_none, lock_by, nobody_goes, site_by}
 use Rattle.lot_laws.proofs.machine.AtPlaces.{in_no_hand}
-use Rattle.lot_laws.proofs.machine.Parts.{IsOf, free_of, nothing_at, of_single, put_places, same, station_here}
-use Rattle.lot_laws.proofs.sites.MovesKept.{IsFollowed, SleepsIfCalls, needed_by, own_by, site, sleeps_in, station_is, there_is}
+use Rattle.lot_laws.proofs.machine.Parts.{IsOf, free_of, nothing_at, of_single, put_places, same, location_here}
+use Rattle.lot_laws.proofs.sites.MovesKept.{IsFollowed, SleepsIfCalls, needed_by, own_by, site, sleeps_in, location_is, there_is}
 use Rattle.lot_laws.proofs.sites.OneStep.{empty_line, noted}
 use Rattle.lot_laws.proofs.semaphore.Moves.{TakesFirst}
 use Rattle.lot_laws.proofs.sites.StandsKept.{in_main}
 use Rattle.lot_laws.proofs.sites.TakesAt.{only_member}
 use Rattle.lot_laws.proofs.sites.TakesKept.{IsTakenFrom, member, take_goes, told_by, told_places}
 
--- who waits for a semaphore waits for a permit
+-- a thread that waits for a semaphore waits for a permit
 pub shared_wanted : (x : Want) → Knows Semaphore x → x ≡ Shared
 shared_wanted Shared k = refl
 shared_wanted x k = absurd k
 
-module _ (w : State) (t l : ℕ) (steady : IsSteady w) (own : IsOf l (place_at w t)) (there : t < length w.places) (p2 : Place)
+module _ (w : State) (t l : ℕ) (steady : IsInductive w) (own : IsOf l (place_at w t)) (there : t < length w.places) (p2 : Place)
     (of : IsOf l p2) (fits : FitsItsLock w p2) (many : TakesOne w l → ⊥)
-    (out : (station (place_at w t)).stands ≡ None) (free : (station (place_at w t)).hand ≡ None) (bare : (station (place_at w t)).carries ≡ None) (r : Rules) (rules : rules_in w l ≡ r) (none : taken_at (place_at w t) l ≡ None) (none2 : taken_at p2 l ≡ None)
-    (inside : (station p2).inside ≡ (station (place_at w t)).inside) (stands : (station p2).stands ≡ None) (unheld : (station p2).hand ≡ None)
+    (out : (location (place_at w t)).stands ≡ None) (free : (location (place_at w t)).hand ≡ None) (bare : (location (place_at w t)).carries ≡ None) (r : Rules) (rules : rules_in w l ≡ r) (none : taken_at (place_at w t) l ≡ None) (none2 : taken_at p2 l ≡ None)
+    (inside : (location p2).inside ≡ (location (place_at w t)).inside) (stands : (location p2).stands ≡ None) (unheld : (location p2).hand ≡ None)
     (x : Waiter) (rest : List Waiter) (first : queue_at w (2 * l) ≡ x ∷ rest) (shares : x.want ≡ Shared) (line : 2 * l < length w.queues) where
-  first_goes : IsTakenFrom w t l Main (place_at w x.thread) → (station p2).carries ≡ Some false
+  first_goes : IsTakenFrom w t l Main (place_at w x.thread) → (location p2).carries ≡ Some false
       → ActsNeeded r (acts t (Case (TakeFirst (queued x.thread)) ∷ [])) (lock_by w l r)
-      → doing_on p2 l ≡ (after_acts r (acts t (Case (TakeFirst (queued x.thread)) ∷ [])) (lock_by w l r)).doing t
+      → role_on p2 l ≡ (after_acts r (acts t (Case (TakeFirst (queued x.thread)) ∷ [])) (lock_by w l r)).role t
       → Goes w (put (state_after_reply (record w { queues = queues_without_first w.queues (2 * l) }) x.thread (TakenBy t)) t p2) l
       (acts t (Case (TakeFirst (queued x.thread)) ∷ []))
   first_goes sleeps carries needed own_is = take_goes w t l steady own there p2 of fits many Main (x ∷ []) rest
@@ -53,7 +53,7 @@ module _ (w : State) (t l : ℕ) (steady : IsSteady w) (own : IsOf l (place_at w
         counts = λ u. let a : times u (queue_at w (2 * l)) ≡ times u (x ∷ rest) = ap (times u) first in omega arith;
         sleeps = λ u h. subst (λ j. IsTakenFrom w t l Main (place_at w j)) (only_member x u h) sleeps;
         lefts = waits.1;
-        wants = (sleeps.held x.want (sym (ap (λ (y : Station). y.waits) (station_here l (place_at w x.thread) sleeps.calls ∙ sleeps.was)) ∙ waits.0.1), tt);
+        wants = (sleeps.held x.want (sym (ap (λ (y : Location). y.waits) (location_here l (place_at w x.thread) sleeps.calls ∙ sleeps.was)) ∙ waits.0.1), tt);
       }) out free bare r rules none none2 v refl refl refl threads places
       (get_or-set_same w.queues (2 * l) (drop 1 (queue_at w (2 * l))) [] line ∙ ap (drop 1) first) (λ key ne. get_or-set_other w.queues (2 * l) key (drop 1 (queue_at w (2 * l))) [] ne) inside stands unheld
       (λ b e. let f : Some false ≡ Some b = sym carries ∙ e in let g : false ≡ b = cc in (sym g, (x.thread, same_one))) (λ u h. carries)
@@ -64,8 +64,8 @@ module _ (w : State) (t l : ℕ) (steady : IsSteady w) (own : IsOf l (place_at w
       v : State
       v = put (state_after_reply (record w { queues = queues_without_first w.queues (2 * l) }) x.thread (TakenBy t)) t p2
 
-      waits : AreWaiting (stations_of (place_at w)) l Main (x ∷ rest)
-      waits = subst (AreWaiting (stations_of (place_at w)) l Main) first (steady.stands.waits l Main)
+      waits : AreWaiting (locations_of (place_at w)) l Main (x ∷ rest)
+      waits = subst (AreWaiting (locations_of (place_at w)) l Main) first (steady.stands.waits l Main)
 
       same_one : member x.thread (x ∷ []) ≡ true
       same_one = rw (same x.thread) refl
@@ -77,7 +77,7 @@ module _ (w : State) (t l : ℕ) (steady : IsSteady w) (own : IsOf l (place_at w
       places = put_places (state_after_reply (record w { queues = queues_without_first w.queues (2 * l) }) x.thread (TakenBy t)) t p2 (λ h. absurd (let n : length (places_told (TakenBy t) (threads_of (x ∷ [])) w.places) ≡ length w.places = told_count (TakenBy t) (threads_of (x ∷ [])) w.places in omega arith))
           ∙ ap (λ (f : ℕ → Place). putting f t p2) (told_places (TakenBy t) (x ∷ []) w.places)
 
-module _ (w : State) (t l : ℕ) (steady : IsSteady w) (there : t < length w.places) (own : IsOf l (place_at w t)) (r : Rules)
+module _ (w : State) (t l : ℕ) (steady : IsInductive w) (there : t < length w.places) (own : IsOf l (place_at w t)) (r : Rules)
     (rules : rules_in w l ≡ r) (x : Move) (same_row : profile (place_at w t) ≡ x.row) (asleep : (u : ℕ) → SleepsIfCalls w t l steady there own r rules x same_row u)
     (hears : Hears) (many : TakesOne w l → ⊥) (line : 2 * l < length w.queues) (sort : r.sort ≡ Semaphore) (g : TakesFirst x hears) where
   abbrev Followed : Option ℕ → Reply → Type 0
@@ -87,26 +87,26 @@ module _ (w : State) (t l : ℕ) (steady : IsSteady w) (there : t < length w.pla
   now = lock_by w l r
 
   module _ (followed : (who : Option ℕ) (any none_left : Bool) → hears r now t who (Took any none_left) → Followed who (Took any none_left)) where
-    is_now : station (place_at w t) ≡ inside_of Main
-    is_now = station_is w t l steady there own r rules x same_row ∙ g.was
+    is_now : location (place_at w t) ≡ inside_of Main
+    is_now = location_is w t l steady there own r rules x same_row ∙ g.was
 
     bare : carried_at (place_at w t) l ≡ None
-    bare = nothing_at (place_at w t) l (of_single l (place_at w t) own) (λ y. y.carries) refl (ap (λ (y : Station). y.carries) is_now)
+    bare = nothing_at (place_at w t) l (of_single l (place_at w t) own) (λ y. y.carries) refl (ap (λ (y : Location). y.carries) is_now)
 
     nobody : HasTakenNobody (lock_state w l) t
     nobody = in_no_hand w steady t l (λ h. let e : ◌≡◌ {A = Option Bool} None (Some false) = sym bare ∙ h in cc)
 
     hand_now : taken_at (place_at w t) l ≡ None
-    hand_now = free_of (place_at w t) l (of_single l (place_at w t) own) (ap (λ (y : Station). y.hand) is_now)
+    hand_now = free_of (place_at w t) l (of_single l (place_at w t) own) (ap (λ (y : Location). y.hand) is_now)
 
     -- where it is then
     is_then : (who : Option ℕ) (any none_left : Bool) → Followed who (Took any none_left)
-        → station (next_place (place_at w t) (Took any none_left)) ≡ record (inside_of Main) { carries = in_hand any false }
+        → location (next_place (place_at w t) (Took any none_left)) ≡ record (inside_of Main) { carries = in_hand any false }
     is_then who any none_left f = there_is w t l steady there own r rules x same_row who (Took any none_left) (next_place (place_at w t) (Took any none_left)) f ∙ g.goes any none_left
 
     hand_then : (who : Option ℕ) (any none_left : Bool) → Followed who (Took any none_left)
         → taken_at (next_place (place_at w t) (Took any none_left)) l ≡ None
-    hand_then who any none_left f = free_of (next_place (place_at w t) (Took any none_left)) l (of_single l (next_place (place_at w t) (Took any none_left)) f.of) (ap (λ (y : Station). y.hand) (is_then who any none_left f))
+    hand_then who any none_left f = free_of (next_place (place_at w t) (Took any none_left)) l (of_single l (next_place (place_at w t) (Took any none_left)) f.of) (ap (λ (y : Location). y.hand) (is_then who any none_left f))
 
     -- by who waits
     hears_empty : queue_at w (2 * l) ≡ [] → hears r now t None (Took false true)
@@ -138,9 +138,9 @@ module _ (w : State) (t l : ℕ) (steady : IsSteady w) (there : t < length w.pla
     takes_one : (y : Waiter) (rest : List Waiter) → queue_at w (2 * l) ≡ y ∷ rest
         → Goes w (put (state_after_reply (record w { queues = queues_without_first w.queues (2 * l) }) y.thread (TakenBy t)) t (next_place (place_at w t) (Took true (length rest == 0)))) l (acts t (x.deeds (Some y.thread) (Took true (length rest == 0))))
     takes_one y rest first = subst (λ ds. Goes w (put (state_after_reply (record w { queues = queues_without_first w.queues (2 * l) }) y.thread (TakenBy t)) t p2) l (acts t ds)) (sym (g.deeds (Some y.thread) true (length rest == 0)))
-        (first_goes w t l steady own there p2 f.of f.fits many (ap (λ (z : Station). z.stands) is_now) (ap (λ (z : Station). z.hand) is_now) (ap (λ (z : Station). z.carries) is_now) r rules hand_now (hand_then (Some y.thread) true (length rest == 0) f)
-        (ap (λ (z : Station). z.inside) at_then ∙ sym (ap (λ (z : Station). z.inside) is_now)) (ap (λ (z : Station). z.stands) at_then) (ap (λ (z : Station). z.hand) at_then)
-        y rest first wants line (sleeps_in w t l steady there own r rules x same_row asleep Main y.thread g.was stands_there) (ap (λ (z : Station). z.carries) at_then)
+        (first_goes w t l steady own there p2 f.of f.fits many (ap (λ (z : Location). z.stands) is_now) (ap (λ (z : Location). z.hand) is_now) (ap (λ (z : Location). z.carries) is_now) r rules hand_now (hand_then (Some y.thread) true (length rest == 0) f)
+        (ap (λ (z : Location). z.inside) at_then ∙ sym (ap (λ (z : Location). z.inside) is_now)) (ap (λ (z : Location). z.stands) at_then) (ap (λ (z : Location). z.hand) at_then)
+        y rest first wants line (sleeps_in w t l steady there own r rules x same_row asleep Main y.thread g.was stands_there) (ap (λ (z : Location). z.carries) at_then)
         (needed_by w t l steady there own r rules x same_row (Some y.thread) (Took true (length rest == 0)) p2 f (Case (TakeFirst (queued y.thread)) ∷ []) (g.deeds (Some y.thread) true (length rest == 0)))
         (own_by w t l steady there own r rules x same_row (Some y.thread) (Took true (length rest == 0)) p2 f (Case (TakeFirst (queued y.thread)) ∷ []) (g.deeds (Some y.thread) true (length rest == 0))))
       where
@@ -150,7 +150,7 @@ module _ (w : State) (t l : ℕ) (steady : IsSteady w) (there : t < length w.pla
         f : Followed (Some y.thread) (Took true (length rest == 0))
         f = followed (Some y.thread) true (length rest == 0) (hears_first y rest first)
 
-        at_then : station p2 ≡ record (inside_of Main) { carries = Some false }
+        at_then : location p2 ≡ record (inside_of Main) { carries = Some false }
         at_then = is_then (Some y.thread) true (length rest == 0) f
 
         known : KnowsAll Semaphore (map queued_of (y ∷ rest))
@@ -159,12 +159,12 @@ module _ (w : State) (t l : ℕ) (steady : IsSteady w) (there : t < length w.pla
         wants : y.want ≡ Shared
         wants = shared_wanted y.want known.0
 
-        stands_there : (station_at (place_at w y.thread) l).stands ≡ Some Main
-        stands_there = in_main (station_at (place_at w y.thread) l).stands (let a : times y.thread (queue_at w (2 * l)) ≡ stood_in (station_at (place_at w y.thread) l).stands Main = steady.stands.lines y.thread l Main in
+        stands_there : (location_at (place_at w y.thread) l).stands ≡ Some Main
+        stands_there = in_main (location_at (place_at w y.thread) l).stands (let a : times y.thread (queue_at w (2 * l)) ≡ stood_in (location_at (place_at w y.thread) l).stands Main = steady.stands.lines y.thread l Main in
             let b : times y.thread (queue_at w (2 * l)) ≡ times y.thread (y ∷ rest) = ap (times y.thread) first in
             let c : ◌≡◌ {A = ℕ} (if y.thread == y.thread then 1 else 0) 1 = ap (λ (b : Bool). if b then 1 else 0) (same y.thread) in omega arith)
 
-    -- what it is told, and where it goes on
+    -- tells what it is told, and where it goes on
     abbrev pub told_first : Reply
     told_first = reply_to_take w t (2 * l) whom.First
 

@@ -30,7 +30,7 @@ tells_so l (Acquire timed retries at) m v = refl
 tells_so l (Try at) m v = refl
 tells_so l (Release at) m v = refl
 
--- who waits for a permit, or tries to take one, lets nobody in
+-- a thread that waits for a permit, or tries to take one, lets nobody in
 acquires_quietly : (l : ℕ) (timed retries : Bool) (at : AcquireAt) → LetsIn locks.Semaphore l (semaphore_profile (Acquire timed retries at)) → ⊥
 acquires_quietly l timed retries at (inr h) = let f : false ≡ true = h.0 in cc
 acquires_quietly l timed retries at (inl h) = h
@@ -43,7 +43,7 @@ tries_quietly l at (inl h) = h
 
 acquire_since : (l : ℕ) (timed retries : Bool) (n : Next AcquireAt) (m : Line)
     → (profile (semaphore_goes l (in_acquire timed retries n))).owes ≡ Some m
-    → (profile (semaphore_goes l (in_acquire timed retries n))).doing.inside ≡ Some m
+    → (profile (semaphore_goes l (in_acquire timed retries n))).role.inside ≡ Some m
 acquire_since l timed retries (next.At acquire.Check) m h = h
 acquire_since l timed retries (next.At (acquire.Leave parked)) m h = h
 acquire_since l timed retries (next.At acquire.Remove) m h = h
@@ -53,7 +53,7 @@ acquire_since l timed retries (next.At at) m h = absurd cc
 acquire_since l timed retries (next.End answer) m h = absurd cc
 
 try_since : (l : ℕ) (n : Next TryAt) (m : Line) → (profile (semaphore_goes l (in_try n))).owes ≡ Some m
-    → (profile (semaphore_goes l (in_try n))).doing.inside ≡ Some m
+    → (profile (semaphore_goes l (in_try n))).role.inside ≡ Some m
 try_since l (next.At at) m h = absurd cc
 try_since l (next.End answer) m h = absurd cc
 
@@ -74,7 +74,7 @@ adds_owing l word false parked = record { since = λ m h. absurd cc; sees = λ m
 
 -- inside the section it owes
 inside_owing : (l word : ℕ) (at to : ReleaseAt) → (semaphore_profile (Release to)).owes ≡ Some Main
-    → (semaphore_profile (Release to)).doing.inside ≡ Some Main → ReleaseOwes l word at (next.At to)
+    → (semaphore_profile (Release to)).role.inside ≡ Some Main → ReleaseOwes l word at (next.At to)
 inside_owing l word at to owes within = record {
   since = λ m h. inl (within ∙ sym owes ∙ h);
   sees = λ m s step. owes ∙ ap Some s.1;

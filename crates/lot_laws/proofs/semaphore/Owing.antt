@@ -15,7 +15,7 @@ use Rattle.lot_steps.specs.declared.places.Place.TheVariants.{Semaphore}
 use Rattle.lot_steps.specs.Steps.{line_owed, next_place}
 use Rattle.lot_laws.proofs.promises.RowPromises.{Befalls, IsLateNext}
 
--- whatever befalls a thread, it owes what it owed
+-- a thread owes what it owed, with all that befalls it
 pub semaphore_befallen : (l : ℕ) (at : SemaphorePlace) (r : Reply) → Befalls r → (k : ℕ)
     → line_owed (next_place (Semaphore l at) r) k ≡ line_owed (Semaphore l at) k
 semaphore_befallen l (Acquire timed retries acquire.Asleep) (TakenBy t) b k = refl

@@ -10,7 +10,7 @@ use Rattle.steps_base.specs.declared.acts.Reply.{Reply}
 use Rattle.steps_base.specs.Acts.{outcome_of}
 use Rattle.steps_base.specs.Profiles.{Profile}
 use Rattle.steps_base.specs.Rows.{RowPromises}
-use Rattle.steps_base.specs.Stations.{Station}
+use Rattle.steps_base.specs.Locations.{Location}
 use Rattle.steps_semaphore.specs.declared.acquire.AcquireAt.TheVariants as acquire
 use Rattle.steps_semaphore.specs.declared.tries.TryAt.TheVariants as tries
 use Rattle.steps_semaphore.specs.declared.release.ReleaseAt.TheVariants as release
@@ -28,13 +28,13 @@ use Rattle.spec_locks.specs.Locks.{LockCase, standing}
 use Rattle.spec_locks.specs.Locks as locks
 use Rattle.spec_locks.specs.Runs.{GoesOn, is_closure}
 use Rattle.lot_machine.specs.Machine.{State, can_do, place_at, reply_to, state_after_act}
-use Rattle.lot_machine.specs.Fits.{IsShaped}
+use Rattle.lot_machine.specs.Fits.{IsWellFormed}
 use Rattle.lot_machine.proofs.Closures.{semaphore_runs_none}
 use Rattle.lot_machine.proofs.Shape.{performed_counts}
 use Rattle.lot_laws.specs.Refinement.{lock_state, locks_of}
 use Rattle.lot_laws.specs.MutexDeeds.{acts}
-use Rattle.lot_laws.specs.SitesOf.{Goes, IsSteady, carried_at, rules_in}
-use Rattle.lot_laws.specs.Stations.{station}
+use Rattle.lot_laws.specs.SitesOf.{Goes, IsInductive, carried_at, rules_in}
+use Rattle.lot_laws.specs.Locations.{location}
 use Rattle.lot_laws.proofs.machine.AtPlaces.{in_no_hand}
 use Rattle.lot_laws.proofs.calls.Events.{GoesAs, Happens, LeadsTo, OthersFollow, RunsNothing, begins_nothing, goes_by, happens, others_follow, runs_nothing}
 use Rattle.lot_laws.proofs.calls.Closures.{closure_told}
@@ -42,7 +42,7 @@ use Rattle.lot_laws.proofs.machine.Parts.{IsSingle}
 use Rattle.lot_laws.proofs.promises.LineActs.{takes_here}
 use Rattle.lot_laws.proofs.machine.PlaceTest.{semaphore_facts}
 use Rattle.lot_laws.proofs.calls.OtherCalls.{WakesOwn, hands_nothing, wakes_own}
-use Rattle.lot_laws.proofs.promises.PlacePromises.{station_own, waiting_stands}
+use Rattle.lot_laws.proofs.promises.PlacePromises.{location_own, waiting_stands}
 use Rattle.lot_laws.proofs.promises.RowPromises.{IsWaiting}
 use Rattle.lot_laws.proofs.semaphore.Kept.{GoesFrom, goes_semaphore, sort_is, whom_by}
 use Rattle.lot_laws.proofs.sites.SitesKept.{go_by}
@@ -60,12 +60,12 @@ tries_step l s false = refl
 
 -- ---------------------------------------------------------------- its step
 
-module _ (w : State) (t l : ℕ) (at : SemaphorePlace) (steady : IsSteady w) (shape : IsShaped w) (there : t < length w.places)
+module _ (w : State) (t l : ℕ) (at : SemaphorePlace) (steady : IsInductive w) (shape : IsWellFormed w) (there : t < length w.places)
     (lt : l < length w.locks) (is : place_at w t ≡ Semaphore l at) (can : can_do w (semaphore_act l at) ≡ true) where
   abbrev told : Reply
   told = reply_to w t (semaphore_act l at)
 
-  -- whom its act takes, if anybody
+  -- a thread that its act takes, if anybody
   abbrev whom : Option ℕ
   whom = whom_by w (semaphore_act l at)
 
@@ -82,7 +82,7 @@ module _ (w : State) (t l : ℕ) (at : SemaphorePlace) (steady : IsSteady w) (sh
   of = ap lock_of is
 
   carries : carried_at (place_at w t) l ≡ (semaphore_profile at).carries
-  carries = ap (λ (y : Station). y.carries) (station_own (place_at w t) l of) ∙ ap (λ q. (station q).carries) is
+  carries = ap (λ (y : Location). y.carries) (location_own (place_at w t) l of) ∙ ap (λ q. (location q).carries) is
 
   abbrev case : Option LockCase
   case = case_of (semaphore_profile at).carries (semaphore_deeds at whom told)
@@ -93,7 +93,7 @@ module _ (w : State) (t l : ℕ) (at : SemaphorePlace) (steady : IsSteady w) (sh
 
   others : OthersFollow w behind t (event_by l case)
   others = others_follow w behind t l case happened (hands_nothing w behind t l case happened (semaphore_profile at).carries (semaphore_act l at) case kept.others)
-      (wakes_own w t l steady (rw is refl) (next_place (Semaphore l at) told) (λ e. let both : locks.Condvar ≡ locks.Semaphore = sym e ∙ sort in cc) (Semaphore l at) (semaphore_act l at) (takes_here l (station (Semaphore l at)) (semaphore_act l at) (semaphore_facts l at).line) case (subst (λ h. WakesOwn h (semaphore_act l at) case) (sym carries) kept.others))
+      (wakes_own w t l steady (rw is refl) (next_place (Semaphore l at) told) (λ e. let both : locks.Condvar ≡ locks.Semaphore = sym e ∙ sort in cc) (Semaphore l at) (semaphore_act l at) (takes_here l (location (Semaphore l at)) (semaphore_act l at) (semaphore_facts l at).line) case (subst (λ h. WakesOwn h (semaphore_act l at) case) (sym carries) kept.others))
 
   -- where it is then
   waits : (q : SemaphorePlace) → place_at behind t ≡ Semaphore l q → IsWaiting (semaphore_profile q) → 1 ≤ standing t (lock_state behind l)

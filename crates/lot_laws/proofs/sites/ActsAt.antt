@@ -16,45 +16,45 @@ use Rattle.lot_steps.specs.declared.places.Place.{Place}
 use Rattle.lot_steps.specs.declared.places.Place.TheVariants.{Idle}
 use Rattle.lot_steps.specs.Steps.{owners_after, shares_after}
 use Rattle.spec_locks.specs.Locks.{Rules, putting}
-use Rattle.spec_locks.specs.Sites.{Doing, IsSite, Deed, Line, Main, Second, In, FindNobody, has_readers, after_deed}
+use Rattle.spec_locks.specs.Sites.{Role, IsSite, Deed, Line, Main, Second, In, FindNobody, has_readers, after_deed}
 use Rattle.spec_locks.specs.Codes.{code, fills}
 use Rattle.lot_machine.specs.declared.locks.Lock.{Lock}
 use Rattle.lot_machine.specs.Machine.{State, unlocked, place_at, word_at, owners_at, share_at, filled_at, kind_at, queue_at, section_at, put, state_after_operation, state_with_sections, queues_with_last, queues_without, queues_without_first}
 use Rattle.lot_laws.specs.Refinement.{taken_at}
 use Rattle.lot_laws.specs.MutexDeeds.{acts}
-use Rattle.lot_laws.specs.Stations.{Station, station_at, nowhere, doing_on}
-use Rattle.lot_laws.specs.SitesOf.{stations_of, TakesOne, ActsNeeded, IsSteady, Follows, Goes, FitsItsLock, Waits, AreWaiting, rules_in, key_of, stood_in}
+use Rattle.lot_laws.specs.Locations.{Location, location_at, nowhere, role_on}
+use Rattle.lot_laws.specs.SitesOf.{locations_of, TakesOne, ActsNeeded, IsInductive, SiteFollows, Goes, FitsItsLock, Waits, AreWaiting, rules_in, key_of, stood_in}
 use Rattle.lot_laws.proofs.semaphore.Permits.{all_by}
 use Rattle.lot_laws.proofs.hands.Counts.{without_absent}
 use Rattle.lot_laws.proofs.machine.Parts.{base_at, parts_at, seen_in, same, differ, put_places, put_here, inside_is}
 use Rattle.lot_laws.proofs.machine.KindsStay.{operated_kinds}
 use Rattle.lot_laws.proofs.sites.OneStep.{Steps, steps_by, same_word}
 use Rattle.lot_laws.proofs.sites.StandsKept.{other_key, other_line, same_line, AlikeBeside, part_else, waiting_same, waiting_behind, waiting_without}
-use Rattle.lot_laws.proofs.sites.StandsMoved.{AreThere, there_in, others_stay, station_put, stands_put, still, goes_in, goes_out, line_changes}
+use Rattle.lot_laws.proofs.sites.StandsMoved.{AreThere, there_in, others_stay, location_put, stands_put, still, goes_in, goes_out, line_changes}
 use Rattle.lot_laws.proofs.sites.Following.{Moves, NoHandOff, alike_put, follows_by, limited, lock_by, operated, ordinary_by, shares_here, shares_then_count, shares_there, shares_with_count, stood_one, stood_other, with_line}
 
 -- ---------------------------------------------------------------- one thread goes elsewhere
 
-module _ (w : State) (t l : ℕ) (steady : IsSteady w) (there : t < length w.places) (r : Rules) (rules : rules_in w l ≡ r)
+module _ (w : State) (t l : ℕ) (steady : IsInductive w) (there : t < length w.places) (r : Rules) (rules : rules_in w l ≡ r)
     (p2 : Place) (alike : AlikeBeside l (place_at w t) p2) (fits : FitsItsLock w p2) where
   -- how it stands at the lock
-  abbrev was : Station
-  was = station_at (place_at w t) l
+  abbrev was : Location
+  was = location_at (place_at w t) l
 
-  abbrev is : Station
-  is = station_at p2 l
+  abbrev is : Location
+  is = location_at p2 l
 
-  abbrev stations_now : ℕ → ℕ → Station
-  stations_now = stations_of (putting (place_at w) t p2)
+  abbrev locations_now : ℕ → ℕ → Location
+  locations_now = locations_of (putting (place_at w) t p2)
 
-  before : AreThere (TakesOne w) (stations_of (place_at w)) (section_at w) (queue_at w)
+  before : AreThere (TakesOne w) (locations_of (place_at w)) (section_at w) (queue_at w)
   before = there_in w steady.stands
 
-  others_still : (u k : ℕ) → (u ≡ t → k ≡ l → ⊥) → stations_now u k ≡ stations_of (place_at w) u k
+  others_still : (u k : ℕ) → (u ≡ t → k ≡ l → ⊥) → locations_now u k ≡ locations_of (place_at w) u k
   others_still = others_stay (place_at w) t l p2 alike
 
-  put_now : stations_now t l ≡ is
-  put_now = station_put (place_at w) t l p2
+  put_now : locations_now t l ≡ is
+  put_now = location_put (place_at w) t l p2
 
   past : length w.places ≤ t → p2 ≡ Idle
   past h = absurd (omega arith)
@@ -95,7 +95,7 @@ module _ (w : State) (t l : ℕ) (steady : IsSteady w) (there : t < length w.pla
       → Goes w (put (state_after_operation w t p l f) t p2) l (acts t ds)
   word_goes p lt shared f ds plain steps coded e = record {
     follows = follows_by w v l (operated w t p l f) (putting (place_at w) t p2) moves r rules (acts t ds) (λ e. all_by (length w.places) t ds there) (limited w l steady r rules (acts t ds) (λ h. ordinary_by (length w.places) t ds there (plain h)) steps.needed) steps.site steps.needed coded;
-    stands = stands_put w v steady.stands (operated_kinds w t p l f) t p2 fits (places_put v refl) (still (stations_of (place_at w)) stations_now (section_at w) (queue_at w) before t l others_still (put_now ∙ e));
+    stands = stands_put w v steady.stands (operated_kinds w t p l f) t p2 fits (places_put v refl) (still (locations_of (place_at w)) locations_now (section_at w) (queue_at w) before t l others_still (put_now ∙ e));
   }
     where
       v : State
@@ -141,7 +141,7 @@ module _ (w : State) (t l : ℕ) (steady : IsSteady w) (there : t < length w.pla
   -- a place and the section of its lock change
   place_follows : (v : State) (ds : List Deed) → (has_readers r.sort ≡ true → NoHandOff ds) → v.locks ≡ w.locks
       → v.shares ≡ w.shares → v.queues ≡ w.queues → v.places ≡ set w.places t p2
-      → Steps r l (parts_at w l) (parts_at w l) (place_at w) t p2 ds → Follows w v l (acts t ds)
+      → Steps r l (parts_at w l) (parts_at w l) (place_at w) t p2 ds → SiteFollows w v l (acts t ds)
   place_follows v ds plain el es eq ep steps = follows_by w v l (parts_at w l) (putting (place_at w) t p2)
       (lines_move v (queue_at w (2 * l)) (queue_at w (2 * l + 1)) el es ep (ap (λ (qs : List (List Waiter)). get_or qs (2 * l) []) eq) (ap (λ (qs : List (List Waiter)). get_or qs (2 * l + 1) []) eq) (λ k ne n. ap (λ (qs : List (List Waiter)). get_or qs (key_of k n) []) eq))
       r rules (acts t ds) (λ e. all_by (length w.places) t ds there) (limited w l steady r rules (acts t ds) (λ h. ordinary_by (length w.places) t ds there (plain h)) steps.needed) steps.site steps.needed (word_by_lines (queue_at w (2 * l)) (queue_at w (2 * l + 1)) (putting (place_at w) t p2))
@@ -151,20 +151,20 @@ module _ (w : State) (t l : ℕ) (steady : IsSteady w) (there : t < length w.pla
       → Steps r l (parts_at w l) (parts_at w l) (place_at w) t p2 ds → is ≡ was → Goes w (put w t p2) l (acts t ds)
   place_goes ds plain steps e = record {
     follows = place_follows (put w t p2) ds plain refl refl refl refl steps;
-    stands = stands_put w (put w t p2) steady.stands (λ k. refl) t p2 fits (places_put (put w t p2) refl) (still (stations_of (place_at w)) stations_now (section_at w) (queue_at w) before t l others_still (put_now ∙ e));
+    stands = stands_put w (put w t p2) steady.stands (λ k. refl) t p2 fits (places_put (put w t p2) refl) (still (locations_of (place_at w)) locations_now (section_at w) (queue_at w) before t l others_still (put_now ∙ e));
   }
 
   -- nobody is inside a section that is free
-  pub nobody_inside : (m : Line) → section_at w (key_of l m) ≡ None → (u : ℕ) → (doing_on (place_at w u) l).inside ≢ Some m
+  pub nobody_inside : (m : Line) → section_at w (key_of l m) ≡ None → (u : ℕ) → (role_on (place_at w u) l).inside ≢ Some m
   nobody_inside m free u h = let a : section_at w (key_of l m) ≡ Some u = (steady.stands.sections u l m).0 (sym (inside_is (place_at w u) l) ∙ h) in let b : ◌≡◌ {A = Option ℕ} None (Some u) = sym free ∙ a in cc
 
   -- it does one deed that leaves the lock and its bits as they are
   module _ (hand : taken_at (place_at w t) l ≡ taken_at p2 l) where
-    pub goes_into : (m : Line) → ActsNeeded r (acts t (In m ∷ [])) (lock_by w l r) → doing_on p2 l ≡ record (doing_on (place_at w t) l) { inside = Some m } → Steps r l (parts_at w l) (parts_at w l) (place_at w) t p2 (In m ∷ [])
-    goes_into m needed e = steps_by r l (parts_at w l) (parts_at w l) (place_at w) t p2 (In m ∷ []) needed (tt, tt) hand refl refl refl refl (e ∙ sym (put_here (λ u. doing_on (place_at w u) l) t _))
+    pub goes_into : (m : Line) → ActsNeeded r (acts t (In m ∷ [])) (lock_by w l r) → role_on p2 l ≡ record (role_on (place_at w t) l) { inside = Some m } → Steps r l (parts_at w l) (parts_at w l) (place_at w) t p2 (In m ∷ [])
+    goes_into m needed e = steps_by r l (parts_at w l) (parts_at w l) (place_at w) t p2 (In m ∷ []) needed (tt, tt) hand refl refl refl refl (e ∙ sym (put_here (λ u. role_on (place_at w u) l) t _))
 
-    pub finds_none : (m : Line) (d : Doing) → ActsNeeded r (acts t (FindNobody m ∷ [])) (lock_by w l r)
-        → doing_on p2 l ≡ (after_deed r (FindNobody m) (lock_by w l r) t).doing t
+    pub finds_none : (m : Line) (d : Role) → ActsNeeded r (acts t (FindNobody m ∷ [])) (lock_by w l r)
+        → role_on p2 l ≡ (after_deed r (FindNobody m) (lock_by w l r) t).role t
         → Steps r l (parts_at w l) (parts_at w l) (place_at w) t p2 (FindNobody m ∷ [])
     finds_none m d needed e = steps_by r l (parts_at w l) (parts_at w l) (place_at w) t p2 (FindNobody m ∷ []) needed (tt, tt) hand refl refl refl refl e
 
@@ -178,7 +178,7 @@ module _ (w : State) (t l : ℕ) (steady : IsSteady w) (there : t < length w.pla
         → Goes w (put (state_with_sections w (One (key_of l m)) (Some t)) t p2) l (acts t (In m ∷ []))
     enter_goes free out steps e = record {
       follows = place_follows v (In m ∷ []) (λ h. tt) refl refl refl refl steps;
-      stands = stands_put w v steady.stands (λ k. refl) t p2 fits (places_put v refl) (goes_in (stations_of (place_at w)) stations_now (section_at w) (queue_at w) before t l others_still m (section_at v) (section_then (Some t)) free (get_or-set_same w.sections (key_of l m) (Some t) None line) out (put_now ∙ e));
+      stands = stands_put w v steady.stands (λ k. refl) t p2 fits (places_put v refl) (goes_in (locations_of (place_at w)) locations_now (section_at w) (queue_at w) before t l others_still m (section_at v) (section_then (Some t)) free (get_or-set_same w.sections (key_of l m) (Some t) None line) out (put_now ∙ e));
     }
       where
         v : State
@@ -188,7 +188,7 @@ module _ (w : State) (t l : ℕ) (steady : IsSteady w) (there : t < length w.pla
     pub leave_goes : was.inside ≡ Some m → (ds : List Deed) → (has_readers r.sort ≡ true → NoHandOff ds) → Steps r l (parts_at w l) (parts_at w l) (place_at w) t p2 ds → is ≡ record was { inside = None } → Goes w (put (state_with_sections w (One (key_of l m)) None) t p2) l (acts t ds)
     leave_goes within ds plain steps e = record {
       follows = place_follows v ds plain refl refl refl refl steps;
-      stands = stands_put w v steady.stands (λ k. refl) t p2 fits (places_put v refl) (goes_out (stations_of (place_at w)) stations_now (section_at w) (queue_at w) before t l others_still m (section_at v) (section_then None) (get_or-set_same w.sections (key_of l m) None None line) within (put_now ∙ e));
+      stands = stands_put w v steady.stands (λ k. refl) t p2 fits (places_put v refl) (goes_out (locations_of (place_at w)) locations_now (section_at w) (queue_at w) before t l others_still m (section_at v) (section_then None) (get_or-set_same w.sections (key_of l m) None None line) within (put_now ∙ e));
     }
       where
         v : State
@@ -199,10 +199,10 @@ module _ (w : State) (t l : ℕ) (steady : IsSteady w) (there : t < length w.pla
       (es : v.sections ≡ w.sections) (ep : v.places ≡ set w.places t p2) (here : queue_at v (key_of l m) ≡ q)
       (elsewhere : (key : ℕ) → key ≢ key_of l m → queue_at v key ≡ queue_at w key) where
     line_follows : (ds : List Deed) → (has_readers r.sort ≡ true → NoHandOff ds)
-        → Steps r l (parts_at w l) (with_line (parts_at w l) m q) (place_at w) t p2 ds → Follows w v l (acts t ds)
+        → Steps r l (parts_at w l) (with_line (parts_at w l) m q) (place_at w) t p2 ds → SiteFollows w v l (acts t ds)
     line_follows ds plain steps = by_line m refl
       where
-        by_line : (n : Line) → m ≡ n → Follows w v l (acts t ds)
+        by_line : (n : Line) → m ≡ n → SiteFollows w v l (acts t ds)
         by_line Main e = follows_by w v l (with_line (parts_at w l) Main q) (putting (place_at w) t p2)
             (lines_move v q (queue_at w (2 * l + 1)) el eh ep (subst (λ n. queue_at v (key_of l n) ≡ q) e here) (elsewhere (2 * l + 1) (subst (λ n. 2 * l + 1 ≢ key_of l n) (sym e) (λ h. omega arith))) (λ k ne n. elsewhere (key_of k n) (other_key l k m n ne)))
             r rules (acts t ds) (λ e. all_by (length w.places) t ds there) (limited w l steady r rules (acts t ds) (λ h. ordinary_by (length w.places) t ds there (plain h)) (subst (λ n. Steps r l (parts_at w l) (with_line (parts_at w l) n q) (place_at w) t p2 ds) e steps).needed) (subst (λ n. Steps r l (parts_at w l) (with_line (parts_at w l) n q) (place_at w) t p2 ds) e steps).site (subst (λ n. Steps r l (parts_at w l) (with_line (parts_at w l) n q) (place_at w) t p2 ds) e steps).needed
@@ -217,27 +217,27 @@ module _ (w : State) (t l : ℕ) (steady : IsSteady w) (there : t < length w.pla
         → ((u : ℕ) → u ≢ t → times u q ≡ times u (queue_at w (key_of l m)))
         → ((n : Line) → times t (queue_at v (key_of l n)) ≡ stood_in is.stands n)
         → (to : Option Line) (wanted : Option Want) → is ≡ record was { stands = to; waits = wanted }
-        → ((n : Line) → n ≢ m → stood_in to n ≡ 0) → AreWaiting stations_now l m q → Goes w v l (acts t ds)
+        → ((n : Line) → n ≢ m → stood_in to n ≡ 0) → AreWaiting locations_now l m q → Goes w v l (acts t ds)
     line_goes ds plain steps counts own_count to wanted e to_here lined = record {
       follows = line_follows ds plain steps;
       stands = stands_put w v steady.stands (λ k i. (get_or (el i) k (unlocked kind.TheVariants.Mutex)).kind) t p2 fits (places_put v ep)
-          (subst (λ (f : ℕ → Option ℕ). AreThere (TakesOne w) stations_now f (queue_at v)) (λ i key. get_or (sym es i) key None)
-          (line_changes (stations_of (place_at w)) stations_now (section_at w) (queue_at w) before t l others_still m (queue_at v) elsewhere (λ u ne. ap (times u) here ∙ counts u ne)
-          (λ n. own_count n ∙ ap (λ (x : Station). stood_in x.stands n) (sym put_now)) waits_now (ap (λ (x : Station). x.inside) (put_now ∙ e)) (ap (λ (x : Station). x.carries) (put_now ∙ e)) (ap (λ (x : Station). x.hand) (put_now ∙ e))));
+          (subst (λ (f : ℕ → Option ℕ). AreThere (TakesOne w) locations_now f (queue_at v)) (λ i key. get_or (sym es i) key None)
+          (line_changes (locations_of (place_at w)) locations_now (section_at w) (queue_at w) before t l others_still m (queue_at v) elsewhere (λ u ne. ap (times u) here ∙ counts u ne)
+          (λ n. own_count n ∙ ap (λ (x : Location). stood_in x.stands n) (sym put_now)) waits_now (ap (λ (x : Location). x.inside) (put_now ∙ e)) (ap (λ (x : Location). x.carries) (put_now ∙ e)) (ap (λ (x : Location). x.hand) (put_now ∙ e))));
     }
       where
-        waits_now : Waits stations_now (queue_at v)
+        waits_now : Waits locations_now (queue_at v)
         waits_now k n = elim (cases_eq k l) [
           | inl f ↦ rw f (elim (same_line n m) [
             | inl g ↦ rw (g, here) lined
-            | inr ng ↦ waiting_same (stations_of (place_at w)) stations_now l n (queue_at v (key_of l n)) (subst (AreWaiting (stations_of (place_at w)) l n) (sym (elsewhere (key_of l n) (other_line l m n ng))) (steady.stands.waits l n))
-                (λ u g. part_else (λ y. y.waits) l (place_at w) t p2 alike u l (λ h i. let a : times t (queue_at v (key_of l n)) ≡ 0 = own_count n ∙ ap (λ (y : Station). stood_in y.stands n) e ∙ to_here n ng in let b : 1 ≤ times t (queue_at v (key_of l n)) = subst (λ j. 1 ≤ times j (queue_at v (key_of l n))) h g in omega arith))
+            | inr ng ↦ waiting_same (locations_of (place_at w)) locations_now l n (queue_at v (key_of l n)) (subst (AreWaiting (locations_of (place_at w)) l n) (sym (elsewhere (key_of l n) (other_line l m n ng))) (steady.stands.waits l n))
+                (λ u g. part_else (λ y. y.waits) l (place_at w) t p2 alike u l (λ h i. let a : times t (queue_at v (key_of l n)) ≡ 0 = own_count n ∙ ap (λ (y : Location). stood_in y.stands n) e ∙ to_here n ng in let b : 1 ≤ times t (queue_at v (key_of l n)) = subst (λ j. 1 ≤ times j (queue_at v (key_of l n))) h g in omega arith))
           ])
-          | inr ne ↦ waiting_same (stations_of (place_at w)) stations_now k n (queue_at v (key_of k n)) (subst (AreWaiting (stations_of (place_at w)) k n) (sym (elsewhere (key_of k n) (other_key l k m n ne))) (steady.stands.waits k n)) (λ u g. part_else (λ y. y.waits) l (place_at w) t p2 alike u k (λ h i. ne i))
+          | inr ne ↦ waiting_same (locations_of (place_at w)) locations_now k n (queue_at v (key_of k n)) (subst (AreWaiting (locations_of (place_at w)) k n) (sym (elsewhere (key_of k n) (other_key l k m n ne))) (steady.stands.waits k n)) (λ u g. part_else (λ y. y.waits) l (place_at w) t p2 alike u k (λ h i. ne i))
         ]
 
   -- how often it stands in a line
-  stood : (k : ℕ) (n : Line) → times t (queue_at w (key_of k n)) ≡ stood_in (station_at (place_at w t) k).stands n
+  stood : (k : ℕ) (n : Line) → times t (queue_at w (key_of k n)) ≡ stood_in (location_at (place_at w t) k).stands n
   stood = steady.stands.lines t
 
   pub stood_here : (n : Line) → times t (queue_at w (key_of l n)) ≡ stood_in was.stands n
@@ -245,9 +245,9 @@ module _ (w : State) (t l : ℕ) (steady : IsSteady w) (there : t < length w.pla
 
   -- it stands in no line of another lock
   abbrev pub IsOut : Type 0
-  IsOut = (k : ℕ) → k ≢ l → (station_at (place_at w t) k).stands ≡ None
+  IsOut = (k : ℕ) → k ≢ l → (location_at (place_at w t) k).stands ≡ None
 
-  -- who stands nowhere leaves no line
+  -- a thread that stands nowhere leaves no line
   absent : IsOut → was.stands ≡ None → (k : ℕ) (n : Line) → times t (queue_at w (key_of k n)) ≡ 0
   absent out none k n = elim (cases_eq k l) [
     | inl e ↦ rw e (stood_here n ∙ ap (λ x. stood_in x n) none)
@@ -265,8 +265,8 @@ module _ (w : State) (t l : ℕ) (steady : IsSteady w) (there : t < length w.pla
   ]
 
   -- the others in a line, where it isn't
-  others_wait : (m : Line) → (1 ≤ times t (queue_at w (key_of l m)) → ⊥) → AreWaiting stations_now l m (queue_at w (key_of l m))
-  others_wait m out = waiting_same (stations_of (place_at w)) stations_now l m (queue_at w (key_of l m)) (steady.stands.waits l m) (λ u g. part_else (λ y. y.waits) l (place_at w) t p2 alike u l (λ h i. out (subst (λ j. 1 ≤ times j (queue_at w (key_of l m))) h g)))
+  others_wait : (m : Line) → (1 ≤ times t (queue_at w (key_of l m)) → ⊥) → AreWaiting locations_now l m (queue_at w (key_of l m))
+  others_wait m out = waiting_same (locations_of (place_at w)) locations_now l m (queue_at w (key_of l m)) (steady.stands.waits l m) (λ u g. part_else (λ y. y.waits) l (place_at w) t p2 alike u l (λ h i. out (subst (λ j. 1 ≤ times j (queue_at w (key_of l m))) h g)))
 
   -- it stands behind the last of a line
   pub park_goes : IsOut → (m : Line) (x : Want) (ds : List Deed) → (has_readers r.sort ≡ true → NoHandOff ds)
@@ -277,8 +277,8 @@ module _ (w : State) (t l : ℕ) (steady : IsSteady w) (there : t < length w.pla
       → Goes w (put (record w { queues = queues_with_last w.queues (key_of l m) t x }) t p2) l (acts t ds)
   park_goes out m x ds plain line nowhere steps e = line_goes m v behind refl refl refl refl line_now others ds plain steps
       (λ u ne. let a : ◌≡◌ {A = ℕ} (if t == u then 1 else 0) 0 = ap (λ (b : Bool). if b then 1 else 0) (differ t u (λ h. ne (sym h))) in let b : times u behind ≡ times u (queue_at w (key_of l m)) + (if t == u then 1 else 0) = times_append u (key_of l m) t x (queue_at w (key_of l m)) in omega arith)
-      (λ n. own_count n (same_line n m) ∙ ap (λ (y : Station). stood_in y.stands n) (sym e)) (Some m) (Some x) e (stood_other m)
-      (waiting_behind stations_now l m (queue_at w (key_of l m)) (waiter (key_of l m) t x) (others_wait m (λ g. let a : times t (queue_at w (key_of l m)) ≡ 0 = absent out nowhere l m in omega arith)) (refl, ap (λ (y : Station). y.waits) (put_now ∙ e)))
+      (λ n. own_count n (same_line n m) ∙ ap (λ (y : Location). stood_in y.stands n) (sym e)) (Some m) (Some x) e (stood_other m)
+      (waiting_behind locations_now l m (queue_at w (key_of l m)) (waiter (key_of l m) t x) (others_wait m (λ g. let a : times t (queue_at w (key_of l m)) ≡ 0 = absent out nowhere l m in omega arith)) (refl, ap (λ (y : Location). y.waits) (put_now ∙ e)))
     where
       v : State
       v = put (record w { queues = queues_with_last w.queues (key_of l m) t x }) t p2
@@ -305,10 +305,10 @@ module _ (w : State) (t l : ℕ) (steady : IsSteady w) (there : t < length w.pla
       → is ≡ record was { stands = None; waits = None }
       → Goes w (put (record w { queues = queues_without w.queues t }) t p2) l (acts t ds)
   remove_goes out m ds plain stands steps e = line_goes m v (without t (queue_at w (key_of l m))) refl refl refl refl (get_or-map (without t) w.queues (key_of l m) []) others ds plain steps
-      (λ u ne. times_without u t (queue_at w (key_of l m)) ne) (λ n. own_count n (same_line n m) ∙ ap (λ (y : Station). stood_in y.stands n) (sym e)) None None e (λ n ne. refl) lined
+      (λ u ne. times_without u t (queue_at w (key_of l m)) ne) (λ n. own_count n (same_line n m) ∙ ap (λ (y : Location). stood_in y.stands n) (sym e)) None None e (λ n ne. refl) lined
     where
-      lined : AreWaiting stations_now l m (without t (queue_at w (key_of l m)))
-      lined = waiting_same (stations_of (place_at w)) stations_now l m (without t (queue_at w (key_of l m))) (waiting_without (stations_of (place_at w)) l m t (queue_at w (key_of l m)) (steady.stands.waits l m))
+      lined : AreWaiting locations_now l m (without t (queue_at w (key_of l m)))
+      lined = waiting_same (locations_of (place_at w)) locations_now l m (without t (queue_at w (key_of l m))) (waiting_without (locations_of (place_at w)) l m t (queue_at w (key_of l m)) (steady.stands.waits l m))
           (λ u g. part_else (λ y. y.waits) l (place_at w) t p2 alike u l (λ h i. let a : times t (without t (queue_at w (key_of l m))) ≡ 0 = times_gone t (queue_at w (key_of l m)) in let b : 1 ≤ times t (without t (queue_at w (key_of l m))) = subst (λ j. 1 ≤ times j (without t (queue_at w (key_of l m)))) h g in omega arith))
 
       v : State
@@ -335,8 +335,8 @@ module _ (w : State) (t l : ℕ) (steady : IsSteady w) (there : t < length w.pla
     follows = follows_by w v l (parts_at w l) (putting (place_at w) t p2)
         (lines_move v (queue_at w (2 * l)) (queue_at w (2 * l + 1)) refl refl refl (same_queue (2 * l)) (same_queue (2 * l + 1)) (λ k ne n. same_queue (key_of k n)))
         r rules (acts t ds) (λ e. all_by (length w.places) t ds there) (limited w l steady r rules (acts t ds) (λ h. ordinary_by (length w.places) t ds there (plain h)) steps.needed) steps.site steps.needed (word_by_lines (queue_at w (2 * l)) (queue_at w (2 * l + 1)) (putting (place_at w) t p2));
-    stands = stands_put w v steady.stands (λ k. refl) t p2 fits (places_put v refl) (subst (λ (f : ℕ → List Waiter). AreThere (TakesOne w) stations_now (section_at w) f) (λ i key. sym (same_queue key) i)
-        (still (stations_of (place_at w)) stations_now (section_at w) (queue_at w) before t l others_still (put_now ∙ e)));
+    stands = stands_put w v steady.stands (λ k. refl) t p2 fits (places_put v refl) (subst (λ (f : ℕ → List Waiter). AreThere (TakesOne w) locations_now (section_at w) f) (λ i key. sym (same_queue key) i)
+        (still (locations_of (place_at w)) locations_now (section_at w) (queue_at w) before t l others_still (put_now ∙ e)));
   }
     where
       v : State

@@ -20,21 +20,21 @@ use Rattle.lot_machine.specs.Machine.{State, place_at, word_at, owners_at, share
 use Rattle.lot_laws.specs.Refinement.{lock_state, taken_at}
 use Rattle.lot_laws.specs.MutexDeeds.{acts}
 use Rattle.lot_laws.specs.MutexDeeds as deeds
-use Rattle.lot_laws.specs.Stations.{doing_on}
-use Rattle.lot_laws.specs.SitesOf.{ActsNeeded, AllBy, HasRoom, SameNumbers, IsSteady, Follows, Goes, after_acts, site_of, rules_in, stood_in, Stands, FollowAll, GoesAll}
+use Rattle.lot_laws.specs.Locations.{role_on}
+use Rattle.lot_laws.specs.SitesOf.{ActsNeeded, AllBy, LimitHasRoom, SameNumbers, IsInductive, SiteFollows, Goes, after_acts, site_of, rules_in, stood_in, Stands, FollowAll, GoesAll}
 use Rattle.lot_laws.proofs.machine.Parts.{Parts, parts_at, lock_in, seen_in, same, put_here, put_other}
 use Rattle.lot_laws.proofs.semaphore.Permits.{permits_by}
 use Rattle.lot_laws.proofs.sites.OneStep.{AreOrdinary, Steps, steps_by, noted, acts_keep, acts_limited, same_filled, queued_behind}
 use Rattle.lot_laws.proofs.sites.StandsKept.{AlikeBeside}
 
--- what another lock sees of each place
+-- tells what another lock sees of each place
 abbrev pub AlikeAt : ℕ → Place → Place → Type 0
-AlikeAt k p q = (taken_at q k ≡ taken_at p k) × (doing_on q k ≡ doing_on p k)
+AlikeAt k p q = (taken_at q k ≡ taken_at p k) × (role_on q k ≡ role_on p k)
 
 pub alike_put : (l k : ℕ) (p : ℕ → Place) (t : ℕ) (p2 : Place) → AlikeBeside l (p t) p2 → k ≢ l → (u : ℕ)
     → AlikeAt k (p u) (putting p t p2 u)
 alike_put l k p t p2 alike ne u = elim (cases_eq u t) [
-  | inl e ↦ rw (e, put_here p t p2) ((alike k ne).taken, (alike k ne).doing)
+  | inl e ↦ rw (e, put_here p t p2) ((alike k ne).taken, (alike k ne).role)
   | inr nu ↦ rw (put_other p t p2 u nu) (refl, refl)
 ]
 
@@ -42,7 +42,7 @@ alike_put l k p t p2 alike ne u = elim (cases_eq u t) [
 abbrev pub lock_by : State → ℕ → Rules → Site
 lock_by w l r = seen_in r l (parts_at w l) (place_at w)
 
--- behind a step one lock has these parts, threads stand there, and all else is as it was
+-- after a step one lock has these parts, threads stand there, and all else is as it was
 pub record Moves (w v : State) (l : ℕ) (b : Parts) (q : ℕ → Place) : Type 0 where
   pub here : parts_at v l ≡ b
   pub others : (k : ℕ) → k ≢ l → parts_at v k ≡ parts_at w k
@@ -69,12 +69,12 @@ module _ (w v : State) (l : ℕ) (b : Parts) (q : ℕ → Place) (moves : Moves 
 
   site_there : (k : ℕ) → k ≢ l → site_of v k ≡ site_of w k
   site_there k ne = (λ i. seen_in (rules_of (moves.kinds k i)) k (moves.others k ne i) (moves.places i))
-      ∙ (λ i. record (site_of w k) { lock = record (site_of w k).lock { taken = λ u. (moves.alike k ne u).0 i }; doing = λ u. (moves.alike k ne u).1 i })
+      ∙ (λ i. record (site_of w k) { lock = record (site_of w k).lock { taken = λ u. (moves.alike k ne u).0 i }; role = λ u. (moves.alike k ne u).1 i })
 
-  -- what one lock has been through
+  -- tells what one lock has been through
   pub follows_by : (ds : List deeds.Act) → (r.sort ≡ locks.Semaphore → AllBy (length w.places) ds) → (has_readers r.sort ≡ true → HasLimit r (after_acts r ds (lock_by w l r)).lock)
       → seen_in r l b q ≡ after_acts r ds (lock_by w l r) → ActsNeeded r ds (lock_by w l r) → b.word ≡ code r (seen_in r l b q)
-      → Follows w v l ds
+      → SiteFollows w v l ds
   follows_by ds by limit led needed coded = record {
     site = site_here ∙ led ∙ sym (λ i. after_acts (rules i) ds (lock_by w l (rules i)));
     needed = subst (λ x. ActsNeeded x ds (lock_by w l x)) (sym rules) needed;
@@ -91,7 +91,7 @@ module _ (w v : State) (l : ℕ) (b : Parts) (q : ℕ → Place) (moves : Moves 
   }
 
 -- a step that hands nothing over stays within the limit
-pub limited : (w : State) (l : ℕ) (steady : IsSteady w) (r : Rules) (rules : rules_in w l ≡ r) (ds : List deeds.Act)
+pub limited : (w : State) (l : ℕ) (steady : IsInductive w) (r : Rules) (rules : rules_in w l ≡ r) (ds : List deeds.Act)
     → (has_readers r.sort ≡ true → AreOrdinary (length w.places) ds) → ActsNeeded r ds (lock_by w l r) → has_readers r.sort ≡ true
     → HasLimit r (after_acts r ds (lock_by w l r)).lock
 limited w l steady r rules ds ordinary needed readers = by_rules r rules (ordinary readers) needed readers
@@ -102,7 +102,7 @@ limited w l steady r rules ds ordinary needed readers = by_rules r rules (ordina
         acts_limited x ds (lock_by w l x) (length w.places) h (subst (λ (y : Rules). 1 ≤ y.limit) e before.0.0) (steady.numbers.threads l) plain (subst (λ y. IsSite y (lock_by w l y)) e (steady.sites.site l)) n (subst (λ y. HasLimit y (lock_by w l y).lock) e before.1)
 
 -- a step of any number of locks keeps all
-pub goes_all_steady : (w v : State) (ds : ℕ → List deeds.Act) → IsSteady w → FollowAll w v ds → Stands v → IsSteady v
+pub goes_all_steady : (w v : State) (ds : ℕ → List deeds.Act) → IsInductive w → FollowAll w v ds → Stands v → IsInductive v
 goes_all_steady w v ds steady f stands = record {
   sites = record {
     site = λ k. subst (λ x. IsSite (rules_of x) (site_of v k)) (sym (f.kinds k))
@@ -110,7 +110,7 @@ goes_all_steady w v ds steady f stands = record {
     word = λ k. f.word k ∙ (λ i. code (rules_of (sym (f.kinds k) i)) (site_of v k));
     unfilled = λ k h. let of_w = was_sort k false h in
         ap (λ (s : Site). s.filled) (f.site k) ∙ same_filled (rules_in w k) (ds k) (site_of w k) of_w ∙ steady.sites.unfilled k of_w;
-    limits = λ k h. subst (λ x. HasRoom (length v.places) (rules_of x) × HasLimit (rules_of x) (lock_state v k)) (sym (f.kinds k))
+    limits = λ k h. subst (λ x. LimitHasRoom (length v.places) (rules_of x) × HasLimit (rules_of x) (lock_state v k)) (sym (f.kinds k))
         (let of_w = was_sort k true h in (room_then k of_w, f.limit k of_w));
     permits = λ k sort. subst (λ x. HasPermits (rules_of x) (site_of v k) × ((rules_of x).limit ≤ 2 ^ 62)) (sym (f.kinds k))
         (let of_w : (rules_in w k).sort ≡ locks.Semaphore = sym (ap (λ x. (rules_of x).sort) (f.kinds k)) ∙ sort in let held = steady.sites.permits k of_w in
@@ -126,14 +126,14 @@ goes_all_steady w v ds steady f stands = record {
     was_sort : (k : ℕ) (b : Bool) → has_readers (rules_in v k).sort ≡ b → has_readers (rules_in w k).sort ≡ b
     was_sort k b h = sym (ap (λ x. has_readers (rules_of x).sort) (f.kinds k)) ∙ h
 
-    room_then : (k : ℕ) → has_readers (rules_in w k).sort ≡ true → HasRoom (length v.places) (rules_in w k)
-    room_then k h = subst (λ n. HasRoom n (rules_in w k)) (sym f.numbers.threads) (steady.sites.limits k h).0
+    room_then : (k : ℕ) → has_readers (rules_in w k).sort ≡ true → LimitHasRoom (length v.places) (rules_in w k)
+    room_then k h = subst (λ n. LimitHasRoom n (rules_in w k)) (sym f.numbers.threads) (steady.sites.limits k h).0
 
 -- a step of one lock leaves the others as they were
 abbrev pub only_at : ℕ → List deeds.Act → ℕ → List deeds.Act
 only_at l ds k = if k == l then ds else []
 
-follows_all : (w v : State) (l : ℕ) (ds : List deeds.Act) → IsSteady w → Follows w v l ds → FollowAll w v (only_at l ds)
+follows_all : (w v : State) (l : ℕ) (ds : List deeds.Act) → IsInductive w → SiteFollows w v l ds → FollowAll w v (only_at l ds)
 follows_all w v l ds steady f = record {
   site = λ k. (either k (k == l) refl).0;
   needed = λ k. (either k (k == l) refl).1;
@@ -162,11 +162,11 @@ follows_all w v l ds steady f = record {
     )
 
 -- as a step of all of them
-pub goes_all : (w v : State) (l : ℕ) (ds : List deeds.Act) → IsSteady w → Goes w v l ds → GoesAll w v (only_at l ds)
+pub goes_all : (w v : State) (l : ℕ) (ds : List deeds.Act) → IsInductive w → Goes w v l ds → GoesAll w v (only_at l ds)
 goes_all w v l ds steady g = record { follows = follows_all w v l ds steady g.follows; stands = g.stands }
 
 -- and keeps all
-pub goes_steady : (w v : State) (l : ℕ) (ds : List deeds.Act) → IsSteady w → Goes w v l ds → IsSteady v
+pub goes_steady : (w v : State) (l : ℕ) (ds : List deeds.Act) → IsInductive w → Goes w v l ds → IsInductive v
 goes_steady w v l ds steady g = goes_all_steady w v (only_at l ds) steady (follows_all w v l ds steady g.follows) g.stands
 
 -- ---------------------------------------------------------------- what an operation on the word makes of the lock
@@ -217,22 +217,22 @@ with_line a Second q = record a { second = q }
 module _ (r : Rules) (l : ℕ) (a : Parts) (p : ℕ → Place) (t : ℕ) (p2 : Place) (site : IsSite r (seen_in r l a p))
     (hand : taken_at (p t) l ≡ taken_at p2 l) where
   -- it stands behind the last of the main line
-  pub parks : (key : ℕ) (x : Want) → ActsNeeded r (acts t (Case (locks.Park x) ∷ [])) (seen_in r l a p) → doing_on p2 l ≡ record (doing_on (p t) l) { retries = None; empty = None }
+  pub parks : (key : ℕ) (x : Want) → ActsNeeded r (acts t (Case (locks.Park x) ∷ [])) (seen_in r l a p) → role_on p2 l ≡ record (role_on (p t) l) { retries = None; empty = None }
       → Steps r l a (with_line a Main (a.main ++ waiter key t x ∷ [])) p t p2 (Case (locks.Park x) ∷ [])
   parks key x needed own = steps_by r l a (with_line a Main (a.main ++ waiter key t x ∷ [])) p t p2 (Case (locks.Park x) ∷ []) needed (tt, tt) hand
-      (λ i. record (lock_in a (λ u. taken_at (p u) l)) { queue = queued_behind key t x a.main i }) refl refl (noted r (seen_in r l a p) site) (own ∙ sym (put_here (λ u. doing_on (p u) l) t _))
+      (λ i. record (lock_in a (λ u. taken_at (p u) l)) { queue = queued_behind key t x a.main i }) refl refl (noted r (seen_in r l a p) site) (own ∙ sym (put_here (λ u. role_on (p u) l) t _))
 
   -- it stands aside, alone
-  pub asides : (key : ℕ) (x : Want) → a.second ≡ [] → ActsNeeded r (acts t (Case locks.Aside ∷ [])) (seen_in r l a p) → doing_on p2 l ≡ record (doing_on (p t) l) { retries = None; empty = None }
+  pub asides : (key : ℕ) (x : Want) → a.second ≡ [] → ActsNeeded r (acts t (Case locks.Aside ∷ [])) (seen_in r l a p) → role_on p2 l ≡ record (role_on (p t) l) { retries = None; empty = None }
       → Steps r l a (with_line a Second (a.second ++ waiter key t x ∷ [])) p t p2 (Case locks.Aside ∷ [])
   asides key x nobody needed own = steps_by r l a (with_line a Second (a.second ++ waiter key t x ∷ [])) p t p2 (Case locks.Aside ∷ []) needed (tt, tt) hand
-      (ap (λ (q : List Waiter). lock_in (with_line a Second (q ++ waiter key t x ∷ [])) (λ u. taken_at (p u) l)) nobody) refl refl (noted r (seen_in r l a p) site) (own ∙ sym (put_here (λ u. doing_on (p u) l) t _))
+      (ap (λ (q : List Waiter). lock_in (with_line a Second (q ++ waiter key t x ∷ [])) (λ u. taken_at (p u) l)) nobody) refl refl (noted r (seen_in r l a p) site) (own ∙ sym (put_here (λ u. role_on (p u) l) t _))
 
   -- its time is up, and it leaves the line in which it stands
   pub lates : (m : Line) (q : List Waiter) → map queued_of (with_line a m q).main ≡ locks.without t (map queued_of a.main)
       → first_of (with_line a m q).second ≡ locks.aside_without t (first_of a.second)
       → ActsNeeded r (acts t (Case locks.Late ∷ [])) (seen_in r l a p)
-      → doing_on p2 l ≡ (after_deed r (Case locks.Late) (seen_in r l a p) t).doing t
+      → role_on p2 l ≡ (after_deed r (Case locks.Late) (seen_in r l a p) t).role t
       → Steps r l a (with_line a m q) p t p2 (Case locks.Late ∷ [])
   lates Main q mains seconds needed own = steps_by r l a (with_line a Main q) p t p2 (Case locks.Late ∷ []) needed (tt, tt) hand
       (λ i. record (lock_in a (λ u. taken_at (p u) l)) { queue = mains i; aside = seconds i }) refl refl (noted r (seen_in r l a p) site) own

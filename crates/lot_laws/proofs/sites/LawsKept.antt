@@ -12,8 +12,8 @@ use Rattle.spec_locks.proofs.CodeLaws.{words_tell_true}
 use Rattle.lot_machine.specs.Machine.{State, place_at, word_at, filled_at, put, state_after_operation}
 use Rattle.lot_laws.specs.Refinement.{taken_at}
 use Rattle.lot_laws.specs.MutexDeeds.{acts}
-use Rattle.lot_laws.specs.Stations.{station, doing_on}
-use Rattle.lot_laws.specs.SitesOf.{ActsNeeded, IsSteady, Goes, FitsItsLock, after_acts, rules_in}
+use Rattle.lot_laws.specs.Locations.{location, role_on}
+use Rattle.lot_laws.specs.SitesOf.{ActsNeeded, IsInductive, Goes, FitsItsLock, after_acts, rules_in}
 use Rattle.lot_laws.proofs.machine.Parts.{parts_at, lock_in, IsOf}
 use Rattle.lot_laws.proofs.sites.OneStep.{AreSingle, HasOneCase, Steps, steps_by, acts_keep, full_then, fills_by}
 use Rattle.lot_laws.proofs.sites.ActsKept.{NoHandOff, lock_by, operated, site_by, word_goes}
@@ -43,17 +43,17 @@ aside_read Semaphore v h = absurd cc
 aside_read Once v h = absurd cc
 aside_read Condvar v h = absurd cc
 
-module _ (w : State) (t l : ℕ) (steady : IsSteady w) (own : IsOf l (place_at w t)) (there : t < length w.places) (r : Rules)
+module _ (w : State) (t l : ℕ) (steady : IsInductive w) (own : IsOf l (place_at w t)) (there : t < length w.places) (r : Rules)
     (rules : rules_in w l ≡ r) (p2 : Place) (of : IsOf l p2) (fits : FitsItsLock w p2) (readers : has_readers r.sort ≡ true)
     (p : Place) (f : Op) (ds : List Deed) where
   -- the site behind the deeds
   abbrev behind : Site
   behind = after_acts r (acts t ds) (lock_by w l r)
 
-  -- what the laws conclude
+  -- tells what the laws conclude
   pub record IsLawful : Type 0 where
     pub needed : laws.AllNeeded r ds (lock_by w l r) t
-    pub doing : (laws.after_all r ds (lock_by w l r) t).doing t ≡ doing_on p2 l
+    pub role : (laws.after_all r ds (lock_by w l r) t).role t ≡ role_on p2 l
     pub owners : lock_in (operated w t p l f) (λ u. taken_at (place_at w u) l) ≡ (laws.after_all r ds (lock_by w l r) t).lock
     pub word : apply f (word_at w l) ≡ code r (laws.after_all r ds (lock_by w l r) t)
 
@@ -80,10 +80,10 @@ module _ (w : State) (t l : ℕ) (steady : IsSteady w) (own : IsOf l (place_at w
         (parked_read r.sort (apply f (word_at w l)) readers ∙ ap has_parked coded ∙ told.parked)
         (aside_read r.sort (apply f (word_at w l)) readers ∙ ap has_aside coded ∙ told.aside)
         full
-        (sym law.doing ∙ sym (ap (λ (s : Site). s.doing t) (after_same r ds (lock_by w l r) t)))
+        (sym law.role ∙ sym (ap (λ (s : Site). s.role t) (after_same r ds (lock_by w l r) t)))
 
     -- so every lock is a site again
     pub lawful_goes : l < length w.locks → NoHandOff ds → taken_at (place_at w t) l ≡ taken_at p2 l
-        → station p2 ≡ station (place_at w t) → Goes w (put (state_after_operation w t p l f) t p2) l (acts t ds)
+        → location p2 ≡ location (place_at w t) → Goes w (put (state_after_operation w t p l f) t p2) l (acts t ds)
     lawful_goes lt plain hand e = word_goes w t l steady own there r rules p2 of fits p lt (rw steady.numbers.locks lt) f ds (λ h. plain) (steps hand)
         (coded ∙ sym (ap (code r) (steps hand).site)) e

@@ -21,7 +21,7 @@ use Rattle.spec_locks.proofs.SiteKeeps.{deed_keeps}
 use Rattle.lot_laws.specs.Refinement.{taken_at}
 use Rattle.lot_laws.specs.MutexDeeds.{acts}
 use Rattle.lot_laws.specs.MutexDeeds as deeds
-use Rattle.lot_laws.specs.Stations.{doing_on}
+use Rattle.lot_laws.specs.Locations.{role_on}
 use Rattle.lot_laws.specs.SitesOf.{ActsNeeded, after_acts}
 use Rattle.lot_laws.proofs.machine.Parts.{Parts, differ, lock_in, seen_in, put_here, put_other, put_of, put_same}
 
@@ -35,25 +35,25 @@ abbrev pub AreSingle : List Deed → Type 0
 AreSingle [] = Unit {0}
 AreSingle (d ∷ ds) = IsSingle d × AreSingle ds
 
-others_same_by : (r : Rules) (d : Deed) (s : Site) (t u : ℕ) → IsSingle d → u ≢ t → (after_deed r d s t).doing u ≡ s.doing u
-others_same_by r (Begin c) s t u h ne = put_other s.doing t _ u ne
-others_same_by r End s t u h ne = put_other s.doing t _ u ne
-others_same_by r (In m) s t u h ne = put_other s.doing t _ u ne
+others_same_by : (r : Rules) (d : Deed) (s : Site) (t u : ℕ) → IsSingle d → u ≢ t → (after_deed r d s t).role u ≡ s.role u
+others_same_by r (Begin c) s t u h ne = put_other s.role t _ u ne
+others_same_by r End s t u h ne = put_other s.role t _ u ne
+others_same_by r (In m) s t u h ne = put_other s.role t _ u ne
 others_same_by r Out s t u h ne = absurd h
 others_same_by r (Mark Main) s t u h ne = refl
 others_same_by r (Mark m) s t u h ne = refl
-others_same_by r (Clear Main) s t u h ne = put_other s.doing t _ u ne
-others_same_by r (Clear m) s t u h ne = put_other s.doing t _ u ne
-others_same_by r (FindNobody m) s t u h ne = put_other s.doing t _ u ne
-others_same_by r MarkOwned s t u h ne = put_other s.doing t _ u ne
-others_same_by r (Bring taken moved) s t u h ne = put_other s.doing t _ u ne
-others_same_by r MarkBrought s t u h ne = put_other s.doing t _ u ne
+others_same_by r (Clear Main) s t u h ne = put_other s.role t _ u ne
+others_same_by r (Clear m) s t u h ne = put_other s.role t _ u ne
+others_same_by r (FindNobody m) s t u h ne = put_other s.role t _ u ne
+others_same_by r MarkOwned s t u h ne = put_other s.role t _ u ne
+others_same_by r (Bring taken moved) s t u h ne = put_other s.role t _ u ne
+others_same_by r MarkBrought s t u h ne = put_other s.role t _ u ne
 others_same_by r (Send all) s t u h ne = refl
 others_same_by r LeaveLine s t u h ne = refl
-others_same_by r (Case case) s t u h ne = put_other s.doing t _ u ne
+others_same_by r (Case case) s t u h ne = put_other s.role t _ u ne
 
 pub others_same : (r : Rules) (ds : List Deed) (s : Site) (t u : ℕ) → AreSingle ds → u ≢ t
-    → (after_acts r (acts t ds) s).doing u ≡ s.doing u
+    → (after_acts r (acts t ds) s).role u ≡ s.role u
 others_same r [] s t u h ne = refl
 others_same r (d ∷ ds) s t u h ne = others_same r ds (after_deed r d s t) t u h.1 ne ∙ others_same_by r d s t u h.0 ne
 
@@ -204,7 +204,7 @@ module _ (t : ℕ) where
   case_count r (locks.OfCondvar case) s other = condvar_count case s
   case_count r case s other = refl
 
--- what a deed that hands nothing over keeps
+-- tells what a deed that hands nothing over keeps
 record KeepsLimit (r : Rules) (s v : LockState) : Type 0 where
   pub count : length v.shared ≡ length s.shared
   pub limit : HasLimit r v
@@ -257,20 +257,20 @@ same_word locks.Condvar limit s v x y e p u n f m = ap shown_code m
 pub meets : (r : Rules) (l : ℕ) (b : Parts) (p : ℕ → Place) (t : ℕ) (p2 : Place) (v : Site) → taken_at (p t) l ≡ taken_at p2 l
     → lock_in b (λ u. taken_at (p u) l) ≡ v.lock → parked_in r.sort b.word ≡ v.parked → aside_in r.sort b.word ≡ v.aside_parked
     → b.base.filled ≡ v.filled
-    → doing_on p2 l ≡ v.doing t → ((u : ℕ) → u ≢ t → v.doing u ≡ doing_on (p u) l) → seen_in r l b (putting p t p2) ≡ v
+    → role_on p2 l ≡ v.role t → ((u : ℕ) → u ≢ t → v.role u ≡ role_on (p u) l) → seen_in r l b (putting p t p2) ≡ v
 meets r l b p t p2 v hand lock parked aside full own others = λ i. record {
   lock = ((λ j. lock_in b (λ u. taken_same u j)) ∙ lock) i;
   parked = parked i;
   aside_parked = aside i;
   filled = full i;
-  doing = λ u. doing_now u i;
+  role = λ u. role_now u i;
 }
   where
     taken_same : (u : ℕ) → taken_at (putting p t p2 u) l ≡ taken_at (p u) l
     taken_same u = put_of (λ x. taken_at x l) p t p2 u ∙ put_same (λ k. taken_at (p k) l) t (taken_at p2 l) hand u
 
-    doing_now : (u : ℕ) → doing_on (putting p t p2 u) l ≡ v.doing u
-    doing_now u = elim (cases_eq u t) [
+    role_now : (u : ℕ) → role_on (putting p t p2 u) l ≡ v.role u
+    role_now u = elim (cases_eq u t) [
       | inl e ↦ rw (e, put_here p t p2) own
       | inr ne ↦ rw (put_other p t p2 u ne) (sym (others u ne))
     ]
@@ -287,7 +287,7 @@ pub steps_by : (r : Rules) (l : ℕ) (a b : Parts) (p : ℕ → Place) (t : ℕ)
     → parked_in r.sort b.word ≡ (after_acts r (acts t ds) (seen_in r l a p)).parked
     → aside_in r.sort b.word ≡ (after_acts r (acts t ds) (seen_in r l a p)).aside_parked
     → b.base.filled ≡ (after_acts r (acts t ds) (seen_in r l a p)).filled
-    → doing_on p2 l ≡ (after_acts r (acts t ds) (seen_in r l a p)).doing t → Steps r l a b p t p2 ds
+    → role_on p2 l ≡ (after_acts r (acts t ds) (seen_in r l a p)).role t → Steps r l a b p t p2 ds
 steps_by r l a b p t p2 ds needed single hand lock parked aside full own = record {
   site = meets r l b p t p2 (after_acts r (acts t ds) (seen_in r l a p)) hand lock parked aside full own (λ u ne. others_same r ds (seen_in r l a p) t u single ne);
   needed = needed;

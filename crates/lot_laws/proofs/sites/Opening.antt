@@ -15,11 +15,11 @@ use Rattle.spec_locks.specs.Purposes.{rules_of}
 use Rattle.spec_locks.specs.Sites.{Main, Site, IsSite, is_full, has_readers}
 use Rattle.spec_locks.proofs.LockKeeps.{opening_is_state}
 use Rattle.lot_machine.specs.Machine.{State, first_word, opening, unlocked, place_at, kind_at}
-use Rattle.lot_laws.specs.Stations.{nowhere, station_at}
+use Rattle.lot_laws.specs.Locations.{nowhere, location_at}
 use Rattle.spec_locks.specs.Condvars.{IsCondvar, opening_condvar}
 use Rattle.spec_locks.specs.Picks.{queued_of}
 use Rattle.lot_steps.specs.Steps.{profile_at}
-use Rattle.lot_laws.specs.SitesOf.{AreCondvars, condvar_of, inside_as, IsSteady, HasRoom, site_of, rules_in, key_of, carried_at, hand_at}
+use Rattle.lot_laws.specs.SitesOf.{AreCondvars, condvar_of, inside_as, IsInductive, LimitHasRoom, site_of, rules_in, key_of, carried_at, hand_at}
 use Rattle.lot_laws.proofs.machine.Parts.{past_all, seen_by}
 use Rattle.lot_machine.proofs.Opening.{idle_at, none_at, empty_at, nobody_owns, no_readers, opening_shares}
 use Rattle.lot_machine.proofs.Shape.{both}
@@ -99,7 +99,7 @@ unfilled_0 (x ∷ xs) zero = refl
 unfilled_0 (x ∷ xs) (suc l) = unfilled_0 xs l
 
 -- a number of readers that a word can count
-roomy : (k : Kind) (n : ℕ) → 1 ≤ n → fits k n ≡ true → has_readers (rules_of k).sort ≡ true → HasRoom n (rules_of k)
+roomy : (k : Kind) (n : ℕ) → 1 ≤ n → fits k n ≡ true → has_readers (rules_of k).sort ≡ true → LimitHasRoom n (rules_of k)
 roomy (kind.TheVariants.RwLock limit) n some h r = limit_fits n limit some h
 roomy (kind.TheVariants.Recursive limit) n some h r = limit_fits n limit some h
 roomy kind.TheVariants.Mutex n some h r = absurd cc
@@ -128,8 +128,8 @@ module _ (kinds : List Kind) (threads : ℕ) where
   opening_seen : (l : ℕ) → site_of first l ≡ new_site (kind_at first l) (length first.places)
   opening_seen l = λ i. seen_by (rules_in first l) l (record { shared = opening_shares kinds threads l i; filled = unfilled_0 kinds l i }) (first_there kinds l i) (nobody_owns kinds l i) (empty_at (2 * length kinds) (2 * l) i) (empty_at (2 * length kinds) (2 * l + 1) i) (λ u. idle_at threads u i)
 
-  stands_nowhere : (t l : ℕ) → station_at (place_at first t) l ≡ nowhere
-  stands_nowhere t l = ap (λ p. station_at p l) (idle_at threads t)
+  stands_nowhere : (t l : ℕ) → location_at (place_at first t) l ≡ nowhere
+  stands_nowhere t l = ap (λ p. location_at p l) (idle_at threads t)
 
   size : length first.places ≡ threads
   size = length-replicate threads Idle
@@ -146,13 +146,13 @@ module _ (kinds : List Kind) (threads : ℕ) where
         waits_with = λ t. (profile_at (idle_at threads t i) l).names;
       }
 
-  pub opening_steady : 1 ≤ threads → All (λ k. fits k threads ≡ true) kinds → IsSteady first
+  pub opening_steady : 1 ≤ threads → All (λ k. fits k threads ≡ true) kinds → IsInductive first
   opening_steady some fit = record {
     sites = record {
       site = λ l. rw (opening_seen l) (rw size (opening_is_site (kind_at first l) threads (room (kind_at first l) threads some (kinds_fit fit l))));
       word = λ l. first_there kinds l ∙ sym (ap (code (rules_in first l)) (opening_seen l) ∙ new_words (kind_at first l) threads (length first.places) (kinds_fit fit l));
       unfilled = λ l h. unfilled_0 kinds l;
-      limits = λ l h. (subst (λ n. HasRoom n (rules_in first l)) (sym size) (roomy (kind_at first l) threads some (kinds_fit fit l) h), rw (ap (λ (s : Site). s.lock) (opening_seen l)) (rw size (opening_limit (rules_in first l) threads)));
+      limits = λ l h. (subst (λ n. LimitHasRoom n (rules_in first l)) (sym size) (roomy (kind_at first l) threads some (kinds_fit fit l) h), rw (ap (λ (s : Site). s.lock) (opening_seen l)) (rw size (opening_limit (rules_in first l) threads)));
       permits = λ l sort. (subst (HasPermits (rules_in first l)) (sym (opening_seen l)) (opening_permits (kind_at first l) (length first.places)), countable (kind_at first l) threads (kinds_fit fit l) sort);
     };
     numbers = record {

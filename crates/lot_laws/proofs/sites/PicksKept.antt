@@ -24,9 +24,9 @@ use Rattle.lot_machine.specs.Machine.{State, place_at, queue_at, put, state_afte
 use Rattle.lot_machine.proofs.QueueLemmas.{told_count}
 use Rattle.lot_laws.specs.Refinement.{taken_at}
 use Rattle.lot_laws.specs.MutexDeeds.{acts}
-use Rattle.lot_laws.specs.Stations.{Station, station, doing_on}
-use Rattle.lot_laws.specs.SitesOf.{stations_of, ActsNeeded, AreWaiting, TakesOne, IsSteady, Goes, FitsItsLock, after_acts, rules_in, key_of}
-use Rattle.lot_laws.proofs.machine.Parts.{put_places, same, station_here, IsOf}
+use Rattle.lot_laws.specs.Locations.{Location, location, role_on}
+use Rattle.lot_laws.specs.SitesOf.{locations_of, ActsNeeded, AreWaiting, TakesOne, IsInductive, Goes, FitsItsLock, after_acts, rules_in, key_of}
+use Rattle.lot_laws.proofs.machine.Parts.{put_places, same, location_here, IsOf}
 use Rattle.lot_laws.proofs.sites.OneStep.{noted}
 use Rattle.lot_laws.proofs.sites.ActsKept.{lock_by, site_by}
 use Rattle.lot_laws.proofs.sites.TakesKept.{member, told_by, told_places, AllAre, IsTakenFrom, take_goes}
@@ -52,12 +52,12 @@ pub picked_counts : (u key : ℕ) (picker : LockPicker) (xs : List Waiter) → A
 picked_counts u key picker [] h = refl
 picked_counts u key picker (x ∷ xs) h = grind (arith, nat_tests, picked_counts u key (next_picker picker x.want) xs h.1)
 
--- who stands in a line does so under its key
-pub under_of : (p : ℕ → ℕ → Station) (l : ℕ) (m : Line) (xs : List Waiter) → AreWaiting p l m xs → AllUnder (key_of l m) xs
+-- a thread that stands in a line does so under its key
+pub under_of : (p : ℕ → ℕ → Location) (l : ℕ) (m : Line) (xs : List Waiter) → AreWaiting p l m xs → AllUnder (key_of l m) xs
 under_of p l m [] h = tt
 under_of p l m (x ∷ xs) h = (h.0.0, under_of p l m xs h.1)
 
-waiting_left : (p : ℕ → ℕ → Station) (l : ℕ) (m : Line) (picker : LockPicker) (xs : List Waiter) → AreWaiting p l m xs
+waiting_left : (p : ℕ → ℕ → Location) (l : ℕ) (m : Line) (picker : LockPicker) (xs : List Waiter) → AreWaiting p l m xs
     → AreWaiting p l m (without_picked lock_answer next_picker picker (key_of l m) xs)
 waiting_left p l m picker [] h = tt
 waiting_left p l m picker (x ∷ xs) h = either (x.key == key_of l m) (lock_answer picker x.want) (waiting_left p l m (next_picker picker x.want) xs h.1) (waiting_left p l m picker xs h.1)
@@ -74,7 +74,7 @@ waiting_left p l m picker (x ∷ xs) h = either (x.key == key_of l m) (lock_answ
     either true Stop more same_ones = h
     either false answer more same_ones = (h.0, same_ones)
 
-waiting_picked : (p : ℕ → ℕ → Station) (l : ℕ) (m : Line) (picker : LockPicker) (xs : List Waiter) → AreWaiting p l m xs
+waiting_picked : (p : ℕ → ℕ → Location) (l : ℕ) (m : Line) (picker : LockPicker) (xs : List Waiter) → AreWaiting p l m xs
     → AreWaiting p l m (picked lock_answer next_picker picker xs)
 waiting_picked p l m picker [] h = tt
 waiting_picked p l m picker (x ∷ xs) h = either (lock_answer picker x.want) (waiting_picked p l m (next_picker picker x.want) xs h.1)
@@ -88,13 +88,13 @@ waiting_picked p l m picker (x ∷ xs) h = either (lock_answer picker x.want) (w
     either Skip more = more
     either Stop more = tt
 
--- whoever is taken is so for what it waits for
-wants_held : (w : State) (t l : ℕ) (m : Line) (xs : List Waiter) → AreWaiting (stations_of (place_at w)) l m xs
+-- each thread that is taken is so for what it waits for
+wants_held : (w : State) (t l : ℕ) (m : Line) (xs : List Waiter) → AreWaiting (locations_of (place_at w)) l m xs
     → ((u : ℕ) → member u xs ≡ true → IsTakenFrom w t l m (place_at w u))
     → AllAre t (λ u. taken_at (next_place (place_at w u) (TakenBy t)) l) xs
 wants_held w t l m [] h sleeps = tt
 wants_held w t l m (x ∷ xs) h sleeps = (
-  (sleeps x.thread here).held x.want (sym (ap (λ (y : Station). y.waits) (station_here l (place_at w x.thread) (sleeps x.thread here).calls ∙ (sleeps x.thread here).was)) ∙ h.0.1),
+  (sleeps x.thread here).held x.want (sym (ap (λ (y : Location). y.waits) (location_here l (place_at w x.thread) (sleeps x.thread here).calls ∙ (sleeps x.thread here).was)) ∙ h.0.1),
   wants_held w t l m xs h.1 (λ u g. sleeps u (more u g)),
 )
   where
@@ -117,10 +117,10 @@ module _ (sort : Sort) (start : Option Want) (key : ℕ) (q : List Waiter) (unde
       ≡ locks.unpicked sort start (map queued_of q)
   left_tied = ap (map queued_of) (sym (line_all key _ (under_left key (lock_picker start (is_recursive sort)) q under))) ∙ (pickers_pick sort start key q).left ∙ ap (λ y. locks.unpicked sort start (map queued_of y)) (line_all key q under)
 
-module _ (w : State) (t l : ℕ) (steady : IsSteady w) (own : IsOf l (place_at w t)) (there : t < length w.places) (p2 : Place)
+module _ (w : State) (t l : ℕ) (steady : IsInductive w) (own : IsOf l (place_at w t)) (there : t < length w.places) (p2 : Place)
     (of : IsOf l p2) (fits : FitsItsLock w p2) (many : TakesOne w l → ⊥)
-    (out : (station (place_at w t)).stands ≡ None) (free : (station (place_at w t)).hand ≡ None) (bare : (station (place_at w t)).carries ≡ None) (r : Rules) (rules : rules_in w l ≡ r) (none : taken_at (place_at w t) l ≡ None) (none2 : taken_at p2 l ≡ None)
-    (inside : (station p2).inside ≡ (station (place_at w t)).inside) (stands : (station p2).stands ≡ None) (unheld : (station p2).hand ≡ None) where
+    (out : (location (place_at w t)).stands ≡ None) (free : (location (place_at w t)).hand ≡ None) (bare : (location (place_at w t)).carries ≡ None) (r : Rules) (rules : rules_in w l ≡ r) (none : taken_at (place_at w t) l ≡ None) (none2 : taken_at p2 l ≡ None)
+    (inside : (location p2).inside ≡ (location (place_at w t)).inside) (stands : (location p2).stands ≡ None) (unheld : (location p2).hand ≡ None) where
   past : (n : ℕ) → n ≡ length w.places → n ≤ t → p2 ≡ Idle
   past n e h = absurd (omega arith)
 
@@ -133,17 +133,17 @@ module _ (w : State) (t l : ℕ) (steady : IsSteady w) (own : IsOf l (place_at w
     rest = without_lock_picked start (is_recursive r.sort) (2 * l) (queue_at w (2 * l))
 
     under : AllUnder (2 * l) (queue_at w (2 * l))
-    under = under_of (stations_of (place_at w)) l Main (queue_at w (2 * l)) (steady.stands.waits l Main)
+    under = under_of (locations_of (place_at w)) l Main (queue_at w (2 * l)) (steady.stands.waits l Main)
 
     pub picked_goes : ((u : ℕ) → member u picks ≡ true → IsTakenFrom w t l Main (place_at w u))
-        → ((b : Bool) → (station p2).carries ≡ Some b → (b ≡ false) × ((u : ℕ) × (member u picks ≡ true)))
-        → ((u : ℕ) → member u picks ≡ true → (station p2).carries ≡ Some false)
+        → ((b : Bool) → (location p2).carries ≡ Some b → (b ≡ false) × ((u : ℕ) × (member u picks ≡ true)))
+        → ((u : ℕ) → member u picks ≡ true → (location p2).carries ≡ Some false)
         → ActsNeeded r (acts t (Case (TakePicked start) ∷ [])) (lock_by w l r)
-        → doing_on p2 l ≡ (after_acts r (acts t (Case (TakePicked start) ∷ [])) (lock_by w l r)).doing t
+        → role_on p2 l ≡ (after_acts r (acts t (Case (TakePicked start) ∷ [])) (lock_by w l r)).role t
         → Goes w (put (state_after_take w t (2 * l) (whom.TheVariants.Picked start (is_recursive r.sort))) t p2) l
         (acts t (Case (TakePicked start) ∷ []))
     picked_goes sleeps some full needed own_is = take_goes w t l steady own there p2 of fits many Main picks rest
-        (record { counts = λ u. picked_counts u (2 * l) (lock_picker start (is_recursive r.sort)) (queue_at w (2 * l)) under; sleeps = sleeps; lefts = waiting_left (stations_of (place_at w)) l Main (lock_picker start (is_recursive r.sort)) (queue_at w (2 * l)) (steady.stands.waits l Main); wants = wants_held w t l Main picks (waiting_picked (stations_of (place_at w)) l Main (lock_picker start (is_recursive r.sort)) (queue_at w (2 * l)) (steady.stands.waits l Main)) sleeps }) out free bare r rules none none2 v refl refl refl threads places
+        (record { counts = λ u. picked_counts u (2 * l) (lock_picker start (is_recursive r.sort)) (queue_at w (2 * l)) under; sleeps = sleeps; lefts = waiting_left (locations_of (place_at w)) l Main (lock_picker start (is_recursive r.sort)) (queue_at w (2 * l)) (steady.stands.waits l Main); wants = wants_held w t l Main picks (waiting_picked (locations_of (place_at w)) l Main (lock_picker start (is_recursive r.sort)) (queue_at w (2 * l)) (steady.stands.waits l Main)) sleeps }) out free bare r rules none none2 v refl refl refl threads places
         (get_or-set_same w.queues (2 * l) rest [] some_line) (λ key ne. get_or-set_other w.queues (2 * l) key rest [] ne) inside stands unheld some full
         (Case (TakePicked start)) (tt, tt) ((λ h. h), tt) needed
         (λ i. record (lock_by w l r).lock { queue = left_tied r.sort start (2 * l) (queue_at w (2 * l)) under i; taken = locks.taking t (picks_tied r.sort start (2 * l) (queue_at w (2 * l)) under i) (λ u. taken_at (place_at w u) l) })
@@ -162,10 +162,10 @@ module _ (w : State) (t l : ℕ) (steady : IsSteady w) (own : IsOf l (place_at w
   -- all of the main queue
   module _ (some_line : 2 * l < length w.queues) where
     pub all_goes : ((u : ℕ) → member u (queue_at w (2 * l)) ≡ true → IsTakenFrom w t l Main (place_at w u))
-        → ((b : Bool) → (station p2).carries ≡ Some b → (b ≡ false) × ((u : ℕ) × (member u (queue_at w (2 * l)) ≡ true)))
-        → ((u : ℕ) → member u (queue_at w (2 * l)) ≡ true → (station p2).carries ≡ Some false)
+        → ((b : Bool) → (location p2).carries ≡ Some b → (b ≡ false) × ((u : ℕ) × (member u (queue_at w (2 * l)) ≡ true)))
+        → ((u : ℕ) → member u (queue_at w (2 * l)) ≡ true → (location p2).carries ≡ Some false)
         → ActsNeeded r (acts t (Case (OfOnce TakeAll) ∷ [])) (lock_by w l r)
-        → doing_on p2 l ≡ (after_acts r (acts t (Case (OfOnce TakeAll) ∷ [])) (lock_by w l r)).doing t
+        → role_on p2 l ≡ (after_acts r (acts t (Case (OfOnce TakeAll) ∷ [])) (lock_by w l r)).role t
         → Goes w (put (state_after_take w t (2 * l) whom.TheVariants.All) t p2) l (acts t (Case (OfOnce TakeAll) ∷ []))
     all_goes sleeps some full needed own_is = take_goes w t l steady own there p2 of fits many Main (queue_at w (2 * l)) []
         (record { counts = λ u. omega arith; sleeps = sleeps; lefts = tt; wants = wants_held w t l Main (queue_at w (2 * l)) (steady.stands.waits l Main) sleeps }) out free bare r rules none none2 v refl refl refl threads places
@@ -186,14 +186,14 @@ module _ (w : State) (t l : ℕ) (steady : IsSteady w) (own : IsOf l (place_at w
   -- the writer aside
   module _ (x : Waiter) (first : queue_at w (2 * l + 1) ≡ x ∷ []) (writes : x.want ≡ Exclusive)
       (some_line : 2 * l + 1 < length w.queues) where
-    pub aside_goes : IsTakenFrom w t l Second (place_at w x.thread) → (station p2).carries ≡ Some false
+    pub aside_goes : IsTakenFrom w t l Second (place_at w x.thread) → (location p2).carries ≡ Some false
         → ActsNeeded r (acts t (Case (TakeAside x.thread) ∷ [])) (lock_by w l r)
-        → doing_on p2 l ≡ (after_acts r (acts t (Case (TakeAside x.thread) ∷ [])) (lock_by w l r)).doing t
+        → role_on p2 l ≡ (after_acts r (acts t (Case (TakeAside x.thread) ∷ [])) (lock_by w l r)).role t
         → Goes w
         (put (state_after_reply (record w { queues = queues_without_first w.queues (2 * l + 1) }) x.thread (TakenBy t)) t p2) l
         (acts t (Case (TakeAside x.thread) ∷ []))
     aside_goes sleeps carries needed own_is = take_goes w t l steady own there p2 of fits many Second (x ∷ []) []
-        (record { counts = λ u. let a : times u (queue_at w (2 * l + 1)) ≡ times u (x ∷ []) = ap (times u) first in omega arith; sleeps = λ u h. one_sleeps u (x.thread == u) refl h; lefts = tt; wants = wants_held w t l Second (x ∷ []) (subst (AreWaiting (stations_of (place_at w)) l Second) first (steady.stands.waits l Second)) (λ u h. one_sleeps u (x.thread == u) refl h) }) out free bare r rules none none2 v refl refl refl threads places
+        (record { counts = λ u. let a : times u (queue_at w (2 * l + 1)) ≡ times u (x ∷ []) = ap (times u) first in omega arith; sleeps = λ u h. one_sleeps u (x.thread == u) refl h; lefts = tt; wants = wants_held w t l Second (x ∷ []) (subst (AreWaiting (locations_of (place_at w)) l Second) first (steady.stands.waits l Second)) (λ u h. one_sleeps u (x.thread == u) refl h) }) out free bare r rules none none2 v refl refl refl threads places
         (get_or-set_same w.queues (2 * l + 1) (drop 1 (queue_at w (2 * l + 1))) [] some_line ∙ ap (drop 1) first) (λ key ne. get_or-set_other w.queues (2 * l + 1) key (drop 1 (queue_at w (2 * l + 1))) [] ne) inside stands unheld
         (λ b e. let f : Some false ≡ Some b = sym carries ∙ e in let g : false ≡ b = cc in (sym g, (x.thread, same_one))) (λ u h. carries)
         (Case (TakeAside x.thread)) (tt, tt) ((λ h. h), tt) needed

@@ -26,23 +26,23 @@ use Rattle.lot_steps.specs.Steps.{next_place}
 use Rattle.spec_locks.specs.Locks.{TakeFirst, putting, IsLockState}
 use Rattle.core_base.specs.declared.wants.Want.TheVariants.{Exclusive}
 use Rattle.spec_locks.specs.Sites.{Has}
-use Rattle.spec_locks.specs.Sites.{Doing, Site, IsSite, Deed, Main, Second, In, Out, Case, idle, leaves, wakened, found, is_empty, has_readers}
+use Rattle.spec_locks.specs.Sites.{Role, Site, IsSite, Deed, Main, Second, In, Out, Case, idle, leaves, wakened, found, is_empty, has_readers}
 use Rattle.spec_locks.specs.Codes.{code, fills}
 pub use Rattle.lot_laws.proofs.sites.OneStep.{acts_keep}
 use Rattle.lot_laws.proofs.sites.WakesAt.{IsWokenAt}
 use Rattle.lot_laws.proofs.sites.WakesAt as wakes_at
 use Rattle.lot_laws.proofs.sites.ToldAt as told_at
 use Rattle.lot_laws.proofs.sites.ToldAt.{IsToldAt, HeldHere, same_hands}
-pub use Rattle.lot_laws.proofs.sites.ActsKept.{AlikeAt, alike_put, lock_by, follows_by, goes_steady, operated, word_goes, place_goes, enter_goes, leave_goes, nobody_inside}
+pub use Rattle.lot_laws.proofs.sites.ActsKept.{AlikeAt, lock_by, follows_by, goes_steady, operated, word_goes, place_goes, enter_goes, leave_goes, nobody_inside}
 use Rattle.std.specs.Prelude.{sum}
 use Rattle.lot_machine.specs.Machine.{unshared_then, State, hand_over_told, shares_handed_over, unlocked, place_at, word_at, owners_at, shares_at, filled_at, kind_at, queue_at, put, state_with_sections, section_at, queues_without_first, state_after_reply, state_after_telling, state_after_hand_over, state_after_act, reply_to}
 use Rattle.lot_laws.specs.Refinement.{taken_at, lock_state}
 use Rattle.spec_locks.specs.Picks.{queued_of}
-use Rattle.lot_laws.specs.MutexDeeds.{mutex_doing, mutex_deeds, mutex_station, acts, queued}
-use Rattle.lot_laws.specs.Stations.{Station, hand, nowhere, station, station_at, doing_on}
+use Rattle.lot_laws.specs.MutexDeeds.{mutex_role, mutex_deeds, mutex_location, acts, queued}
+use Rattle.lot_laws.specs.Locations.{Location, hand, nowhere, location, location_at, role_on}
 use Rattle.lot_laws.specs.MutexDeeds as deeds
-use Rattle.lot_laws.specs.SitesOf.{SameNumbers, TakesOne, rules_in, ActsNeeded, IsSteady, Follows, Goes, FitsItsLock, carried_at, hand_at, after_acts}
-use Rattle.lot_laws.proofs.machine.Parts.{base_at, seen_in, seen, goes_from, put_places, put_here, put_other, IsOf, own_stance, leaving, none_given, untaken, WantsAlone, station_here, IsMutexOf, own_of, next_mutex, aparts}
+use Rattle.lot_laws.specs.SitesOf.{SameNumbers, TakesOne, rules_in, ActsNeeded, IsInductive, SiteFollows, Goes, FitsItsLock, carried_at, hand_at, after_acts}
+use Rattle.lot_laws.proofs.machine.Parts.{base_at, seen_in, seen, goes_from, put_places, put_here, put_other, IsOf, own_stance, leaving, none_given, untaken, WantsAlone, location_here, IsMutexOf, own_of, next_mutex, aparts}
 use Rattle.lot_laws.proofs.hands.Handed.{told_one, successor_one, lets_nobody, of_carries}
 use Rattle.lot_laws.proofs.mutex.Waiters.{CallsMutex, IsHeldThere, SleepsAt, WasGivenThere, calls_mutex_at, held_alone, held_there, given_there, holds_here}
 use Rattle.lot_laws.proofs.sites.TakesAt.{behind_take, member}
@@ -51,10 +51,10 @@ use Rattle.lot_laws.proofs.sites.ToldAt.{HoldsHere, SameHands}
 use Rattle.std.proofs.lemmas.Bool.{cases_eq}
 use Rattle.spec_locks.specs.Locks.{keep_from}
 use Rattle.lot_laws.proofs.machine.Parts.{differ}
-use Rattle.lot_laws.specs.SitesOf.{stations_of, Hands}
-use Rattle.lot_laws.specs.Stations.{Hand}
+use Rattle.lot_laws.specs.SitesOf.{locations_of, Hands}
+use Rattle.lot_laws.specs.Locations.{Hand}
 use Rattle.lot_laws.proofs.mutex.Hands.{first_goes, tries, accepts, handing, hands_acts}
-use Rattle.lot_laws.proofs.mutex.Words.{mutex, parts, IsCode, OnWord, MutexSteps, own_doing, goes_in as goes_into}
+use Rattle.lot_laws.proofs.mutex.Words.{mutex, parts, IsCode, OnWord, MutexSteps, own_role, goes_in as goes_into}
 use Rattle.lot_laws.proofs.machine.KindsStay.{given_kinds, given_filled, given_shares}
 use Rattle.lot_laws.specs.SitesOf.{is_mutex}
 use Rattle.lot_laws.proofs.sites.StandsKept.{AlikeBeside, own_alike, calls_of, calls_in, sections_same, lines_same, waits_same, hands_given}
@@ -87,10 +87,10 @@ module _ (w v : State) (l : ℕ) (rules : rules_in w l ≡ mutex) (q : ℕ → P
     (places : place_at v ≡ q) (numbers : SameNumbers w v) (bases : (k : ℕ) → base_at v k ≡ base_at w k) (words : Changed (word_at w) (word_at v) l word) (owners : Changed (owners_at w) (owners_at v) l o)
     (mains : Changed (λ k. queue_at w (2 * k)) (λ k. queue_at v (2 * k)) l m) (seconds : (k : ℕ) → queue_at v (2 * k + 1) ≡ queue_at w (2 * k + 1)) (kinds : (k : ℕ) → kind_at v k ≡ kind_at w k)
     (elsewhere : (k : ℕ) → k ≢ l → (u : ℕ) → AlikeAt k (place_at w u) (q u)) where
-  -- what one mutex has been through
+  -- tells what one mutex has been through
   pub follow : (ds : List deeds.Act)
       → seen l (base_at w l) word o m (queue_at w (2 * l + 1)) q ≡ after_acts mutex ds (mutex_at w l)
-      → ActsNeeded mutex ds (mutex_at w l) → IsCode word o.exclusive → Follows w v l ds
+      → ActsNeeded mutex ds (mutex_at w l) → IsCode word o.exclusive → SiteFollows w v l ds
   follow ds led needed coded = follows_by w v l _ q (record {
     here = λ i. record { base = bases l i; word = words.here i; owners = owners.here i; main = mains.here i; second = seconds l i };
     others = λ k ne i. record { base = bases k i; word = words.other k ne i; owners = owners.other k ne i; main = mains.other k ne i; second = seconds k i };
@@ -102,34 +102,34 @@ module _ (w v : State) (l : ℕ) (rules : rules_in w l ≡ mutex) (q : ℕ → P
   }) mutex rules ds (λ e. absurd cc) (λ h. absurd cc) led needed coded
 
 -- nobody shares a mutex
-pub mutex_unshared : (w : State) (l : ℕ) → IsSteady w → rules_in w l ≡ mutex → sum (shares_at w l) ≡ 0
+pub mutex_unshared : (w : State) (l : ℕ) → IsInductive w → rules_in w l ≡ mutex → sum (shares_at w l) ≡ 0
 mutex_unshared w l steady rules = (subst (λ r. IsSite r (lock_by w l r)) rules (steady.sites.site l)).state.unshared (λ h. h)
 
 -- so it is where a thread calls one
-pub unshared_at : (w : State) (t l : ℕ) (at : MutexPlace) → IsSteady w → place_at w t ≡ Mutex l at → sum (shares_at w l) ≡ 0
+pub unshared_at : (w : State) (t l : ℕ) (at : MutexPlace) → IsInductive w → place_at w t ≡ Mutex l at → sum (shares_at w l) ≡ 0
 unshared_at w t l at steady is = mutex_unshared w l steady (mutex_rules (kind_at w l) (let c : FitsItsLock w (Mutex l at) = rw is at (steady.stands.calls t) in c))
 
 -- and it is taken from one by one
-pub single_at : (w : State) (t l : ℕ) (at : MutexPlace) → IsSteady w → place_at w t ≡ Mutex l at → TakesOne w l
+pub single_at : (w : State) (t l : ℕ) (at : MutexPlace) → IsInductive w → place_at w t ≡ Mutex l at → TakesOne w l
 single_at w t l at steady is = takes_one w l (mutex_rules (kind_at w l) (let c : FitsItsLock w (Mutex l at) = rw is at (steady.stands.calls t) in c))
 
--- who calls it calls a mutex
-pub mutexes_at : (w : State) (t l : ℕ) (at : MutexPlace) → IsSteady w → place_at w t ≡ Mutex l at → (u : ℕ)
+-- a thread that calls it calls a mutex
+pub mutexes_at : (w : State) (t l : ℕ) (at : MutexPlace) → IsInductive w → place_at w t ≡ Mutex l at → (u : ℕ)
     → CallsMutex l (place_at w u)
 mutexes_at w t l at steady is u = calls_mutex_at w l (place_at w u) (steady.stands.calls u) (mutex_rules (kind_at w l) (let c : FitsItsLock w (Mutex l at) = rw is at (steady.stands.calls t) in c))
 
 -- so whom it has in hand wants to own alone
-pub alone_at : (w : State) (t l : ℕ) (at : MutexPlace) → IsSteady w → place_at w t ≡ Mutex l at → (u : ℕ)
+pub alone_at : (w : State) (t l : ℕ) (at : MutexPlace) → IsInductive w → place_at w t ≡ Mutex l at → (u : ℕ)
     → WantsAlone t (place_at w u)
 alone_at w t l at steady is = held_alone (place_at w) (aparts w steady) steady.stands.hands t l (of_carries l (place_at w t) (rw is refl)) (mutexes_at w t l at steady is)
 
 -- ---------------------------------------------------------------- what the acts change
 
--- what the act of a thread leads to
+-- tells what the act of a thread leads to
 abbrev pub go_by : State → ℕ → Place → Act → State
 go_by w t p a = put (state_after_act w t p a) t (next_place p (reply_to w t a))
 
-module _ (w : State) (t l : ℕ) (at : MutexPlace) (steady : IsSteady w) (is : place_at w t ≡ Mutex l at)
+module _ (w : State) (t l : ℕ) (at : MutexPlace) (steady : IsInductive w) (is : place_at w t ≡ Mutex l at)
     (there : t < length w.places) where
   pub of_mutex : is_mutex (kind_at w l) ≡ true
   of_mutex = let c : FitsItsLock w (Mutex l at) = rw is at (steady.stands.calls t) in c
@@ -150,8 +150,8 @@ module _ (w : State) (t l : ℕ) (at : MutexPlace) (steady : IsSteady w) (is : p
   pub own : IsOf l (place_at w t)
   own = rw is refl
 
-  station_is_at : station (place_at w t) ≡ mutex_station at
-  station_is_at = ap station is
+  location_is_at : location (place_at w t) ≡ mutex_location at
+  location_is_at = ap location is
 
   plain : has_readers mutex.sort ≡ true → ⊥
   plain h = cc
@@ -167,7 +167,7 @@ module _ (w : State) (t l : ℕ) (at : MutexPlace) (steady : IsSteady w) (is : p
       → OnWord l (base_at w l) (word_at w l) (owners_at w l) (queue_at w (2 * l)) (queue_at w (2 * l + 1)) (place_at w) t at f
       → Goes w (go_by w t (Mutex l at) (act.TheVariants.Word l f)) l (acts t (mutex_deeds at None (Value (word_at w l))))
   word_keeps lt f on = word_goes w t l steady own there mutex rules p2 (own_of l p2 of) (fits p2 of) (Mutex l at) lt (rw steady.numbers.locks lt) f (mutex_deeds at None (Value (word_at w l))) (λ h. absurd (plain h))
-      (record { site = (λ i. seen_in mutex l (same_parts i) (putting (place_at w) t p2)) ∙ on.steps.site; needed = on.steps.needed }) on.code (on.same ∙ sym station_is_at)
+      (record { site = (λ i. seen_in mutex l (same_parts i) (putting (place_at w) t p2)) ∙ on.steps.site; needed = on.steps.needed }) on.code (on.same ∙ sym location_is_at)
     where
       p2 : Place
       p2 = next_place (Mutex l at) (Value (word_at w l))
@@ -187,92 +187,92 @@ module _ (w : State) (t l : ℕ) (at : MutexPlace) (steady : IsSteady w) (is : p
   pub place_keeps : (p2 : Place) (ds : List Deed) → IsMutexOf l p2
       → MutexSteps l (base_at w l) (word_at w l) (word_at w l) (owners_at w l) (owners_at w l) (queue_at w (2 * l))
       (queue_at w (2 * l)) (queue_at w (2 * l + 1)) (place_at w) t p2 ds
-      → station p2 ≡ mutex_station at → Goes w (put w t p2) l (acts t ds)
-  place_keeps p2 ds of steps e = place_goes w t l steady own there mutex rules p2 (own_of l p2 of) (fits p2 of) ds (λ h. absurd (plain h)) steps (e ∙ sym station_is_at)
+      → location p2 ≡ mutex_location at → Goes w (put w t p2) l (acts t ds)
+  place_keeps p2 ds of steps e = place_goes w t l steady own there mutex rules p2 (own_of l p2 of) (fits p2 of) ds (λ h. absurd (plain h)) steps (e ∙ sym location_is_at)
 
   -- into a section that is free
-  pub enter_keeps : 2 * l < length w.sections → (p2 : Place) → IsMutexOf l p2 → taken_at (Mutex l at) l ≡ None → taken_at p2 l ≡ None → section_at w (2 * l) ≡ None → (mutex_doing at).inside ≡ None → (mutex_doing at).empty ≡ None → doing_on p2 l ≡ record (mutex_doing at) { inside = Some Main }
-      → station p2 ≡ record (mutex_station at) { inside = Some Main }
+  pub enter_keeps : 2 * l < length w.sections → (p2 : Place) → IsMutexOf l p2 → taken_at (Mutex l at) l ≡ None → taken_at p2 l ≡ None → section_at w (2 * l) ≡ None → (mutex_role at).inside ≡ None → (mutex_role at).empty ≡ None → role_on p2 l ≡ record (mutex_role at) { inside = Some Main }
+      → location p2 ≡ record (mutex_location at) { inside = Some Main }
       → Goes w (put (state_with_sections w (One (2 * l)) (Some t)) t p2) l (acts t (In Main ∷ []))
-  enter_keeps line p2 of none none2 free i e own_is s = enter_goes w t l steady own there mutex rules p2 (own_of l p2 of) (fits p2 of) Main line free (ap (λ (x : Station). x.inside) station_is_at ∙ i)
-      (goes_into l (base_at w l) (word_at w l) (word_at w l) (owners_at w l) (queue_at w (2 * l)) (queue_at w (2 * l + 1)) (place_at w) t p2 site_l (mutex_doing at) (own_doing l (place_at w t) at is) (hand_none none) none2 refl
+  enter_keeps line p2 of none none2 free i e own_is s = enter_goes w t l steady own there mutex rules p2 (own_of l p2 of) (fits p2 of) Main line free (ap (λ (x : Location). x.inside) location_is_at ∙ i)
+      (goes_into l (base_at w l) (word_at w l) (word_at w l) (owners_at w l) (queue_at w (2 * l)) (queue_at w (2 * l + 1)) (place_at w) t p2 site_l (mutex_role at) (own_role l (place_at w t) at is) (hand_none none) none2 refl
       (nobody_inside w t l steady own there mutex rules p2 (own_of l p2 of) (fits p2 of) Main free) i e own_is)
-      (s ∙ sym (ap (λ (x : Station). record x { inside = Some Main }) station_is_at))
+      (s ∙ sym (ap (λ (x : Location). record x { inside = Some Main }) location_is_at))
 
-  pub out_needed : (mutex_doing at).inside ≡ Some Main → (mutex_doing at).wakes ≡ None
+  pub out_needed : (mutex_role at).inside ≡ Some Main → (mutex_role at).wakes ≡ None
       → ActsNeeded mutex (acts t (Out ∷ [])) (mutex_at w l)
-  out_needed i k = ((rw (own_doing l (place_at w t) at is) ((λ h. let g : None ≡ Some Main = sym h ∙ i in cc), k, refl)), tt)
+  out_needed i k = ((rw (own_role l (place_at w t) at is) ((λ h. let g : None ≡ Some Main = sym h ∙ i in cc), k, refl)), tt)
 
   -- out of its own, where nobody is in its hand
   pub leave_keeps : 2 * l < length w.sections → (p2 : Place) → IsMutexOf l p2 → taken_at (Mutex l at) l ≡ None
-      → taken_at p2 l ≡ None → doing_on p2 l ≡ leaves (mutex_doing at) → (mutex_doing at).inside ≡ Some Main
-      → (mutex_doing at).wakes ≡ None → (mutex_station at).carries ≡ None
-      → station p2 ≡ record (mutex_station at) { inside = None }
+      → taken_at p2 l ≡ None → role_on p2 l ≡ leaves (mutex_role at) → (mutex_role at).inside ≡ Some Main
+      → (mutex_role at).wakes ≡ None → (mutex_location at).carries ≡ None
+      → location p2 ≡ record (mutex_location at) { inside = None }
       → Goes w (put (state_with_sections w (One (2 * l)) None) t p2) l (acts t (Out ∷ []))
-  leave_keeps line p2 of none none2 e i k nobody s = leave_goes w t l steady own there mutex rules p2 (own_of l p2 of) (fits p2 of) Main line (ap (λ (x : Station). x.inside) station_is_at ∙ i) (Out ∷ []) (λ h. tt)
+  leave_keeps line p2 of none none2 e i k nobody s = leave_goes w t l steady own there mutex rules p2 (own_of l p2 of) (fits p2 of) Main line (ap (λ (x : Location). x.inside) location_is_at ∙ i) (Out ∷ []) (λ h. tt)
       (record {
         site = leaving mutex l (base_at w l) (word_at w l) (owners_at w l) (queue_at w (2 * l)) (queue_at w (2 * l + 1)) (place_at w) _ t (hand_none none) (ap (λ y. taken_at y l) (put_here (place_at w) t p2) ∙ none2)
-            (ap (λ y. doing_on y l) (put_here (place_at w) t p2) ∙ e ∙ sym (ap leaves (own_doing l (place_at w t) at is)))
-            (lets_nobody (place_at w) steady.stands.hands t l p2 (ap (λ (x : Station). x.carries) (own_stance l (place_at w t) at is) ∙ nobody));
+            (ap (λ y. role_on y l) (put_here (place_at w) t p2) ∙ e ∙ sym (ap leaves (own_role l (place_at w t) at is)))
+            (lets_nobody (place_at w) steady.stands.hands t l p2 (ap (λ (x : Location). x.carries) (own_stance l (place_at w t) at is) ∙ nobody));
         needed = out_needed i k;
       })
-      (s ∙ sym (ap (λ (x : Station). record x { inside = None }) station_is_at))
+      (s ∙ sym (ap (λ (x : Location). record x { inside = None }) location_is_at))
 
-  -- what it does then
-  out_doing : (p2 : Place) → taken_at (Mutex l at) l ≡ None → doing_on p2 l ≡ leaves (mutex_doing at)
-      → doing_on p2 l ≡ (after_acts mutex (acts t (Out ∷ [])) (mutex_at w l)).doing t
-  out_doing p2 none e = e ∙ sym (ap leaves (own_doing l (place_at w t) at is)) ∙ sym (ap (λ x. wakened t x (putting (λ y. doing_on (place_at w y) l) t (leaves (doing_on (place_at w t) l)) t)) (hand_none none) ∙ put_here (λ y. doing_on (place_at w y) l) t (leaves (doing_on (place_at w t) l)))
+  -- tells what it does then
+  out_role : (p2 : Place) → taken_at (Mutex l at) l ≡ None → role_on p2 l ≡ leaves (mutex_role at)
+      → role_on p2 l ≡ (after_acts mutex (acts t (Out ∷ [])) (mutex_at w l)).role t
+  out_role p2 none e = e ∙ sym (ap leaves (own_role l (place_at w t) at is)) ∙ sym (ap (λ x. wakened t x (putting (λ y. role_on (place_at w y) l) t (leaves (role_on (place_at w t) l)) t)) (hand_none none) ∙ put_here (λ y. role_on (place_at w y) l) t (leaves (role_on (place_at w t) l)))
 
   -- it is in nobody's hand itself
-  pub not_own : (mutex_station at).hand ≡ None → (u : ℕ) (b : Bool) → hand_at (place_at w u) l ≡ hand t b → u ≢ t
-  not_own free u b held e = let a : hand_at (place_at w t) l ≡ hand t b = subst (λ j. hand_at (place_at w j) l ≡ hand t b) e held in let none : hand_at (place_at w t) l ≡ None = ap (λ (y : Station). y.hand) (own_stance l (place_at w t) at is) ∙ free in cc
+  pub not_own : (mutex_location at).hand ≡ None → (u : ℕ) (b : Bool) → hand_at (place_at w u) l ≡ hand t b → u ≢ t
+  not_own free u b held e = let a : hand_at (place_at w t) l ≡ hand t b = subst (λ j. hand_at (place_at w j) l ≡ hand t b) e held in let none : hand_at (place_at w t) l ≡ None = ap (λ (y : Location). y.hand) (own_stance l (place_at w t) at is) ∙ free in cc
 
-  -- whom it had taken tries again, and whom it handed the lock has it
+  -- a thread that it had taken tries again, and whom it handed the lock has it
   pub woken_taken : (u : ℕ) → hand_at (place_at w u) l ≡ hand t false → IsWokenAt w t l note.Normal (place_at w u)
   woken_taken u held = let k : IsHeldThere l t (place_at w u) = held_there (place_at w u) t l (mutexes_at w t l at steady is u) held in
-      record { lets = tries l t (place_at w u) k; goes = k.woken.station; alike = k.woken.others; fits = k.woken.fits tt w (steady.stands.calls u) }
+      record { lets = tries l t (place_at w u) k; goes = k.woken.location; alike = k.woken.others; fits = k.woken.fits tt w (steady.stands.calls u) }
 
   pub woken_handed : (u : ℕ) → hand_at (place_at w u) l ≡ hand t true → IsWokenAt w t l note.HandOff (place_at w u)
   woken_handed u held = let k : WasGivenThere l t (place_at w u) = given_there (place_at w u) t l (mutexes_at w t l at steady is u) held in
-      record { lets = accepts l t t (place_at w u) k; goes = k.told.station; alike = k.told.others; fits = k.told.fits tt w (steady.stands.calls u) }
+      record { lets = accepts l t t (place_at w u) k; goes = k.told.location; alike = k.told.others; fits = k.told.fits tt w (steady.stands.calls u) }
 
-  -- who has taken somebody has handed nobody the lock, and the other way round
-  not_both : (b c : Bool) → (mutex_station at).carries ≡ Some b → (u : ℕ) → hand_at (place_at w u) l ≡ hand t c → b ≡ c
-  not_both b c carries u held = let a : carried_at (place_at w t) l ≡ Some c = steady.stands.hands.taken t u l c held in let d : carried_at (place_at w t) l ≡ Some b = ap (λ (y : Station). y.carries) (own_stance l (place_at w t) at is) ∙ carries in let e : Some b ≡ Some c = sym d ∙ a in cc
+  -- a thread that has taken somebody has handed nobody the lock, and the other way round
+  not_both : (b c : Bool) → (mutex_location at).carries ≡ Some b → (u : ℕ) → hand_at (place_at w u) l ≡ hand t c → b ≡ c
+  not_both b c carries u held = let a : carried_at (place_at w t) l ≡ Some c = steady.stands.hands.taken t u l c held in let d : carried_at (place_at w t) l ≡ Some b = ap (λ (y : Location). y.carries) (own_stance l (place_at w t) at is) ∙ carries in let e : Some b ≡ Some c = sym d ∙ a in cc
 
   -- out of its own, and whom it has in hand is told
   pub wake_keeps : 2 * l < length w.sections → (b : Bool) (x : Note) (p2 : Place) → IsMutexOf l p2
       → ((u : ℕ) → hand_at (place_at w u) l ≡ hand t b → IsWokenAt w t l x (place_at w u)) → taken_at (Mutex l at) l ≡ None
-      → taken_at p2 l ≡ None → doing_on p2 l ≡ leaves (mutex_doing at) → (mutex_doing at).inside ≡ Some Main
-      → (mutex_doing at).wakes ≡ None
-      → mutex_station at ≡ record nowhere { inside = Some Main; carries = Some b } → station p2 ≡ nowhere
+      → taken_at p2 l ≡ None → role_on p2 l ≡ leaves (mutex_role at) → (mutex_role at).inside ≡ Some Main
+      → (mutex_role at).wakes ≡ None
+      → mutex_location at ≡ record nowhere { inside = Some Main; carries = Some b } → location p2 ≡ nowhere
       → Goes w (put (state_after_telling (state_with_sections w (One (2 * l)) None) t (Woken x)) t p2) l (acts t (Out ∷ []))
   wake_keeps line b x p2 of woken none none2 e i k was is_p2 = wakes_at.wake_goes w t l steady there p2 (same_hands l (place_at w t) p2 beside) (fits p2 of) (holds_here w t l steady (of_carries l (place_at w t) own)) x all_woken
-      (ap (λ (y : Station). y.carries) now) (unheld (wakes_at.is_told w t l steady there p2 (same_hands l (place_at w t) p2 beside) (fits p2 of) (holds_here w t l steady (of_carries l (place_at w t) own)) x all_woken t))
-      beside Main line (ap (λ (y : Station). y.inside) before) (ap (λ (y : Station). y.stands) now ∙ sym (ap (λ (y : Station). y.stands) before)) (ap (λ (y : Station). y.waits) now ∙ sym (ap (λ (y : Station). y.waits) before)) (ap (λ (y : Station). y.inside) now)
-      mutex rules (none2 ∙ sym (ap (keep_from t) (hand_none none))) (Out ∷ []) tt (out_needed i k) (out_doing p2 none e)
+      (ap (λ (y : Location). y.carries) now) (unheld (wakes_at.is_told w t l steady there p2 (same_hands l (place_at w t) p2 beside) (fits p2 of) (holds_here w t l steady (of_carries l (place_at w t) own)) x all_woken t))
+      beside Main line (ap (λ (y : Location). y.inside) before) (ap (λ (y : Location). y.stands) now ∙ sym (ap (λ (y : Location). y.stands) before)) (ap (λ (y : Location). y.waits) now ∙ sym (ap (λ (y : Location). y.waits) before)) (ap (λ (y : Location). y.inside) now)
+      mutex rules (none2 ∙ sym (ap (keep_from t) (hand_none none))) (Out ∷ []) tt (out_needed i k) (out_role p2 none e)
     where
       beside : AlikeBeside l (place_at w t) p2
       beside = own_alike l (place_at w t) p2 own (own_of l p2 of)
 
-      now : station_at p2 l ≡ nowhere
-      now = station_here l p2 (own_of l p2 of) ∙ is_p2
+      now : location_at p2 l ≡ nowhere
+      now = location_here l p2 (own_of l p2 of) ∙ is_p2
 
-      before : station_at (place_at w t) l ≡ record nowhere { inside = Some Main; carries = Some b }
+      before : location_at (place_at w t) l ≡ record nowhere { inside = Some Main; carries = Some b }
       before = own_stance l (place_at w t) at is ∙ was
 
-      unheld : (c : Bool) → (station_at p2 l).hand ≡ (if c then None else (station_at (place_at w t) l).hand)
-      unheld true = ap (λ (y : Station). y.hand) now
-      unheld false = ap (λ (y : Station). y.hand) now ∙ sym (ap (λ (y : Station). y.hand) before)
+      unheld : (c : Bool) → (location_at p2 l).hand ≡ (if c then None else (location_at (place_at w t) l).hand)
+      unheld true = ap (λ (y : Location). y.hand) now
+      unheld false = ap (λ (y : Location). y.hand) now ∙ sym (ap (λ (y : Location). y.hand) before)
 
       all_woken : (u : ℕ) (c : Bool) → hand_at (place_at w u) l ≡ hand t c → IsWokenAt w t l x (place_at w u)
-      all_woken u c held = let same_one : b ≡ c = not_both b c (ap (λ (y : Station). y.carries) was) u held in woken u (subst (λ y. hand_at (place_at w u) l ≡ hand t y) (sym same_one) held)
+      all_woken u c held = let same_one : b ≡ c = not_both b c (ap (λ (y : Location). y.carries) was) u held in woken u (subst (λ y. hand_at (place_at w u) l ≡ hand t y) (sym same_one) held)
 
-module _ (w : State) (t l : ℕ) (steady : IsSteady w) (there : t < length w.places) where
-  -- whom it has in hand
-  module _ (at : MutexPlace) (is : place_at w t ≡ Mutex l at) (b : Bool) (carries : (mutex_station at).carries ≡ Some b) where
+module _ (w : State) (t l : ℕ) (steady : IsInductive w) (there : t < length w.places) where
+  -- a thread that it has in hand
+  module _ (at : MutexPlace) (is : place_at w t ≡ Mutex l at) (b : Bool) (carries : (mutex_location at).carries ≡ Some b) where
     pub one_held : (u : ℕ) × (hand_at (place_at w u) l ≡ hand t b)
-    one_held = steady.stands.hands.carried t l b (ap (λ (x : Station). x.carries) (own_stance l (place_at w t) at is) ∙ carries)
+    one_held = steady.stands.hands.carried t l b (ap (λ (x : Location). x.carries) (own_stance l (place_at w t) at is) ∙ carries)
 
   -- a release leaves, and wakes the one that it took
   pub release_wakes : 2 * l < length w.sections → place_at w t ≡ Mutex l (Unlock (unlock.Leave true))
@@ -284,7 +284,7 @@ module _ (w : State) (t l : ℕ) (steady : IsSteady w) (there : t < length w.pla
   -- a fair one leaves, and tells the one that it handed the lock
   pub tells : 2 * l < length w.sections
       → (bumps : Bool) (is : place_at w t ≡ Mutex l (HandOff bumps (hand_off.Leave true))) (p2 : Place) → IsMutexOf l p2
-      → taken_at p2 l ≡ None → doing_on p2 l ≡ idle → station p2 ≡ nowhere
+      → taken_at p2 l ≡ None → role_on p2 l ≡ idle → location p2 ≡ nowhere
       → Goes w (put (state_after_telling (state_with_sections w (One (2 * l)) None) t (Woken note.HandOff)) t p2) l
       (acts t (Out ∷ []))
   tells line bumps is p2 of none e s = wake_keeps w t l (HandOff bumps (hand_off.Leave true)) steady is there line true note.HandOff p2 of (woken_handed w t l (HandOff bumps (hand_off.Leave true)) steady is there) refl none e refl refl refl s
@@ -323,31 +323,31 @@ module _ (w : State) (t l : ℕ) (steady : IsSteady w) (there : t < length w.pla
     holds : HoldsHere w t l
     holds = holds_here w t l steady (of_carries l (place_at w t) own_t)
 
-    before_t : station_at (place_at w t) l ≡ mutex_station at
+    before_t : location_at (place_at w t) l ≡ mutex_location at
     before_t = own_stance l (place_at w t) at is
 
-    now_t : station_at p2 l ≡ mutex_station (HandOff bumps (hand_off.Leave true))
+    now_t : location_at p2 l ≡ mutex_location (HandOff bumps (hand_off.Leave true))
     now_t = own_stance l p2 (HandOff bumps (hand_off.Leave true)) refl
 
     fresh : (x : ℕ) (b : Bool) → hand_at (place_at w x) l ≡ hand t b → b ≡ false
-    fresh x b h = let a : carried_at (place_at w t) l ≡ Some b = steady.stands.hands.taken t x l b h in let c : carried_at (place_at w t) l ≡ Some false = ap (λ (y : Station). y.carries) before_t in let e : Some b ≡ Some false = sym a ∙ c in cc
+    fresh x b h = let a : carried_at (place_at w t) l ≡ Some b = steady.stands.hands.taken t x l b h in let c : carried_at (place_at w t) l ≡ Some false = ap (λ (y : Location). y.carries) before_t in let e : Some b ≡ Some false = sym a ∙ c in cc
 
     -- only its owner claims the mutex
     unclaimed : (x : ℕ) → x ≢ t
-        → (((doing_on (place_at w x) l).claims ≡ None) ⊎ ((doing_on (place_at w x) l).claims ≡ Some (Has Exclusive)))
-        → (doing_on (place_at w x) l).claims ≡ None
+        → (((role_on (place_at w x) l).claims ≡ None) ⊎ ((role_on (place_at w x) l).claims ≡ Some (Has Exclusive)))
+        → (role_on (place_at w x) l).claims ≡ None
     unclaimed x ne (inl none) = none
     unclaimed x ne (inr claims) = absurd (
         let site = site_l w t l at steady is there in
         let its : (owners_at w l).exclusive ≡ Some x = site.held x (Has Exclusive) claims in
-        let own : (owners_at w l).exclusive ≡ Some t = site.held t (Has Exclusive) (ap (λ (d : Doing). d.claims) (own_doing l (place_at w t) at is)) in
+        let own : (owners_at w l).exclusive ≡ Some t = site.held t (Has Exclusive) (ap (λ (d : Role). d.claims) (own_role l (place_at w t) at is)) in
         ne (let both : Some x ≡ Some t = sym its ∙ own in cc))
 
     all_told : (x : ℕ) (b : Bool) → hand_at (place_at w x) l ≡ hand t b
         → IsToldAt w t l b (hand t true) (hand_over_told w t l) (place_at w x)
     all_told x b h =
         let k : IsHeldThere l t (place_at w x) = held_there (place_at w x) t l (mutexes_at w t l at steady is x) (h ∙ ap (hand t) (fresh x b h)) in
-        let z = k.handed (unshared_then w t l) in record { goes = z.station; alike = z.others; fits = z.fits (unclaimed x (not_own w t l at steady is there refl x b h) k.claims) w (steady.stands.calls x) }
+        let z = k.handed (unshared_then w t l) in record { goes = z.location; alike = z.others; fits = z.fits (unclaimed x (not_own w t l at steady is there refl x b h) k.claims) w (steady.stands.calls x) }
 
     abbrev behind : ℕ → Place
     behind = told_at.places_then w t l steady p2 beside fits_2 holds (hand_over_told w t l) (hand t true) all_told
@@ -368,16 +368,16 @@ module _ (w : State) (t l : ℕ) (steady : IsSteady w) (there : t < length w.pla
         by_test false h = refl
         by_test true h = absurd (let k : HeldHere w t l steady p2 beside fits_2 holds (hand_over_told w t l) (hand t true) all_told t = told_at.held_here w t l steady p2 beside fits_2 holds (hand_over_told w t l) (hand t true) all_told t h in not_own w t l at steady is there refl t k.handed k.hand refl)
 
-    parts_kept : {A : Type 0} (g : Station → A) → ((x : Station) (h : Option Hand) → g (record x { hand = h }) ≡ g x) → g (mutex_station (HandOff bumps (hand_off.Leave true))) ≡ g (mutex_station at) → (x k : ℕ) → g (station_at (behind x) k) ≡ g (station_at (place_at w x) k)
+    parts_kept : {A : Type 0} (g : Location → A) → ((x : Location) (h : Option Hand) → g (record x { hand = h }) ≡ g x) → g (mutex_location (HandOff bumps (hand_off.Leave true))) ≡ g (mutex_location at) → (x k : ℕ) → g (location_at (behind x) k) ≡ g (location_at (place_at w x) k)
     parts_kept g part e = told_at.all_parts w t l steady p2 beside fits_2 holds (hand_over_told w t l) (hand t true) all_told g part (λ k. elim (cases_eq k l) [
       | inl f ↦ rw f (ap g now_t ∙ e ∙ sym (ap g before_t))
-      | inr ne ↦ ap g (own_alike l (place_at w t) p2 own_t refl k ne).station
+      | inr ne ↦ ap g (own_alike l (place_at w t) p2 own_t refl k ne).location
     ])
 
     hands_then : Hands (TakesOne w) behind
-    hands_then = hands_given (TakesOne w) (stations_of (place_at w)) (stations_of behind) steady.stands.hands t l is_told (Some true)
-        (told_at.in_hand w t l steady p2 beside fits_2 holds (hand_over_told w t l) (hand t true) all_told (ap (λ (y : Station). y.hand) now_t ∙ sym (ap (λ c. if c then hand t true else (station_at (place_at w t) l).hand) not_told ∙ ap (λ (y : Station). y.hand) before_t)))
-        (λ i k. told_at.carries w t l steady p2 beside fits_2 holds (hand_over_told w t l) (hand t true) all_told i k ∙ ap (λ c. if (i == t) && (k == l) then c else carried_at (place_at w i) k) (ap (λ (y : Station). y.carries) now_t))
+    hands_then = hands_given (TakesOne w) (locations_of (place_at w)) (locations_of behind) steady.stands.hands t l is_told (Some true)
+        (told_at.in_hand w t l steady p2 beside fits_2 holds (hand_over_told w t l) (hand t true) all_told (ap (λ (y : Location). y.hand) now_t ∙ sym (ap (λ c. if c then hand t true else (location_at (place_at w t) l).hand) not_told ∙ ap (λ (y : Location). y.hand) before_t)))
+        (λ i k. told_at.carries w t l steady p2 beside fits_2 holds (hand_over_told w t l) (hand t true) all_told i k ∙ ap (λ c. if (i == t) && (k == l) then c else carried_at (place_at w i) k) (ap (λ (y : Location). y.carries) now_t))
         (λ x h. let k : HeldHere w t l steady p2 beside fits_2 holds (hand_over_told w t l) (hand t true) all_told x = told_at.held_here w t l steady p2 beside fits_2 holds (hand_over_told w t l) (hand t true) all_told x h in (k.handed, k.hand))
         (λ x b h. holds.taker x b h) (λ b e. (let g : true ≡ b = cc in sym g, (u, holds.taker u false held))) (λ x h. refl)
 
@@ -412,7 +412,7 @@ module _ (w : State) (t l : ℕ) (steady : IsSteady w) (there : t < length w.pla
         (go_by w t (Mutex l (HandOff bumps (hand_off.Store true none_left))) (act.TheVariants.HandOver l (op.Store (hand_off_word true none_left)))) l
         (acts t (deeds.hands_over (Some u) none_left) ++ deeds.claims_of (Some u))
     hands_over = record {
-      follows = subst (λ (z : State). Follows w (put z t p2) l (acts t (deeds.hands_over (Some u) none_left) ++ deeds.claims_of (Some u))) (sym told) (follow w after l (rules w t l at steady is there) (putting (putting (place_at w) u pu) t p2) (if none_left then 1 else 3) (with_exclusive (owners_at w l) (Some u)) (queue_at w (2 * l)) places
+      follows = subst (λ (z : State). SiteFollows w (put z t p2) l (acts t (deeds.hands_over (Some u) none_left) ++ deeds.claims_of (Some u))) (sym told) (follow w after l (rules w t l at steady is there) (putting (putting (place_at w) u pu) t p2) (if none_left then 1 else 3) (with_exclusive (owners_at w l) (Some u)) (queue_at w (2 * l)) places
           (record { threads = length-set (set w.places u pu) t p2 ∙ length-set w.places u pu; locks = length-set w.locks l _; shares = length-set w.shares l (shares_handed_over w t l) })
           (λ k i. record { shared = ((λ j. get_or (set w.shares l (shares_handed_over w t l)) k (replicate ((length-set (set w.places u pu) t p2 ∙ length-set w.places u pu) j) 0)) ∙ given_shares w t l (none_given t w.places (shares_at w l) (alone_at w t l at steady is)) k) i; filled = given_filled w t (Mutex l at) l (op.Store (hand_off_word true none_left)) (rules w t l at steady is there) k i })
           (changed_set (λ x. x.word) w.locks l _ (unlocked kind.TheVariants.Mutex) lt) owners_given
@@ -424,9 +424,9 @@ module _ (w : State) (t l : ℕ) (steady : IsSteady w) (there : t < length w.pla
           (coded none_left));
       stands = stands_by w then_state behind (told_at.places_are w t l steady p2 beside fits_2 holds (hand_over_told w t l) (hand t true) all_told before refl there) same_kinds_then
           (record {
-            sections = sections_same (stations_of (place_at w)) (stations_of behind) (section_at w) steady.stands.sections (parts_kept (λ y. y.inside) (λ y h. refl) refl);
-            lines = lines_same (stations_of (place_at w)) (stations_of behind) (queue_at w) (queue_at w) steady.stands.lines (parts_kept (λ y. y.stands) (λ y h. refl) refl) (λ key. refl);
-            waits = waits_same (stations_of (place_at w)) (stations_of behind) (queue_at w) (queue_at w) steady.stands.waits (parts_kept (λ y. y.waits) (λ y h. refl) refl) (λ key. refl);
+            sections = sections_same (locations_of (place_at w)) (locations_of behind) (section_at w) steady.stands.sections (parts_kept (λ y. y.inside) (λ y h. refl) refl);
+            lines = lines_same (locations_of (place_at w)) (locations_of behind) (queue_at w) (queue_at w) steady.stands.lines (parts_kept (λ y. y.stands) (λ y h. refl) refl) (λ key. refl);
+            waits = waits_same (locations_of (place_at w)) (locations_of behind) (queue_at w) (queue_at w) steady.stands.waits (parts_kept (λ y. y.waits) (λ y h. refl) refl) (λ key. refl);
             hands = hands_then;
           })
           (λ x. calls_in w then_state (behind x) same_kinds_then (told_at.calls_then w t l steady p2 beside fits_2 holds (hand_over_told w t l) (hand t true) all_told x));
@@ -434,29 +434,29 @@ module _ (w : State) (t l : ℕ) (steady : IsSteady w) (there : t < length w.pla
 
 -- ---------------------------------------------------------------- the first of a line is taken
 
-module _ (w : State) (t l : ℕ) (at : MutexPlace) (steady : IsSteady w) (is : place_at w t ≡ Mutex l at)
+module _ (w : State) (t l : ℕ) (at : MutexPlace) (steady : IsInductive w) (is : place_at w t ≡ Mutex l at)
     (there : t < length w.places) (line : 2 * l < length w.queues)
-    (x : Waiter) (rest : List Waiter) (first : queue_at w (2 * l) ≡ x ∷ rest) (sleeps : SleepsAt l (place_at w x.thread)) (stands_there : (station_at (place_at w x.thread) l).stands ≡ Some Main) (apart : x.thread ≢ t) where
+    (x : Waiter) (rest : List Waiter) (first : queue_at w (2 * l) ≡ x ∷ rest) (sleeps : SleepsAt l (place_at w x.thread)) (stands_there : (location_at (place_at w x.thread) l).stands ≡ Some Main) (apart : x.thread ≢ t) where
   site_first : IsSite mutex (seen l (base_at w l) (word_at w l) (owners_at w l) (x ∷ rest) (queue_at w (2 * l + 1)) (place_at w))
   site_first = subst (λ (q : List Waiter). IsSite mutex (seen l (base_at w l) (word_at w l) (owners_at w l) q (queue_at w (2 * l + 1)) (place_at w))) first (site_l w t l at steady is there)
 
   pub take_keeps : (p2 : Place) → IsMutexOf l p2 → taken_at (Mutex l at) l ≡ None → taken_at p2 l ≡ None
-      → (mutex_station at).carries ≡ None → (mutex_station at).hand ≡ None → (mutex_doing at).inside ≡ Some Main
-      → (mutex_doing at).carries ≡ false → (mutex_doing at).wakes ≢ Some Second
-      → doing_on p2 l
+      → (mutex_location at).carries ≡ None → (mutex_location at).hand ≡ None → (mutex_role at).inside ≡ Some Main
+      → (mutex_role at).carries ≡ false → (mutex_role at).wakes ≢ Some Second
+      → role_on p2 l
       ≡ record
-      (mutex_doing at) { wakes = None; carries = true; covers = true; empty = found Main (is_empty (map queued_of rest)) }
-      → station p2 ≡ record (mutex_station at) { carries = Some false }
+      (mutex_role at) { wakes = None; carries = true; covers = true; empty = found Main (is_empty (map queued_of rest)) }
+      → location p2 ≡ record (mutex_location at) { carries = Some false }
       → Goes w (put (state_after_reply (record w { queues = queues_without_first w.queues (2 * l) }) x.thread (TakenBy t)) t p2) l
       (acts t (Case (TakeFirst (queued x.thread)) ∷ []))
   take_keeps p2 of none none2 nobody free i c v e s = first_goes w t l steady there p2 (own_alike l (place_at w t) p2 (own w t l at steady is there) (own_of l p2 of)) (fits w t l at steady is there p2 of) (rules w t l at steady is there) line
       x rest first (first_wants l (base_at w l) (word_at w l) (owners_at w l) (queue_at w (2 * l + 1)) rest x (place_at w) t site_first) stands_there sleeps
-      (ap (λ (y : Station). y.carries) before ∙ nobody) (station_here l p2 (own_of l p2 of) ∙ s ∙ sym (λ j. record (behind_take t (not_self j) (before j)) { carries = Some false }))
+      (ap (λ (y : Location). y.carries) before ∙ nobody) (location_here l p2 (own_of l p2 of) ∙ s ∙ sym (λ j. record (behind_take t (not_self j) (before j)) { carries = Some false }))
       (none2 ∙ sym (ap (λ b. if b then taken_at (next_place (place_at w t) (TakenBy t)) l else taken_at (place_at w t) l) not_self ∙ hand_none w t l at steady is there none)) needed
-      (e ∙ sym (put_here (λ u. doing_on (place_at w u) l) t _ ∙ ap (λ (q : List Waiter). record (doing_on (place_at w t) l) { wakes = None; carries = true; covers = true; empty = found Main (is_empty (drop 1 (map queued_of q))) }) first
-      ∙ ap (λ (d : Doing). record d { wakes = None; carries = true; covers = true; empty = found Main (is_empty (map queued_of rest)) }) (own_doing l (place_at w t) at is)))
+      (e ∙ sym (put_here (λ u. role_on (place_at w u) l) t _ ∙ ap (λ (q : List Waiter). record (role_on (place_at w t) l) { wakes = None; carries = true; covers = true; empty = found Main (is_empty (drop 1 (map queued_of q))) }) first
+      ∙ ap (λ (d : Role). record d { wakes = None; carries = true; covers = true; empty = found Main (is_empty (map queued_of rest)) }) (own_role l (place_at w t) at is)))
     where
-      before : station_at (place_at w t) l ≡ mutex_station at
+      before : location_at (place_at w t) l ≡ mutex_location at
       before = own_stance l (place_at w t) at is
 
       not_self : member t (x ∷ []) ≡ false
@@ -464,5 +464,5 @@ module _ (w : State) (t l : ℕ) (at : MutexPlace) (steady : IsSteady w) (is : p
 
       needed : ActsNeeded mutex (acts t (Case (TakeFirst (queued x.thread)) ∷ [])) (mutex_at w l)
       needed = subst (λ (q : List Waiter). ActsNeeded mutex (acts t (Case (TakeFirst (queued x.thread)) ∷ [])) (seen l (base_at w l) (word_at w l) (owners_at w l) q (queue_at w (2 * l + 1)) (place_at w))) (sym first)
-          (take_needed l (base_at w l) (word_at w l) (owners_at w l) (queue_at w (2 * l + 1)) rest x (place_at w) t site_first (mutex_doing at) (own_doing l (place_at w t) at is)
-          (λ u. untaken (place_at w u) t l (λ h. let a : carried_at (place_at w t) l ≡ Some false = steady.stands.hands.taken t u l false h in let b : carried_at (place_at w t) l ≡ None = ap (λ (y : Station). y.carries) (own_stance l (place_at w t) at is) ∙ nobody in cc)) i c v)
+          (take_needed l (base_at w l) (word_at w l) (owners_at w l) (queue_at w (2 * l + 1)) rest x (place_at w) t site_first (mutex_role at) (own_role l (place_at w t) at is)
+          (λ u. untaken (place_at w u) t l (λ h. let a : carried_at (place_at w t) l ≡ Some false = steady.stands.hands.taken t u l false h in let b : carried_at (place_at w t) l ≡ None = ap (λ (y : Location). y.carries) (own_stance l (place_at w t) at is) ∙ nobody in cc)) i c v)

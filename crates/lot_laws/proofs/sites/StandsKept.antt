@@ -13,9 +13,9 @@ use Rattle.spec_locks.specs.Sites.{Line, Main, Second}
 use Rattle.lot_machine.specs.Machine.{State, kind_at}
 use Rattle.lot_laws.specs.SitesOf.{is_mutex}
 use Rattle.lot_laws.specs.Refinement.{taken_at}
-use Rattle.lot_laws.specs.Stations.{Hand, Station, hand, doing_on, station_at}
+use Rattle.lot_laws.specs.Locations.{Hand, Location, hand, role_on, location_at}
 use Rattle.lot_laws.specs.SitesOf.{Sections, Lines, Waits, AreWaiting, HandsBy, FitsItsLock, key_of, stood_in}
-use Rattle.lot_laws.proofs.machine.Parts.{IsOf, put_here, put_other, same, station_elsewhere, doing_elsewhere, taken_elsewhere, IsMutexOf}
+use Rattle.lot_laws.proofs.machine.Parts.{IsOf, put_here, put_other, same, location_elsewhere, role_elsewhere, taken_elsewhere, IsMutexOf}
 
 pub both : (a b : Bool) → (a && b) ≡ true → (a ≡ true) × (b ≡ true)
 both true b h = (refl, h)
@@ -26,10 +26,10 @@ both_true e f = λ i. e i && f i
 
 -- ---------------------------------------------------------------- places, at each lock
 
--- what one lock sees of a place, it sees of another
+-- one lock sees of a place what it sees of another
 pub record Alike (k : ℕ) (p p2 : Place) : Type 0 where
-  pub station : station_at p2 k ≡ station_at p k
-  pub doing : doing_on p2 k ≡ doing_on p k
+  pub location : location_at p2 k ≡ location_at p k
+  pub role : role_on p2 k ≡ role_on p k
   pub taken : taken_at p2 k ≡ taken_at p k
 
 -- each lock but this one sees the same of both
@@ -39,18 +39,18 @@ AlikeBeside l p p2 = (k : ℕ) → k ≢ l → Alike k p p2
 -- as of places in calls of this lock alone
 pub own_alike : (l : ℕ) (p p2 : Place) → IsOf l p → IsOf l p2 → AlikeBeside l p p2
 own_alike l p p2 h h2 k ne = record {
-  station = station_elsewhere l k p2 h2 ne ∙ sym (station_elsewhere l k p h ne);
-  doing = doing_elsewhere l k p2 h2 ne ∙ sym (doing_elsewhere l k p h ne);
+  location = location_elsewhere l k p2 h2 ne ∙ sym (location_elsewhere l k p h ne);
+  role = role_elsewhere l k p2 h2 ne ∙ sym (role_elsewhere l k p h ne);
   taken = taken_elsewhere l k p2 h2 ne ∙ sym (taken_elsewhere l k p h ne);
 }
 
 -- a part of a station, where one thread goes elsewhere
-module _ {A : Type 0} (g : Station → A) (l : ℕ) where
-  -- whoever else is looked at
+module _ {A : Type 0} (g : Location → A) (l : ℕ) where
+  -- for each other thread that is looked at
   pub part_else : (p : ℕ → Place) (t : ℕ) (p2 : Place) → AlikeBeside l (p t) p2 → (u k : ℕ) → (u ≡ t → k ≡ l → ⊥)
-      → g (station_at (putting p t p2 u) k) ≡ g (station_at (p u) k)
+      → g (location_at (putting p t p2 u) k) ≡ g (location_at (p u) k)
   part_else p t p2 alike u k ne = elim (cases_eq u t) [
-    | inl e ↦ rw (e, put_here p t p2) (ap g (alike k (ne e)).station)
+    | inl e ↦ rw (e, put_here p t p2) (ap g (alike k (ne e)).location)
     | inr nu ↦ rw (put_other p t p2 u nu) refl
   ]
 
@@ -74,18 +74,18 @@ other_line l Main Second ne e = omega arith
 other_line l Second Main ne e = omega arith
 other_line l Second Second ne e = ne refl
 
-pub sections_same : (p q : ℕ → ℕ → Station) (section : ℕ → Option ℕ) → Sections p section
+pub sections_same : (p q : ℕ → ℕ → Location) (section : ℕ → Option ℕ) → Sections p section
     → ((u k : ℕ) → (q u k).inside ≡ (p u k).inside) → Sections q section
 sections_same p q section s e t l m = (λ h. (s t l m).0 (sym (e t l) ∙ h), λ h. e t l ∙ (s t l m).1 h)
 
-module _ (p q : ℕ → ℕ → Station) (section after : ℕ → Option ℕ) (s : Sections p section) (t l : ℕ) (m : Line)
+module _ (p q : ℕ → ℕ → Location) (section after : ℕ → Option ℕ) (s : Sections p section) (t l : ℕ) (m : Line)
     (others : (u k : ℕ) → (u ≡ t → k ≡ l → ⊥) → (q u k).inside ≡ (p u k).inside)
     (elsewhere : (key : ℕ) → key ≢ key_of l m → after key ≡ section key) where
   stays : (u k : ℕ) (n : Line) → (u ≡ t → k ≡ l → ⊥) → key_of k n ≢ key_of l m
       → (q u k).inside ≡ Some n ↔ after (key_of k n) ≡ Some u
   stays u k n ne nk = (λ h. elsewhere (key_of k n) nk ∙ (s u k n).0 (sym (others u k ne) ∙ h), λ h. others u k ne ∙ (s u k n).1 (sym (elsewhere (key_of k n) nk) ∙ h))
 
-  -- whoever is inside the section of the line behind it
+  -- each thread that is inside the section of the line behind it
   by_line : ((n : Line) → (q t l).inside ≡ Some n ↔ after (key_of l n) ≡ Some t) → ((u : ℕ) → u ≢ t → (p u l).inside ≢ Some m)
       → ((u : ℕ) → after (key_of l m) ≡ Some u → u ≡ t) → Sections q after
   by_line own alone only u k n = elim (cases_eq k l) [
@@ -140,12 +140,12 @@ in_main (Some Main) h = refl
 in_main (Some Second) h = absurd (omega arith)
 in_main None h = absurd (omega arith)
 
-pub lines_same : (p q : ℕ → ℕ → Station) (queue after : ℕ → List Waiter) → Lines p queue
+pub lines_same : (p q : ℕ → ℕ → Location) (queue after : ℕ → List Waiter) → Lines p queue
     → ((u k : ℕ) → (q u k).stands ≡ (p u k).stands) → ((key : ℕ) → after key ≡ queue key) → Lines q after
 lines_same p q queue after s e same t l m = ap (times t) (same (key_of l m)) ∙ s t l m ∙ ap (λ x. stood_in x m) (sym (e t l))
 
 -- one thread comes into a line, or goes out of it
-pub line_moved : (p q : ℕ → ℕ → Station) (queue after : ℕ → List Waiter) → Lines p queue → (t l : ℕ) (m : Line)
+pub line_moved : (p q : ℕ → ℕ → Location) (queue after : ℕ → List Waiter) → Lines p queue → (t l : ℕ) (m : Line)
     → ((u k : ℕ) → (u ≡ t → k ≡ l → ⊥) → (q u k).stands ≡ (p u k).stands)
     → ((key : ℕ) → key ≢ key_of l m → after key ≡ queue key)
     → ((u : ℕ) → u ≢ t → times u (after (key_of l m)) ≡ times u (queue (key_of l m)))
@@ -162,8 +162,8 @@ line_moved p q queue after s t l m others elsewhere counts own u k n = elim (cas
     at_line ne (inl e) = ap (λ x. times u (after (key_of l x))) e ∙ counts u ne ∙ ap (λ x. times u (queue (key_of l x))) (sym e) ∙ s u l n ∙ ap (λ x. stood_in x n) (sym (others u l (λ f g. ne f)))
     at_line ne (inr nn) = ap (times u) (elsewhere (key_of l n) (other_line l m n nn)) ∙ s u l n ∙ ap (λ x. stood_in x n) (sym (others u l (λ f g. ne f)))
 
--- who stands there waits for the same
-pub waiting_same : (p q : ℕ → ℕ → Station) (l : ℕ) (m : Line) (xs : List Waiter) → AreWaiting p l m xs
+-- a thread that stands there waits for the same
+pub waiting_same : (p q : ℕ → ℕ → Location) (l : ℕ) (m : Line) (xs : List Waiter) → AreWaiting p l m xs
     → ((u : ℕ) → 1 ≤ times u xs → (q u l).waits ≡ (p u l).waits) → AreWaiting q l m xs
 waiting_same p q l m [] h e = tt
 waiting_same p q l m (x ∷ xs) h e = ((h.0.0, e x.thread here ∙ h.0.1), waiting_same p q l m xs h.1 (λ u g. e u (more u g)))
@@ -174,12 +174,12 @@ waiting_same p q l m (x ∷ xs) h e = ((h.0.0, e x.thread here ∙ h.0.1), waiti
     more : (u : ℕ) → 1 ≤ times u xs → 1 ≤ times u (x ∷ xs)
     more u g = omega arith
 
-pub waiting_behind : (q : ℕ → ℕ → Station) (l : ℕ) (m : Line) (xs : List Waiter) (x : Waiter) → AreWaiting q l m xs
+pub waiting_behind : (q : ℕ → ℕ → Location) (l : ℕ) (m : Line) (xs : List Waiter) (x : Waiter) → AreWaiting q l m xs
     → (x.key ≡ key_of l m) × ((q x.thread l).waits ≡ Some x.want) → AreWaiting q l m (xs ++ x ∷ [])
 waiting_behind q l m [] x h k = (k, tt)
 waiting_behind q l m (y ∷ xs) x h k = (h.0, waiting_behind q l m xs x h.1 k)
 
-pub waiting_without : (q : ℕ → ℕ → Station) (l : ℕ) (m : Line) (t : ℕ) (xs : List Waiter) → AreWaiting q l m xs
+pub waiting_without : (q : ℕ → ℕ → Location) (l : ℕ) (m : Line) (t : ℕ) (xs : List Waiter) → AreWaiting q l m xs
     → AreWaiting q l m (without t xs)
 waiting_without q l m t [] h = tt
 waiting_without q l m t (y ∷ xs) h = either (not (y.thread == t)) (waiting_without q l m t xs h.1)
@@ -188,13 +188,13 @@ waiting_without q l m t (y ∷ xs) h = either (not (y.thread == t)) (waiting_wit
     either true k = (h.0, k)
     either false k = k
 
-pub waits_same : (p q : ℕ → ℕ → Station) (queue after : ℕ → List Waiter) → Waits p queue
+pub waits_same : (p q : ℕ → ℕ → Location) (queue after : ℕ → List Waiter) → Waits p queue
     → ((u k : ℕ) → (q u k).waits ≡ (p u k).waits) → ((key : ℕ) → after key ≡ queue key) → Waits q after
 waits_same p q queue after h e lines l m = waiting_same p q l m (after (key_of l m)) (subst (AreWaiting p l m) (sym (lines (key_of l m))) (h l m)) (λ u g. e u l)
 
 -- ---------------------------------------------------------------- hands
 
-pub hands_same : {one : ℕ → Type 0} (p q : ℕ → ℕ → Station) → HandsBy one p → ((u k : ℕ) → (q u k).carries ≡ (p u k).carries)
+pub hands_same : {one : ℕ → Type 0} (p q : ℕ → ℕ → Location) → HandsBy one p → ((u k : ℕ) → (q u k).carries ≡ (p u k).carries)
     → ((u k : ℕ) → (q u k).hand ≡ (p u k).hand) → HandsBy one q
 hands_same p q h c n = record {
   carried = λ t l b e. let one = h.carried t l b (sym (c t l) ∙ e) in (one.0, n one.0 l ∙ one.1);
@@ -203,7 +203,7 @@ hands_same p q h c n = record {
 }
 
 -- many are taken, or let go: whom `has` tells
-module _ (one : ℕ → Type 0) (p q : ℕ → ℕ → Station) (hands : HandsBy one p) (t l : ℕ) (has : ℕ → Bool) where
+module _ (one : ℕ → Type 0) (p q : ℕ → ℕ → Location) (hands : HandsBy one p) (t l : ℕ) (has : ℕ → Bool) where
   -- whether it is one of them, at the lock
   abbrev meant : ℕ → ℕ → Bool
   meant u k = has u && (k == l)
@@ -259,7 +259,7 @@ module _ (one : ℕ → Type 0) (p q : ℕ → ℕ → Station) (hands : HandsBy
                 either false f = refl
                 either true f = absurd (let at_l = meant_is u k f in let none : (p u k).hand ≡ None = rw at_l.1 (free u at_l.0) in let g : ◌≡◌ {A = Option Hand} None (hand i b) = sym none ∙ held in cc)
 
-    -- who was in no hand of t at the lock isn't in one now but by this
+    -- a thread that was in no hand of t at the lock isn't in one now but by this
     not_before : (k : ℕ) (d : Bool) (v : ℕ) → k ≡ l → (p v k).hand ≡ hand t d → ⊥
     not_before k d v e held = let was : (p t k).carries ≡ Some d = hands.taken t v k d held in let none : (p t k).carries ≡ None = rw e bare in let f : ◌≡◌ {A = Option Bool} None (Some d) = sym none ∙ was in cc
 
@@ -280,7 +280,7 @@ module _ (one : ℕ → Type 0) (p q : ℕ → ℕ → Station) (hands : HandsBy
   module _ (in_hand : (u k : ℕ) → (q u k).hand ≡ (if meant u k then None else (p u k).hand))
       (carries : (i k : ℕ) → (q i k).carries ≡ (if taking i k then None else (p i k).carries))
       (mine : (u : ℕ) → has u ≡ true → (b : Bool) × ((p u l).hand ≡ hand t b)) (all : (u : ℕ) (b : Bool) → (p u l).hand ≡ hand t b → has u ≡ true) where
-    -- who is in a hand behind it was so before
+    -- a thread that is in a hand behind it was so before
     was_held : (i u k : ℕ) (b : Bool) → (q u k).hand ≡ hand i b → (p u k).hand ≡ hand i b
     was_held i u k b h = either (meant u k) (sym (in_hand u k) ∙ h)
       where
@@ -327,7 +327,7 @@ module _ (one : ℕ → Type 0) (p q : ℕ → ℕ → Station) (hands : HandsBy
   module _ (c : Option Bool) (in_hand : (u k : ℕ) → (q u k).hand ≡ (if meant u k then hand t true else (p u k).hand))
       (carries : (i k : ℕ) → (q i k).carries ≡ (if taking i k then c else (p i k).carries))
       (mine : (u : ℕ) → has u ≡ true → (b : Bool) × ((p u l).hand ≡ hand t b)) (all : (u : ℕ) (b : Bool) → (p u l).hand ≡ hand t b → has u ≡ true) (some : (b : Bool) → c ≡ Some b → (b ≡ true) × ((u : ℕ) × (has u ≡ true))) (full : (u : ℕ) → has u ≡ true → c ≡ Some true) where
-    -- who is in a hand behind it was so before
+    -- a thread that is in a hand behind it was so before
     held_before : (i u k : ℕ) (b : Bool) → (q u k).hand ≡ hand i b → (d : Bool) × ((p u k).hand ≡ hand i d)
     held_before i u k b h = by_meant (meant u k) refl (sym (in_hand u k) ∙ h)
       where

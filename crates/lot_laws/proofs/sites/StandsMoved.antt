@@ -11,8 +11,8 @@ use Rattle.spec_locks.specs.Purposes.{rules_of}
 use Rattle.spec_locks.specs.Sites.{Line}
 use Rattle.lot_machine.specs.Machine.{State, place_at, kind_at, section_at, queue_at}
 use Rattle.lot_laws.specs.SitesOf.{is_mutex}
-use Rattle.lot_laws.specs.Stations.{Station, station_at}
-use Rattle.lot_laws.specs.SitesOf.{Stands, Sections, Lines, Waits, Hands, HandsBy, TakesOne, FitsItsLock, rules_in, key_of, stood_in, stations_of}
+use Rattle.lot_laws.specs.Locations.{Location, location_at}
+use Rattle.lot_laws.specs.SitesOf.{Stands, Sections, Lines, Waits, Hands, HandsBy, TakesOne, FitsItsLock, rules_in, key_of, stood_in, locations_of}
 use Rattle.lot_laws.proofs.machine.Parts.{put_here, put_other}
 use Rattle.lot_laws.proofs.mutex.Words.{mutex}
 use Rattle.lot_laws.proofs.sites.StandsKept.{AlikeBeside, part_else, sections_same, entered, left, lines_same, line_moved, hands_same, waits_same, calls_in}
@@ -37,31 +37,31 @@ hands_in w v p kinds h = record {
 -- ---------------------------------------------------------------- by the stations of threads
 
 -- the machine has its threads in sections, lines and hands as their places say
-pub record AreThere (one : ℕ → Type 0) (at : ℕ → ℕ → Station) (section : ℕ → Option ℕ) (queue : ℕ → List Waiter) : Type 0 where
+pub record AreThere (one : ℕ → Type 0) (at : ℕ → ℕ → Location) (section : ℕ → Option ℕ) (queue : ℕ → List Waiter) : Type 0 where
   pub sections : Sections at section
   pub lines : Lines at queue
   pub waits : Waits at queue
   pub hands : HandsBy one at
 
-pub there_in : (w : State) → Stands w → AreThere (TakesOne w) (stations_of (place_at w)) (section_at w) (queue_at w)
+pub there_in : (w : State) → Stands w → AreThere (TakesOne w) (locations_of (place_at w)) (section_at w) (queue_at w)
 there_in w stands = record { sections = stands.sections; lines = stands.lines; waits = stands.waits; hands = stands.hands }
 
 -- a state by how its threads stand
 pub stands_by : (w v : State) (q : ℕ → Place) → place_at v ≡ q → ((k : ℕ) → kind_at v k ≡ kind_at w k)
-    → AreThere (TakesOne w) (stations_of q) (section_at v) (queue_at v) → ((u : ℕ) → FitsItsLock v (q u)) → Stands v
+    → AreThere (TakesOne w) (locations_of q) (section_at v) (queue_at v) → ((u : ℕ) → FitsItsLock v (q u)) → Stands v
 stands_by w v q e kinds there c = record {
-  sections = subst (λ (f : ℕ → Place). Sections (stations_of f) (section_at v)) (sym e) there.sections;
-  lines = subst (λ (f : ℕ → Place). Lines (stations_of f) (queue_at v)) (sym e) there.lines;
-  waits = subst (λ (f : ℕ → Place). Waits (stations_of f) (queue_at v)) (sym e) there.waits;
+  sections = subst (λ (f : ℕ → Place). Sections (locations_of f) (section_at v)) (sym e) there.sections;
+  lines = subst (λ (f : ℕ → Place). Lines (locations_of f) (queue_at v)) (sym e) there.lines;
+  waits = subst (λ (f : ℕ → Place). Waits (locations_of f) (queue_at v)) (sym e) there.waits;
   hands = subst (λ (f : ℕ → Place). Hands (TakesOne v) f) (sym e) (hands_in w v q kinds there.hands);
   calls = λ u. subst (λ (f : ℕ → Place). FitsItsLock v (f u)) (sym e) (c u);
 }
 
 -- one thread goes elsewhere, at one lock
-module _ {one : ℕ → Type 0} (at at2 : ℕ → ℕ → Station) (section : ℕ → Option ℕ) (queue : ℕ → List Waiter)
+module _ {one : ℕ → Type 0} (at at2 : ℕ → ℕ → Location) (section : ℕ → Option ℕ) (queue : ℕ → List Waiter)
     (there : AreThere one at section queue) (t l : ℕ) (others : (u k : ℕ) → (u ≡ t → k ≡ l → ⊥) → at2 u k ≡ at u k) where
   -- a part of a station that is the same
-  part : {A : Type 0} (g : Station → A) → g (at2 t l) ≡ g (at t l) → (u k : ℕ) → g (at2 u k) ≡ g (at u k)
+  part : {A : Type 0} (g : Location → A) → g (at2 t l) ≡ g (at t l) → (u k : ℕ) → g (at2 u k) ≡ g (at u k)
   part g e u k = elim (cases_eq u t) [
     | inl f ↦ elim (cases_eq k l) [
       | inl h ↦ rw (f, h) e
@@ -70,7 +70,7 @@ module _ {one : ℕ → Type 0} (at at2 : ℕ → ℕ → Station) (section : �
     | inr ne ↦ ap g (others u k (λ i j. ne i))
   ]
 
-  other : {A : Type 0} (g : Station → A) → (u k : ℕ) → (u ≡ t → k ≡ l → ⊥) → g (at2 u k) ≡ g (at u k)
+  other : {A : Type 0} (g : Location → A) → (u k : ℕ) → (u ≡ t → k ≡ l → ⊥) → g (at2 u k) ≡ g (at u k)
   other g u k ne = ap g (others u k ne)
 
   hands_stay : (at2 t l).carries ≡ (at t l).carries → (at2 t l).hand ≡ (at t l).hand → HandsBy one at2
@@ -88,29 +88,29 @@ module _ {one : ℕ → Type 0} (at at2 : ℕ → ℕ → Station) (section : �
   -- with the same station, and the same sections and lines
   pub still : at2 t l ≡ at t l → AreThere one at2 section queue
   still e = record {
-    sections = sections_stay (ap (λ (x : Station). x.inside) e);
-    lines = lines_stay (ap (λ (x : Station). x.stands) e);
-    waits = waits_stay (ap (λ (x : Station). x.waits) e);
-    hands = hands_stay (ap (λ (x : Station). x.carries) e) (ap (λ (x : Station). x.hand) e);
+    sections = sections_stay (ap (λ (x : Location). x.inside) e);
+    lines = lines_stay (ap (λ (x : Location). x.stands) e);
+    waits = waits_stay (ap (λ (x : Location). x.waits) e);
+    hands = hands_stay (ap (λ (x : Location). x.carries) e) (ap (λ (x : Location). x.hand) e);
   }
 
   module _ (m : Line) (after : ℕ → Option ℕ) (elsewhere : (key : ℕ) → key ≢ key_of l m → after key ≡ section key) where
     -- into a section that is free
     pub goes_in : section (key_of l m) ≡ None → after (key_of l m) ≡ Some t → (at t l).inside ≡ None → at2 t l ≡ record (at t l) { inside = Some m } → AreThere one at2 after queue
     goes_in free held out e = record {
-      sections = entered at at2 section after there.sections t l m (other (λ x. x.inside)) elsewhere free out (ap (λ (x : Station). x.inside) e) held;
-      lines = lines_stay (ap (λ (x : Station). x.stands) e);
-      waits = waits_stay (ap (λ (x : Station). x.waits) e);
-      hands = hands_stay (ap (λ (x : Station). x.carries) e) (ap (λ (x : Station). x.hand) e);
+      sections = entered at at2 section after there.sections t l m (other (λ x. x.inside)) elsewhere free out (ap (λ (x : Location). x.inside) e) held;
+      lines = lines_stay (ap (λ (x : Location). x.stands) e);
+      waits = waits_stay (ap (λ (x : Location). x.waits) e);
+      hands = hands_stay (ap (λ (x : Location). x.carries) e) (ap (λ (x : Location). x.hand) e);
     }
 
     -- out of its own
     pub goes_out : after (key_of l m) ≡ None → (at t l).inside ≡ Some m → at2 t l ≡ record (at t l) { inside = None } → AreThere one at2 after queue
     goes_out free within e = record {
-      sections = left at at2 section after there.sections t l m (other (λ x. x.inside)) elsewhere within (ap (λ (x : Station). x.inside) e) free;
-      lines = lines_stay (ap (λ (x : Station). x.stands) e);
-      waits = waits_stay (ap (λ (x : Station). x.waits) e);
-      hands = hands_stay (ap (λ (x : Station). x.carries) e) (ap (λ (x : Station). x.hand) e);
+      sections = left at at2 section after there.sections t l m (other (λ x. x.inside)) elsewhere within (ap (λ (x : Location). x.inside) e) free;
+      lines = lines_stay (ap (λ (x : Location). x.stands) e);
+      waits = waits_stay (ap (λ (x : Location). x.waits) e);
+      hands = hands_stay (ap (λ (x : Location). x.carries) e) (ap (λ (x : Location). x.hand) e);
     }
 
   -- into a line, or out of it
@@ -141,14 +141,14 @@ module _ (w v : State) (stands : Stands w) (kinds : (k : ℕ) → kind_at v k �
 
   -- one thread stands elsewhere
   pub stands_put : (t : ℕ) (p2 : Place) → FitsItsLock w p2 → place_at v ≡ putting (place_at w) t p2
-      → AreThere (TakesOne w) (stations_of (putting (place_at w) t p2)) (section_at v) (queue_at v) → Stands v
+      → AreThere (TakesOne w) (locations_of (putting (place_at w) t p2)) (section_at v) (queue_at v) → Stands v
   stands_put t p2 fits places there = stands_by w v (putting (place_at w) t p2) places kinds there (calls_one t p2 fits)
 
 -- where one thread goes elsewhere, nobody else does, and it doesn't at another lock
 pub others_stay : (p : ℕ → Place) (t l : ℕ) (p2 : Place) → AlikeBeside l (p t) p2 → (u k : ℕ) → (u ≡ t → k ≡ l → ⊥)
-    → stations_of (putting p t p2) u k ≡ stations_of p u k
+    → locations_of (putting p t p2) u k ≡ locations_of p u k
 others_stay p t l p2 alike = part_else (λ x. x) l p t p2 alike
 
 -- and its own station there is that of the place
-pub station_put : (p : ℕ → Place) (t l : ℕ) (p2 : Place) → stations_of (putting p t p2) t l ≡ station_at p2 l
-station_put p t l p2 = ap (λ q. station_at q l) (put_here p t p2)
+pub location_put : (p : ℕ → Place) (t l : ℕ) (p2 : Place) → locations_of (putting p t p2) t l ≡ location_at p2 l
+location_put p t l p2 = ap (λ q. location_at q l) (put_here p t p2)

@@ -20,8 +20,8 @@ use Rattle.spec_locks.specs.declared.kinds.Kind as kind
 use Rattle.lot_machine.specs.Machine.{State, unlocked, shares_at, place_at, section_at, queue_at, kind_at, places_told}
 use Rattle.lot_laws.specs.Refinement.{taken_at}
 use Rattle.lot_laws.specs.MutexDeeds.{acts}
-use Rattle.lot_laws.specs.Stations.{Station, hand, station_at, doing_on}
-use Rattle.lot_laws.specs.SitesOf.{ActsNeeded, TakesOne, Hands, IsSteady, Goes, FitsItsLock, Lines, Waits, AreWaiting, Sections, after_acts, rules_in, key_of, stood_in, carried_at, hand_at, stations_of}
+use Rattle.lot_laws.specs.Locations.{Location, hand, location_at, role_on}
+use Rattle.lot_laws.specs.SitesOf.{ActsNeeded, TakesOne, Hands, IsInductive, Goes, FitsItsLock, Lines, Waits, AreWaiting, Sections, after_acts, rules_in, key_of, stood_in, carried_at, hand_at, locations_of}
 use Rattle.lot_laws.proofs.semaphore.Permits.{all_by}
 use Rattle.lot_laws.proofs.machine.Parts.{parts_at, base_at, lock_in, seen_in, same, differ, put_here, put_other, set_puts, past_all}
 use Rattle.lot_laws.proofs.sites.OneStep.{AreSingle, others_same}
@@ -51,7 +51,7 @@ no_member u (x ∷ xs) h = grind (arith, nat_tests, no_member u xs)
 pub only_member : (x : Waiter) (u : ℕ) → member u (x ∷ []) ≡ true → x.thread ≡ u
 only_member x u h = grind (arith, nat_tests)
 
--- what threads are told, one after another
+-- tells what threads are told, one after another
 abbrev pub told_by : Reply → List Waiter → (ℕ → Place) → ℕ → Place
 told_by reply [] p = p
 told_by reply (x ∷ xs) p = told_by reply xs (putting p x.thread (next_place (p x.thread) reply))
@@ -99,25 +99,25 @@ taking_is t (x ∷ xs) was v u h = taking_is t xs now v u h.1 ∙ either (member
 
 -- ---------------------------------------------------------------- some are taken
 
--- who is taken of its line is in the hand of t, and stands there no more
-abbrev pub behind_take : ℕ → Bool → Station → Station
+-- a thread that is taken of its line is in the hand of t, and stands there no more
+abbrev pub behind_take : ℕ → Bool → Location → Location
 behind_take t true x = record x { stands = None; waits = None; hand = hand t false }
 behind_take t false x = x
 
 -- where a thread goes that sleeps in a line of the lock and is taken by t
 pub record IsTakenAt (w : State) (t l : ℕ) (m : Line) (p : Place) : Type 0 where
-  pub stands : (station_at p l).stands ≡ Some m
-  pub unheld : (station_at p l).hand ≡ None
-  pub goes : station_at (next_place p (TakenBy t)) l ≡ behind_take t true (station_at p l)
+  pub stands : (location_at p l).stands ≡ Some m
+  pub unheld : (location_at p l).hand ≡ None
+  pub goes : location_at (next_place p (TakenBy t)) l ≡ behind_take t true (location_at p l)
   pub alike : AlikeBeside l p (next_place p (TakenBy t))
-  pub doing : doing_on (next_place p (TakenBy t)) l ≡ doing_on p l
+  pub role : role_on (next_place p (TakenBy t)) l ≡ role_on p l
   pub fits : FitsItsLock w (next_place p (TakenBy t))
 
--- who is taken of the line, and who is left
+-- the waiters taken of the line, and those left
 pub record SplitsAt (w : State) (t l : ℕ) (m : Line) (taken left : List Waiter) : Type 0 where
   pub counts : (u : ℕ) → times u taken + times u left ≡ times u (queue_at w (key_of l m))
   pub sleeps : (u : ℕ) → member u taken ≡ true → IsTakenAt w t l m (place_at w u)
-  pub lefts : AreWaiting (stations_of (place_at w)) l m left
+  pub lefts : AreWaiting (locations_of (place_at w)) l m left
   pub wants : AllAre t (λ u. taken_at (next_place (place_at w u) (TakenBy t)) l) taken
 
 pub at_most_one : (o : Option Line) (m : Line) → stood_in o m ≤ 1
@@ -127,26 +127,26 @@ at_most_one (Some Main) Second = omega arith
 at_most_one (Some Second) Main = omega arith
 at_most_one (Some Second) Second = omega arith
 
-inside_of_take : (t : ℕ) (b : Bool) (x : Station) → (behind_take t b x).inside ≡ x.inside
+inside_of_take : (t : ℕ) (b : Bool) (x : Location) → (behind_take t b x).inside ≡ x.inside
 inside_of_take t true x = refl
 inside_of_take t false x = refl
 
-stands_of_take : (t : ℕ) (b : Bool) (x : Station) → (behind_take t b x).stands ≡ (if b then None else x.stands)
+stands_of_take : (t : ℕ) (b : Bool) (x : Location) → (behind_take t b x).stands ≡ (if b then None else x.stands)
 stands_of_take t true x = refl
 stands_of_take t false x = refl
 
-waits_of_take : (t : ℕ) (x : Station) → (b : Bool) → b ≡ false → (behind_take t b x).waits ≡ x.waits
+waits_of_take : (t : ℕ) (x : Location) → (b : Bool) → b ≡ false → (behind_take t b x).waits ≡ x.waits
 waits_of_take t x true e = absurd cc
 waits_of_take t x false e = refl
 
-hand_of_take : (t : ℕ) (b : Bool) (x : Station) → (behind_take t b x).hand ≡ (if b then hand t false else x.hand)
+hand_of_take : (t : ℕ) (b : Bool) (x : Location) → (behind_take t b x).hand ≡ (if b then hand t false else x.hand)
 hand_of_take t true x = refl
 hand_of_take t false x = refl
 
-module _ (w : State) (t l : ℕ) (steady : IsSteady w) (there : t < length w.places) (p2 : Place)
+module _ (w : State) (t l : ℕ) (steady : IsInductive w) (there : t < length w.places) (p2 : Place)
     (beside : AlikeBeside l (place_at w t) p2) (fits : FitsItsLock w p2)
     (m : Line) (taken left : List Waiter) (splits : SplitsAt w t l m taken left) (single : TakesOne w l → (u v : ℕ) → member u taken ≡ true → member v taken ≡ true → u ≡ v)
-    (bare : (station_at (place_at w t) l).carries ≡ None) (c : Option Bool) (now : station_at p2 l ≡ record (behind_take t (member t taken) (station_at (place_at w t) l)) { carries = c }) where
+    (bare : (location_at (place_at w t) l).carries ≡ None) (c : Option Bool) (now : location_at p2 l ≡ record (behind_take t (member t taken) (location_at (place_at w t) l)) { carries = c }) where
   abbrev has : ℕ → Bool
   has u = member u taken
 
@@ -156,8 +156,8 @@ module _ (w : State) (t l : ℕ) (steady : IsSteady w) (there : t < length w.pla
   abbrev pub places_now : ℕ → Place
   places_now = putting told t p2
 
-  abbrev was : ℕ → Station
-  was u = station_at (place_at w u) l
+  abbrev was : ℕ → Location
+  was u = location_at (place_at w u) l
 
   stood : (u : ℕ) → times u taken + times u left ≡ stood_in (was u).stands m
   stood u = splits.counts u ∙ steady.stands.lines u l m
@@ -184,23 +184,23 @@ module _ (w : State) (t l : ℕ) (steady : IsSteady w) (there : t < length w.pla
       either ne false h = subst (P u) (sym (told_off u h)) (off u ne h)
 
   -- a part of a station at the lock, but for whom t carries
-  part_here : {A : Type 0} (g : Station → A) → ((x : Station) (b : Option Bool) → g (record x { carries = b }) ≡ g x) → (u : ℕ) → g (station_at (places_now u) l) ≡ g (behind_take t (has u) (was u))
-  part_here g same_part = by_thread (λ u p. g (station_at p l) ≡ g (behind_take t (has u) (was u)))
+  part_here : {A : Type 0} (g : Location → A) → ((x : Location) (b : Option Bool) → g (record x { carries = b }) ≡ g x) → (u : ℕ) → g (location_at (places_now u) l) ≡ g (behind_take t (has u) (was u))
+  part_here g same_part = by_thread (λ u p. g (location_at p l) ≡ g (behind_take t (has u) (was u)))
       (ap g now ∙ same_part (behind_take t (has t) (was t)) c)
       (λ u nu h. ap g ((splits.sleeps u h).goes) ∙ sym (ap (λ b. g (behind_take t b (was u))) h))
       (λ u nu h. sym (ap (λ b. g (behind_take t b (was u))) h))
 
   -- and elsewhere all is as it was
-  station_there : (u k : ℕ) → k ≢ l → station_at (places_now u) k ≡ station_at (place_at w u) k
-  station_there u k ne = by_thread (λ u p. station_at p k ≡ station_at (place_at w u) k) (beside k ne).station (λ u nu h. ((splits.sleeps u h).alike k ne).station) (λ u nu h. refl) u
+  location_there : (u k : ℕ) → k ≢ l → location_at (places_now u) k ≡ location_at (place_at w u) k
+  location_there u k ne = by_thread (λ u p. location_at p k ≡ location_at (place_at w u) k) (beside k ne).location (λ u nu h. ((splits.sleeps u h).alike k ne).location) (λ u nu h. refl) u
 
   pub alike : (k : ℕ) → k ≢ l → (u : ℕ) → AlikeAt k (place_at w u) (places_now u)
-  alike k ne = by_thread (λ u p. AlikeAt k (place_at w u) p) ((beside k ne).taken, (beside k ne).doing) (λ u nu h. let s = splits.sleeps u h in ((s.alike k ne).taken, (s.alike k ne).doing)) (λ u nu h. (refl, refl))
+  alike k ne = by_thread (λ u p. AlikeAt k (place_at w u) p) ((beside k ne).taken, (beside k ne).role) (λ u nu h. let s = splits.sleeps u h in ((s.alike k ne).taken, (s.alike k ne).role)) (λ u nu h. (refl, refl))
 
-  inside_now : (u k : ℕ) → (station_at (places_now u) k).inside ≡ (station_at (place_at w u) k).inside
+  inside_now : (u k : ℕ) → (location_at (places_now u) k).inside ≡ (location_at (place_at w u) k).inside
   inside_now u k = elim (cases_eq k l) [
     | inl e ↦ rw e (part_here (λ y. y.inside) (λ x b. refl) u ∙ inside_of_take t (has u) (was u))
-    | inr ne ↦ ap (λ (y : Station). y.inside) (station_there u k ne)
+    | inr ne ↦ ap (λ (y : Location). y.inside) (location_there u k ne)
   ]
 
   -- ---------------------------------------------------------------- hands
@@ -208,21 +208,21 @@ module _ (w : State) (t l : ℕ) (steady : IsSteady w) (there : t < length w.pla
   in_hand : (u k : ℕ) → hand_at (places_now u) k ≡ (if has u && (k == l) then hand t false else hand_at (place_at w u) k)
   in_hand u k = elim (cases_eq k l) [
     | inl e ↦ rw (e, same l, and-true (has u)) (part_here (λ y. y.hand) (λ x b. refl) u ∙ hand_of_take t (has u) (was u))
-    | inr ne ↦ rw (differ k l ne, and-false (has u)) (ap (λ (y : Station). y.hand) (station_there u k ne))
+    | inr ne ↦ rw (differ k l ne, and-false (has u)) (ap (λ (y : Location). y.hand) (location_there u k ne))
   ]
 
   carries : (i k : ℕ) → carried_at (places_now i) k ≡ (if (i == t) && (k == l) then c else carried_at (place_at w i) k)
   carries i k = elim (cases_eq k l) [
     | inl e ↦ rw (e, same l, and-true (i == t)) (by_thread (λ u p. carried_at p l ≡ (if u == t then c else carried_at (place_at w u) l))
-        (rw (same t) (ap (λ (y : Station). y.carries) now))
-        (λ u nu h. rw (differ u t nu) (ap (λ (y : Station). y.carries) (splits.sleeps u h).goes))
+        (rw (same t) (ap (λ (y : Location). y.carries) now))
+        (λ u nu h. rw (differ u t nu) (ap (λ (y : Location). y.carries) (splits.sleeps u h).goes))
         (λ u nu h. rw (differ u t nu) refl) i)
-    | inr ne ↦ rw (differ k l ne, and-false (i == t)) (ap (λ (y : Station). y.carries) (station_there i k ne))
+    | inr ne ↦ rw (differ k l ne, and-false (i == t)) (ap (λ (y : Location). y.carries) (location_there i k ne))
   ]
 
   hands_now : ((b : Bool) → c ≡ Some b → (b ≡ false) × ((u : ℕ) × (has u ≡ true))) → ((u : ℕ) → has u ≡ true → c ≡ Some false)
       → Hands (TakesOne w) places_now
-  hands_now some full = hands_taken (TakesOne w) (stations_of (place_at w)) (stations_of places_now) steady.stands.hands t l has single c in_hand carries bare (λ u h. (splits.sleeps u h).unheld) some full
+  hands_now some full = hands_taken (TakesOne w) (locations_of (place_at w)) (locations_of places_now) steady.stands.hands t l has single c in_hand carries bare (λ u h. (splits.sleeps u h).unheld) some full
 
   calls_now : (u : ℕ) → FitsItsLock w (places_now u)
   calls_now = by_thread (λ u p. FitsItsLock w p) fits (λ u nu h. (splits.sleeps u h).fits) (λ u nu h. steady.stands.calls u)
@@ -235,16 +235,16 @@ module _ (w : State) (t l : ℕ) (steady : IsSteady w) (there : t < length w.pla
   none_left : (u : ℕ) → has u ≡ true → times u left ≡ 0
   none_left u h = let a : times u taken + times u left ≡ stood_in (was u).stands m = stood u in let b : 1 ≤ times u taken = member_times u taken h in let d : stood_in (was u).stands m ≤ 1 = at_most_one (was u).stands m in omega arith
 
-  -- who is taken stood in no other line of the lock
+  -- a thread that is taken stood in no other line of the lock
   stood_there : (u : ℕ) (n : Line) → has u ≡ true → n ≢ m → times u (queue_at w (key_of l n)) ≡ 0
   stood_there u n h ng = steady.stands.lines u l n ∙ ap (λ o. stood_in o n) (splits.sleeps u h).stands ∙ stood_other m n ng
 
   -- those who are left stand in the line
   lines_now : (queue : ℕ → List Waiter) → queue (key_of l m) ≡ left → ((key : ℕ) → key ≢ key_of l m → queue key ≡ queue_at w key)
-      → Lines (stations_of places_now) queue
+      → Lines (locations_of places_now) queue
   lines_now queue here others u k n = elim (cases_eq k l) [
     | inl f ↦ rw f (at_line (has u) refl (same_line n m) ∙ sym (ap (λ o. stood_in o n) (part_here (λ y. y.stands) (λ x b. refl) u ∙ stands_of_take t (has u) (was u))))
-    | inr ne ↦ ap (times u) (others (key_of k n) (other_key l k m n ne)) ∙ steady.stands.lines u k n ∙ sym (ap (λ (y : Station). stood_in y.stands n) (station_there u k ne))
+    | inr ne ↦ ap (times u) (others (key_of k n) (other_key l k m n ne)) ∙ steady.stands.lines u k n ∙ sym (ap (λ (y : Location). stood_in y.stands n) (location_there u k ne))
   ]
     where
       at_line : (b : Bool) → has u ≡ b → ((n ≡ m) ⊎ (n ≢ m))
@@ -256,17 +256,17 @@ module _ (w : State) (t l : ℕ) (steady : IsSteady w) (there : t < length w.pla
 
   -- and wait as before
   waits_now : (queue : ℕ → List Waiter) → queue (key_of l m) ≡ left → ((key : ℕ) → key ≢ key_of l m → queue key ≡ queue_at w key)
-      → Waits (stations_of places_now) queue
+      → Waits (locations_of places_now) queue
   waits_now queue here others k n = elim (cases_eq k l) [
     | inl f ↦ rw f (elim (same_line n m) [
-      | inl g ↦ rw (g, here) (waiting_same (stations_of (place_at w)) (stations_of places_now) l m left splits.lefts (λ u g. stays u (untaken_left u g)))
-      | inr ng ↦ waiting_same (stations_of (place_at w)) (stations_of places_now) l n (queue (key_of l n)) (subst (AreWaiting (stations_of (place_at w)) l n) (sym (others (key_of l n) (other_line l m n ng))) (steady.stands.waits l n))
+      | inl g ↦ rw (g, here) (waiting_same (locations_of (place_at w)) (locations_of places_now) l m left splits.lefts (λ u g. stays u (untaken_left u g)))
+      | inr ng ↦ waiting_same (locations_of (place_at w)) (locations_of places_now) l n (queue (key_of l n)) (subst (AreWaiting (locations_of (place_at w)) l n) (sym (others (key_of l n) (other_line l m n ng))) (steady.stands.waits l n))
           (λ u g. stays u (untaken_there u n ng (subst (λ (q : List Waiter). 1 ≤ times u q) (others (key_of l n) (other_line l m n ng)) g)))
     ])
-    | inr ne ↦ waiting_same (stations_of (place_at w)) (stations_of places_now) k n (queue (key_of k n)) (subst (AreWaiting (stations_of (place_at w)) k n) (sym (others (key_of k n) (other_key l k m n ne))) (steady.stands.waits k n)) (λ u g. ap (λ (y : Station). y.waits) (station_there u k ne))
+    | inr ne ↦ waiting_same (locations_of (place_at w)) (locations_of places_now) k n (queue (key_of k n)) (subst (AreWaiting (locations_of (place_at w)) k n) (sym (others (key_of k n) (other_key l k m n ne))) (steady.stands.waits k n)) (λ u g. ap (λ (y : Location). y.waits) (location_there u k ne))
   ]
     where
-      stays : (u : ℕ) → has u ≡ false → (station_at (places_now u) l).waits ≡ (was u).waits
+      stays : (u : ℕ) → has u ≡ false → (location_at (places_now u) l).waits ≡ (was u).waits
       stays u h = part_here (λ y. y.waits) (λ x b. refl) u ∙ waits_of_take t (was u) (has u) h
 
       untaken_left : (u : ℕ) → 1 ≤ times u left → has u ≡ false
@@ -306,19 +306,19 @@ module _ (w : State) (t l : ℕ) (steady : IsSteady w) (there : t < length w.pla
         → lock_taken.parked ≡ (after_acts r (acts t (d ∷ [])) (lock_by w l r)).parked
         → lock_taken.aside_parked ≡ (after_acts r (acts t (d ∷ [])) (lock_by w l r)).aside_parked
         → lock_taken.filled ≡ (after_acts r (acts t (d ∷ [])) (lock_by w l r)).filled
-        → doing_on p2 l ≡ (after_acts r (acts t (d ∷ [])) (lock_by w l r)).doing t
+        → role_on p2 l ≡ (after_acts r (acts t (d ∷ [])) (lock_by w l r)).role t
         → seen_in r l (with_line (parts_at w l) m left) places_now ≡ after_acts r (acts t (d ∷ [])) (lock_by w l r)
     take_site d single lock parked aside full own_is = λ i. record {
       lock = ((λ j. lock_in (with_line (parts_at w l) m left) (λ u. taken_now u j)) ∙ lock) i;
       parked = parked i;
       aside_parked = aside i;
       filled = full i;
-      doing = λ u. doing_now u i;
+      role = λ u. role_now u i;
     }
       where
-        doing_now : (u : ℕ) → doing_on (places_now u) l ≡ (after_acts r (acts t (d ∷ [])) (lock_by w l r)).doing u
-        doing_now = by_thread (λ u p. doing_on p l ≡ (after_acts r (acts t (d ∷ [])) (lock_by w l r)).doing u) own_is
-            (λ u nu h. (splits.sleeps u h).doing ∙ sym (others_same r (d ∷ []) (lock_by w l r) t u single nu))
+        role_now : (u : ℕ) → role_on (places_now u) l ≡ (after_acts r (acts t (d ∷ [])) (lock_by w l r)).role u
+        role_now = by_thread (λ u p. role_on p l ≡ (after_acts r (acts t (d ∷ [])) (lock_by w l r)).role u) own_is
+            (λ u nu h. (splits.sleeps u h).role ∙ sym (others_same r (d ∷ []) (lock_by w l r) t u single nu))
             (λ u nu h. sym (others_same r (d ∷ []) (lock_by w l r) t u single nu))
 
     -- the deed, and what it makes of the lock
@@ -380,12 +380,12 @@ module _ (w : State) (t l : ℕ) (steady : IsSteady w) (there : t < length w.pla
           → lock_taken.parked ≡ (after_acts r (acts t (d ∷ [])) (lock_by w l r)).parked
           → lock_taken.aside_parked ≡ (after_acts r (acts t (d ∷ [])) (lock_by w l r)).aside_parked
           → lock_taken.filled ≡ (after_acts r (acts t (d ∷ [])) (lock_by w l r)).filled
-          → doing_on p2 l ≡ (after_acts r (acts t (d ∷ [])) (lock_by w l r)).doing t → Goes w v l (acts t (d ∷ []))
+          → role_on p2 l ≡ (after_acts r (acts t (d ∷ [])) (lock_by w l r)).role t → Goes w v l (acts t (d ∷ []))
       take_goes some full d single_deed plain needed lock parked aside filled own_is = record {
         follows = follows_by w v l (with_line (parts_at w l) m left) places_now moves r rules (acts t (d ∷ [])) (λ e. all_by (length w.places) t (d ∷ []) there) (limited w l steady r rules (acts t (d ∷ [])) (λ h. ordinary_by (length w.places) t (d ∷ []) there plain) needed) (take_site d single_deed lock parked aside filled own_is) needed (word_now m refl);
         stands = stands_by w v places_now places moves.kinds
             (record {
-              sections = subst (λ (f : ℕ → Option ℕ). Sections (stations_of places_now) f) (sym (λ i key. get_or (es i) key None)) (sections_same (stations_of (place_at w)) (stations_of places_now) (section_at w) steady.stands.sections inside_now);
+              sections = subst (λ (f : ℕ → Option ℕ). Sections (locations_of places_now) f) (sym (λ i key. get_or (es i) key None)) (sections_same (locations_of (place_at w)) (locations_of places_now) (section_at w) steady.stands.sections inside_now);
               lines = lines_now (queue_at v) here others;
               waits = waits_now (queue_at v) here others;
               hands = hands_now some full;

@@ -12,15 +12,15 @@ use Rattle.steps_base.specs.Owners.{is_thread}
 use Rattle.lot_steps.specs.Steps.{next_place, taker}
 use Rattle.spec_locks.specs.Locks.{putting}
 use Rattle.lot_machine.specs.Machine.{State, place_at, put, state_after_telling, place_after_telling}
-use Rattle.lot_laws.specs.Stations.{Station, Hand, hand, station_at}
-use Rattle.lot_laws.specs.SitesOf.{IsSteady, FitsItsLock, carried_at, hand_at}
+use Rattle.lot_laws.specs.Locations.{Location, Hand, hand, location_at}
+use Rattle.lot_laws.specs.SitesOf.{IsInductive, FitsItsLock, carried_at, hand_at}
 use Rattle.lot_laws.proofs.machine.Parts.{same, differ, put_places, put_here, put_other}
 use Rattle.lot_laws.proofs.sites.StandsKept.{AlikeBeside}
 use Rattle.lot_laws.proofs.sites.Following.{AlikeAt}
 
 -- where a thread goes that t had in hand at the lock, and in whose hand it is there then, if in anybody's
 pub record IsToldAt (w : State) (t l : ℕ) (handed : Bool) (after : Option Hand) (reply : Reply) (p : Place) : Type 0 where
-  pub goes : station_at (next_place p reply) l ≡ record (station_at p l) { hand = after }
+  pub goes : location_at (next_place p reply) l ≡ record (location_at p l) { hand = after }
   pub alike : AlikeBeside l p (next_place p reply)
   pub fits : FitsItsLock w (next_place p reply)
 
@@ -35,18 +35,18 @@ abbrev pub SameHands : ℕ → Place → Place → Type 0
 SameHands l p p2 = (k : ℕ) → k ≢ l → (hand_at p2 k ≡ hand_at p k) × (carried_at p2 k ≡ carried_at p k)
 
 pub same_hands : (l : ℕ) (p p2 : Place) → AlikeBeside l p p2 → SameHands l p p2
-same_hands l p p2 beside k ne = let e = (beside k ne).station in (ap (λ (y : Station). y.hand) e, ap (λ (y : Station). y.carries) e)
+same_hands l p p2 beside k ne = let e = (beside k ne).location in (ap (λ (y : Location). y.hand) e, ap (λ (y : Location). y.carries) e)
 
--- whoever is in a hand is so at some lock, and t has nobody in hand at another lock than this one
+-- each thread that is in a hand is so at some lock, and t has nobody in hand at another lock than this one
 pub record HoldsHere (w : State) (t l : ℕ) : Type 0 where
   pub held : (u : ℕ) → is_thread t (taker (place_at w u)) ≡ true → IsHeldAt (place_at w u) t
   pub taker : (u : ℕ) (b : Bool) → hand_at (place_at w u) l ≡ hand t b → is_thread t (taker (place_at w u)) ≡ true
   pub nobody : (k : ℕ) → k ≢ l → carried_at (place_at w t) k ≡ None
 
-module _ (w : State) (t l : ℕ) (steady : IsSteady w) (p2 : Place) (beside : SameHands l (place_at w t) p2)
+module _ (w : State) (t l : ℕ) (steady : IsInductive w) (p2 : Place) (beside : SameHands l (place_at w t) p2)
     (fits : FitsItsLock w p2) (holds : HoldsHere w t l) (reply : Reply) (after : Option Hand)
     (all : (u : ℕ) (b : Bool) → hand_at (place_at w u) l ≡ hand t b → IsToldAt w t l b after reply (place_at w u)) where
-  -- who is told
+  -- a thread that is told
   abbrev pub has : ℕ → Bool
   has u = is_thread t (taker (place_at w u))
 
@@ -78,11 +78,11 @@ module _ (w : State) (t l : ℕ) (steady : IsSteady w) (p2 : Place) (beside : Sa
   pub told_off : (u : ℕ) → has u ≡ false → told u ≡ place_at w u
   told_off u h = ap (λ b. if b then next_place (place_at w u) reply else place_at w u) h
 
-  -- who is not told is not in its hand
+  -- a thread that is not told is not in its hand
   pub not_held : (u : ℕ) → has u ≡ false → (b : Bool) → hand_at (place_at w u) l ≡ hand t b → ⊥
   not_held u h b g = let c : true ≡ false = sym (holds.taker u b g) ∙ h in cc
 
-  -- what is told of a thread: what holds of each that is in its hand, and of each other
+  -- the news of a thread: what holds of each that is in its hand, and of each other
   pub by_told : (P : Place → Type 0) (u : ℕ) → (HeldHere u → P (next_place (place_at w u) reply))
       → ((has u ≡ false) → P (place_at w u)) → P (told u)
   by_told P u told_so other = either (has u) refl
@@ -92,11 +92,11 @@ module _ (w : State) (t l : ℕ) (steady : IsSteady w) (p2 : Place) (beside : Sa
       either false h = subst P (sym (told_off u h)) (other h)
 
   -- a part of a station that a hand is no part of
-  part_told : {A : Type 0} (g : Station → A) → ((x : Station) (h : Option Hand) → g (record x { hand = h }) ≡ g x) → (u k : ℕ) → g (station_at (told u) k) ≡ g (station_at (place_at w u) k)
-  part_told g same_part u k = by_told (λ q. g (station_at q k) ≡ g (station_at (place_at w u) k)) u
+  part_told : {A : Type 0} (g : Location → A) → ((x : Location) (h : Option Hand) → g (record x { hand = h }) ≡ g x) → (u k : ℕ) → g (location_at (told u) k) ≡ g (location_at (place_at w u) k)
+  part_told g same_part u k = by_told (λ q. g (location_at q k) ≡ g (location_at (place_at w u) k)) u
       (λ held. let z = all u held.handed held.hand in elim (cases_eq k l) [
-        | inl e ↦ rw e (ap g z.goes ∙ same_part (station_at (place_at w u) l) after)
-        | inr ne ↦ ap g (z.alike k ne).station
+        | inl e ↦ rw e (ap g z.goes ∙ same_part (location_at (place_at w u) l) after)
+        | inr ne ↦ ap g (z.alike k ne).location
       ])
       (λ h. refl)
 
@@ -105,7 +105,7 @@ module _ (w : State) (t l : ℕ) (steady : IsSteady w) (p2 : Place) (beside : Sa
   alike k ne own u = elim (cases_eq u t) [
     | inl e ↦ rw (e, put_here told t p2) own
     | inr nu ↦ subst (λ (y : Place). AlikeAt k (place_at w u) y) (sym (put_other told t p2 u nu)) (by_told (λ q. AlikeAt k (place_at w u) q) u
-        (λ held. let z = all u held.handed held.hand in ((z.alike k ne).taken, (z.alike k ne).doing))
+        (λ held. let z = all u held.handed held.hand in ((z.alike k ne).taken, (z.alike k ne).role))
         (λ h. (refl, refl)))
   ]
 
@@ -118,8 +118,8 @@ module _ (w : State) (t l : ℕ) (steady : IsSteady w) (p2 : Place) (beside : Sa
     | inr nu ↦ subst (λ (y : Place). FitsItsLock w y) (sym (put_other told t p2 u nu)) (by_told (FitsItsLock w) u (λ held. (all u held.handed held.hand).fits) (λ h. steady.stands.calls u))
   ]
 
-  -- whoever is told is in this hand then; t itself is so where it was in its own
-  module _ (own : (station_at p2 l).hand ≡ (if has t then after else (station_at (place_at w t) l).hand)) where
+  -- each thread that is told is in this hand then; t itself is so where it was in its own
+  module _ (own : (location_at p2 l).hand ≡ (if has t then after else (location_at (place_at w t) l).hand)) where
     pub in_hand : (u k : ℕ) → hand_at (places_then u) k ≡ (if has u && (k == l) then after else hand_at (place_at w u) k)
     in_hand u k = elim (cases_eq u t) [
       | inl e ↦ rw (e, put_here told t p2) (at_key (k == l) refl)
@@ -132,30 +132,30 @@ module _ (w : State) (t l : ℕ) (steady : IsSteady w) (p2 : Place) (beside : Sa
 
         at_told : HeldHere u → has u ≡ true → (c : Bool) → (k == l) ≡ c
             → hand_at (told u) k ≡ (if c then after else hand_at (place_at w u) k)
-        at_told held h true e = ap (λ y. hand_at y k) (told_on u h) ∙ ap (λ j. hand_at (next_place (place_at w u) reply) j) (eqb-true k l e) ∙ ap (λ (y : Station). y.hand) (all u held.handed held.hand).goes
-        at_told held h false e = ap (λ y. hand_at y k) (told_on u h) ∙ ap (λ (y : Station). y.hand) ((all u held.handed held.hand).alike k (not_here k e)).station
+        at_told held h true e = ap (λ y. hand_at y k) (told_on u h) ∙ ap (λ j. hand_at (next_place (place_at w u) reply) j) (eqb-true k l e) ∙ ap (λ (y : Location). y.hand) (all u held.handed held.hand).goes
+        at_told held h false e = ap (λ y. hand_at y k) (told_on u h) ∙ ap (λ (y : Location). y.hand) ((all u held.handed held.hand).alike k (not_here k e)).location
 
         either : (b : Bool) → has u ≡ b → hand_at (told u) k ≡ (if b && (k == l) then after else hand_at (place_at w u) k)
         either false h = ap (λ y. hand_at y k) (told_off u h)
         either true h = at_told (held_here u h) h (k == l) refl
 
   pub carries : (i k : ℕ)
-      → carried_at (places_then i) k ≡ (if (i == t) && (k == l) then (station_at p2 l).carries else carried_at (place_at w i) k)
+      → carried_at (places_then i) k ≡ (if (i == t) && (k == l) then (location_at p2 l).carries else carried_at (place_at w i) k)
   carries i k = elim (cases_eq i t) [
     | inl e ↦ rw (e, put_here told t p2, same t) (either (k == l) refl)
     | inr ni ↦ rw (put_other told t p2 i ni, differ i t ni) (part_told (λ y. y.carries) (λ x h. refl) i k)
   ]
     where
       either : (c : Bool) → (k == l) ≡ c
-          → carried_at p2 k ≡ (if c then (station_at p2 l).carries else carried_at (place_at w t) k)
+          → carried_at p2 k ≡ (if c then (location_at p2 l).carries else carried_at (place_at w t) k)
       either true e = ap (carried_at p2) (eqb-true k l e)
       either false e = (beside k (not_here k e)).1
 
   -- the parts that a hand is no part of, but for those of t
-  pub other_parts : {A : Type 0} (g : Station → A) → ((x : Station) (h : Option Hand) → g (record x { hand = h }) ≡ g x) → (u k : ℕ) → u ≢ t → g (station_at (places_then u) k) ≡ g (station_at (place_at w u) k)
-  other_parts g part u k ne = ap (λ y. g (station_at y k)) (put_other told t p2 u ne) ∙ part_told g part u k
+  pub other_parts : {A : Type 0} (g : Location → A) → ((x : Location) (h : Option Hand) → g (record x { hand = h }) ≡ g x) → (u k : ℕ) → u ≢ t → g (location_at (places_then u) k) ≡ g (location_at (place_at w u) k)
+  other_parts g part u k ne = ap (λ y. g (location_at y k)) (put_other told t p2 u ne) ∙ part_told g part u k
 
-  pub all_parts : {A : Type 0} (g : Station → A) → ((x : Station) (h : Option Hand) → g (record x { hand = h }) ≡ g x) → ((k : ℕ) → g (station_at p2 k) ≡ g (station_at (place_at w t) k)) → (u k : ℕ) → g (station_at (places_then u) k) ≡ g (station_at (place_at w u) k)
+  pub all_parts : {A : Type 0} (g : Location → A) → ((x : Location) (h : Option Hand) → g (record x { hand = h }) ≡ g x) → ((k : ℕ) → g (location_at p2 k) ≡ g (location_at (place_at w t) k)) → (u k : ℕ) → g (location_at (places_then u) k) ≡ g (location_at (place_at w u) k)
   all_parts g part e u k = elim (cases_eq u t) [
     | inl f ↦ rw (f, put_here told t p2) (e k)
     | inr nu ↦ other_parts g part u k nu

@@ -30,16 +30,16 @@ use Rattle.steps_mutex.specs.MutexSteps.{mutex_first, mutex_right}
 use Rattle.lot_steps.specs.Steps.{act_of, is_idle, looking, late_key, key_in}
 use Rattle.spec_locks.specs.Sites.{Claim, Has, Begin, HasClaim, idle}
 use Rattle.lot_machine.specs.Machine.{State, place_at, owners_at, kind_at, put, state_after_begin, can_begin, is_open_to, state_after_look, state_after_late_on, is_free_under, state_after_turn, can_turn, is_possible, after}
-use Rattle.lot_machine.specs.Fits.{IsShaped, PlaceFits}
+use Rattle.lot_machine.specs.Fits.{IsWellFormed, PlaceFits}
 use Rattle.lot_laws.specs.Refinement.{lock_state, taken_at}
 use Rattle.lot_laws.specs.SitesOf.{is_mutex}
-use Rattle.lot_laws.specs.MutexDeeds.{mutex_doing, mutex_station, acts, begins}
-use Rattle.lot_laws.specs.Stations.{nowhere, station}
-use Rattle.lot_laws.specs.SitesOf.{AreCondvars, AreCounted, IsSteady, Goes}
+use Rattle.lot_laws.specs.MutexDeeds.{mutex_role, mutex_location, acts, begins}
+use Rattle.lot_laws.specs.Locations.{nowhere, location}
+use Rattle.lot_laws.specs.SitesOf.{AreCondvars, AreCounted, IsInductive, Goes}
 use Rattle.lot_machine.proofs.Shape.{both, looking_shaped}
 use Rattle.lot_laws.proofs.machine.KindsStay.{calls_mutex, calls_readers, calls_once, calls_semaphore}
 use Rattle.lot_laws.proofs.machine.Parts.{parts_at, same, single_or_two, thread_is}
-use Rattle.lot_laws.proofs.mutex.Words.{mutex, own_doing, meets, others_same}
+use Rattle.lot_laws.proofs.mutex.Words.{mutex, own_role, meets, others_same}
 use Rattle.lot_laws.proofs.sites.StandsMoved.{mutex_rules}
 use Rattle.lot_laws.proofs.sites.SitesKept.{mutex_at, goes_steady, place_goes}
 use Rattle.lot_laws.proofs.calls.Looking.{looking_steady, looks_now}
@@ -64,22 +64,22 @@ idle_is (Once l at) h = absurd cc
 idle_is (Condvar l at) h = absurd cc
 idle_is (Semaphore l at) h = absurd cc
 
-module _ (w : State) (t : ℕ) (steady : IsSteady w) (shape : IsShaped w) (there : t < length w.places) where
+module _ (w : State) (t : ℕ) (steady : IsInductive w) (shape : IsWellFormed w) (there : t < length w.places) where
   -- a thread goes on from its place
-  gone_steady : AreCounted w → AreCondvars w → can_go w t ≡ true → IsSteady (state_after_go w t)
+  gone_steady : AreCounted w → AreCondvars w → can_go w t ≡ true → IsInductive (state_after_go w t)
   gone_steady counted condvars can = elim (single_or_two (place_at w t)) [
-    | inl single ↦ subst IsSteady (sym (gone w t single)) (gone_kept w t steady shape there counted (place_at w t) refl single (shape.places t) can)
-    | inr two ↦ subst (λ p. IsSteady (state_after_going w t p)) (sym two.is) (condvar_steady w t two.lock shape steady condvars there two.at two.is (ap (λ p. can_do w (act_of p)) (sym two.is) ∙ can))
+    | inl single ↦ subst IsInductive (sym (gone w t single)) (gone_kept w t steady shape there counted (place_at w t) refl single (shape.places t) can)
+    | inr two ↦ subst (λ p. IsInductive (state_after_going w t p)) (sym two.is) (condvar_steady w t two.lock shape steady condvars there two.at two.is (ap (λ p. can_do w (act_of p)) (sym two.is) ∙ can))
   ]
 
-module _ (w : State) (t : ℕ) (steady : IsSteady w) (shape : IsShaped w) (there : t < length w.places) where
+module _ (w : State) (t : ℕ) (steady : IsInductive w) (shape : IsWellFormed w) (there : t < length w.places) where
   -- it begins, with the claim that the call needs
-  begin_kept : (l : ℕ) (at : MutexPlace) (c : Option Claim) → is_mutex (kind_at w l) ≡ true → place_at w t ≡ Idle → taken_at (Mutex l at) l ≡ None → mutex_doing at ≡ record idle { claims = c } → HasClaim (lock_state w l) t c → mutex_station at ≡ nowhere → Goes w (put w t (Mutex l at)) l (acts t (Begin c ∷ []))
+  begin_kept : (l : ℕ) (at : MutexPlace) (c : Option Claim) → is_mutex (kind_at w l) ≡ true → place_at w t ≡ Idle → taken_at (Mutex l at) l ≡ None → mutex_role at ≡ record idle { claims = c } → HasClaim (lock_state w l) t c → mutex_location at ≡ nowhere → Goes w (put w t (Mutex l at)) l (acts t (Begin c ∷ []))
   begin_kept l at c of_mutex is none e has s = place_goes w t l steady (rw is tt) there mutex (mutex_rules (kind_at w l) of_mutex) (Mutex l at) refl of_mutex (Begin c ∷ []) (λ h. tt) (record {
-    site = meets mutex l (parts_at w l) (place_at w) t (Mutex l at) _ (rw is (sym none)) refl refl refl refl (own_doing l (Mutex l at) at refl ∙ e ∙ rw (same t, is) refl)
+    site = meets mutex l (parts_at w l) (place_at w) t (Mutex l at) _ (rw is (sym none)) refl refl refl refl (own_role l (Mutex l at) at refl ∙ e ∙ rw (same t, is) refl)
         (λ u ne. others_same mutex (Begin c ∷ []) (mutex_at w l) t u (tt, tt) ne);
     needed = (has, tt);
-  }) (s ∙ sym (ap station is))
+  }) (s ∙ sym (ap location is))
 
   -- each call of a mutex
   calls_begin : (l : ℕ) (fair : Bool) (c : MutexCall) → is_mutex (kind_at w l) ≡ true → place_at w t ≡ Idle
@@ -93,7 +93,7 @@ module _ (w : State) (t : ℕ) (steady : IsSteady w) (shape : IsShaped w) (there
   calls_begin l fair call.UnlockFair of is right = begin_kept l _ (Some (Has Exclusive)) of is refl refl (thread_is t (owners_at w l).exclusive right) refl
   calls_begin l fair call.Bump of is right = begin_kept l _ (Some (Has Exclusive)) of is refl refl (thread_is t (owners_at w l).exclusive right) refl
 
-  begun_kept : (c : Call) → can_begin w t c ≡ true → IsSteady (state_after_begin w t c)
+  begun_kept : (c : Call) → can_begin w t c ≡ true → IsInductive (state_after_begin w t c)
   begun_kept (calling.TheVariants.Mutex l c) can =
       let parts = both (is_idle (place_at w t)) (is_open_to w t (calling.TheVariants.Mutex l c)) can in
       let open_to = both (nat_lt l (length w.locks)) _ parts.1 in
@@ -119,33 +119,33 @@ module _ (w : State) (t : ℕ) (steady : IsSteady w) (shape : IsShaped w) (there
       goes_steady w _ l _ steady (rwlock_begins w t l c steady there (idle_is (place_at w t) parts.0) (calls_readers (kind_at w l) l c right.0) right.1)
 
   -- it looks at the word once more
-  spun_kept : AreCounted w → AreCondvars w → (o : Option Place) → looking (place_at w t) ≡ o → IsSteady (state_after_look w t o)
+  spun_kept : AreCounted w → AreCondvars w → (o : Option Place) → looking (place_at w t) ≡ o → IsInductive (state_after_look w t o)
   spun_kept counted condvars None is = steady
   spun_kept counted condvars (Some q) is = gone_steady (put w t q) t (looking_steady w t there q is steady) (looking_shaped w t q shape is) (rw (length-set w.places t q) there) (looking_counted w t there q is counted) (looking_condvars w t q there is condvars) (looks_now w t there q is)
 
   -- its time is up, and it goes into the section of its line
   asleep_late : (l : ℕ) (e : Entry) (r : Bool) → place_at w t ≡ Mutex l (Lock e r lock.Asleep) → l < length w.locks
       → is_free_under w (late_key (Mutex l (Lock e r lock.Asleep))) ≡ true
-      → IsSteady (state_after_late_on w t (late_key (Mutex l (Lock e r lock.Asleep))))
+      → IsInductive (state_after_late_on w t (late_key (Mutex l (Lock e r lock.Asleep))))
   asleep_late l entries.LockTimed r is lt can = rw is (goes_steady w _ l _ steady (enters w t steady shape there l (Lock entries.LockTimed r lock.Asleep) (Lock entries.LockTimed r lock.Remove) is lt can refl refl refl refl refl refl))
   asleep_late l entries.Lock r is lt can = absurd cc
   asleep_late l entries.Bump r is lt can = absurd cc
 
   lock_late : (l : ℕ) (e : Entry) (r : Bool) (a : LockAt) → place_at w t ≡ Mutex l (Lock e r a) → l < length w.locks
       → is_free_under w (late_key (Mutex l (Lock e r a))) ≡ true
-      → IsSteady (state_after_late_on w t (late_key (Mutex l (Lock e r a))))
+      → IsInductive (state_after_late_on w t (late_key (Mutex l (Lock e r a))))
   lock_late l e r lock.Asleep is lt can = asleep_late l e r is lt can
   lock_late l e r lock.First is lt can = absurd cc
   lock_late l e r a is lt can = absurd cc
 
   rwlock_late : (l : ℕ) (a : Admission) (c : RwLockCallPlace) → place_at w t ≡ RwLock l a c → l < length w.locks
       → (m : Option Line) → call_late_line c ≡ m → is_free_under w (key_in (Some l) m) ≡ true
-      → IsSteady (state_after_late_on w t (key_in (Some l) m))
+      → IsInductive (state_after_late_on w t (key_in (Some l) m))
   rwlock_late l a c is lt None e can = absurd cc
   rwlock_late l a c is lt (Some m) e can = goes_steady w _ l _ steady (rwlock_goes_late w t l a c steady shape there lt is m e can)
 
   late_kept : (p : Place) → place_at w t ≡ p → PlaceFits (length w.locks) p → is_free_under w (late_key p) ≡ true
-      → IsSteady (state_after_late_on w t (late_key p))
+      → IsInductive (state_after_late_on w t (late_key p))
   late_kept (Mutex l (Lock e r a)) is fits can = lock_late l e r a is fits.0 can
   late_kept (Mutex l TryLock) is fits can = absurd cc
   late_kept (Mutex l (Unlock a)) is fits can = absurd cc
@@ -160,25 +160,25 @@ module _ (w : State) (t : ℕ) (steady : IsSteady w) (shape : IsShaped w) (there
   late_kept (Semaphore l at) is fits can = semaphore_late (semaphore_profile at).late_line refl can
     where
       semaphore_late : (m : Option Line) → (semaphore_profile at).late_line ≡ m → is_free_under w (key_in (Some l) m) ≡ true
-          → IsSteady (state_after_late_on w t (key_in (Some l) m))
+          → IsInductive (state_after_late_on w t (key_in (Some l) m))
       semaphore_late None e h = absurd cc
       semaphore_late (Some m) e h = goes_steady w _ l _ steady (semaphore_goes_late w t l at steady shape there fits is m e h)
   late_kept (Once l at) is fits can = once_late (once_profile at).late_line refl can
     where
       once_late : (m : Option Line) → (once_profile at).late_line ≡ m → is_free_under w (key_in (Some l) m) ≡ true
-          → IsSteady (state_after_late_on w t (key_in (Some l) m))
+          → IsInductive (state_after_late_on w t (key_in (Some l) m))
       once_late None e h = absurd cc
       once_late (Some m) e h = goes_steady w _ l _ steady (once_goes_late w t l at steady shape there fits is m e h)
 
   -- its closure has answered, and it goes on behind it
   closed_kept : AreCounted w → AreCondvars w → (succeeded : Bool) → can_close w t succeeded ≡ true
-      → IsSteady (state_after_close w t succeeded)
+      → IsInductive (state_after_close w t succeeded)
   closed_kept counted condvars succeeded can =
       let one = closes_one w t succeeded can in
       gone_steady (closing w t there succeeded one) t (closing_steady w t there succeeded one steady) (closing_shaped w t there succeeded one shape) (closing_there w t there succeeded one)
       (closing_counted w t there succeeded one counted) (closing_condvars w t there succeeded one condvars) (closing_may w t there succeeded one)
 
-  turned_kept : AreCounted w → AreCondvars w → (x : Turn) → can_turn w t x ≡ true → IsSteady (state_after_turn w t x)
+  turned_kept : AreCounted w → AreCondvars w → (x : Turn) → can_turn w t x ≡ true → IsInductive (state_after_turn w t x)
   turned_kept counted condvars (turn.TheVariants.Begin c) can = begun_kept c can
   turned_kept counted condvars turn.TheVariants.Go can = gone_steady w t steady shape there counted condvars can
   turned_kept counted condvars turn.TheVariants.Spin can = spun_kept counted condvars (looking (place_at w t)) refl
@@ -187,10 +187,10 @@ module _ (w : State) (t : ℕ) (steady : IsSteady w) (shape : IsShaped w) (there
   turned_kept counted condvars turn.TheVariants.Err can = closed_kept counted condvars false can
 
 -- a step keeps what holds between steps
-pub after_steady : (w : State) (s : Step) → IsShaped w → IsSteady w → AreCounted w → AreCondvars w → IsSteady (after w s)
+pub after_steady : (w : State) (s : Step) → IsWellFormed w → IsInductive w → AreCounted w → AreCondvars w → IsInductive (after w s)
 after_steady w s shape steady counted condvars = either (is_possible w s) refl
   where
-    either : (b : Bool) → is_possible w s ≡ b → IsSteady (if b then state_after_turn w s.thread s.turn else w)
+    either : (b : Bool) → is_possible w s ≡ b → IsInductive (if b then state_after_turn w s.thread s.turn else w)
     either true can = let parts = both (nat_lt s.thread (length w.places)) (can_turn w s.thread s.turn) can in
         turned_kept w s.thread steady shape (ltb-true s.thread (length w.places) parts.0) counted condvars s.turn parts.1
     either false can = steady

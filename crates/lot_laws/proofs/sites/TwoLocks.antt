@@ -14,8 +14,8 @@ use Rattle.lot_machine.specs.Machine.{State, place_at, kind_at, shares_at, unloc
 use Rattle.lot_laws.specs.Refinement.{lock_state}
 use Rattle.lot_laws.specs.MutexDeeds.{acts}
 use Rattle.lot_laws.specs.MutexDeeds as deeds
-use Rattle.lot_laws.specs.Stations.{Station}
-use Rattle.lot_laws.specs.SitesOf.{ActsNeeded, AllBy, FollowAll, IsSteady, SameNumbers, after_acts, key_of, rules_in, site_of}
+use Rattle.lot_laws.specs.Locations.{Location}
+use Rattle.lot_laws.specs.SitesOf.{ActsNeeded, AllBy, FollowAll, IsInductive, SameNumbers, after_acts, key_of, rules_in, site_of}
 use Rattle.lot_laws.proofs.semaphore.Permits.{all_by}
 use Rattle.lot_laws.proofs.machine.Parts.{Parts, parts_at, put_here, put_other, put_places, same, differ, seen_in}
 use Rattle.lot_laws.proofs.sites.OneStep.{Steps, same_word}
@@ -23,11 +23,11 @@ use Rattle.lot_laws.proofs.sites.StandsKept.{Alike, other_key}
 use Rattle.lot_laws.proofs.sites.StandsMoved.{AreThere, goes_in, goes_out}
 use Rattle.lot_laws.proofs.sites.Following.{AlikeAt, lock_by}
 
--- what each of the two locks has been through
+-- tells what each of the two locks has been through
 abbrev pub two_at : ℕ → ℕ → List deeds.Act → List deeds.Act → ℕ → List deeds.Act
 two_at c m at_c at_m k = if k == c then at_c else if k == m then at_m else []
 
--- behind it the lock has these parts, and its word says so
+-- after it the lock has these parts, and its word says so
 pub record BehindIt (w v : State) (q : ℕ → Place) (l : ℕ) (ds : List deeds.Act) : Type 0 where
   pub parts : Parts
   pub here : parts_at v l ≡ parts
@@ -38,7 +38,7 @@ pub record BehindIt (w v : State) (q : ℕ → Place) (l : ℕ) (ds : List deeds
   pub unshared : has_readers (rules_in w l).sort ≡ false
   pub by : (rules_in w l).sort ≡ locks.Semaphore → AllBy (length w.places) ds
 
-module _ (w v : State) (steady : IsSteady w) (q : ℕ → Place) (places : place_at v ≡ q)
+module _ (w v : State) (steady : IsInductive w) (q : ℕ → Place) (places : place_at v ≡ q)
     (kinds : (k : ℕ) → kind_at v k ≡ kind_at w k) (numbers : SameNumbers w v) (c m : ℕ)
     (others : (k : ℕ) → k ≢ c → k ≢ m → (parts_at v k ≡ parts_at w k) × ((u : ℕ) → AlikeAt k (place_at w u) (q u))) where
   site_at : (l : ℕ) (ds : List deeds.Act) → BehindIt w v q l ds → site_of v l ≡ after_acts (rules_in w l) ds (site_of w l)
@@ -46,7 +46,7 @@ module _ (w v : State) (steady : IsSteady w) (q : ℕ → Place) (places : place
 
   site_else : (k : ℕ) → k ≢ c → k ≢ m → site_of v k ≡ site_of w k
   site_else k nc nm = let o = others k nc nm in (λ i. seen_in (rules_of (kinds k i)) k (o.0 i) (places i))
-      ∙ (λ i. record (site_of w k) { lock = record (site_of w k).lock { taken = λ u. (o.1 u).0 i }; doing = λ u. (o.1 u).1 i })
+      ∙ (λ i. record (site_of w k) { lock = record (site_of w k).lock { taken = λ u. (o.1 u).0 i }; role = λ u. (o.1 u).1 i })
 
   word_here : (l : ℕ) (ds : List deeds.Act) → BehindIt w v q l ds → word_at v l ≡ code (rules_in w l) (site_of v l)
   word_here l ds b = ap (λ (a : Parts). a.word) b.here ∙ b.coded ∙ sym (ap (code (rules_in w l)) (λ i. seen_in (rules_of (kinds l i)) l (b.here i) (places i)))
@@ -84,7 +84,7 @@ module _ (w v : State) (steady : IsSteady w) (q : ℕ → Place) (places : place
 -- ---------------------------------------------------------------- sections alone change, and the place of one thread
 
 -- it goes from where it stands by deeds at both locks
-module _ (w v : State) (steady : IsSteady w) (t : ℕ) (there : t < length w.places) (p2 : Place) (c m : ℕ) (apart : m ≢ c)
+module _ (w v : State) (steady : IsInductive w) (t : ℕ) (there : t < length w.places) (p2 : Place) (c m : ℕ) (apart : m ≢ c)
     (alike : (k : ℕ) → k ≢ c → k ≢ m → Alike k (place_at w t) p2)
     (el : v.locks ≡ w.locks) (eh : v.shares ≡ w.shares) (eq : v.queues ≡ w.queues) (ep : v.places ≡ set w.places t p2) (unshared_c : has_readers (rules_in w c).sort ≡ false) (unshared_m : has_readers (rules_in w m).sort ≡ false)
     (ds_c ds_m : List Deed) (steps_c : Steps (rules_in w c) c (parts_at w c) (parts_at w c) (place_at w) t p2 ds_c) (steps_m : Steps (rules_in w m) m (parts_at w m) (parts_at w m) (place_at w) t p2 ds_m) where
@@ -122,7 +122,7 @@ module _ (w v : State) (steady : IsSteady w) (t : ℕ) (there : t < length w.pla
   others k nc nm = (
     same_parts k,
     λ u. elim (cases_eq u t) [
-      | inl e ↦ rw (e, put_here (place_at w) t p2) ((alike k nc nm).taken, (alike k nc nm).doing)
+      | inl e ↦ rw (e, put_here (place_at w) t p2) ((alike k nc nm).taken, (alike k nc nm).role)
       | inr ne ↦ rw (put_other (place_at w) t p2 u ne) (refl, refl)
     ],
   )
@@ -134,15 +134,15 @@ module _ (w v : State) (steady : IsSteady w) (t : ℕ) (there : t < length w.pla
 -- ---------------------------------------------------------------- its station at one of them, and then at the other
 
 -- where one thread stands otherwise at one lock
-abbrev pub with_station : (ℕ → ℕ → Station) → ℕ → ℕ → Station → ℕ → ℕ → Station
-with_station at t l x u k = if (u == t) && (k == l) then x else at u k
+abbrev pub with_location : (ℕ → ℕ → Location) → ℕ → ℕ → Location → ℕ → ℕ → Location
+with_location at t l x u k = if (u == t) && (k == l) then x else at u k
 
-pub station_here : (at : ℕ → ℕ → Station) (t l : ℕ) (x : Station) → with_station at t l x t l ≡ x
-station_here at t l x = ap (λ b. if b && (l == l) then x else at t l) (same t) ∙ ap (λ b. if b then x else at t l) (same l)
+pub location_here : (at : ℕ → ℕ → Location) (t l : ℕ) (x : Location) → with_location at t l x t l ≡ x
+location_here at t l x = ap (λ b. if b && (l == l) then x else at t l) (same t) ∙ ap (λ b. if b then x else at t l) (same l)
 
-pub station_else : (at : ℕ → ℕ → Station) (t l : ℕ) (x : Station) (u k : ℕ) → (u ≡ t → k ≡ l → ⊥)
-    → with_station at t l x u k ≡ at u k
-station_else at t l x u k ne = elim (cases_eq u t) [
+pub location_else : (at : ℕ → ℕ → Location) (t l : ℕ) (x : Location) (u k : ℕ) → (u ≡ t → k ≡ l → ⊥)
+    → with_location at t l x u k ≡ at u k
+location_else at t l x u k ne = elim (cases_eq u t) [
   | inl e ↦ ap (λ b. if (u == t) && b then x else at u k) (differ k l (ne e)) ∙ ap (λ b. if b then x else at u k) (no (u == t))
   | inr nu ↦ ap (λ b. if b && (k == l) then x else at u k) (differ u t nu)
 ]
@@ -152,12 +152,12 @@ station_else at t l x u k ne = elim (cases_eq u t) [
     no false = refl
 
 -- a thread goes into two sections that are free, or out of its two
-module _ {one : ℕ → Type 0} (at at2 : ℕ → ℕ → Station) (section : ℕ → Option ℕ) (queue : ℕ → List Waiter)
+module _ {one : ℕ → Type 0} (at at2 : ℕ → ℕ → Location) (section : ℕ → Option ℕ) (queue : ℕ → List Waiter)
     (there : AreThere one at section queue) (t c m : ℕ) (apart : m ≢ c)
     (others : (u k : ℕ) → (u ≡ t → k ≡ c → ⊥) → (u ≡ t → k ≡ m → ⊥) → at2 u k ≡ at u k) (after : ℕ → Option ℕ) (elsewhere : (key : ℕ) → key ≢ key_of c Main → key ≢ key_of m Main → after key ≡ section key) where
   -- once it has gone at the first
-  abbrev between : ℕ → ℕ → Station
-  between = with_station at t c (at2 t c)
+  abbrev between : ℕ → ℕ → Location
+  between = with_location at t c (at2 t c)
 
   abbrev section_between : ℕ → Option ℕ
   section_between = putting section (key_of c Main) (after (key_of c Main))
@@ -168,14 +168,14 @@ module _ {one : ℕ → Type 0} (at at2 : ℕ → ℕ → Station) (section : �
   second_others : (u k : ℕ) → (u ≡ t → k ≡ m → ⊥) → at2 u k ≡ between u k
   second_others u k nm = elim (cases_eq u t) [
     | inl e ↦ elim (cases_eq k c) [
-      | inl f ↦ rw (e, f) (sym (station_here at t c (at2 t c)))
-      | inr nc ↦ others u k (λ g h. nc h) nm ∙ sym (station_else at t c (at2 t c) u k (λ g h. nc h))
+      | inl f ↦ rw (e, f) (sym (location_here at t c (at2 t c)))
+      | inr nc ↦ others u k (λ g h. nc h) nm ∙ sym (location_else at t c (at2 t c) u k (λ g h. nc h))
     ]
-    | inr nu ↦ others u k (λ g h. nu g) nm ∙ sym (station_else at t c (at2 t c) u k (λ g h. nu g))
+    | inr nu ↦ others u k (λ g h. nu g) nm ∙ sym (location_else at t c (at2 t c) u k (λ g h. nu g))
   ]
 
   at_m : between t m ≡ at t m
-  at_m = station_else at t c (at2 t c) t m (λ g h. apart h)
+  at_m = location_else at t c (at2 t c) t m (λ g h. apart h)
 
   later : (key : ℕ) → key ≢ key_of m Main → after key ≡ section_between key
   later key nm = elim (cases_eq key (key_of c Main)) [
@@ -191,14 +191,14 @@ module _ {one : ℕ → Type 0} (at at2 : ℕ → ℕ → Station) (section : �
       → at2 t c ≡ record (at t c) { inside = Some Main } → at2 t m ≡ record (at t m) { inside = Some Main }
       → AreThere one at2 after queue
   goes_in_two free_c free_m held_c held_m out_c out_m now_c now_m = goes_in between at2 section_between queue
-      (goes_in at between section queue there t c (station_else at t c (at2 t c)) Main section_between (λ key ne. put_other section (key_of c Main) (after (key_of c Main)) key ne) free_c
-      (put_here section (key_of c Main) (after (key_of c Main)) ∙ held_c) out_c (station_here at t c (at2 t c) ∙ now_c))
-      t m second_others Main after later (section_m ∙ free_m) held_m (ap (λ (x : Station). x.inside) at_m ∙ out_m) (now_m ∙ sym (ap (λ (x : Station). record x { inside = Some Main }) at_m))
+      (goes_in at between section queue there t c (location_else at t c (at2 t c)) Main section_between (λ key ne. put_other section (key_of c Main) (after (key_of c Main)) key ne) free_c
+      (put_here section (key_of c Main) (after (key_of c Main)) ∙ held_c) out_c (location_here at t c (at2 t c) ∙ now_c))
+      t m second_others Main after later (section_m ∙ free_m) held_m (ap (λ (x : Location). x.inside) at_m ∙ out_m) (now_m ∙ sym (ap (λ (x : Location). record x { inside = Some Main }) at_m))
 
   pub goes_out_two : after (key_of c Main) ≡ None → after (key_of m Main) ≡ None → (at t c).inside ≡ Some Main
       → (at t m).inside ≡ Some Main
       → at2 t c ≡ record (at t c) { inside = None } → at2 t m ≡ record (at t m) { inside = None } → AreThere one at2 after queue
   goes_out_two free_c free_m within_c within_m now_c now_m = goes_out between at2 section_between queue
-      (goes_out at between section queue there t c (station_else at t c (at2 t c)) Main section_between (λ key ne. put_other section (key_of c Main) (after (key_of c Main)) key ne)
-      (put_here section (key_of c Main) (after (key_of c Main)) ∙ free_c) within_c (station_here at t c (at2 t c) ∙ now_c))
-      t m second_others Main after later free_m (ap (λ (x : Station). x.inside) at_m ∙ within_m) (now_m ∙ sym (ap (λ (x : Station). record x { inside = None }) at_m))
+      (goes_out at between section queue there t c (location_else at t c (at2 t c)) Main section_between (λ key ne. put_other section (key_of c Main) (after (key_of c Main)) key ne)
+      (put_here section (key_of c Main) (after (key_of c Main)) ∙ free_c) within_c (location_here at t c (at2 t c) ∙ now_c))
+      t m second_others Main after later free_m (ap (λ (x : Location). x.inside) at_m ∙ within_m) (now_m ∙ sym (ap (λ (x : Location). record x { inside = None }) at_m))

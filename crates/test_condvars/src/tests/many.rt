@@ -93,7 +93,7 @@ fn notify<R: Wait>(
 
 // Notifies once so many wait. Whether it told all of them, and a further notification nobody; or
 // the one that it told passes that on.
-pub(super) fn notify_behind<R: Wait>(
+pub(super) fn notify_slow<R: Wait>(
     rt: &R,
     room: &Room,
     token: &mut Token,

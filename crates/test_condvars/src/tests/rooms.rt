@@ -4,7 +4,7 @@ ghost use Rattle.std.specs.Arc.{arc_value};
 ghost use Rattle.parking_lot.specs.Names.{IsTicketOf, IsTokenOf, lot_of, lot_of_condvar};
 
 use super::alone::wait_turns;
-use super::many::{Whom, add_and_wait, notify_behind, notify_in_turn};
+use super::many::{Whom, add_and_wait, notify_slow, notify_in_turn};
 use super::two::{Way, bump_until_notified, come_with_another, lock_and_wait, notify};
 use super::{condvar_of, holds, mutex_of, seats};
 use parking_lot::{Condvar, Mutex, ParkingLot, Ticket, Token};
@@ -91,7 +91,7 @@ fn take_part<R: Wait>(
         }
         (Part::Bump, false) => bump_until_notified(rt, room, token),
         (Part::Another, false) => come_with_another(rt, lot, room, token),
-        (Part::Notify(whom, threads), true) => notify_behind(rt, room, token, threads, whom),
+        (Part::Notify(whom, threads), true) => notify_slow(rt, room, token, threads, whom),
         (Part::Notify(whom, _), false) => add_and_wait(rt, room, token, whom),
         (Part::Turns(turns), true) => notify_in_turn(rt, room, token, turns),
         (Part::Turns(turns), false) => wait_turns(rt, room, token, turns),

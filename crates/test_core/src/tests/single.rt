@@ -62,15 +62,6 @@ fn seats_are_numbered(rt: HostRuntime) -> Result<(), Fail> {
     Ok(())
 }
 
-// Run with each allocation refused in turn, by `bench/each_lot_allocation.py`.
-#[test]
-fn a_lot_is_made_or_refused(rt: HostRuntime) {
-    match ParkingLot::new(rt.alloc(), 2, 2) {
-        Ok((_, tickets)) => same(&rt, tickets.len(), 2),
-        Err(fault) => same(&rt, fault, Fault::NoMemory),
-    }
-}
-
 // Locks a mutex, and tries it once more: whether the right names it, for what want, whether the
 // second try got it, and the word before it was unlocked and after.
 fn lock_once(

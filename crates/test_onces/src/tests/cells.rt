@@ -1,10 +1,10 @@
 //! A value that the first who asks makes.
-ghost use Rattle.run_once.specs.Users.{IsTokenOf, lot_of};
+ghost use Rattle.run_signals.specs.OnceUsers.{IsTokenOf, lot_of};
 
 use super::crowds::{Part, play};
 use super::{cell_of, holds, same, seats};
 use parking_lot_core::Token;
-use run_once::OnceCell;
+use run_signals::OnceCell;
 use std::alloc::Global;
 use std::process::Abort;
 use std::sync::Wait;

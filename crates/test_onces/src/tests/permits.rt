@@ -3,10 +3,10 @@ mod crowds;
 
 ghost use Rattle.std.specs.Prelude.{◌≡◌, ◌<◌, ◌≤◌, ◌^◌, All, IfSome};
 ghost use Rattle.std.specs.Arc.{arc_value};
-ghost use Rattle.run_semaphore.specs.Users.{IsTicketOf, IsTokenOf, lot_of};
+ghost use Rattle.run_signals.specs.SemaphoreUsers.{IsTicketOf, IsTokenOf, lot_of};
 
 use parking_lot_core::{Fault, ParkingLot, TickClock, Ticket, Token};
-use run_semaphore::Semaphore;
+use run_signals::Semaphore;
 use std::alloc::Global;
 use std::fmt::Debug;
 use std::process::Abort;

@@ -1,12 +1,12 @@
 //! Waits that have a deadline.
 ghost use Rattle.std.specs.Prelude.{◌≡◌, ◌≤◌};
-ghost use Rattle.run_once.specs.Users.{IsTokenOf, lot_of};
+ghost use Rattle.run_signals.specs.OnceUsers.{IsTokenOf, lot_of};
 
 use super::crowds::{Part, Told, play};
 use super::meets::await_flag;
 use super::{count_run, fail, once_alone, same};
 use parking_lot_core::{Clock, Fault, TickClock, Token};
-use run_once::{Once, OnceFault};
+use run_signals::{Once, OnceFault};
 use std::sync::Wait;
 use std::sync::atomic::AtomicUsize;
 use std::sync::atomic::Ordering::SeqCst;

@@ -14,8 +14,8 @@ use parking_lot::lock_api_rw::{
 use parking_lot::{Clock, Fault, ParkingLot, RawRwLock, RawSharedGuard, TickClock, Token};
 use std::alloc::Global;
 use std::sync::Wait;
-use std::sync::atomic::AtomicBool;
 use std::sync::atomic::Ordering::SeqCst;
+use std::sync::atomic::{AtomicBool, AtomicUsize};
 use std::test::Fail;
 use std::thread::yield_now;
 use std::time::Duration;
@@ -242,12 +242,14 @@ fn write_in_vain<const RECURSIVE: bool, R: Wait>(
     !goes_writing(rt, lock, token, came)
 }
 
-// The same of an upgrade.
+// Waits beside a reader to upgrade, until the time is up. Returns whether it gave up, and a reader came
+// in beside the upgradable right that it has still.
 fn upgrade_in_vain<const RECURSIVE: bool, R: Wait>(
     rt: &R,
     lock: &RawRwLock<RECURSIVE>,
     token: &mut Token,
     clock: &FlagClock<'_>,
+    came: &AtomicUsize,
 ) -> bool
     requires { IsTokenOf (lot_of_rwlock lock.now) token.old }
     ensures { IsTokenOf (lot_of_rwlock lock.now) token.new }
@@ -258,8 +260,9 @@ fn upgrade_in_vain<const RECURSIVE: bool, R: Wait>(
     match lock.try_upgrade_until(rt, token, guard, clock, 1) {
         Ok(guard) => !goes_writing(rt, lock, token, Some(guard)),
         Err(guard) => {
+            let let_in = comes_to(came, 1);
             lock.unlock_upgradable(rt, token, guard);
-            true
+            let_in
         }
     }
 }
@@ -278,7 +281,7 @@ pub(super) fn give_up<const RECURSIVE: bool, R: Wait>(
     await_flag(rt, &told.held);
     let clock = FlagClock(&told.up);
     if upgrades {
-        upgrade_in_vain(rt, lock, token, &clock)
+        upgrade_in_vain(rt, lock, token, &clock, &told.came)
     } else {
         write_in_vain(rt, lock, token, &clock)
     }

@@ -3,7 +3,7 @@ use Rattle.std.specs.Vec.{vec_capacity}
 use Rattle.core_base.specs.Lines.{line, threads_of}
 use Rattle.lot_machine.proofs.machine.list_line.Given as goal
 
--- whoever isn't listed yet stands from the place on
+-- each thread that isn't listed yet stands from the place on
 abbrev pub invariant-loop-waiter : goal.invariant-loop-waiter
 invariant-loop-waiter g l = let queues = g.Q.Queues in record {
   listed : l.out.items ++ threads_of (queues.rest l.queues l.key l.place) ≡ l.fn.out.items ++ threads_of (line l.key (queues.waiting l.queues));

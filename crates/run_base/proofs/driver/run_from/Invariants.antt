@@ -3,7 +3,7 @@ use Rattle.core_base.specs.Clocks.{IsUp}
 use Rattle.lot_steps.specs.Steps.{act_of}
 use Rattle.core_words.specs.declared.owners.Ownership.{Ownership}
 use Rattle.parking_lot_core.specs.Tokens.{IsSameThread, view_of}
-use Rattle.run_base.specs.Fitting.{AreWordsFor, Fits, aim_of}
+use Rattle.run_base.specs.Fitting.{AreWordsFor, Fits, call_purpose}
 use Rattle.run_base.specs.Stages.{IsIn, stage_of}
 use Rattle.run_base.specs.Words.{kind_in, at_in}
 use Rattle.run_base.proofs.Paths.{Comes}
@@ -17,5 +17,5 @@ invariant-loop g l = record {
   words : AreWordsFor l.place (kind_in l.words) (at_in l.words);
   fits : (base : List Ownership) → Fits (IsUp g.C.Clock.tells l.limit) base l.fn.start (stage_of l.fn.token l.fn.inside) → Fits (IsUp g.C.Clock.tells l.limit) base l.place (stage_of l.token l.section);
   act : l.act ≡ act_of l.place;
-  aim : aim_of l.place ≡ aim_of l.fn.start;
+  aim : call_purpose l.place ≡ call_purpose l.fn.start;
 }

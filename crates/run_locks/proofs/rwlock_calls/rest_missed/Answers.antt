@@ -6,7 +6,7 @@ use Rattle.lot_steps.specs.Steps.{next_act, next_place}
 use Rattle.lot_steps.specs.declared.places.Place.{Place}
 use Rattle.core_words.specs.declared.owners.Ownership.{Ownership}
 use Rattle.parking_lot_core.specs.Tokens.{view_of}
-use Rattle.run_base.specs.Fitting.{Aim, AreWordsFor, Fits, IsOver, ReachedBy, aim_of, answer_of, of_rwlock}
+use Rattle.run_base.specs.Fitting.{CallPurpose, AreWordsFor, Fits, IsOver, ReachedBy, call_purpose, answer_of, of_rwlock}
 use Rattle.run_base.specs.Paths.{Walks}
 use Rattle.run_base.specs.RwLockCalls.{rwlock_deciding}
 use Rattle.run_base.specs.Stages.{stage_of}
@@ -44,5 +44,5 @@ pub returns-in-None-clause-over : goal.returns-in-None-clause-over
 returns-in-None-clause-over g c = let next : c.advance-next.result.0 ≡ next_place (rwlock_deciding c.args.word.now.number c.args.admission.now c.args.purpose.now c.args.expected) (Value c.args.found) = search rules in
     let none : answer_of (next_act (rwlock_deciding c.args.word.now.number c.args.admission.now c.args.purpose.now c.args.expected) (Value c.args.found)) ≡ None = search rules in
     λ (base : List Ownership) reached. let goes = subst (λ (o : Option Answer). ReachedBy (IsUp g.C.Clock.tells c.args.limit.now) base (of_rwlock c.args.word.now.number c.args.admission.now c.args.purpose.now) (next_place (rwlock_deciding c.args.word.now.number c.args.admission.now c.args.purpose.now c.args.expected) (Value c.args.found)) o (stage_of c.args.token.now None)) none reached in
-    subst (λ (aim : Aim). IsOver (IsUp g.C.Clock.tells c.args.limit.now) base aim c.run_out.result (stage_of c.run_out.new.token None)) (ap aim_of next ∙ goes.1)
+    subst (λ (aim : CallPurpose). IsOver (IsUp g.C.Clock.tells c.args.limit.now) base aim c.run_out.result (stage_of c.run_out.new.token None)) (ap call_purpose next ∙ goes.1)
     (c.run_out.ensures.over base (subst (λ (p : Place). Fits (IsUp g.C.Clock.tells c.args.limit.now) base p (stage_of c.args.token.now None)) (sym next) goes.0))

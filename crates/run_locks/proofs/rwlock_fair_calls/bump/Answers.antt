@@ -6,7 +6,7 @@ use Rattle.steps_rwlock_fair.specs.FairSteps.{glance_next}
 use Rattle.steps_rwlock_fair.specs.declared.places.RwLockCallPlace.{RwLockCallPlace}
 use Rattle.core_words.specs.declared.owners.Ownership.{Ownership}
 use Rattle.parking_lot_core.specs.Tokens.{view_of}
-use Rattle.run_base.specs.Fitting.{Aim, IsOver}
+use Rattle.run_base.specs.Fitting.{CallPurpose, IsOver}
 use Rattle.run_base.specs.Stages.{stage_of}
 use Rattle.run_locks.proofs.RwLockFairCalls.{Glanced, bump_ends, bump_goes_on, glanced, has_taken, saw_step}
 use Rattle.run_locks.proofs.rwlock_fair_calls.bump.Goals as goal
@@ -49,4 +49,4 @@ returns-in-At-clause-over g c = λ (base : List Ownership) right. let l = c.args
     let taken = has_taken c.args.word.now c.requires.own.2 Load seen c.args.token.now c.word-seen.new.token step.stepped step.own.1 step.coded in
     let here = subst (λ (n : Next RwLockCallPlace). Glanced l a c.args.access base old mid seen refl c.requires.own.4 taken right n) goes
     (glanced l a c.args.access base old mid seen refl c.requires.own.4 taken right) in
-    (subst (λ (aim : Aim). IsOver ⊥ base aim c.rest.result (stage_of c.rest.new.token None)) here.1 (c.rest.ensures.over base here.0)).1
+    (subst (λ (aim : CallPurpose). IsOver ⊥ base aim c.rest.result (stage_of c.rest.new.token None)) here.1 (c.rest.ensures.over base here.0)).1

@@ -1,10 +1,10 @@
 //! Threads that meet at one semaphore.
 ghost use Rattle.std.specs.Prelude.{◌≡◌, ◌≤◌};
-ghost use Rattle.run_semaphore.specs.Users.{IsTicketOf, IsTokenOf, lot_of};
+ghost use Rattle.run_signals.specs.SemaphoreUsers.{IsTicketOf, IsTokenOf, lot_of};
 
 use super::{same, seats, semaphore_of};
 use parking_lot_core::{ParkingLot, TickClock, Ticket, Token};
-use run_semaphore::Semaphore;
+use run_signals::Semaphore;
 use std::alloc::Global;
 use std::process::Abort;
 use std::sync::Wait;

@@ -1,12 +1,12 @@
 use Rattle.std.proofs.Common.{length, sym, ap, subst, ◌∙◌}
 use Rattle.std.proofs.lemmas.Result.{IfOk-weaker}
 use Rattle.lot_laws.specs.SitesOf.{IsWorld}
-use Rattle.lot_machine.specs.Fits.{IsShaped}
+use Rattle.lot_machine.specs.Fits.{IsWellFormed}
 use Rattle.lot_machine.specs.Machine.{State}
-use Rattle.lot_drain.specs.Drains.{HasOneLock, IsDrain}
-use Rattle.lot_drain.specs.Schedules.{schedule_of}
-use Rattle.lot_drain.proofs.ScheduleEnds.{schedules_drain}
-use Rattle.lot_drain.proofs.StandsOnce.{stand_once}
+use Rattle.lot_world.specs.Drains.{HasOneLock, IsDrain}
+use Rattle.lot_world.specs.Schedules.{schedule_of}
+use Rattle.lot_world.proofs.ScheduleEnds.{schedules_drain}
+use Rattle.lot_world.proofs.StandsOnce.{stand_once}
 use Rattle.lot_world.proofs.world.World.drain.Goals as goal
 
 pub copy-requires-clause-once : goal.copy-requires-clause-once
@@ -16,7 +16,7 @@ pub copy-requires-clause-below : goal.copy-requires-clause-below
 copy-requires-clause-below g c = c.self.invariant.shaped.waiting
 
 pub schedule-requires-clause-shaped : goal.schedule-requires-clause-shaped
-schedule-requires-clause-shaped g c = subst IsShaped (sym c.in_ok-copy.ensures.ok) c.self.invariant.shaped
+schedule-requires-clause-shaped g c = subst IsWellFormed (sym c.in_ok-copy.ensures.ok) c.self.invariant.shaped
 
 pub schedule-requires-clause-one : goal.schedule-requires-clause-one
 schedule-requires-clause-one g c = ap (λ (w : State). length w.locks) (c.in_ok-copy.ensures.ok ∙ c.self.view_is) ∙ c.requires.lock.one

@@ -1,4 +1,4 @@
-use Rattle.lot_drain.proofs.DrainableTells.{drainable_tells}
+use Rattle.lot_world.proofs.DrainableTells.{drainable_tells}
 use Rattle.lot_world.proofs.world.World.drainable.Goals as goal
 
 pub returns-clause-drainable : goal.returns-clause-drainable

@@ -14,8 +14,8 @@ pub returns-then-not-is_parked-clause-path : goal.returns-then-not-is_parked-cla
 returns-then-not-is_parked-clause-path g c = let none : is_parked c.step-seen.result ≡ false = search rules in
     path_at_once c.args.self.now.word.number Bump c.step-seen.result (view_of c.args.token.now).steps (view_of c.step-seen.new.token).steps none (ap (λ (v : View). v.steps) c.step-seen.ensures.stepped)
 
-pub bump_behind-requires-clause-begun : goal.bump_behind-requires-clause-begun
-bump_behind-requires-clause-begun g c = let n = c.args.self.now.word.number in let old = c.args.token.now in let mid = c.step-seen.new.token in let new = c.join.new.token in let seen = c.step-seen.result in
+pub bump_slow-requires-clause-begun : goal.bump_slow-requires-clause-begun
+bump_slow-requires-clause-begun g c = let n = c.args.self.now.word.number in let old = c.args.token.now in let mid = c.step-seen.new.token in let new = c.join.new.token in let seen = c.step-seen.result in
     let parked : is_parked seen ≡ true = search rules in
     let stays : (view_of mid).owns ≡ (view_of old).owns = search rules in
     let number : new.number ≡ old.number = search rules in

@@ -7,8 +7,8 @@ use Rattle.run_locks.specs.declared.rwlock_calls.Rest.TheVariants.{GoesOn, Misse
 use Rattle.raw_rwlocks.proofs.RwLockReleases.{begins_releasing, released}
 use Rattle.raw_rwlocks.proofs.rwlock_rights.LotRwLock.release_slow.Goals as goal
 
-pub behind-requires-clause-begun : goal.behind-requires-clause-begun
-behind-requires-clause-begun g c = let begun = c.requires.begun in let is : c.args.rest ≡ GoesOn c.in-GoesOn.seen = search rules in (
+pub call_slow-requires-clause-begun : goal.call_slow-requires-clause-begun
+call_slow-requires-clause-begun g c = let begun = c.requires.begun in let is : c.args.rest ≡ GoesOn c.in-GoesOn.seen = search rules in (
   begun.1.0,
   (view_of begun.0).owns,
   begins_releasing c.args.self.now c.args.access begun.0 begun.1.0 begun.1.1 begun.1.2,
@@ -25,8 +25,8 @@ missed-requires-clause-begun g c = let begun = c.requires.begun in let is : c.ar
 
 pub returns-in-GoesOn-clause-over : goal.returns-in-GoesOn-clause-over
 returns-in-GoesOn-clause-over g c = λ before begun. let is : c.args.rest ≡ GoesOn c.in-GoesOn.seen = search rules in
-    released c.args.self.now c.args.access before begun.0 begun.1 begun.2 c.behind.new.token c.behind.result
-    (c.behind.ensures.over begun.0 (view_of before).owns (begins_releasing c.args.self.now c.args.access before begun.0 begun.1 begun.2)
+    released c.args.self.now c.args.access before begun.0 begun.1 begun.2 c.call_slow.new.token c.call_slow.result
+    (c.call_slow.ensures.over begun.0 (view_of before).owns (begins_releasing c.args.self.now c.args.access before begun.0 begun.1 begun.2)
     (subst (λ (r : Rest). HasBegun c.args.self.now.word c.args.self.now.settings.admission (Release c.args.access) r begun.0 c.args.token.now) is begun.3))
 
 pub returns-in-Missed-clause-over : goal.returns-in-Missed-clause-over

@@ -9,7 +9,7 @@ use Rattle.core_words.specs.declared.words.WordKind.{WordKind}
 use Rattle.core_words.specs.declared.words.WordKind.TheVariants.{Mutex}
 use Rattle.test_core.proofs.tests.single.found_by_each.Goals as goal
 
--- what may be done to a mutex may be done to this word
+-- tells what may be done to a mutex may be done to this word
 may : (word : Word) (op : Op) (owns : List Ownership) → word.kind ≡ Mutex → MayStep Mutex (word_index word.number Mutex) op owns
     → MayStep word.kind (word_index word.number word.kind) op owns
 may word op owns is step = subst (λ (kind : WordKind). MayStep kind (word_index word.number kind) op owns) (sym is) step

@@ -1,4 +1,4 @@
-use Rattle.run_semaphore.specs.Users.{IsTokenOf}
+use Rattle.run_signals.specs.SemaphoreUsers.{IsTokenOf}
 use Rattle.test_onces.proofs.tests.permits.crowds.one_waits.Given as goal
 
 abbrev pub invariant-loop : goal.invariant-loop

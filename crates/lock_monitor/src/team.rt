@@ -1,0 +1,161 @@
+//! A lot with a ticket for each of its threads.
+ghost use Rattle.std.specs.Prelude.{◌≡◌, ◌⊎◌, ◌↔◌, ◌+◌, All, IfErr, IfOk, IsErrOf, length};
+ghost use Rattle.std.specs.Arc.{arc_value};
+ghost use Rattle.parking_lot_core.specs.Team.{AreSizes};
+ghost use Rattle.parking_lot_core.specs.Tokens.{IsTicketOf, IsTokenOf};
+ghost use Rattle.lock_monitor.specs.Calls.{MayAnswer, MayRun, StaysIn};
+
+use parking_lot_core::{DEFAULT_WORDS, Fault, ParkingLot, Ticket, Token};
+use std::alloc::Global;
+use std::marker::Model;
+use std::sync::Arc;
+use std::thread::{Threads, map_vec};
+
+/// A lot, and the tickets of all its threads but the caller's. Each of them runs what the team is
+/// given, in a thread of its own.
+#[derive(Drop)]
+pub struct Team {
+    lot: Arc<ParkingLot>,
+    tickets: Vec<Ticket>,
+    ghost members: { All (IsTicketOf (arc_value lot)) tickets.items },
+    ghost number: { length tickets.items + 1 ≡ (arc_value lot).records.count },
+}
+
+// In a clause a team is its lot.
+impl Model for Team {
+    ghost use Rattle.std.specs.Prelude.{◌≡◌};
+    ghost use Rattle.std.specs.Arc.{arc_value};
+    ghost use Rattle.parking_lot_core.specs.declared.lot.ParkingLot.{ParkingLot};
+
+    ghost Value = { ParkingLot };
+
+    ghost view = { λ team. arc_value team.lot };
+}
+
+// Enters the lot by a ticket, calls the closure, and leaves.
+fn run_one<U, F: Fn(&mut Token) -> U>(lot: &ParkingLot, ticket: Ticket, f: &F) -> U
+    requires { IsTicketOf lot.now ticket × MayRun F.Fn f.now lot.now }
+    ensures { MayAnswer F.Fn f.now lot.now result }
+{
+    let mut token = ticket.enter();
+    let answer = f(&mut token);
+    drop(token.leave());
+    answer
+}
+
+// Calls the closure so many times in between.
+fn run_times<F: Fn(&mut Token)>(lot: &ParkingLot, ticket: Ticket, times: u64, f: &F) -> Ticket
+    requires { IsTicketOf lot.now ticket × MayRun F.Fn f.now lot.now × StaysIn F.Fn f.now lot.now }
+    ensures { IsTicketOf lot.now result }
+{
+    let mut token = ticket.enter();
+    for _ in 0..times {
+        f(&mut token);
+    }
+    token.leave()
+}
+
+impl Team {
+    /// Makes a lot of 64 words for so many threads and the caller's, and enters it.
+    ///
+    /// # Errors
+    ///
+    /// `SizesOutOfRange`, but for up to 1023 threads, and `NoMemory`, where memory was refused.
+    pub fn new(alloc: Global, threads: usize) -> Result<(Team, Token), Fault>
+        ensures made { IfOk result (λ made. IsTokenOf made.0 made.1
+            × (made.0.words.count ≡ 64) × (made.0.records.count ≡ threads + 1)) }
+        ensures sizes { IsErrOf result Fault.SizesOutOfRange ↔ (AreSizes 64 (threads + 1) → ⊥) }
+        ensures err { IfErr result (λ fault. (fault ≡ Fault.NoMemory)
+            ⊎ (fault ≡ Fault.SizesOutOfRange)) }
+    {
+        Team::with_words(alloc, DEFAULT_WORDS, threads)
+    }
+
+    /// Makes a lot of so many words for so many threads and the caller's, and enters it.
+    ///
+    /// # Errors
+    ///
+    /// `SizesOutOfRange`, but for 1 to 2^20 words and up to 1023 threads, and `NoMemory`, where
+    /// memory was refused.
+    pub fn with_words(alloc: Global, words: usize, threads: usize) -> Result<(Team, Token), Fault>
+        ensures made { IfOk result (λ made. IsTokenOf made.0 made.1
+            × (made.0.words.count ≡ words) × (made.0.records.count ≡ threads + 1)) }
+        ensures sizes { IsErrOf result Fault.SizesOutOfRange ↔ (AreSizes words (threads + 1) → ⊥) }
+        ensures err { IfErr result (λ fault. (fault ≡ Fault.NoMemory)
+            ⊎ (fault ≡ Fault.SizesOutOfRange)) }
+    {
+        if threads > 1023 {
+            return Err(Fault::SizesOutOfRange);
+        }
+        let (lot, mut tickets) = ParkingLot::try_new(alloc, words, threads + 1)?;
+        match tickets.pop() {
+            Some(ticket) => Ok((Team { lot, tickets }, ticket.enter())),
+            None => unreachable!(),
+        }
+    }
+
+    /// The lot, in which locks are made.
+    pub fn lot(&self) -> &Arc<ParkingLot>
+        ensures { arc_value result.now ≡ self.now }
+    {
+        &self.lot
+    }
+
+    /// Runs a closure in a thread of each ticket, and waits for all. Returns what they answered.
+    ///
+    /// # Errors
+    ///
+    /// `NoMemory`, where memory was refused. Some threads may have run the closure then.
+    pub fn run<R: Threads + Sync, U: Send + Drop, F: Fn(&mut Token) -> U + Sync>(
+        self,
+        rt: &R,
+        f: &F,
+    ) -> Result<Vec<U>, Fault>
+        requires { MayRun F.Fn f.now self }
+        ensures number { IfOk result (λ answers. length answers.items + 1 ≡ self.records.count) }
+        ensures each { IfOk result (λ answers. All (MayAnswer F.Fn f.now self) answers.items) }
+        ensures err { IfErr result (λ fault. fault ≡ Fault.NoMemory) }
+    {
+        let Team { lot, tickets } = self;
+        let shared: &ParkingLot = &lot;
+        let answers = map_vec(
+            rt,
+            tickets,
+            &|ticket: Ticket| -> U
+                requires { IsTicketOf shared.now ticket × MayRun F.Fn f.now shared.now }
+                ensures { MayAnswer F.Fn f.entry.now shared.entry.now result }
+            { run_one(shared, ticket, f) },
+        )?;
+        Ok(answers)
+    }
+
+    /// Runs a closure so many times in a thread of each ticket, waits for all, and returns the team.
+    ///
+    /// # Errors
+    ///
+    /// `NoMemory`, where memory was refused. Some threads may have run the closure then.
+    pub fn run_times<R: Threads + Sync, F: Fn(&mut Token) + Sync>(
+        self,
+        rt: &R,
+        times: u64,
+        f: &F,
+    ) -> Result<Team, Fault>
+        requires may { MayRun F.Fn f.now self }
+        requires stays { StaysIn F.Fn f.now self }
+        ensures team { IfOk result (λ team. team ≡ self) }
+        ensures err { IfErr result (λ fault. fault ≡ Fault.NoMemory) }
+    {
+        let Team { lot, tickets } = self;
+        let shared: &ParkingLot = &lot;
+        let tickets = map_vec(
+            rt,
+            tickets,
+            &|ticket: Ticket| -> Ticket
+                requires { IsTicketOf shared.now ticket × MayRun F.Fn f.now shared.now
+                    × StaysIn F.Fn f.now shared.now }
+                ensures { IsTicketOf shared.entry.now result }
+            { run_times(shared, ticket, times, f) },
+        )?;
+        Ok(Team { lot, tickets })
+    }
+}

@@ -1,5 +1,0 @@
-use Rattle.lot_drain.proofs.Outside.{each_turn_leaves}
-use Rattle.lot_drain.proofs.course_laws.each_turn_leaves.Goals as goal
-
-pub returns : goal.returns
-returns c = each_turn_leaves

@@ -1,5 +1,0 @@
-use Rattle.lot_drain.proofs.Quiet.{quiet_is_over}
-use Rattle.lot_drain.proofs.course_laws.quiet_is_over.Goals as goal
-
-pub returns : goal.returns
-returns c = quiet_is_over

@@ -1,5 +1,0 @@
-use Rattle.lot_drain.proofs.Full.{strict_goes_on}
-use Rattle.lot_drain.proofs.course_laws.strict_goes_on.Goals as goal
-
-pub returns : goal.returns
-returns c = strict_goes_on

@@ -1,7 +1,0 @@
-use Rattle.std.proofs.Common.{◌≡◌, drop}
-use Rattle.lot_drain.specs.Schedules.{first_begin}
-use Rattle.lot_drain.proofs.draining.Drain.first_begin.Given as goal
-
--- none of the calls so far may begin
-abbrev pub invariant-loop-call : goal.invariant-loop-call
-invariant-loop-call g l = first_begin l.self.state l.thread (drop l.call-index l.calls) ≡ first_begin l.self.state l.thread l.calls

@@ -1,7 +1,0 @@
-use Rattle.std.proofs.Common.{◌≡◌, ◌-◌}
-use Rattle.lot_drain.specs.Schedules.{alone}
-use Rattle.lot_drain.proofs.draining.Drain.go_alone.Given as goal
-
--- what is left to do leads where all of it leads
-abbrev pub invariant-loop : goal.invariant-loop
-invariant-loop g l = alone (64 - l.counter) l.self l.thread ≡ alone 64 l.fn.self l.thread

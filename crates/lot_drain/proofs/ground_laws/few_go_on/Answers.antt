@@ -1,5 +1,0 @@
-use Rattle.lot_drain.proofs.Few.{few_go_on}
-use Rattle.lot_drain.proofs.ground_laws.few_go_on.Goals as goal
-
-pub returns : goal.returns
-returns c = few_go_on

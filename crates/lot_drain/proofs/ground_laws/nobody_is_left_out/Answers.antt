@@ -1,5 +1,0 @@
-use Rattle.lot_drain.proofs.Crowded.{nobody_is_left_out}
-use Rattle.lot_drain.proofs.ground_laws.nobody_is_left_out.Goals as goal
-
-pub returns : goal.returns
-returns c = nobody_is_left_out

@@ -1,5 +1,0 @@
-use Rattle.lot_drain.proofs.Drained.{resting_is_empty}
-use Rattle.lot_drain.proofs.ground_laws.resting_is_empty.Goals as goal
-
-pub returns : goal.returns
-returns c = resting_is_empty

@@ -1,5 +1,0 @@
-use Rattle.lot_drain.proofs.Pending.{unpending_go_on}
-use Rattle.lot_drain.proofs.ground_laws.unpending_go_on.Goals as goal
-
-pub returns : goal.returns
-returns c = unpending_go_on

@@ -1,5 +1,0 @@
-use Rattle.lot_drain.proofs.Reached.{reached_have_owners}
-use Rattle.lot_drain.proofs.laws.reached_have_owners.Goals as goal
-
-pub returns : goal.returns
-returns c = reached_have_owners

@@ -1,5 +1,0 @@
-use Rattle.lot_drain.proofs.Sleepers.{pending_own_nothing}
-use Rattle.lot_drain.proofs.waiting_laws.pending_own_nothing.Goals as goal
-
-pub returns : goal.returns
-returns c = pending_own_nothing

@@ -1,5 +1,0 @@
-use Rattle.lot_drain.proofs.Owned.{queued_own_nothing}
-use Rattle.lot_drain.proofs.waiting_laws.queued_own_nothing.Goals as goal
-
-pub returns : goal.returns
-returns c = queued_own_nothing

@@ -1,0 +1,56 @@
+//! The ground of a drain of one lock, told of the places of calls.
+ghost use Rattle.lot_world.specs.Owned.{PlacesOwnFew, QueuedOwnNothing};
+ghost use Rattle.lot_world.specs.Sleepers.{PendingOwnNothing, SleepersOwnNothing, SleepersRest, SleepersStand};
+ghost use Rattle.lot_world.specs.Waits.{NothingBefallsWaiting, SleepersWait, WaitersGoOnWaiting, WaitersOnlyWait};
+
+/// Shows that a call which only waits tells nobody anything.
+pub fn waiters_only_wait()
+    ensures { WaitersOnlyWait }
+{}
+
+/// Shows that it goes on to wait, until it ends.
+pub fn waiters_go_on_waiting()
+    ensures { WaitersGoOnWaiting }
+{}
+
+/// Shows that a thread only waits where it did, whatever befalls it.
+pub fn nothing_befalls_waiting()
+    ensures { NothingBefallsWaiting }
+{}
+
+/// Shows that a thread which sleeps only waits.
+pub fn sleepers_wait()
+    ensures { SleepersWait }
+{}
+
+/// Shows that a thread which sleeps is inside no section, owes nobody a wake, and has nobody in hand.
+pub fn sleepers_rest()
+    ensures { SleepersRest }
+{}
+
+/// Shows that a thread asleep in the main line owns nothing, where its call began with what it needs
+/// and no more.
+pub fn sleepers_own_nothing()
+    ensures { SleepersOwnNothing }
+{}
+
+/// Shows that a thread asleep aside is pending, and owns nothing else.
+pub fn pending_own_nothing()
+    ensures { PendingOwnNothing }
+{}
+
+/// Shows that a thread which sleeps stands in a line, or is in a hand.
+pub fn sleepers_stand()
+    ensures { SleepersStand }
+{}
+
+/// Shows that a thread has one right at most wherever its call stands, where it began with what it
+/// needs.
+pub fn places_own_few()
+    ensures { PlacesOwnFew }
+{}
+
+/// Shows that a thread in the main line owns nothing, asleep or not.
+pub fn queued_own_nothing()
+    ensures { QueuedOwnNothing }
+{}

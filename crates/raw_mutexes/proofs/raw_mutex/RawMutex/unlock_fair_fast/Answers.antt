@@ -1,0 +1,31 @@
+use Rattle.std.proofs.Common.{◌≡◌, ◌∙◌, ◌++◌, [], append-nil, cond, not, eq-eqb, ap, sym, subst, refl, rules}
+use Rattle.core_base.specs.declared.ops.Op.TheVariants.{Exchange}
+use Rattle.run_base.specs.Calls.{Releases, TookIfParked}
+use Rattle.run_base.specs.Paths.{mutex_at, step}
+use Rattle.run_base.specs.Telling.{steps_of}
+use Rattle.spec_locks.specs.declared.calls.MutexCall.TheVariants.{UnlockFair}
+use Rattle.core_words.specs.Indices.{word_index}
+use Rattle.core_words.specs.Plays.{stepping, takes_in}
+use Rattle.core_words.specs.Rights.{piece_of}
+use Rattle.core_words.specs.declared.owners.Owner.TheVariants.{Exclusive}
+use Rattle.core_words.specs.declared.views.View.{View}
+use Rattle.core_words.specs.declared.words.WordKind.{WordKind}
+use Rattle.parking_lot_core.specs.Tokens.{last_of, view_of}
+use Rattle.run_base.proofs.Behind.{path_at_once}
+use Rattle.raw_mutexes.specs.MutexGuards.{StaysAs}
+use Rattle.raw_mutexes.proofs.raw_mutex.RawMutex.unlock_fair_fast.Goals as goal
+
+pub returns-then-seen-eq-LOCKED-clause-over : goal.returns-then-seen-eq-LOCKED-clause-over
+returns-then-seen-eq-LOCKED-clause-over c = let mutex = c.args.self.now in let n = mutex.word.number in let old = c.args.token.now in let v = view_of old in
+    let new = c.leave_open_alone-seen.new.token in let seen = c.leave_open_alone-seen.result in let one = c.if-seen-eq-LOCKED.true in let at = word_index n mutex.word.kind in
+    let left : view_of new ≡ stepping v at (Exchange 1 0) seen = c.leave_open_alone-seen.ensures.stepped
+    ∙ ap (λ b. cond b (stepping v at (Exchange 1 0) seen) (stepping (takes_in v (piece_of mutex.word Exclusive)) at (Exchange 1 0) seen)) (eq-eqb seen 1 one) in
+    let added = ap (λ (v : View). v.steps) left ∙ ap (λ (k : WordKind). v.steps ++ step (word_index n k) (Exchange 1 0) seen) mutex.drawn.1 in
+    let stays : StaysAs old new = search rules in
+    let released : Releases n UnlockFair (steps_of old) (steps_of new) (last_of new) = (
+      seen,
+      [],
+      added ∙ sym (append-nil (steps_of old ++ step (mutex_at n) (Exchange 1 0) seen)),
+      subst (λ b. TookIfParked n (not b) [] (last_of new)) (sym (eq-eqb seen 1 one)) (refl, c.leave_open_alone-seen.ensures.own.1),
+    ) in
+    (stays, path_at_once n UnlockFair seen v.steps (view_of new).steps one added, released)

@@ -1,0 +1,17 @@
+use Rattle.std.proofs.Common.{◌∙◌, ◌++◌, ap, refl, rules}
+use Rattle.core_base.specs.declared.ops.Op.TheVariants.{Exchange}
+use Rattle.spec_locks.specs.declared.calls.MutexCall.TheVariants.{Lock}
+use Rattle.run_base.specs.Paths.{step}
+use Rattle.core_words.specs.Indices.{word_index}
+use Rattle.core_words.specs.declared.views.View.{View}
+use Rattle.core_words.specs.declared.words.WordKind.{WordKind}
+use Rattle.parking_lot_core.specs.Tokens.{view_of}
+use Rattle.run_base.proofs.Behind.{path_at_once}
+use Rattle.raw_mutexes.specs.MutexGuards.{StaysAs}
+use Rattle.raw_mutexes.proofs.raw_mutex.RawMutexRawMutex.lock_fast.Goals as goal
+
+pub returns-in-Ok-clause-over : goal.returns-in-Ok-clause-over
+returns-in-Ok-clause-over c = let mutex = c.args.self.now in let n = mutex.word.number in let old = c.args.token.now in let new = c.enter_open.new.token in
+    let added = ap (λ (v : View). v.steps) c.in-Ok.ensures.stepped ∙ ap (λ (k : WordKind). (view_of old).steps ++ step (word_index n k) (Exchange 0 1) 0) mutex.drawn.1 in
+    let stays : StaysAs old new = search rules in
+    (stays, path_at_once n Lock 0 (view_of old).steps (view_of new).steps refl added, (search rules, search rules))

@@ -1,0 +1,33 @@
+use Rattle.std.proofs.Common.{rules, ◌≡◌, None, List, sym, subst, ℕ}
+use Rattle.steps_base.specs.declared.acts.Reply.TheVariants.{Value}
+use Rattle.core_base.specs.Clocks.{IsUp}
+use Rattle.lot_steps.specs.Steps.{next_place}
+use Rattle.lot_steps.specs.declared.places.Place.{Place}
+use Rattle.core_words.specs.declared.owners.Ownership.{Ownership}
+use Rattle.parking_lot_core.specs.Tokens.{view_of}
+use Rattle.run_base.specs.Fitting.{AreWordsFor, Fits, IsOver, call_purpose}
+use Rattle.run_base.specs.Paths.{Walks}
+use Rattle.run_base.specs.RwLockCalls.{rwlock_begin}
+use Rattle.run_base.specs.Stages.{stage_of}
+use Rattle.run_base.specs.Words.{alone, at_in, kind_in}
+use Rattle.run_locks.proofs.RwLockCalling.{rwlock_alone, words_after}
+use Rattle.run_locks.proofs.rwlock_calls.rest_slow.Goals as goal
+
+pub run_out-requires-clause-words : goal.run_out-requires-clause-words
+run_out-requires-clause-words g c = let start : c.place_behind-start.result ≡ next_place (rwlock_begin c.args.word.now.number c.args.admission.now c.args.purpose.now) (Value c.args.seen) = search rules in
+    subst (λ (p : Place). AreWordsFor p (kind_in (alone c.args.word.now)) (at_in (alone c.args.word.now))) (sym start)
+    (words_after c.args.word.now c.requires.own.2 c.args.admission.now c.args.purpose.now c.args.seen c.requires.own.3)
+
+pub run_out-requires-clause-fits : goal.run_out-requires-clause-fits
+run_out-requires-clause-fits g c = let start : c.place_behind-start.result ≡ next_place (rwlock_begin c.args.word.now.number c.args.admission.now c.args.purpose.now) (Value c.args.seen) = search rules in
+    (c.requires.fits.0, subst (λ (p : Place). Fits (IsUp g.C.Clock.tells c.args.limit.now) c.requires.fits.0 p (stage_of c.args.token.now None)) (sym start) c.requires.fits.1)
+
+pub returns-clause-path : goal.returns-clause-path
+returns-clause-path g c = let start : c.place_behind-start.result ≡ next_place (rwlock_begin c.args.word.now.number c.args.admission.now c.args.purpose.now) (Value c.args.seen) = search rules in
+    subst (λ (at : ℕ → ℕ). Walks at (next_place (rwlock_begin c.args.word.now.number c.args.admission.now c.args.purpose.now) (Value c.args.seen)) (view_of c.args.token.now).steps (view_of c.run_out.new.token).steps c.run_out.result) (rwlock_alone c.args.word.now c.requires.own.2)
+    (subst (λ (p : Place). Walks (at_in (alone c.args.word.now)) p (view_of c.args.token.now).steps (view_of c.run_out.new.token).steps c.run_out.result) start c.run_out.ensures.path)
+
+pub returns-clause-over : goal.returns-clause-over
+returns-clause-over g c = λ (base : List Ownership) fits. let start : c.place_behind-start.result ≡ next_place (rwlock_begin c.args.word.now.number c.args.admission.now c.args.purpose.now) (Value c.args.seen) = search rules in
+    subst (λ (p : Place). IsOver (IsUp g.C.Clock.tells c.args.limit.now) base (call_purpose p) c.run_out.result (stage_of c.run_out.new.token None)) start
+    (c.run_out.ensures.over base (subst (λ (p : Place). Fits (IsUp g.C.Clock.tells c.args.limit.now) base p (stage_of c.args.token.now None)) (sym start) fits))

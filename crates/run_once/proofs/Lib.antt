@@ -1,2 +1,0 @@
-pub mod OnceCalling
-pub mod Knowing

@@ -1,4 +1,0 @@
-pub mod Users
-pub mod OnceCalls
-pub mod Ran
-pub mod Looks

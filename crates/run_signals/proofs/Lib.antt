@@ -1,0 +1,3 @@
+pub mod OnceCalling
+pub mod Knowing
+pub mod SemaphoreCalling

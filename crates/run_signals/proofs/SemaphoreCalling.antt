@@ -1,0 +1,140 @@
+-- The calls of a semaphore: on which words they step, and how their steps lead on.
+use Rattle.std.proofs.Common.{ℕ, ◌≡◌, ◌≢◌, ◌<◌, ◌++◌, ◌∙◌, ◌+◌, ◌-◌, ◌*◌, ◌/◌, ◌≤◌, ◌^◌, Bool, true, false, List, if◌then◌else◌, not, ◌==◌, ◌&&◌, refl, sym, ap, subst, arith, eq-eqb, ne_eqb}
+use Rattle.steps_semaphore.specs.declared.places.SemaphorePlace.{SemaphorePlace}
+use Rattle.spec_locks.specs.Codes.{has_parked}
+use Rattle.core_base.specs.declared.keys.Keys.TheVariants.{One}
+use Rattle.core_base.specs.declared.ops.Op.TheVariants.{Add, Exchange, Load}
+use Rattle.spec_locks.specs.declared.calls.Patience.TheVariants.{Try as OnlyTry}
+use Rattle.spec_locks.specs.declared.calls.SemaphoreCall.TheVariants as calls
+use Rattle.spec_locks.specs.declared.outcomes.Answer.{Answer}
+use Rattle.spec_locks.specs.declared.outcomes.Answer.TheVariants as answers
+use Rattle.steps_base.specs.declared.acts.Act.TheVariants as act
+use Rattle.steps_base.specs.declared.acts.Next.TheVariants.{At, End}
+use Rattle.steps_base.specs.declared.acts.Reply.TheVariants.{Value}
+use Rattle.steps_semaphore.specs.SemaphoreSteps.{acquired, in_acquire, in_release, in_try, is_free, looked}
+use Rattle.steps_semaphore.specs.declared.acquire.AcquireAt.TheVariants as acquire
+use Rattle.steps_semaphore.specs.declared.tries.TryAt.TheVariants as tries
+use Rattle.steps_semaphore.specs.declared.release.ReleaseAt.TheVariants as release
+use Rattle.lot_steps.specs.Steps.{act_of, next_act, next_place, semaphore_does, semaphore_goes}
+use Rattle.lot_steps.specs.declared.places.Place.TheVariants.{Semaphore}
+use Rattle.core_words.specs.Steps.{CodesWith, MayStep, holding, owns_after_step}
+use Rattle.core_words.specs.declared.owners.Ownership.{Ownership}
+use Rattle.core_words.specs.declared.views.WordStep.{WordStep}
+use Rattle.core_words.proofs.SemaphoreSteps.{has_many, semaphore_steps, semaphore_trades}
+use Rattle.core_words.specs.Indices.{word_index}
+use Rattle.core_words.specs.declared.words.Word.{Word}
+use Rattle.core_words.specs.declared.words.WordKind as kinds
+use Rattle.run_base.specs.Fitting.{AreWordsFor}
+use Rattle.run_base.specs.Paths.{Walks, at_semaphore, semaphore_at, step, word}
+use Rattle.run_base.specs.Words.{alone, at_in, kind_in}
+use Rattle.run_base.proofs.Paths.{Comes, comes_here, comes_on, comes_to_end, ends_at_once, walks_on}
+use Rattle.run_signals.specs.SemaphoreCalls.{IsSemaphore, deciding, semaphore_begin, trying, waiting, waking}
+
+-- its word stands where that of any semaphore of its number does
+pub semaphore_at_alone : (w : Word) → IsSemaphore w → at_in (alone w) ≡ at_semaphore w.number
+semaphore_at_alone w is = ap {B = ℕ → ℕ} (λ (kind : kinds.WordKind) (lock : ℕ). word_index w.number kind) is.1
+
+-- and serves its calls
+pub semaphore_alone : (w : Word) (at : SemaphorePlace) → IsSemaphore w → w.number < 9223372036854775808 → AreWordsFor (Semaphore w.number at) (kind_in (alone w)) (at_in (alone w))
+semaphore_alone w at is small = (small, (is.0, ap {B = ℕ → kinds.WordKind} (λ (kind : kinds.WordKind) (lock : ℕ). kind) is.1), semaphore_at_alone w is)
+
+module _ (n permits p : ℕ) (kind : kinds.WordKind) (is : kind ≡ kinds.TheVariants.Semaphore p) (owns rest : List Ownership) (all : owns ≡ holding (semaphore_at n) permits ++ rest) where
+  -- a thread that holds all permits may give all
+  pub may_fill : MayStep kind (word_index n kind) (Add (2 * permits)) owns
+  may_fill = subst (λ (k : kinds.WordKind). MayStep k (word_index n k) (Add (2 * permits)) owns) (sym is)
+      (subst (λ (o : List Ownership). MayStep (kinds.TheVariants.Semaphore p) (semaphore_at n) (Add (2 * permits)) o) (sym all)
+      ((semaphore_steps p (semaphore_at n) (holding (semaphore_at n) permits ++ rest)).fill permits ((semaphore_trades p (semaphore_at n) rest).has_all permits)))
+
+  -- and has none of them then
+  pub filled : (seen : ℕ) → CodesWith kind (word_index n kind) seen owns → owns_after_step kind (word_index n kind) (Add (2 * permits)) seen owns ≡ rest
+  filled seen code = ap (λ (k : kinds.WordKind). owns_after_step k (word_index n k) (Add (2 * permits)) seen owns) is
+      ∙ ap (owns_after_step (kinds.TheVariants.Semaphore p) (semaphore_at n) (Add (2 * permits)) seen) all
+      ∙ (semaphore_trades p (semaphore_at n) rest).fills permits seen few
+    where
+      found : CodesWith (kinds.TheVariants.Semaphore p) (semaphore_at n) seen (holding (semaphore_at n) permits ++ rest)
+      found = subst (λ (o : List Ownership). CodesWith (kinds.TheVariants.Semaphore p) (semaphore_at n) seen o) all (subst (λ (k : kinds.WordKind). CodesWith k (word_index n k) seen owns) is code)
+
+      few : seen / 2 + permits ≤ 2 ^ 62
+      few = let held = has_many (semaphore_at n) permits (holding (semaphore_at n) permits ++ rest) ((semaphore_trades p (semaphore_at n) rest).has_all permits) in
+          let all = (semaphore_trades p (semaphore_at n) (holding (semaphore_at n) permits ++ rest)).few seen found in omega arith
+
+module _ (n : ℕ) (timed : Bool) (seen found : ℕ) (old mid new : List WordStep) where
+  -- the first look
+  comes : mid ≡ old ++ step (semaphore_at n) Load seen → Comes (at_semaphore n) (waiting n timed) old mid (deciding n timed seen)
+  comes e = comes_on (at_semaphore n) (waiting n timed) (waiting n timed) (deciding n timed seen) old old mid (Value seen) (step (semaphore_at n) Load seen) (comes_here (at_semaphore n) (waiting n timed) old) e (word (waiting n timed) n Load seen refl) refl
+
+  act_there : is_free seen ≡ true → act_of (deciding n timed seen) ≡ act.Word n (Exchange seen (seen - 2))
+  act_there free = ap (λ (b : Bool). if b then act.Word n (Exchange seen (seen - 2)) else if seen == 0 then act.Word n (Exchange 0 1) else act.Enter (One (2 * n))) free
+
+  -- the call goes on behind its first look
+  pub waits_on : (answer : Answer) → mid ≡ old ++ step (semaphore_at n) Load seen → Walks (at_semaphore n) (deciding n timed seen) mid new answer → Walks (at_semaphore n) (waiting n timed) old new answer
+  waits_on answer e rest = walks_on (at_semaphore n) (waiting n timed) (deciding n timed seen) old mid new answer (comes e) rest
+
+  -- the exchange took a permit
+  pub takes : is_free seen ≡ true → mid ≡ old ++ step (semaphore_at n) Load seen → new ≡ mid ++ step (semaphore_at n) (Exchange seen (seen - 2)) found → found ≡ seen → Walks (at_semaphore n) (waiting n timed) old new (acquired timed)
+  takes free e x same = comes_to_end (at_semaphore n) (waiting n timed) (deciding n timed seen) old mid new (Value found) (step (semaphore_at n) (Exchange seen (seen - 2)) found) (acquired timed) (comes e) x (word (deciding n timed seen) n (Exchange seen (seen - 2)) found (act_there free)) ends
+    where
+      ends : next_act (deciding n timed seen) (Value found) ≡ act.End (acquired timed)
+      ends = ap (λ (b : Bool). semaphore_does n (in_acquire timed false (if not b then At (acquire.Decide found) else if is_free found then End (acquired timed) else At (acquire.Decide 1)))) (eq-eqb found seen same)
+          ∙ ap (λ (b : Bool). semaphore_does n (in_acquire timed false (if b then End (acquired timed) else At (acquire.Decide 1)))) (ap is_free same ∙ free)
+
+  -- or missed it, and the call goes on behind that
+  pub misses : (rest : List WordStep) (answer : Answer) → is_free seen ≡ true → mid ≡ old ++ step (semaphore_at n) Load seen → new ≡ mid ++ step (semaphore_at n) (Exchange seen (seen - 2)) found → found ≢ seen → Walks (at_semaphore n) (deciding n timed found) new rest answer → Walks (at_semaphore n) (waiting n timed) old rest answer
+  misses rest answer free e x ne walks = walks_on (at_semaphore n) (waiting n timed) (deciding n timed found) old new rest answer
+      (comes_on (at_semaphore n) (waiting n timed) (deciding n timed seen) (deciding n timed found) old mid new (Value found) (step (semaphore_at n) (Exchange seen (seen - 2)) found) (comes e) x (word (deciding n timed seen) n (Exchange seen (seen - 2)) found (act_there free)) is)
+      walks
+    where
+      is : deciding n timed found ≡ next_place (deciding n timed seen) (Value found)
+      is = sym (ap (λ (b : Bool). semaphore_goes n (in_acquire timed false (if not b then At (acquire.Decide found) else if is_free found then End (acquired timed) else At (acquire.Decide 1)))) (ne_eqb found seen ne))
+
+module _ (n : ℕ) (seen found : ℕ) (old mid new : List WordStep) where
+  -- a try that saw none free
+  pub sees_none : is_free seen ≡ false → mid ≡ old ++ step (semaphore_at n) Load seen → Walks (at_semaphore n) (semaphore_begin n (calls.Acquire OnlyTry)) old mid answers.No
+  sees_none full e = ends_at_once (at_semaphore n) (semaphore_begin n (calls.Acquire OnlyTry)) n Load seen old mid answers.No refl e
+      (ap (λ (b : Bool). semaphore_does n (in_try (if b then At (tries.Decide seen) else End answers.No))) full)
+
+  tries_it : is_free seen ≡ true → mid ≡ old ++ step (semaphore_at n) Load seen → Comes (at_semaphore n) (semaphore_begin n (calls.Acquire OnlyTry)) old mid (trying n seen)
+  tries_it free e = comes_on (at_semaphore n) (semaphore_begin n (calls.Acquire OnlyTry)) (semaphore_begin n (calls.Acquire OnlyTry)) (trying n seen) old old mid (Value seen) (step (semaphore_at n) Load seen) (comes_here (at_semaphore n) (semaphore_begin n (calls.Acquire OnlyTry)) old) e (word (semaphore_begin n (calls.Acquire OnlyTry)) n Load seen refl)
+      (sym (ap (λ (b : Bool). semaphore_goes n (in_try (if b then At (tries.Decide seen) else End answers.No))) free))
+
+  try_there : is_free seen ≡ true → act_of (trying n seen) ≡ act.Word n (Exchange seen (seen - 2))
+  try_there free = ap (λ (b : Bool). if b then act.Word n (Exchange seen (seen - 2)) else act.Word n Load) free
+
+  -- one that took a permit
+  pub tries_well : is_free seen ≡ true → mid ≡ old ++ step (semaphore_at n) Load seen → new ≡ mid ++ step (semaphore_at n) (Exchange seen (seen - 2)) found → found ≡ seen → Walks (at_semaphore n) (semaphore_begin n (calls.Acquire OnlyTry)) old new answers.Yes
+  tries_well free e x same = comes_to_end (at_semaphore n) (semaphore_begin n (calls.Acquire OnlyTry)) (trying n seen) old mid new (Value found) (step (semaphore_at n) (Exchange seen (seen - 2)) found) answers.Yes (tries_it free e) x (word (trying n seen) n (Exchange seen (seen - 2)) found (try_there free)) ends
+    where
+      ends : next_act (trying n seen) (Value found) ≡ act.End answers.Yes
+      ends = ap (λ (b : Bool). semaphore_does n (in_try (if b && is_free found then End answers.Yes else looked found))) (eq-eqb found seen same)
+          ∙ ap (λ (b : Bool). semaphore_does n (in_try (if b then End answers.Yes else looked found))) (ap is_free same ∙ free)
+
+  -- one that missed it, and found none free
+  pub misses_all : is_free seen ≡ true → is_free found ≡ false → mid ≡ old ++ step (semaphore_at n) Load seen → new ≡ mid ++ step (semaphore_at n) (Exchange seen (seen - 2)) found → found ≢ seen → Walks (at_semaphore n) (semaphore_begin n (calls.Acquire OnlyTry)) old new answers.No
+  misses_all free full e x ne = comes_to_end (at_semaphore n) (semaphore_begin n (calls.Acquire OnlyTry)) (trying n seen) old mid new (Value found) (step (semaphore_at n) (Exchange seen (seen - 2)) found) answers.No (tries_it free e) x (word (trying n seen) n (Exchange seen (seen - 2)) found (try_there free)) ends
+    where
+      ends : next_act (trying n seen) (Value found) ≡ act.End answers.No
+      ends = ap (λ (b : Bool). semaphore_does n (in_try (if b && is_free found then End answers.Yes else looked found))) (ne_eqb found seen ne)
+          ∙ ap (λ (b : Bool). semaphore_does n (in_try (if b then At (tries.Decide found) else End answers.No))) full
+
+  -- or found one, and goes on behind that
+  pub tries_on : (rest : List WordStep) (answer : Answer) → is_free seen ≡ true → is_free found ≡ true → mid ≡ old ++ step (semaphore_at n) Load seen → new ≡ mid ++ step (semaphore_at n) (Exchange seen (seen - 2)) found → found ≢ seen → Walks (at_semaphore n) (trying n found) new rest answer → Walks (at_semaphore n) (semaphore_begin n (calls.Acquire OnlyTry)) old rest answer
+  tries_on rest answer free more e x ne walks = walks_on (at_semaphore n) (semaphore_begin n (calls.Acquire OnlyTry)) (trying n found) old new rest answer
+      (comes_on (at_semaphore n) (semaphore_begin n (calls.Acquire OnlyTry)) (trying n seen) (trying n found) old mid new (Value found) (step (semaphore_at n) (Exchange seen (seen - 2)) found) (tries_it free e) x (word (trying n seen) n (Exchange seen (seen - 2)) found (try_there free)) is)
+      walks
+    where
+      is : trying n found ≡ next_place (trying n seen) (Value found)
+      is = sym (ap (λ (b : Bool). semaphore_goes n (in_try (if b && is_free found then End answers.Yes else looked found))) (ne_eqb found seen ne)
+          ∙ ap (λ (b : Bool). semaphore_goes n (in_try (if b then At (tries.Decide found) else End answers.No))) more)
+
+module _ (n seen : ℕ) (old mid new : List WordStep) where
+  -- a release that saw nobody parked
+  pub releases_at_once : has_parked seen ≡ false → mid ≡ old ++ step (semaphore_at n) (Add 2) seen → Walks (at_semaphore n) (semaphore_begin n calls.Release) old mid answers.Ok
+  releases_at_once none e = ends_at_once (at_semaphore n) (semaphore_begin n calls.Release) n (Add 2) seen old mid answers.Ok refl e
+      (ap (λ (b : Bool). semaphore_does n (in_release (if b then At release.Enter else End answers.Ok))) none)
+
+  -- and one that saw that somebody may be
+  pub releases_on : (answer : Answer) → has_parked seen ≡ true → mid ≡ old ++ step (semaphore_at n) (Add 2) seen → Walks (at_semaphore n) (waking n) mid new answer → Walks (at_semaphore n) (semaphore_begin n calls.Release) old new answer
+  releases_on answer parked e rest = walks_on (at_semaphore n) (semaphore_begin n calls.Release) (waking n) old mid new answer
+      (comes_on (at_semaphore n) (semaphore_begin n calls.Release) (semaphore_begin n calls.Release) (waking n) old old mid (Value seen) (step (semaphore_at n) (Add 2) seen) (comes_here (at_semaphore n) (semaphore_begin n calls.Release) old) e (word (semaphore_begin n calls.Release) n (Add 2) seen refl)
+      (sym (ap (λ (b : Bool). semaphore_goes n (in_release (if b then At release.Enter else End answers.Ok))) parked)))
+      rest

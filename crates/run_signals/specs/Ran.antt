@@ -1,0 +1,98 @@
+-- The calls of a `Once` that have run a closure, or waited for a run.
+use Rattle.std.specs.Prelude.{ℕ, ◌≡◌, ◌≢◌, ◌⊎◌, ◌++◌, Bool, true, false, List, Ok, Err, if◌then◌else◌}
+use Rattle.std.specs.declared.result.Result.{Result}
+use Rattle.spec_locks.specs.Codes.{is_done, is_poisoned, is_running}
+use Rattle.core_base.specs.declared.faults.Fault.{Fault}
+use Rattle.core_base.specs.declared.faults.Fault.TheVariants as faults
+use Rattle.core_base.specs.declared.ops.Op.TheVariants.{Exchange, Load}
+use Rattle.spec_locks.specs.declared.calls.OnceCall.{OnceCall}
+use Rattle.spec_locks.specs.declared.calls.OnceCall.TheVariants.{CallOnce, Wait}
+use Rattle.spec_locks.specs.declared.outcomes.Answer.{Answer}
+use Rattle.spec_locks.specs.declared.outcomes.Answer.TheVariants as answers
+use Rattle.spec_locks.specs.declared.outcomes.OnceState.{OnceState}
+use Rattle.spec_locks.specs.declared.outcomes.OnceState.TheVariants as states
+use Rattle.steps_once.specs.OnceSteps.{state_before}
+use Rattle.core_words.specs.declared.views.WordStep.{WordStep}
+use Rattle.core_words.specs.declared.words.Word.{Word}
+use Rattle.core_words.specs.declared.words.WordKind as kinds
+use Rattle.parking_lot_core.specs.Tokens.{last_of}
+use Rattle.parking_lot_core.specs.declared.lot.ParkingLot.{ParkingLot}
+use Rattle.parking_lot_core.specs.declared.tokens.Token.{Token}
+use Rattle.run_base.specs.Drawing.{Drew}
+use Rattle.run_base.specs.OnceFitting.{KnowsIt, OwnsKnowing}
+use Rattle.run_base.specs.Paths.{Walks, at_once, once_at, step}
+use Rattle.run_base.specs.Telling.{owns_of, steps_of}
+use Rattle.run_signals.specs.OnceCalls.{Closes, ComesTo, EndsRun, in_closure, once_begin}
+use Rattle.run_signals.specs.declared.once.OnceFault.{OnceFault}
+use Rattle.run_signals.specs.declared.once.OnceFault.TheVariants.{Refused, Failed}
+
+-- it is the same thread, and owns what it did; beside that it may know that the `Once` is done
+abbrev pub StaysKnowing : ℕ → Token → Token → Type 0
+StaysKnowing n old new = (new.number ≡ old.number) × OwnsKnowing n (owns_of old) (owns_of new)
+
+-- it knows that the `Once` is done
+abbrev pub SawDone : ℕ → Token → Token → Type 0
+SawDone n old new = KnowsIt n (owns_of old) (owns_of new)
+
+-- the value of a cell was there, and its thread took no step, or knows that its `Once` is done
+abbrev pub FoundOrMade : ℕ → Token → Token → Type 0
+FoundOrMade n old new = (new ≡ old) ⊎ SawDone n old new
+
+-- its one step, which begins a run, saw that somebody had stepped on the word before
+abbrev pub MissedStart : ℕ → Token → Token → Type 0
+MissedStart n old new = (seen : ℕ) × (seen ≢ 0)
+    × (steps_of new ≡ steps_of old ++ step (once_at n) (Exchange 0 4) seen)
+
+-- a word was drawn, and the one step on it saw that
+abbrev pub DrewUsed : ParkingLot → Token → Token → Type 0
+DrewUsed lot old new = (word : Word) × (mid : Token) × Drew kinds.TheVariants.Once lot word old mid
+    × MissedStart word.number mid new
+
+-- how far it has come, by its word
+abbrev pub state_of : ℕ → OnceState
+state_of v = if is_done v then states.Done
+    else if is_running v then states.InProgress
+    else if is_poisoned v then states.Poisoned
+    else states.New
+
+-- the word was loaded once, and said this
+abbrev pub Loaded : ℕ → ℕ → Token → Token → Type 0
+Loaded n seen old new = steps_of new ≡ steps_of old ++ step (once_at n) Load seen
+
+-- a call ran nothing, and its steps lead to its answer
+abbrev pub HasLooked : ℕ → OnceCall → Answer → Token → Token → Type 0
+HasLooked n c answer old new =
+    Walks (at_once n) (once_begin n c) (steps_of old) (steps_of new) answer
+
+-- a call ran its closure, which was told this state: its steps lead there, and from there to its
+-- end, and whoever waited then was woken
+abbrev pub HasRun : ℕ → Bool → Bool → OnceState → Token → Token → Type 0
+HasRun n forced succeeded state old new =
+    (poisoned : Bool) × (mid : List WordStep) × (state ≡ state_before poisoned)
+    × ComesTo n (once_begin n (CallOnce forced)) (steps_of old) mid (in_closure n forced poisoned)
+    × EndsRun n forced succeeded mid (steps_of new)
+    × Closes n succeeded mid (steps_of new) (last_of new)
+
+-- the answer of a call is true, by what its closure answers in a state: it is Ok where the call began no run
+-- and saw the `Once` done, or where its own closure succeeded
+abbrev pub CalledOnce : {E : Type 0} → ℕ → Bool → (OnceState → Result (Unit {0}) E → Type 0) → Token
+    → Token → Result (Unit {0}) (OnceFault E) → Type 0
+CalledOnce n forced ran old new (Ok done) = SawDone n old new
+    × (HasLooked n (CallOnce forced) answers.Ok old new
+    ⊎ ((state : OnceState) × ran state (Ok tt) × HasRun n forced true state old new))
+CalledOnce n forced ran old new (Err (Refused fault)) = (forced ≡ false) × (fault ≡ faults.Poisoned)
+    × HasLooked n (CallOnce forced) answers.Poisoned old new
+CalledOnce n forced ran old new (Err (Failed error)) =
+    (state : OnceState) × ran state (Err error) × HasRun n forced false state old new
+
+-- the answer of a wait with a deadline
+abbrev pub timed_answer : Result Bool Fault → Answer
+timed_answer (Ok true) = answers.Yes
+timed_answer (Ok false) = answers.No
+timed_answer (Err fault) = answers.Poisoned
+
+-- and of one that waits
+abbrev pub Waited : ℕ → Token → Token → Result (Unit {0}) Fault → Type 0
+Waited n old new (Ok done) = SawDone n old new × HasLooked n (Wait false) answers.Ok old new
+Waited n old new (Err fault) =
+    (fault ≡ faults.Poisoned) × HasLooked n (Wait false) answers.Poisoned old new

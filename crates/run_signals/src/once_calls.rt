@@ -1,0 +1,148 @@
+//! The calls of a `Once`: up to its closure, and from behind that to its end.
+ghost use Rattle.std.specs.Prelude.{◌≡◌, List, None, true};
+ghost use Rattle.core_base.specs.Clocks.{IsUp};
+ghost use Rattle.steps_once.specs.OnceSteps.{word_behind};
+ghost use Rattle.steps_once.specs.declared.places.OncePlace.TheVariants.{Run};
+ghost use Rattle.steps_once.specs.declared.run.RunAt.TheVariants.{Enter};
+ghost use Rattle.lot_steps.specs.declared.places.Place.TheVariants.{Once};
+ghost use Rattle.core_words.specs.Steps.{has, without};
+ghost use Rattle.core_words.specs.Views.{owning};
+ghost use Rattle.core_words.specs.declared.owners.Owner.TheVariants.{Runner};
+ghost use Rattle.core_words.specs.declared.owners.Ownership.{Ownership};
+ghost use Rattle.parking_lot_core.specs.Tokens.{IsSameThread, last_of};
+ghost use Rattle.parking_lot_core.specs.declared.tokens.Token.{Token};
+ghost use Rattle.run_base.specs.OnceFitting.{IsRunOver, OwnsBehind};
+ghost use Rattle.run_base.specs.Paths.{Walks, at_once, once_at};
+ghost use Rattle.run_base.specs.Stages.{stage_of};
+ghost use Rattle.run_base.specs.Telling.{owns_of, steps_of};
+ghost use Rattle.run_signals.specs.OnceCalls.{Closes, EndsRun, HasSeen, LookOwns, LooksBy, MeetsOnce};
+
+use lot_steps::{Place, Reply, advance};
+use parking_lot_core::{Clock, Op, ParkingLot, Token, Word};
+use run_base::driver::{NO_LIMIT, Stop, answer_of, run};
+use run_base::words::Words;
+use spec_locks::{Answer, OnceCall, OnceState};
+use std::sync::Wait;
+use steps_base::bits::is_marked;
+use steps_once::{DONE, OncePlace, POISONED, RunAt};
+
+/// The end of a call of a `Once`, or its closure.
+pub(crate) enum Look {
+    /// It is over, and ran nothing.
+    Ended(Answer),
+    /// Its closure is to run, with this state, and [`close`] ends its run.
+    Runs(OnceState),
+}
+
+/// The step with which each call begins, as all callers make it themselves: where it sees DONE the
+/// call is over.
+#[inline]
+pub(crate) fn begin(lot: &ParkingLot, token: &mut Token, word: Word) -> u64
+    requires own { MeetsOnce lot.now token.old word }
+    ensures own { IsSameThread lot.now token.old token.new }
+    ensures seen { HasSeen word.number result token.old token.new }
+{
+    lot.load(token, word)
+}
+
+/// Runs the rest of a call whose first step saw this, up to its closure, or up to a deadline where
+/// the call has one: any other pays no heed to it.
+#[cold]
+#[inline(never)]
+pub(crate) fn begin_slow<R: Wait, C: Clock>(
+    rt: &R,
+    lot: &ParkingLot,
+    token: &mut Token,
+    word: Word,
+    limit: Option<(&C, u64)>,
+    call: OnceCall,
+    seen: u64,
+) -> Look
+    requires own { MeetsOnce lot.now token.old word }
+    requires seen { (before : Token) × HasSeen word.number seen before token.old }
+    ensures own { IsSameThread lot.now token.old token.new }
+    ensures path { (before : Token) → HasSeen word.number seen before token.old
+        → LooksBy word.number call result (steps_of before) (steps_of token.new) }
+    ensures over { (before : Token) → HasSeen word.number seen before token.old
+        → LookOwns (IsUp C.tells limit.entry) word.number call result (owns_of before)
+        (owns_of token.new) (last_of token.new) }
+{
+    let first = Place::Once {
+        lock: word.number(),
+        at: OncePlace::first(call),
+    };
+    let (next, act) = advance(first, Reply::Value(seen));
+    if let Some(answer) = answer_of(act) {
+        return Look::Ended(answer);
+    }
+    match run(rt, lot, token, Words::alone(word), limit, next) {
+        Stop::Ended(answer) => Look::Ended(answer),
+        Stop::Paused { state, .. } => Look::Runs(state),
+    }
+}
+
+// A run that has ended wakes all who wait.
+#[cold]
+#[inline(never)]
+fn wake<R: Wait>(
+    rt: &R,
+    lot: &ParkingLot,
+    token: &mut Token,
+    word: Word,
+    forced: bool,
+    succeeded: bool,
+) -> Answer
+    requires own { MeetsOnce lot.now token.old word }
+    requires owns { (base : List Ownership)
+        × OwnsBehind word.number succeeded base (owns_of token.old) }
+    ensures own { IsSameThread lot.now token.old token.new }
+    ensures path { Walks (at_once word.number) (Once word.number (Run forced (Enter succeeded)))
+        (steps_of token.old) (steps_of token.new) result }
+    ensures over { (base : List Ownership)
+        → OwnsBehind word.number succeeded base (owns_of token.old)
+        → IsRunOver word.number succeeded base result (stage_of token.new None) }
+{
+    let start = Place::Once {
+        lock: word.number(),
+        at: OncePlace::Run {
+            forced,
+            at: RunAt::Enter { succeeded },
+        },
+    };
+    match run(rt, lot, token, Words::alone(word), NO_LIMIT, start) {
+        Stop::Ended(answer) => answer,
+        // The closure has run.
+        Stop::Paused { .. } => unreachable!(),
+    }
+}
+
+fn word_behind(succeeded: bool) -> u64
+    ensures { result ≡ word_behind succeeded }
+{
+    if succeeded { DONE } else { POISONED }
+}
+
+/// Ends the run of a `Once` whose closure succeeded, or failed, and wakes all who wait.
+pub(crate) fn close<R: Wait>(
+    rt: &R,
+    lot: &ParkingLot,
+    token: &mut Token,
+    word: Word,
+    forced: bool,
+    succeeded: bool,
+)
+    requires own { MeetsOnce lot.now token.old word }
+    requires runs { has (owning (once_at word.number) Runner) (owns_of token.old) ≡ true }
+    ensures own { IsSameThread lot.now token.old token.new }
+    ensures path { EndsRun word.number forced succeeded (steps_of token.old) (steps_of token.new) }
+    ensures closed { Closes word.number succeeded (steps_of token.old) (steps_of token.new)
+        (last_of token.new) }
+    ensures owns { OwnsBehind word.number succeeded
+        (without (owning (once_at word.number) Runner) (owns_of token.old))
+        (owns_of token.new) }
+{
+    let seen = lot.word(token, word, Op::Swap(word_behind(succeeded)));
+    if is_marked(seen) {
+        wake(rt, lot, token, word, forced, succeeded);
+    }
+}
