@@ -36,9 +36,9 @@ module _ {Raw Token : Type 0} (walked : Raw → RwLockCall → Answer → Token 
     came,
     subst (λ l. walked l (Upgrade Patient) answers.Ok inside owned) of up,
     subst (λ l. walked l (Release access.Exclusive) answers.Ok owned new) of
-    (subst (λ l. walked l (Release access.Exclusive) answers.Ok owned new) same went),
+        (subst (λ l. walked l (Release access.Exclusive) answers.Ok owned new) same went),
     subst (λ l. woke l (Release access.Exclusive) owned new) of
-    (subst (λ l. woke l (Release access.Exclusive) owned new) same woken),
+        (subst (λ l. woke l (Release access.Exclusive) owned new) same woken),
   )
 
 -- a thread of the second guard's lot is one of the lock's
