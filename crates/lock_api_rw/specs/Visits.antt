@@ -1,4 +1,4 @@
--- What a thread did that came in, upgraded and went again.
+-- Visits of a thread that came in, upgraded and went again.
 use Rattle.spec_locks.specs.declared.calls.Access.TheVariants as access
 use Rattle.spec_locks.specs.declared.calls.Patience.TheVariants.{Patient}
 use Rattle.spec_locks.specs.declared.calls.RwLockCall.{RwLockCall}

@@ -1,2 +1,3 @@
-pub mod Members
+mod Members
+mod More
 mod Stays

@@ -37,7 +37,7 @@ impl<R: RawCondvar, T, const N: usize> Model for Monitor<R, T, N> {
     ghost view = { λ monitor. (monitor.mutex, monitor.conditions.items) };
 }
 
-// Condition variables of a lot, so many.
+// Makes so many condition variables of a lot.
 fn conditions<R: RawCondvar + Drop>(
     alloc: Global,
     lot: &Arc<<R::RawMutex as RawMutex>::Lot>,
@@ -89,7 +89,7 @@ impl<R: RawCondvar + Drop, T, const N: usize> Monitor<R, T, N> {
 }
 
 impl<R: RawCondvar, T, const N: usize> Monitor<R, T, N> {
-    /// The mutex with the value.
+    /// Returns the mutex with the value.
     #[inline]
     pub fn mutex(&self) -> &Mutex<R::RawMutex, T>
         ensures { result.now ≡ self.now.0 }
@@ -97,7 +97,7 @@ impl<R: RawCondvar, T, const N: usize> Monitor<R, T, N> {
         &self.mutex
     }
 
-    // The condition variable of this number.
+    // Returns the condition variable of this number.
     pub(crate) fn condition(&self, at: usize) -> &Condvar<R>
         requires { at < N }
         ensures { (result.now ≡ slice_index_or self.now.1 at result.now)
@@ -171,7 +171,7 @@ impl<R: RawCondvar + Drop, T, const N: usize> Monitor<R, T, N>
 where
     R::RawMutex: Drop,
 {
-    /// The value of a monitor that nobody has. It takes no step.
+    /// Returns the value of a monitor that nobody has. It takes no step.
     #[inline]
     pub fn into_inner(self) -> T {
         let Monitor {

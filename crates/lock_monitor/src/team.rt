@@ -94,7 +94,7 @@ impl Team {
         }
     }
 
-    /// The lot, in which locks are made.
+    /// Returns the lot, in which locks are made.
     pub fn lot(&self) -> &Arc<ParkingLot>
         ensures { arc_value result.now ≡ self.now }
     {

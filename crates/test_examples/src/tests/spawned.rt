@@ -1,4 +1,5 @@
 //! A thread that is spawned, and shares a mutex by an `Arc`.
+ghost use Rattle.std.specs.Arc.{arc_value};
 ghost use Rattle.parking_lot.specs.Names.{IsTicketOf, lot_of};
 
 use super::same;
@@ -28,7 +29,12 @@ fn a_thread_that_is_spawned(rt: HostRuntime) -> Result<(), Fail> {
     let mut token = mine.enter();
     let total = Arc::new(rt.alloc(), Mutex::new(&lot, &mut token, 0u64)?)?;
     let theirs = Arc::try_clone(&total)?;
-    let other = thread::spawn(&rt, move || add(&rt, &theirs, ticket))?;
+    let other = thread::spawn(
+        &rt,
+        move ||
+            requires { IsTicketOf (lot_of (arc_value theirs)) ticket }
+        { add(&rt, &theirs, ticket) },
+    )?;
     add(&rt, &total, token.leave());
     other.join(&rt);
     let total = Arc::try_unwrap(total).map(|total| total.into_inner());

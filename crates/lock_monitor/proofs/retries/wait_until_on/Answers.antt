@@ -36,7 +36,7 @@ pub returns-in-Ok-clause-path : goal.returns-in-Ok-clause-path
 returns-in-Ok-clause-path g c = (
   _,
   c.loop.invariant.refused,
-  subst (λ late. g.R.RawCondvar.waited c.args.condvar.now (lock_of c.args.guard) true (late_answer late) c.loop.token c.wait_until.new.token) (sym c.timed_out.ensures) (with_given (λ mutex. g.R.RawCondvar.waited c.args.condvar.now mutex true _) _ _ _ _ c.loop.invariant.guard c.in-Ok.ensures.path),
+  subst (λ late. g.R.RawCondvar.waited c.args.condvar.now (lock_of c.args.guard) true (late_answer late) c.loop.token c.wait_until.new.token) (sym c.timed_out.ensures) (with_given (λ mutex. g.R.RawCondvar.waited c.args.condvar.now mutex true (late_answer c.in-Ok.ended)) _ _ _ _ c.loop.invariant.guard c.in-Ok.ensures.path),
 )
 
 pub returns-in-Ok-clause-late : goal.returns-in-Ok-clause-late

@@ -21,28 +21,28 @@ loop-init g c = record {
 pub loop-preserved : goal.loop-preserved
 loop-preserved g c = record {
   turns = (tt, tt);
-  thread = c.wait_on.ensures.token.0;
-  stays = stays_behind g.R.RawMutex.RawMutex.stays g.R.RawMutex.RawMutex.stays_on _ _ _ c.loop.invariant.stays c.wait_on.ensures.token.1;
-  waits = waits_on (λ mutex. WaitsAtLast (g.R.RawCondvar.waited c.args.condvar.now mutex false) answers.Ok) _ _ _ _ _ c.loop.invariant.guard c.loop.invariant.waits c.wait_on.ensures.path;
-  guard = c.wait_on.ensures.guard ∙ c.loop.invariant.guard;
+  thread = c.wait_on-guard.ensures.token.0;
+  stays = stays_behind g.R.RawMutex.RawMutex.stays g.R.RawMutex.RawMutex.stays_on _ _ _ c.loop.invariant.stays c.wait_on-guard.ensures.token.1;
+  waits = waits_on (λ mutex. WaitsAtLast (g.R.RawCondvar.waited c.args.condvar.now mutex false) answers.Ok) _ _ _ _ _ c.loop.invariant.guard c.loop.invariant.waits c.wait_on-guard.ensures.path;
+  guard = c.wait_on-guard.ensures.guard ∙ c.loop.invariant.guard;
   callable = mut_next g.F.FnMut _ _ _ _ _ (record { met = c.condition.ensures.met }) refl c.loop.invariant.callable;
   kept = λ stays. stays _ _ _ (was_Called g.F.FnMut c.args.condition c.loop.condition _ _ _ c.condition.new.self c.condition.ensures.met (c.loop.invariant.kept stays) refl);
 }
 
-pub wait_on-requires-clause-token : goal.wait_on-requires-clause-token
-wait_on-requires-clause-token g c = c.loop.invariant.thread
+pub wait_on-guard-requires-clause-token : goal.wait_on-guard-requires-clause-token
+wait_on-guard-requires-clause-token g c = c.loop.invariant.thread
 
-pub wait_on-requires-clause-lot : goal.wait_on-requires-clause-lot
-wait_on-requires-clause-lot g c = ap g.R.RawMutex.RawMutex.lot_of c.loop.invariant.guard ∙ c.requires.lot
+pub wait_on-guard-requires-clause-lot : goal.wait_on-guard-requires-clause-lot
+wait_on-guard-requires-clause-lot g c = ap g.R.RawMutex.RawMutex.lot_of c.loop.invariant.guard ∙ c.requires.lot
 
-pub returns-clause-token : goal.returns-clause-token
-returns-clause-token g c = (c.loop.invariant.thread, c.loop.invariant.stays)
+pub returns-then-not-condition-clause-token : goal.returns-then-not-condition-clause-token
+returns-then-not-condition-clause-token g c = (c.loop.invariant.thread, c.loop.invariant.stays)
 
-pub returns-clause-guard : goal.returns-clause-guard
-returns-clause-guard g c = c.loop.invariant.guard
+pub returns-then-not-condition-clause-guard : goal.returns-then-not-condition-clause-guard
+returns-then-not-condition-clause-guard g c = c.loop.invariant.guard
 
-pub returns-clause-path : goal.returns-clause-path
-returns-clause-path g c = c.loop.invariant.waits
+pub returns-then-not-condition-clause-path : goal.returns-then-not-condition-clause-path
+returns-then-not-condition-clause-path g c = c.loop.invariant.waits
 
-pub returns-clause-ended : goal.returns-clause-ended
-returns-clause-ended g c = (_, _, _, _, c.if-not-condition.ensures, refl, c.loop.invariant.kept)
+pub returns-then-not-condition-clause-ended : goal.returns-then-not-condition-clause-ended
+returns-then-not-condition-clause-ended g c = (_, _, _, _, c.if-not-condition.ensures, refl, c.loop.invariant.kept)

@@ -19,19 +19,19 @@ loop-init g c = record {
 pub loop-preserved : goal.loop-preserved
 loop-preserved g c = record {
   turns = (tt, tt);
-  thread = c.wait_until_on.ensures.token.0;
-  stays = stays_behind g.R.RawMutex.RawMutex.stays g.R.RawMutex.RawMutex.stays_on _ _ _ c.loop.invariant.stays c.wait_until_on.ensures.token.1;
-  guard = c.wait_until_on.ensures.guard ∙ c.loop.invariant.guard;
-  passed = c.wait_until_on.ensures.late;
+  thread = c.wait_until_on-back.ensures.token.0;
+  stays = stays_behind g.R.RawMutex.RawMutex.stays g.R.RawMutex.RawMutex.stays_on _ _ _ c.loop.invariant.stays c.wait_until_on-back.ensures.token.1;
+  guard = c.wait_until_on-back.ensures.guard ∙ c.loop.invariant.guard;
+  passed = c.wait_until_on-back.ensures.late;
   callable = mut_next g.F.FnMut _ _ _ _ _ (record { met = c.condition-holds.ensures.met }) refl c.loop.invariant.callable;
   kept = λ stays. stays _ _ _ (was_Called g.F.FnMut c.args.condition c.loop.condition _ _ _ c.condition-holds.new.self c.condition-holds.ensures.met (c.loop.invariant.kept stays) refl);
 }
 
-pub wait_until_on-requires-clause-token : goal.wait_until_on-requires-clause-token
-wait_until_on-requires-clause-token g c = c.loop.invariant.thread
+pub wait_until_on-back-requires-clause-token : goal.wait_until_on-back-requires-clause-token
+wait_until_on-back-requires-clause-token g c = c.loop.invariant.thread
 
-pub wait_until_on-requires-clause-lot : goal.wait_until_on-requires-clause-lot
-wait_until_on-requires-clause-lot g c = ap g.R.RawMutex.RawMutex.lot_of c.loop.invariant.guard ∙ c.requires.lot
+pub wait_until_on-back-requires-clause-lot : goal.wait_until_on-back-requires-clause-lot
+wait_until_on-back-requires-clause-lot g c = ap g.R.RawMutex.RawMutex.lot_of c.loop.invariant.guard ∙ c.requires.lot
 
 pub returns-then-late-clause-token : goal.returns-then-late-clause-token
 returns-then-late-clause-token g c = (c.loop.invariant.thread, c.loop.invariant.stays)

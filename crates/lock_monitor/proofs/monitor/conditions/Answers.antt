@@ -1,0 +1,22 @@
+use Rattle.std.proofs.Common.{◌≡◌, ◌+◌, ◌∙◌, ap, length}
+use Rattle.std.specs.Arc.{arc_value}
+use Rattle.std.proofs.lemmas.List.{length-append}
+use Rattle.lock_api.proofs.Stays.{stays_behind}
+use Rattle.lock_monitor.proofs.More.{all_more}
+use Rattle.lock_monitor.proofs.monitor.conditions.Goals as goal
+
+pub returns-in_err-new-clause-token : goal.returns-in_err-new-clause-token
+returns-in_err-new-clause-token g c =
+    (c.in_err-new.ensures.token.0, stays_behind g.R.RawMutex.RawMutex.stays g.R.RawMutex.RawMutex.stays_on _ _ _ c.loop.invariant.stays c.in_err-new.ensures.token.1)
+
+pub returns-in_err-push-clause-token : goal.returns-in_err-push-clause-token
+returns-in_err-push-clause-token g c =
+    (c.in_ok-new.ensures.token.0, stays_behind g.R.RawMutex.RawMutex.stays g.R.RawMutex.RawMutex.stays_on _ _ _ c.loop.invariant.stays c.in_ok-new.ensures.token.1)
+
+pub loop-preserved : goal.loop-preserved
+loop-preserved g c = record {
+  thread = c.in_ok-new.ensures.token.0;
+  stays = stays_behind g.R.RawMutex.RawMutex.stays g.R.RawMutex.RawMutex.stays_on _ _ _ c.loop.invariant.stays c.in_ok-new.ensures.token.1;
+  counted = ap length c.in_ok-push.ensures.items ∙ length-append _ _ ∙ ap (λ n. n + 1) c.loop.invariant.counted;
+  together = all_more (λ condition. g.R.RawCondvar.lot_of condition ≡ arc_value c.args.lot.now) c.loop.made.items c.push.new.self.items c.in_ok-new.field-0 c.in_ok-push.ensures.items c.loop.invariant.together c.in_ok-new.ensures.made;
+}
