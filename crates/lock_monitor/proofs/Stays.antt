@@ -2,7 +2,7 @@
 use Rattle.std.proofs.Common.{inl, inr, subst}
 use Rattle.lock_api.specs.Conditions.{WaitedOrNot}
 
--- behind a wait it is the same thread, whatever it waited before
+-- the thread is the same after one more wait, and after all before it
 pub stays_after : {Token : Type 0} (stays : Token → Token → Type 0)
     → ((first next last : Token) → stays first next → stays next last → stays first last)
     → (first next last : Token) → WaitedOrNot stays first next → stays next last → stays first last
