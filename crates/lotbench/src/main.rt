@@ -2,6 +2,7 @@
 #![tactic(auto)]
 
 mod condvars;
+mod desks;
 mod least;
 mod loops;
 mod made;

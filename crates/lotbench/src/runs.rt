@@ -10,9 +10,8 @@ ghost use Rattle.lotbench.specs.Desks.{desk_lot};
 ghost use Rattle.parking_lot.specs.Names.{lot_of, lot_of_condvar, lot_of_once, lot_of_rwlock, lot_of_semaphore};
 ghost use Rattle.parking_lot_core.specs.Tokens.{IsTicketOf, IsTokenOf};
 
-use crate::condvars::{
-    DESK, DESKS, Desk, Desks, Way, desk_for, desks_of, done_at, notify_nobody, pair_of, work_at,
-};
+use crate::condvars::{DESK, Desk, Way, desk_for, done_at, notify_nobody, work_at};
+use crate::desks::{DESKS, Desks, desks_of, pair_of};
 use crate::made::{both, boxed};
 use crate::mutexes::{
     MUTEXES, Mutexes, lock_again, lock_once, lock_raw, lock_value, mutexes_of, try_raw, try_value,
