@@ -16,7 +16,7 @@ use Rattle.steps_base.specs.declared.acts.Reply.TheVariants.{Done, Value, Parked
 use Rattle.steps_once.specs.OnceSteps.{course_of, decided, give_up_act, in_look, look_act, looked, once_act, run_act}
 use Rattle.steps_once.specs.declared.give_up.GiveUpAt.{GiveUpAt}
 use Rattle.steps_once.specs.declared.give_up.GiveUpAt.TheVariants as give_up
-use Rattle.steps_once.specs.declared.places.TheConstants.{NOT_MARKED}
+use Rattle.steps_once.specs.declared.places.TheConstants.{NOT_PARKED}
 use Rattle.steps_once.specs.declared.look.LookAt.{LookAt}
 use Rattle.steps_once.specs.declared.look.LookAt.TheVariants as look
 use Rattle.steps_once.specs.declared.run.RunAt.{RunAt}
@@ -195,7 +195,7 @@ module _ (l : ℕ) (base : List Ownership) (st : Stage) where
         (λ x. within f _ x.1 refl refl) (λ x. within f _ x.1 refl refl) (λ x. within f _ x.1 refl refl) (λ x. within f _ x.1 refl refl)
 
     abbrev Cleared : ℕ → Type 0
-    Cleared seen = new ≡ stepped kinds.TheVariants.Once (once_at l) (And NOT_MARKED) seen st → StandsWithin l base new
+    Cleared seen = new ≡ stepped kinds.TheVariants.Once (once_at l) (And NOT_PARKED) seen st → StandsWithin l base new
 
     -- the bit is cleared there
     clears : StandsWithin l base st → (seen : ℕ) → IsOnceWord seen → Cleared seen

@@ -23,7 +23,7 @@ use Rattle.spec_locks.specs.Onces.{Phase, New, Poisoned, InProgress, Done as IsD
 use Rattle.spec_locks.specs.Sites.{Line, Main}
 use Rattle.steps_once.specs.declared.give_up.GiveUpAt.{GiveUpAt}
 use Rattle.steps_once.specs.declared.give_up.GiveUpAt.TheVariants as give_up
-use Rattle.steps_once.specs.declared.places.TheConstants.{NOT_MARKED}
+use Rattle.steps_once.specs.declared.places.TheConstants.{NOT_PARKED}
 use Rattle.steps_once.specs.declared.look.LookAt.{LookAt}
 use Rattle.steps_once.specs.declared.look.LookAt.TheVariants as look
 use Rattle.steps_once.specs.declared.look.Course.{Course}
@@ -182,7 +182,7 @@ module _ (t l : ℕ) where
     gone_rests v w q f = rests w (outcome.End answer.No) (leave_comes w t l _ v q f Main Nobody refl).0 tt
 
     clear_rests : (v : ℕ) (w : State) (q : Queues) → Alone w (GiveUp again give_up.Clear) v q → RestsIn 2 w
-    clear_rests v w q f = goes 1 _ w q (GiveUp again give_up.Leave) _ refl (word_comes w t l _ v q f (op.And NOT_MARKED) refl) (λ g. gone_rests _ _ q g)
+    clear_rests v w q f = goes 1 _ w q (GiveUp again give_up.Leave) _ refl (word_comes w t l _ v q f (op.And NOT_PARKED) refl) (λ g. gone_rests _ _ q g)
 
     remove_rests : (v : ℕ) (w : State) (q : Queues) → Alone w (GiveUp again give_up.Remove) v q → RestsIn 3 w
     remove_rests v w q f = either _ (remove_comes w t l _ v q f (2 * l) refl)

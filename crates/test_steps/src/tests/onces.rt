@@ -4,7 +4,7 @@ use core_base::{Keys, Note, Op, Want};
 use spec_locks::{Answer, OnceCall, OnceState, Outcome};
 use std::process::Abort;
 use steps_base::{Act, Next, Reply, Wakes};
-use steps_once::{NOT_MARKED, OncePlace};
+use steps_once::{NOT_PARKED, OncePlace};
 
 /// A reply to a call, and its next act, where a test asks for that.
 type Turn = (Reply, Option<Act>);
@@ -158,7 +158,7 @@ const GIVES_UP_ALONE: &[Turn] = &[
         Reply::Removed { none_left: true },
         Some(Act::Word {
             lock: 3,
-            op: Op::And(NOT_MARKED),
+            op: Op::And(NOT_PARKED),
         }),
     ),
     (Reply::Value(12), Some(LEAVES)),
