@@ -4,7 +4,7 @@ ghost use Rattle.std.specs.Arc.{arc_value};
 ghost use Rattle.parking_lot.specs.Names.{IsTicketOf, IsTokenOf, lot_of, lot_of_condvar};
 
 use super::alone::wait_turns;
-use super::many::{Whom, add_and_wait, notify_slow, notify_in_turn};
+use super::many::{Whom, add_and_wait, notify_in_turn, notify_slow};
 use super::two::{Way, bump_until_notified, come_with_another, lock_and_wait, notify};
 use super::{condvar_of, holds, mutex_of, seats};
 use parking_lot::{Condvar, Mutex, ParkingLot, Ticket, Token};
