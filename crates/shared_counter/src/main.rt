@@ -7,10 +7,15 @@ use parking_lot::{Fault, Mutex, Team, Token};
 fn main(rt: HostRuntime) -> Result<()> {
     let (team, mut token) = Team::new(rt.alloc(), 4)?;
     let total = Mutex::new(team.lot(), &mut token, 0u64).map_err(Fault::from)?;
-    let add = |token: &mut Token| {
-        total.with(&rt, token, |value: &mut u64| *value = value.wrapping_add(1));
-    };
-    team.run_times(&rt, 1000, &add)?;
+    team.run_times(
+        &rt,
+        1000,
+        &|token: &mut Token| {
+            total.with(&rt, token, |value: &mut u64| {
+                *value = value.wrapping_add(1);
+            });
+        },
+    )?;
     println!(rt; "{}", total.into_inner())?;
     Ok(())
 }
