@@ -1,6 +1,8 @@
 //! Counts to 4000 in four threads.
 #![tactic(auto)]
 
+ghost use Rattle.parking_lot.specs.Names.{IsTokenOf, lot_of};
+
 use anyhow::Result;
 use parking_lot::{Fault, Mutex, Team, Token};
 
@@ -10,7 +12,9 @@ fn main(rt: HostRuntime) -> Result<()> {
     team.run_times(
         &rt,
         1000,
-        &|token: &mut Token| {
+        &|token: &mut Token|
+            requires { IsTokenOf (lot_of total) token.old }
+        {
             total.with(&rt, token, |value: &mut u64| {
                 *value = value.wrapping_add(1);
             });

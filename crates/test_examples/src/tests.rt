@@ -49,7 +49,9 @@ fn a_shared_counter(rt: HostRuntime) -> Result<(), Fail> {
     team.run_times(
         &rt,
         1000,
-        &|token: &mut Token| {
+        &|token: &mut Token|
+            requires { IsTokenOf (lot_of total) token.old }
+        {
             total.with(&rt, token, |value: &mut u64| {
                 *value = value.wrapping_add(1);
             });

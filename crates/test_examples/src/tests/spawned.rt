@@ -1,6 +1,6 @@
 //! A thread that is spawned, and shares a mutex by an `Arc`.
 ghost use Rattle.std.specs.Arc.{arc_value};
-ghost use Rattle.parking_lot.specs.Names.{IsTicketOf, lot_of};
+ghost use Rattle.parking_lot.specs.Names.{IsTicketOf, IsTokenOf, lot_of};
 
 use super::same;
 use parking_lot::{Fault, Mutex, ParkingLot, Ticket, Token};
@@ -12,11 +12,15 @@ use std::thread;
 fn add<R: Wait>(rt: &R, total: &Mutex<u64>, ticket: Ticket)
     requires { IsTicketOf (lot_of total.now) ticket }
 {
-    let (ticket, ()) = ticket.run(|token: &mut Token| {
-        total.with(rt, token, |value: &mut u64| {
-            *value = value.wrapping_add(1);
-        });
-    });
+    let (ticket, ()) = ticket.run(
+        |token: &mut Token|
+            requires { IsTokenOf (lot_of total.now) token.old }
+        {
+            total.with(rt, token, |value: &mut u64| {
+                *value = value.wrapping_add(1);
+            });
+        },
+    );
     drop(ticket);
 }
 
