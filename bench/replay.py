@@ -18,7 +18,7 @@ import time
 
 PROGRAM = os.path.join(os.path.dirname(__file__), "..", "crates", "lotsim", "out", "lotsim")
 LINES = 1_000_000
-# What a thread does over and over: it waits for a right with a deadline, gives up where it still sleeps, and releases.
+# Turns of a thread, over and over: it waits for a right with a deadline, gives up where it still sleeps, and releases.
 GETS = {
     "mutex": [("lock_timed", "unlock")],
     "rwlock": [

@@ -959,7 +959,7 @@ def run(seed, lines, fair, once, permits):
             # a call that it has the right for, mostly
             good = [c for c in calls[sort] if c in RIGHT and ((RIGHT[c] == "x" and l.exclusive == t) or (RIGHT[c] == "u" and l.upgradable == t) or (RIGHT[c] == "s" and l.shared.get(t, 0)))]
             c = rng.choice(good) if good and rng.random() < 0.75 else rng.choice(enters[sort]) if rng.random() < 0.9 else rng.choice(calls[sort])
-            # who owns doesn't wait for itself too often
+            # an owner waits for itself seldom
             if c in enters[sort] and good and rng.random() < 0.6 and not c.startswith("try") and not c.endswith("timed"): c = rng.choice(good)
             if rng.random() < 0.15:
                 text.append(f"{t} do {c} {l.name}")

@@ -61,7 +61,7 @@ side_key key = one_side key (without_key key) (λ _. []) (line_key_same key) (λ
 pub side_picked : (start : Option Want) (recursive : Bool) (key : ℕ) (xs xs' old : List Waiter) (others : Option (List Waiter)) → HasNone key others → lines (both xs others) ≡ lines old → lines xs' ≡ lines (without_lock_picked start recursive key xs) → lines (both xs' others) ≡ lines (without_lock_picked start recursive key old)
 side_picked start recursive key = one_side key (without_lock_picked start recursive key) (without_lock_picked start recursive key) (λ l. line_picked lock_answer next_picker (lock_picker start recursive) key l) (λ k l differ. line_picked_other lock_answer next_picker (lock_picker start recursive) k key l differ)
 
--- ---------------------------------------------------------------- who stands in one of them alone
+-- ---------------------------------------------------------------- waiters in one of them alone
 
 times_line : (thread key : ℕ) (xs : List Waiter) → times thread (line key xs) ≤ times thread xs
 times_line thread key [] = omega arith

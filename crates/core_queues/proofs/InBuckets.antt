@@ -19,7 +19,7 @@ use Rattle.core_queues.proofs.Joined.{everywhere, line_without, line_first_other
 use Rattle.core_queues.proofs.Places.{same_line, line_key_same, line_key_other}
 use Rattle.core_queues.specs.Buckets.{IsOfBucket}
 
--- ---------------------------------------------------------------- who stands in a list is told by its lines
+-- ---------------------------------------------------------------- a list's waiters are those of its lines
 
 head_line : (x : Waiter) (xs : List Waiter) → line x.key (x ∷ xs) ≡ x ∷ line x.key xs
 head_line x xs = grind (arith, nat_tests)

@@ -226,7 +226,7 @@ one_comes records buckets bits chains b key thread wanted linked fits hashed non
       ];
     }
 
--- ---------------------------------------------------------------- what is seen of them
+-- ---------------------------------------------------------------- the view of them
 
 of_bucket : (records : List (Option Record)) (from : Option ℕ) (bits b : ℕ) (xs : List Waiter) → ((thread key : ℕ) → key_in (record_of records thread) ≡ Some key → 1 ≤ times thread xs → bucket_of bits key ≡ b) → Leads records from xs → AreOfBucket bits b xs
 of_bucket records from bits b [] own a = tt

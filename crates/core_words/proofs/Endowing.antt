@@ -32,7 +32,7 @@ use Rattle.core_words.proofs.Stepping.{steps}
 use Rattle.core_words.proofs.Totals.{total-append, total-map, total-none, total-same, total-set, term_le, cond_same, cond_other}
 use Rattle.core_words.proofs.Trades.{zero_either}
 
--- ---------------------------------------------------------------- who drew nothing of a number was granted nothing
+-- ------------------------------------------------ a thread that drew nothing of a number was granted nothing
 
 abbrev is_number : ℕ → ℕ → ℕ
 is_number number k = cond (eqb k number) 1 0
@@ -57,7 +57,7 @@ below_one n (suc c) = dite (ℕ_discrete c n)
     (λ e. omega (arith, below_none n c (omega arith), cond_same c n 1 e))
     (λ ne. omega (arith, below_one n c, cond_other c n 1 ne))
 
--- ---------------------------------------------------------------- what a seat holds with its permits
+-- ---------------------------------------------------------------- a seat's holdings with its permits
 
 held_here : (at permits : ℕ) (owns : List Ownership) (weight : Owner → ℕ) → owned at weight (holding at permits ++ owns) ≡ total weight (so_many_shared permits) + owned at weight owns
 held_here at permits owns weight = let f = λ (x : Ownership). cond (eqb x.at at) (weight x.owner) 0 in

@@ -69,7 +69,7 @@ module _ (permits at : ℕ) (owns : List Ownership) where
 pub semaphore_steps : SemaphoreMaySteps
 semaphore_steps permits at owns = semaphore_steps_at permits at owns
 
--- ---------------------------------------------------------------- what they trade
+-- ---------------------------------------------------------------- their trades
 
 holds_all : (at many : ℕ) (owns : List Ownership) → HasAll at (so_many_shared many) (holding at many ++ owns)
 holds_all at zero owns = tt

@@ -76,7 +76,7 @@ module _ {M : Type 1} {𝓤 : Ura M} (𝓛 : Logic 𝓤) where
     in_block (block_ptr b o) x = fact_i 𝓤 ((t : ℕ × ℕ) × (block_ptr b o ≡ block_ptr t.0 t.1)) _ ((b, o), refl)
     in_block null_ptr x = never_e 𝓤 _
 
-    -- ---- who writes
+    -- ---- writers
     module _ (b o : ℕ) (x : R.Denot) where
       abbrev Again : Lft → R.Denot → Pr
       Again α w = ⟦ lent R b (o + offset R) α w ⟧ -∗ ⟦ Op (block_ptr b o) w ⟧
@@ -97,7 +97,7 @@ module _ {M : Type 1} {𝓤 : Ura M} (𝓛 : Logic 𝓤) where
     Lends-held l le s null_ptr x = Lends-false 𝓛 (open_shares β R null_ptr x) l
     Lends-held l le s (block_ptr b o) x = Lends-tracked 𝓛 R b (o + offset R) β x (Op (block_ptr b o) x) l le s (held_Gives b o x)
 
-    -- ---- who reads
+    -- ---- readers
     module _ (L : RowLaws R) (b o : ℕ) (x : R.Denot) (ν : Lft) (inc : Incl ν β) where
       abbrev P : Fml
       P = Seen (block_ptr b o) x

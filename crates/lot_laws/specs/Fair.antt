@@ -42,7 +42,7 @@ LetsMutexGo w v t l =
     ((lock_state v l).exclusive ≡ None) × HasTakenNobody (lock_state w l) t
     × ((is_parked (word_at w l) ≡ false) ⊎ ((lock_state w l).queue ≡ []))
 
--- ---------------------------------------------------------------- of a lock that is shared
+-- ---------------------------------------------------------------- a shared lock
 
 -- the call is to give this right to the lock up fairly, and has it still
 abbrev pub IsToGiveAt : CallState → ℕ → Want → Type 0

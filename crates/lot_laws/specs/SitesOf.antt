@@ -77,7 +77,7 @@ pub record AreSites (w : State) : Type 0 where
   pub permits : (l : ℕ) → (rules_in w l).sort ≡ SemaphoreSort
       → HasPermits (rules_in w l) (site_of w l) × ((rules_in w l).limit ≤ 2 ^ 62)
 
--- ---------------------------------------------------------------- what the machine keeps beside its locks' being sites
+-- ------------------------------------------------------- the machine's invariants, beside those of its sites
 
 -- how often a thread stands in a line
 abbrev pub stood_in : Option Line → Line → ℕ
@@ -177,7 +177,7 @@ pub record IsInductive (w : State) : Type 0 where
   pub stands : Stands w
   pub numbers : HasNumbers w
 
--- ---------------------------------------------------------------- whom a thread hands its lock
+-- ---------------------------------------------------------------- the threads that it hands its lock
 
 -- as many want to share, and who wants more wants this; that is one thread at most
 pub record IsCounted (w : State) (t : ℕ) (k : Counted) : Type 0 where
@@ -218,7 +218,7 @@ condvar_of w l = record {
 abbrev pub AreCondvars : State → Type 0
 AreCondvars w = (l : ℕ) → (rules_in w l).sort ≡ CondvarSort → IsCondvar (condvar_of w l)
 
--- ---------------------------------------------------------------- who runs a closure
+-- ---------------------------------------------------------------- a thread that runs a closure
 
 -- a run of a `Once` is on only while its thread runs the closure of its call
 abbrev pub RunsInClosures : State → Type 0

@@ -13,7 +13,7 @@ use Rattle.lot_machine.specs.declared.debts.Debt.TheVariants.{Owes, Retries}
 use Rattle.lot_machine.specs.Debts.{AreLinked, AreLinkedFrom, Skips, Tells, place_of, unlinked}
 use Rattle.lot_machine.specs.Views.{debtors, has_debt}
 
--- ---------------------------------------------------------------- what is skipped
+-- ---------------------------------------------------------------- skipped lines
 
 -- so many places without the debt at the head of a list
 skips_front : (debt : Debt) (l : ℕ) (ps : List Place) (n k : ℕ) → ((i : ℕ) → i < k → has_debt (place_of ps i) debt l ≡ false) → debtors debt l n ps ≡ debtors debt l (n + k) (drop k ps)

@@ -78,7 +78,7 @@ performed_shown w t p (Leave (Two first second) wakes.TheVariants.Nobody) shown 
 performed_shown w t p (Leave (Two first second) (wakes.TheVariants.All n)) shown writes l = shown l
 performed_shown w t p a shown writes l = shown l
 
--- ---------------------------------------------------------------- who works on a word
+-- ---------------------------------------------------------------- a thread that works on a word
 
 -- an act on a word is on that of this lock
 abbrev IsOn : ℕ → Act → Type 0

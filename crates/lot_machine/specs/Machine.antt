@@ -128,7 +128,7 @@ abbrev pub is_there : Option ℕ → Bool
 is_there None = false
 is_there (Some l) = true
 
--- ---------------------------------------------------------------- what one act does
+-- ---------------------------------------------------------------- the effect of one act
 
 -- a thread stands at another place
 abbrev pub put : State → ℕ → Place → State

@@ -66,7 +66,7 @@ calls k v e n w d c f h here right single le runs =
           (runs (after d.state (begin_of 0 c)) (begun k v d.state f c here can single) 64 outcome.NotNow le);
     }
 
--- ---------------------------------------------------------------- who enters a lock that nobody owns, owns it
+-- -------------------------------------------------------- a thread that enters a lock without owner, owns it
 
 module _ (k : Kind) (v : ℕ) (w : State) (f : Passes k w Idle v) (c : Call) (here : lock_in c ≡ 0) (outside : NobodyInside w) (free : IsFree (lock_state w 0))
     (enters : purpose_of k c ≡ Some (Enters 0 Exclusive Patient)) (single : IsSingle (first_place k c)) where

@@ -86,7 +86,7 @@ free_by_code kind.Once s drains state e = absurd drains
 free_by_code (kind.Semaphore permits) s drains state e = absurd drains
 free_by_code kind.Condvar s drains state e = absurd drains
 
--- ---------------------------------------------------------------- what is left in the word
+-- ---------------------------------------------------------------- the word left
 
 pub mutex_word : (s : Site) → IsFree s.lock → (one_if_some s.lock.exclusive + 2 * bit s.parked ≡ 0) ⊎ (one_if_some s.lock.exclusive + 2 * bit s.parked ≡ 2)
 mutex_word s free = by_bit s.parked

@@ -43,7 +43,7 @@ same_one t = grind (arith, nat_tests)
 not_one : (u t : ℕ) → u ≢ t → (u == t) ≡ false
 not_one u t ne = grind (arith, nat_tests)
 
--- ---------------------------------------------------------------- what each thread owns
+-- ---------------------------------------------------------------- each thread's rights
 
 -- a release at its place
 fresh_at : (p : Place) (rights : ℕ → Rights) → lock_of p ≡ Some 0 → MayStandAt p

@@ -198,7 +198,7 @@ rwlock_tells a (HandOver x true to) rights few = given_tells x (has_given to) ri
 rwlock_tells a (Bump p) rights few = bumping_tells a p.purpose p.retries p.at rights few
 rwlock_tells a (Handed x how b to) rights few = handed_tells a x how b to rights few
 
--- ---------------------------------------------------------------- who may be pending
+-- ---------------------------------------------------------------- threads that may be pending
 
 pends_tells : (n : ℕ) → ((n == 0) ≡ true) ↔ (n ≡ 0)
 pends_tells n = Decides-eqb n 0

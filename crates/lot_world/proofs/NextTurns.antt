@@ -41,7 +41,7 @@ no_step b e = cc
 some_step : (a : Step) → ◌≡◌ {A = Option Step} (Some a) None → ⊥
 some_step a e = cc
 
--- ---------------------------------------------------------------- who is up
+-- ---------------------------------------------------------------- threads awake
 
 -- a thread that is up goes on
 pub record GoesOn (w : State) (s : Step) : Type 0 where
@@ -70,7 +70,7 @@ none_up w t (suc n) u e from below = by_up (is_up (place_at w t)) refl e (λ f n
       | inr ne ↦ later f (omega arith)
     ]
 
--- ---------------------------------------------------------------- who may release
+-- ---------------------------------------------------------------- threads that may release
 
 -- the call is a release of lock 0
 pub record Gives (k : Kind) (c : Call) : Type 0 where

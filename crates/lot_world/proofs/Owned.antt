@@ -189,7 +189,7 @@ places_own_few (Once l to) rights stands of few one_right = absurd stands
 places_own_few (Semaphore l to) rights stands of few one_right = absurd stands
 places_own_few (Condvar l to) rights stands of few one_right = absurd stands
 
--- ---------------------------------------------------------------- who stands in the main line
+-- ---------------------------------------------------------------- waiters in the main line
 
 queued_lock : (rights : ℕ → Rights) (l : ℕ) (e : Entry) (retries : Bool) (to : LockAt) → (profile (Mutex l (mutex.Lock e retries to))).stands ≡ Some Main
     → BeganWithFew 0 (Mutex l (mutex.Lock e retries to)) rights → rights 0 ≡ no_rights

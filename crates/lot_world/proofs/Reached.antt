@@ -209,7 +209,7 @@ module _ (k : Kind) (threads : ℕ) (drains : Drains (rules_of k).sort) (some : 
     began = λ t. subst (λ (c : CallState). BeganUnpending c.purpose (c.former 0) (rights_in (locks_of first) t 0)) (sym (opens.calls t)) (ap (λ (r : Rights). r.pending) (rights_none t));
   }
 
--- ---------------------------------------------------------------- what a drain asks of owners
+-- ---------------------------------------------------------------- the conditions that a drain sets owners
 
 pends_so : (p : Option Purpose) (before now : Rights) → BeganUnpending p before now → PendsInCall p now
 pends_so None before now h = h

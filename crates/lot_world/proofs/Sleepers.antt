@@ -124,7 +124,7 @@ sleepers_rest (Once l to) stands h = absurd stands
 sleepers_rest (Semaphore l to) stands h = absurd stands
 sleepers_rest (Condvar l to) stands h = absurd stands
 
--- ---------------------------------------------------------------- what it owns
+-- ---------------------------------------------------------------- the rights that it owns
 
 rights_are : (r s : Rights) → r.exclusive ≡ s.exclusive → r.pending ≡ s.pending → r.upgradable ≡ s.upgradable → r.shared ≡ s.shared → r ≡ s
 rights_are r s a b c d = λ i. record { exclusive = a i; pending = b i; upgradable = c i; shared = d i }
@@ -218,7 +218,7 @@ sleepers_own_nothing l (Once k to) rights stands of s h few = absurd stands
 sleepers_own_nothing l (Semaphore k to) rights stands of s h few = absurd stands
 sleepers_own_nothing l (Condvar k to) rights stands of s h few = absurd stands
 
--- ---------------------------------------------------------------- who sleeps aside
+-- ---------------------------------------------------------------- sleepers in the second queue
 
 pending_only : (r : Rights) → record r { pending = r.pending - 1 } ≡ no_rights → without_pending r ≡ no_rights
 pending_only r e = rights_are (without_pending r) no_rights (ap (λ (y : Rights). y.exclusive) e) refl (ap (λ (y : Rights). y.upgradable) e) (ap (λ (y : Rights). y.shared) e)

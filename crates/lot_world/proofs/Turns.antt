@@ -241,7 +241,7 @@ solo_rests_there t (suc n) w last h busy rests = by_outcome (step_outcome w (go_
     by_outcome (outcome.Closure found) e r more = told_rest w t h (outcome.Closure found) e r
     by_outcome (outcome.End a) e r more = told_rest w t h (outcome.End a) e r
 
--- ---------------------------------------------------------------- what is kept by steps of one thread alone
+-- ---------------------------------------------------------------- invariants of steps of one thread alone
 
 pub stands_of : (p : Place) → OnlyHere p → MayStandAt p
 stands_of p (inl e) = subst MayStandAt (sym e) tt

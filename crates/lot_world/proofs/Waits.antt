@@ -66,7 +66,7 @@ either_is P false x y h k = k
 abbrev IsSilent : Act → Type 0
 IsSilent a = tells a ≡ false
 
--- ---------------------------------------------------------------- whom a waiter tells
+-- ---------------------------------------------------------------- the thread that a waiter names
 
 lock_silent : (l : ℕ) (to : LockAt) → IsSilent (steps.lock_act l to)
 lock_silent l (lock.Decide seen) = either_is IsSilent (not (steps.is_locked seen)) _ _ refl (either_is IsSilent (seen == 1) _ _ refl refl)
@@ -332,7 +332,7 @@ waiters_go_on_waiting (Once l to) r late h = once_waits l (once_next to r)
 waiters_go_on_waiting (Semaphore l to) r late h = semaphore_waits l (semaphore_next to r)
 waiters_go_on_waiting (Condvar l to) r late h = condvar_waits l (condvar_next to r)
 
--- ---------------------------------------------------------------- who sleeps only waits
+-- ---------------------------------------------------------------- a sleeper only waits
 
 pub either_sleeps : (b : Bool) (x y : Act) → x ≢ act.Sleep → y ≢ act.Sleep → (if b then x else y) ≢ act.Sleep
 either_sleeps true x y h k = h
@@ -419,7 +419,7 @@ sleepers_wait (Once l to) stands h = refl
 sleepers_wait (Semaphore l to) stands h = refl
 sleepers_wait (Condvar l to) stands h = refl
 
--- ---------------------------------------------------------------- what befalls who doesn't only wait
+-- ---------------------------------------------------------------- effects on threads that don't only wait
 
 -- it goes on for the same
 abbrev GoesOnFor : RwLockPurpose → Next RwLockPlace → Type 0

@@ -30,7 +30,7 @@ use Rattle.lot_world.specs.declared.gains.Gain.TheVariants.{Nothing, Pending, Ri
 use Rattle.lot_world.specs.declared.drainable.HeldRights.{HeldRights}
 use Rattle.lot_world.specs.Drains.{number}
 
--- ---------------------------------------------------------------- what a call has got
+-- ---------------------------------------------------------------- the rights that a call has got
 
 -- the right of a call that began with nothing, or that has given up the right it began with
 abbrev pub handed_off : HandOffAt → Bool

@@ -53,7 +53,7 @@ EachDeedKeepsNow =
     → (is_full r s.lock ≡ true → (after_deed r d s t).lock.queue ≡ [])
     → IsSite r (as_now r (after_deed r d s t))
 
--- ---------------------------------------------------------------- who is left out of a full lock
+-- ---------------------------------------------------------------- waiters left out of a full lock
 
 -- how many rights that count a thread has
 abbrev pub counted : LockState → ℕ → ℕ

@@ -48,7 +48,7 @@ use Rattle.run_base.specs.Paths.{rwlocks, at_rwlock}
 use Rattle.run_base.specs.RwLockFitting.{FitsRwLock}
 use Rattle.run_base.specs.Stages.{Stage, Became}
 
--- ---------------------------------------------------------------- what it was told
+-- ---------------------------------------------------------------- the note that it was told
 
 module _ (up : Type 0) (kinds : ℕ → WordKind) (at : ℕ → ℕ) (sleeper : Sleeper) (st new : Stage) where
   -- where it is told of no right, it may as well be one that takes none

@@ -79,7 +79,7 @@ none_waits : (xs : List Waiter) → wants_of xs ≡ [] → xs ≡ []
 none_waits [] e = refl
 none_waits (x ∷ xs) e = absurd cc
 
--- ---------------------------------------------------------------- what its acts need
+-- ---------------------------------------------------------------- the conditions of its acts
 
 module _ (l : ℕ) (a : Admission) (base : List Ownership) (st : Stage) (room : a.limit < 2 ^ 60 - 1) where
   abbrev Can : Act → Type 0

@@ -139,7 +139,7 @@ upgradable_stands part left s op e =
     let all : part / 4 - 1 ≡ s = omega arith in
     rw (ne_eqb (part % 4) 2 two, eq-eqb (part % 4) 1 one, all) refl
 
--- ---------------------------------------------------------------- who wants more
+-- ---------------------------------------------------------------- a waiter that wants more
 
 -- how a writer owns the word that is left at this value
 abbrev writer_left : ℕ → Owner

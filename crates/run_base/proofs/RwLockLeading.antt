@@ -71,7 +71,7 @@ module _ (up : Type 0) (l : ℕ) (a : Admission) (base : List Ownership) (p : Rw
     | inr given ↦ subst (λ (r : Reply). Reached up base (RwLock l a (Plain p)) r new) (sym given.0) (plain_goes up l a base st new p f given.1)
   ]
 
--- ---------------------------------------------------------------- who was handed the lock
+-- ---------------------------------------------------------------- a thread that was handed the lock
 
 module _ (up : Type 0) (l : ℕ) (a : Admission) (base : List Ownership) (how : Patience) (b : Bool) (st : Stage) where
   handed_needs : (x : Access) (to : HandedAt) → FitsHanded l base x to st → ActNeeds rwlocks (at_rwlock l) st (handed_act l x to)

@@ -56,7 +56,7 @@ use Rattle.run_base.specs.Paths.{rwlock_at, step}
 use Rattle.run_base.specs.Takes.{more_in, sharers_in, successor_in}
 use Rattle.run_base.specs.Stages.{HasDone, Inside, Stage, TookNobodyAt, entered_now, having_taken}
 
--- ---------------------------------------------------------------- what is owned
+-- ---------------------------------------------------------------- ownership
 
 -- how a claim of a place is owned: a writer that waits for the last readers owns alone where it has
 -- found none
@@ -190,7 +190,7 @@ abbrev pub IsCounted : Access → Type 0
 IsCounted access.Exclusive = ⊥
 IsCounted x = Unit {0}
 
--- ---------------------------------------------------------------- who hands the lock over
+-- ---------------------------------------------------------------- a thread that hands the lock over
 
 -- a word that an upgradable owner saw
 abbrev pub IsUpgradableWord : ℕ → Type 0
@@ -271,7 +271,7 @@ IsFairlyOver l base a x answer st =
     (st.inside ≡ None) × (answer ≡ answers.Ok) × IsBeside l base st.owns
     × GaveFairly l a x st.last st.steps
 
--- ---------------------------------------------------------------- who was handed it, and bumps
+-- ---------------------------------------------------------------- a thread that was handed it, and bumps
 
 -- a thread that was handed the lock has its right; a writer looks for readers first
 abbrev pub FitsHanded : ℕ → List Ownership → Access → HandedAt → Stage → Type 0

@@ -96,7 +96,7 @@ module _ (a : Admission) (x : Access) where
   handing_keeps (handing.Look k) (reply.Value seen) = (refl, refl)
   handing_keeps to told = (refl, refl)
 
-  -- ---------------------------------------------------------------- who is handed the lock
+  -- ---------------------------------------------------------------- the thread that is handed the lock
 
   abbrev KeepsGiven : Option RwLockCallPlace → Type 0
   KeepsGiven None = Unit {0}

@@ -329,7 +329,7 @@ module _ (a : Admission) (q : RwLockPurpose) where
   pub act_going : (l : ℕ) (p : RwLockPlace) → IsCalling p → IsGoing (rwlock_act l a p)
   act_going l p w = subst (λ (c : RwLockPurpose). IsGoing (rwlock_act l a (record { purpose = c; retries = p.retries; at = p.at }))) (sym w.0) (act_there l p.retries p.at w.1)
 
-  -- ---------------------------------------------------------------- who is handed the lock
+  -- ---------------------------------------------------------------- the thread that is handed the lock
 
   abbrev IsCall : RwLockCallPlace → Type 0
   IsCall (Plain p) = IsCalling p

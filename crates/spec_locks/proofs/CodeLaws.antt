@@ -35,7 +35,7 @@ module _ (r : Rules) (s : Site) (t : ℕ) (readers : has_readers r.sort ≡ true
   follows (OfCondvar case) n other = absurd (let e : has_readers Condvar ≡ true = rw n.0.0 at readers in cc)
   follows case n other = grind arith
 
--- ---------------------------------------------------------------- what is read
+-- ---------------------------------------------------------------- the values read
 
 module _ (r : Rules) (s : Site) (h : IsSite r s) where
   few_writers : writers s.lock ≤ 1

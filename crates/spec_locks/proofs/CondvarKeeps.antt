@@ -145,7 +145,7 @@ condvar_deed_keeps MoveAll c t h n = let k = known c t h (Takes n.0) n.1 in reco
 condvar_deed_keeps LeaveList c t h n = leaves_keeps c t h n
 condvar_deed_keeps Clear c t h n = record { once = h.once; inside = known c t h Clears n }
 
--- ---------------------------------------------------------------- whom a notification moves
+-- ---------------------------------------------------------------- the waiters that a notification moves
 
 pub times_in_line : (u : ℕ) (xs : List Queued) → times u (map in_line xs) ≡ times u xs
 times_in_line u [] = refl

@@ -44,7 +44,7 @@ sharing_fewer t taken i (suc u) (n ∷ ns) lt e =
     let d = sharing_fewer t taken (i + 1) u ns (omega arith) (subst (λ k. shares_handed t (taken k) ≡ 0) (omega arith) e) in
     omega arith
 
--- ---------------------------------------------------------------- who succeeds
+-- ---------------------------------------------------------------- the successor
 
 -- it does not fall back to anything
 pends_anew : (b : Bool) (u : ℕ) (s : LockState) → s.pending ≡ None → (p : Pending) → (if b then with_owner u Exclusive s else pending_for u false s).pending ≡ Some p → p.falls_back ≡ false

@@ -92,7 +92,7 @@ passes_on sort start t (x ∷ q) taken none knows left once = either (wants_shar
 pub without_fewer : (u t : ℕ) (q : List Queued) → times u (without t q) ≤ times u q
 without_fewer u t q = times_filtered u (λ x. not (x.thread == t)) q
 
--- ---------------------------------------------------------------- whom t has taken is let go
+-- ---------------------------------------------------------------- waiters that t has taken are let go
 
 pub kept_few : (t : ℕ) (o : Option Taken) → one_if_some (keep_from t o) ≤ one_if_some o
 kept_few t None = grind arith
@@ -182,7 +182,7 @@ counts_more Mutex w knows lock c e = knows
 counts_more Once w knows lock c e = cc
 counts_more Condvar w knows lock c e = cc
 
--- ---------------------------------------------------------------- behind a hand-over each in hand has its right
+-- -------------------------------------------------------------- after a hand-over each in hand has its right
 
 shared_one : (t : ℕ) (taken : ℕ → Option Taken) (i u : ℕ) (ns : List ℕ) → u < length ns → shares_handed t (taken (i + u)) ≡ 1 → 1 ≤ slice_index (sharing_from t taken i ns) u
 shared_one t taken i u [] lt e = absurd (omega arith)

@@ -67,7 +67,7 @@ shares r s t right c owns more = grind (arith, nat_tests, sharing_same r s t 0 s
 succeeds : (r : Rules) (s : LockState) (x : Queued) → IsLockState r s → NoWriter s → Knows r.sort x.want → x.want ≢ Shared → IsLockState r (succeeding x.want x.thread s)
 succeeds r s x c free knows more = grind (arith, nat_tests, no_aside r s c)
 
--- ---------------------------------------------------------------- what is done to a `Once`
+-- ---------------------------------------------------------------- deeds on a `Once`
 
 pub rephased : (r : Rules) (s : LockState) (p : Phase) → IsLockState r s → IsLockState r (record s { phase = p })
 rephased r s p c = record {

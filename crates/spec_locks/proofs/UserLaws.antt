@@ -24,7 +24,7 @@ use Rattle.spec_locks.proofs.Rights.{others_keep}
 use Rattle.spec_locks.proofs.Hands.{sharing_more}
 use Rattle.spec_locks.proofs.Runs.{needs_of, step_keeps}
 
--- ---------------------------------------------------------------- what a step does to one lock
+-- ---------------------------------------------------------------- a step's effect on one lock
 
 -- the owners are the same
 pub record HasOwnersOf (s s2 : LockState) : Type 0 where

@@ -36,7 +36,7 @@ pub record CondvarSite : Type 0 where
 abbrev pub opening_condvar : CondvarSite
 opening_condvar = record { shown = None; waiters = []; inside = None; waits_with = λ t. None }
 
--- ---------------------------------------------------------------- what holds between steps
+-- ---------------------------------------------------------------- invariants between steps
 
 -- each waiter is one of this mutex
 abbrev pub AllOf : CondvarSite → ℕ → Type 0
@@ -69,7 +69,7 @@ pub record IsCondvar (c : CondvarSite) : Type 0 where
   -- while nobody is inside, a mutex is shown exactly while somebody waits, and all wait with it
   pub inside : IsAsInside c c.inside
 
--- ---------------------------------------------------------------- what a thread does
+-- ---------------------------------------------------------------- the acts of a thread
 
 pub data CondvarDeed : Type 0 where
   -- a wait begins with a mutex; it ends

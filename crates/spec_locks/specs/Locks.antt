@@ -165,7 +165,7 @@ Owns s t _ = ⊥
 abbrev pub NoWriter : LockState → Type 0
 NoWriter s = (s.exclusive ≡ None) × (s.pending ≡ None) × (s.upgradable ≡ None)
 
--- ---------------------------------------------------------------- who may enter
+-- ---------------------------------------------------------------- threads that may enter
 
 -- which wants a sort of lock knows
 abbrev pub Knows : Sort → Want → Type 0
@@ -209,7 +209,7 @@ HasRoom r s x = count s < r.limit
 abbrev pub MayEnter : Rules → LockState → Want → Type 0
 MayEnter r s x = IsFree r s x × HasRoom r s x
 
--- ---------------------------------------------------------------- who is picked
+-- ---------------------------------------------------------------- the waiters picked
 
 -- the right that a waking thread keeps: nothing, a shared right or more
 abbrev pub keeps_more : Option Want → Bool
@@ -506,7 +506,7 @@ after_case r (OfOnce case) s t = once_after case s t
 after_case r (OfCondvar case) s t = condvar_after case s
 after_case r (SeeOwner owned) s t = s
 
--- ---------------------------------------------------------------- what holds in every state
+-- ---------------------------------------------------------------- invariants of every state
 
 abbrev pub KnowsAll : Sort → List Queued → Type 0
 KnowsAll sort [] = Unit {0}

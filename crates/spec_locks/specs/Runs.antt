@@ -107,7 +107,7 @@ pub record IsOpening (w : LocksState) : Type 0 where
   pub inside : (key : ℕ) → w.inside key ≡ None
   pub stances : (t : ℕ) → w.stances t ≡ no_stance
 
--- ---------------------------------------------------------------- what a step does
+-- ---------------------------------------------------------------- the effect of a step
 
 -- nothing, or one case of one lock; or a notification of the first waiter, or of all, moves so many
 -- to a mutex that it saw owned or free

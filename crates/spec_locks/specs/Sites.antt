@@ -144,7 +144,7 @@ IsDebtor sort d = (d.wakes ≡ Some Main) ⊎ ((d.covers ≡ true) ⊎ (counts_s
 abbrev pub LooksAfter : Sort → Role → Type 0
 LooksAfter sort d = (d.covers ≡ true) ⊎ ((sort ≡ Once) × (d.wakes ≡ Some Main))
 
--- ---------------------------------------------------------------- what holds between steps
+-- ---------------------------------------------------------------- invariants between steps
 
 pub record IsSite (r : Rules) (s : Site) : Type 0 where
   pub state : IsLockState r s.lock
@@ -179,7 +179,7 @@ pub record IsSite (r : Rules) (s : Site) : Type 0 where
   pub second : s.lock.aside ≢ None → readers s.lock ≡ 0
       → (t : ℕ) × ((s.role t).wakes ≡ Some Second)
 
--- ---------------------------------------------------------------- what a thread does
+-- ---------------------------------------------------------------- the acts of a thread
 
 pub data Deed : Type 0 where
   -- a call begins with what it needs
@@ -372,7 +372,7 @@ after_deed r (Send all) s t = record s { lock = left_behind all s.lock }
 after_deed r LeaveLine s t = record s { lock = locks.after_case r Late s.lock t }
 after_deed r (Case case) s t = done r case s t (locks.after_case r case s.lock t)
 
--- ---------------------------------------------------------------- what a deed needs
+-- ---------------------------------------------------------------- the conditions of a deed
 
 abbrev pub HasClaim : LockState → ℕ → Option Claim → Type 0
 HasClaim s t None = Unit {0}

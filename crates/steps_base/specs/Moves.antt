@@ -46,7 +46,7 @@ location_then x told = location_by (x.next told)
 abbrev pub inside_of : Line → Location
 inside_of m = record nowhere { inside = Some m }
 
--- ---------------------------------------------------------------- what a thread may be told
+-- ---------------------------------------------------------------- the notes that a thread may be told
 
 -- the move of a lock's thread, and of the one that it takes, if any
 abbrev pub Hears : Type 1
@@ -251,7 +251,7 @@ Moves l recursive x hears act.Sleep = Unit {0}
 Moves l recursive x hears (act.End answer) = Unit {0}
 Moves l recursive x hears act = ⊥
 
--- ---------------------------------------------------------------- what befalls a thread asleep
+-- ---------------------------------------------------------------- effects on a thread asleep
 
 -- asleep in a line, it may be taken
 pub record Sleeps (x : Move) (m : Line) : Type 0 where

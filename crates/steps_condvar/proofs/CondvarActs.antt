@@ -248,7 +248,7 @@ module _ (c m : ℕ) (timed : Bool) where
 pub waits_move : WaitsMove
 waits_move c m timed at reached = waits_so c m timed at reached
 
--- ---------------------------------------------------------------- who notifies
+-- ---------------------------------------------------------------- a thread that notifies
 
 module _ (c m : ℕ) (q : List Queued) where
   abbrev notifying : Bool → NotifyAt → CondvarPlace
@@ -371,7 +371,7 @@ looks_move c m all = (inl refl, λ seen. (record { deeds = tt; goes = by_there s
     by_beside seen true = refl
     by_beside seen false = refl
 
--- ---------------------------------------------------------------- what befalls a waiter
+-- ---------------------------------------------------------------- effects on a waiter
 
 -- it stands in neither queue, and is in nobody's hand
 awake : (p : CondvarPlace) → (there p).stands ≡ None → (location_of (beside [] p)).stands ≡ None → (location_of (beside [] p)).hand ≡ None → WaitsAtBoth p

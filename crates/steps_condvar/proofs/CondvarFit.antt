@@ -104,7 +104,7 @@ module _ (c : CondvarSite) (t : ℕ) (site : IsCondvar c) where
   stage_by : (d : CondvarSite) (b b2 : Bool) (x y : Stage) → b ≡ b2 → IsInsideAt d t (if b then x else y) → IsInsideAt d t (if b2 then x else y)
   stage_by d b b2 x y e h = subst (λ b. IsInsideAt d t (if b then x else y)) e h
 
-  -- ---------------------------------------------------------------- who waits
+  -- ---------------------------------------------------------------- waiters
 
   module _ (m : ℕ) (timed : Bool) where
     shows : IsAt c t (Wait m timed wait.Show) → (b : Bool) → (b ≡ true → (c.shown ≡ None) ⊎ (c.shown ≡ Some m)) → (b ≡ false → (c.shown ≢ None) × (c.shown ≢ Some m))
@@ -155,7 +155,7 @@ module _ (c : CondvarSite) (t : ℕ) (site : IsCondvar c) where
     waits (wait.Lock timed_out at) told a h = let d = locks timed_out at a (mutex_next at told) in record { needed = d.needed; next = d.next }
     waits p told a h = absurd h
 
-  -- ---------------------------------------------------------------- who notifies
+  -- ---------------------------------------------------------------- a thread that notifies
 
   looks : (all : Bool) (v : ℕ) → IsAt c t (Look all) → (b : Bool) → IsAtNext c t (if b then End (notified all 0) else At (Notify all (mutex_shown v) notify.Enter))
   looks all v a true = record { outside = a.stage; unlisted = a.listed; names = a.names }

@@ -262,7 +262,7 @@ waits_tell v r s t c m timed at whom told sort site a h is hears f reached =
     subst (λ x. IsSite x s → MayHearWaiter x s t at whom told → CallFollows c m (Wait m timed at) told (wait_event c m at whom told) (deeds.after_all (condvar_deeds (Wait m timed at) told) v t).shown s.lock (after_all x (waiter_deeds at whom told) s t).lock t (condvar_next (Wait m timed at) told))
     (λ i. record { sort = sym sort i; limit = r.limit }) (λ h f. tells v r.limit s t c m timed site h at whom told a is f reached) h f
 
--- ---------------------------------------------------------------- what befalls it
+-- ---------------------------------------------------------------- effects on it
 
 handed_release : (c m : ℕ) (timed : Bool) (by u : ℕ) (alone : Bool) (at : MutexPlace) (rights : ℕ → Rights) → (mutex_profile at).role.claims ≡ None
     → call_at c m (Wait m timed (wait.Release (stands.Handed u) at)) (one_more_at m Exclusive rights)

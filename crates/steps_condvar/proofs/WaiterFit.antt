@@ -403,7 +403,7 @@ waiters_code r s t k m timed at f o sort apart h is hears on owned =
     subst (λ x. IsSite x s → MayHearWaiter x s t at None (Value (code x s)) → LeavesMutex x s t m timed at f o)
     (λ i. record { sort = sym sort i; limit = r.limit }) (λ h hears. leaves_mutex r.limit s t k m apart h o owned timed at f is hears on) h hears
 
--- ---------------------------------------------------------------- what befalls it
+-- ---------------------------------------------------------------- effects on it
 
 pub waiters_hear : WaitersHear
 waiters_hear m timed (wait.Release stands.Listed at) (TakenBy u) may = refl

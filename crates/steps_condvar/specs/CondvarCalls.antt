@@ -40,7 +40,7 @@ use Rattle.steps_condvar.specs.CondvarDeeds.{IsAt, MayHear, condvar_deeds, wait_
 use Rattle.steps_condvar.specs.CondvarMutex.{MayHearBeside, beside_deeds}
 use Rattle.steps_condvar.specs.CondvarWaits.{MayBefall, MayHearWaiter, waiter_deeds}
 
--- ---------------------------------------------------------------- what happens to the two locks
+-- ---------------------------------------------------------------- the effects on the two locks
 
 -- at the condition variable: a mutex is shown, or none, and a thread stands behind the last, or
 -- leaves
@@ -82,7 +82,7 @@ abbrev pub look_event : ℕ → ℕ → Event
 look_event c seen = if seen == 0 then Nothing
     else AtLock c (OfCondvar (locks.Look (Some (mutex_shown seen))))
 
--- ---------------------------------------------------------------- what it makes of the call
+-- ---------------------------------------------------------------- its effect on the call
 
 -- the state of a call at a place, by what its thread owns
 abbrev pub call_at : ℕ → ℕ → CondvarPlace → (ℕ → Rights) → CallState
@@ -206,7 +206,7 @@ LooksTell =
     (look_event c (deeds.word_of v.shown)) v.shown s s t
     (condvar_next (Look all) (Value (deeds.word_of v.shown)))
 
--- ---------------------------------------------------------------- what befalls a waiter
+-- ---------------------------------------------------------------- effects on a waiter
 
 -- a notification moves it to its mutex, or takes it; it is handed the mutex, or woken to lock it
 -- again

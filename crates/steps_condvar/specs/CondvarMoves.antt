@@ -239,7 +239,7 @@ NotifiesMove =
 abbrev pub LooksMove : Type 0
 LooksMove = (c m : ℕ) (all : Bool) → CondvarMoves c m [] (Look all) (condvar_act c (Look all))
 
--- ---------------------------------------------------------------- what befalls a waiter
+-- ---------------------------------------------------------------- effects on a waiter
 
 -- a waiter in the queue of the condition variable is taken or moved: it stands there no more, and is in a
 -- hand at the mutex, or stands there

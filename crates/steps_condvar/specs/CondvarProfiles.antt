@@ -55,7 +55,7 @@ abbrev pub is_main : Option Line → Bool
 is_main (Some Main) = true
 is_main line = false
 
--- ---------------------------------------------------------------- who waits
+-- ---------------------------------------------------------------- waiters
 
 abbrev pub is_listed : Stands → Bool
 is_listed stands.Listed = true
@@ -145,7 +145,7 @@ wait_row m (wait.GiveUpMoved none_left) =
     leaving_mutex false (record inside { empty = found Main none_left })
 wait_row m (wait.Lock timed_out at) = beside (mutex_profile at)
 
--- ---------------------------------------------------------------- who notifies
+-- ---------------------------------------------------------------- a thread that notifies
 
 abbrev pub brings_to : Bool → Role
 brings_to locked = record inside { brings = locked }

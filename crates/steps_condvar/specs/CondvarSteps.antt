@@ -70,7 +70,7 @@ IsKeyed (Some m) = m < 2 ^ 63
 abbrev pub HasMutexKey : CondvarPlace → Type 0
 HasMutexKey p = IsKeyed (mutex_beside p)
 
--- ---------------------------------------------------------------- what a thread does
+-- ---------------------------------------------------------------- the acts of a thread
 
 abbrev pub wait_act : ℕ → ℕ → WaitAt → Act
 wait_act c m wait.Enter = act.Enter (One (2 * c))
@@ -111,7 +111,7 @@ condvar_act c (Wait m timed at) = wait_act c m at
 condvar_act c (Look all) = act.Word c op.Load
 condvar_act c (Notify all m at) = notify_act all c m at
 
--- ---------------------------------------------------------------- what befalls who waits
+-- ---------------------------------------------------------------- effects on waiters
 
 -- a reply tells what another thread has done to this one
 abbrev pub befalls : Reply → Bool
@@ -254,7 +254,7 @@ condvar_looking (Wait m timed (wait.Lock timed_out at)) =
     in_lock m timed timed_out (mutex_looking at)
 condvar_looking p = None
 
--- ---------------------------------------------------------------- who owns
+-- ---------------------------------------------------------------- owners
 
 -- the owner of the mutex, or the one shown, after an operation on a word that saw this value
 abbrev pub condvar_owners : CondvarPlace → ℕ → ℕ → Owners → Owners

@@ -48,7 +48,7 @@ waiter_deeds (wait.GiveUpMoved none_left) whom Done = Out ∷ []
 waiter_deeds (wait.Lock timed_out at) whom told = mutex_deeds at whom told
 waiter_deeds at whom told = []
 
--- ---------------------------------------------------------------- what it may be told
+-- ---------------------------------------------------------------- the notes that it may be told
 
 -- it takes the first, if anybody waits
 pub record TakesFirst (s : Site) (whom : Option ℕ) (any none_left : Bool) : Type 0 where
@@ -140,7 +140,7 @@ WaitersCode =
     → wait_act k m at ≡ act.Word m f → o.exclusive ≡ s.lock.exclusive
     → LeavesMutex r s t m timed at f o
 
--- ---------------------------------------------------------------- what befalls a waiter
+-- ---------------------------------------------------------------- effects on a waiter
 
 -- a waiter that was taken and handed the mutex has it, and one that was woken without it tries again
 abbrev pub befalls_role : Reply → Role → Role

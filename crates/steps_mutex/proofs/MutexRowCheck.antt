@@ -20,7 +20,7 @@ use Rattle.steps_mutex.specs.MutexSteps.{hand_off_act, is_locked, lock_act, mute
 use Rattle.steps_mutex.specs.MutexLaws.{MutexRowsKeep, mutex_row}
 use Rattle.steps_base.proofs.RowCheck.{Going, Into, HandsOver, Asleep, Other, GoesAs, keeps_row, by_test, both}
 
--- ---------------------------------------------------------------- what a thread does next
+-- ---------------------------------------------------------------- the next act of a thread
 
 abbrev decided_going : Bool → Bool → Going
 decided_going a b = if not a then Other else if b then Other else Into Main

@@ -24,7 +24,7 @@ word_of parked o = one_if_some o + 2 * bit parked
 pub coded : (r : Rules) (s : Site) → r.sort ≡ Mutex → code r s ≡ word_of s.parked s.lock.exclusive
 coded r s sort = ap (λ x. code_of x r.limit s) sort
 
--- ---------------------------------------------------------------- what is read
+-- ---------------------------------------------------------------- the values read
 
 pub parked_is : (p : Bool) (o : Option ℕ) → is_parked (word_of p o) ≡ p
 parked_is true None = refl
@@ -60,7 +60,7 @@ three false None e = absurd cc
 three true (Some u) e = ((λ f. cc), refl)
 three false (Some u) e = absurd cc
 
--- ---------------------------------------------------------------- what operations leave
+-- ---------------------------------------------------------------- the values that operations leave
 
 pub cleared : (p : Bool) (o : Option ℕ) → apply (op.And NOT_PARKED) (word_of p o) ≡ word_of false o
 cleared true None = refl

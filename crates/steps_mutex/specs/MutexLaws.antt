@@ -49,7 +49,7 @@ pub record IsAt (r : Rules) (s : Site) (t : ℕ) (p : MutexPlace) : Type 0 where
   pub site : IsSite r s
   pub role : s.role t ≡ mutex_role p
 
--- ---------------------------------------------------------------- what it may be told
+-- ---------------------------------------------------------------- the notes that it may be told
 
 -- it takes the first waiter, if there is one
 pub record TakesFirst (s : Site) (whom : Option ℕ) (any none_left : Bool) : Type 0 where
@@ -153,7 +153,7 @@ MutexHandOversCode =
     → IsAt r s t p → MayHear r s t p whom (Value (code r s)) → mutex_act l p ≡ act.HandOver l op
     → HandsOver r s t p whom op
 
--- ---------------------------------------------------------------- what a step makes of its call
+-- ---------------------------------------------------------------- a step's effect on its call
 
 abbrev pub next_row : Next MutexPlace → Next Profile
 next_row (next.At p) = next.At (mutex_row p)
@@ -168,7 +168,7 @@ MutexStepsTell =
     → CallFollows r s.lock t l (mutex_row p) (mutex_deeds p whom told)
     (next_row (mutex_next p told))
 
--- ---------------------------------------------------------------- what a row owes the promises
+-- ---------------------------------------------------------------- the conditions that the promises set a row
 
 abbrev pub MutexRowsKeep : Type 0
 MutexRowsKeep = (l : ℕ) (at : MutexPlace) → RowPromises Mutex l (mutex_row at) (mutex_act l at)

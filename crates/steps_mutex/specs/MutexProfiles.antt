@@ -20,7 +20,7 @@ use Rattle.spec_locks.specs.Purposes.{Purpose, Enters, Releases, Bumps}
 use Rattle.spec_locks.specs.declared.calls.Patience.TheVariants.{Patient, Timed}
 use Rattle.spec_locks.specs.Sites.{Role, Line, Has, Main, idle, found}
 
--- ---------------------------------------------------------------- what a thread does about the lock
+-- ---------------------------------------------------------------- the role of a thread at the lock
 
 abbrev pub owner : Role
 owner = record idle { claims = Some (Has Exclusive) }

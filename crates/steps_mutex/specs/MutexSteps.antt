@@ -64,7 +64,7 @@ mutex_right call.TheVariants.LockTimed t owners = true
 mutex_right call.TheVariants.TryLock t owners = true
 mutex_right c t owners = is_thread t owners.exclusive
 
--- ---------------------------------------------------------------- what a thread does
+-- ---------------------------------------------------------------- the acts of a thread
 
 -- an unlocked mutex is taken, an owner is told of the waiter, and where that was done the thread
 -- parks
@@ -232,7 +232,7 @@ mutex_looking (Lock e retries (lock.TheVariants.Decide seen)) =
     if seen == 1 then Some (Lock e retries lock.TheVariants.Load) else None
 mutex_looking at = None
 
--- ---------------------------------------------------------------- who owns
+-- ---------------------------------------------------------------- owners
 
 abbrev pub lock_owners : LockAt → ℕ → ℕ → Owners → Owners
 lock_owners lock.TheVariants.First t seen owners =

@@ -42,7 +42,7 @@ module _ (r : Rules) (s : Site) (t l : ℕ) where
   same : (s2 : LockState) → rights_of s2 t ≡ rights_of s.lock t → (rights : ℕ → Rights) → rights l ≡ rights_of s.lock t → (k : ℕ) → rights_where l s2 t rights k ≡ rights k
   same s2 e rights is k = sym (unchanged rights l (rights_of s2 t) (is ∙ sym e) k)
 
-  -- ---------------------------------------------------------------- who looks
+  -- ---------------------------------------------------------------- a thread that looks
 
   module _ (c : OnceCall) (retries : Bool) where
     -- a call that ends has what it found
@@ -103,7 +103,7 @@ module _ (r : Rules) (s : Site) (t l : ℕ) where
   exchanges c retries v false Parks may = looks c retries v Parks may
   exchanges c retries v false (Ends a) may = looks c retries v (Ends a) may
 
-  -- ---------------------------------------------------------------- who runs
+  -- ---------------------------------------------------------------- runners
 
   closes_tell : (forced ok b : Bool) → Tells (Run forced (run.Close ok)) (closes ok b) (in_run forced (if b then At (run.Enter ok) else Over (ended ok)))
   closes_tell forced true true = record { one = tt; may = ((refl, tt), tt); comes = λ rights is. recalls _ _ (same s.lock refl rights is) }

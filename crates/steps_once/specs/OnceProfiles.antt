@@ -16,7 +16,7 @@ use Rattle.steps_once.specs.declared.places.OncePlace.{OncePlace}
 use Rattle.steps_once.specs.declared.places.OncePlace.TheVariants.{Look, Run, GiveUp}
 use Rattle.steps_once.specs.OnceSteps.{is_timed, want_of}
 
--- ---------------------------------------------------------------- who looks, or waits
+-- ---------------------------------------------------------------- a thread that looks, or waits
 
 abbrev pub inside : Role
 inside = record idle { inside = Some Main }
@@ -59,7 +59,7 @@ give_up_row give_up.Clear =
     late_row (record blank { role = record inside { empty = Some Main }; gave_up = true })
 give_up_row give_up.Leave = late_row (record blank { role = inside; gave_up = true })
 
--- ---------------------------------------------------------------- who runs its closure
+-- ---------------------------------------------------------------- a thread that runs its closure
 
 abbrev pub running : Role
 running = record idle { claims = Some Runs }

@@ -69,7 +69,7 @@ when_done WaitTimed = answer.Yes
 abbrev pub once_first : OnceCall → OncePlace
 once_first c = Look c false look.Load
 
--- ---------------------------------------------------------------- what a value seen leads to
+-- ---------------------------------------------------------------- the step that follows a value
 
 abbrev pub course_of : OnceCall → ℕ → Course
 course_of c v =
@@ -94,7 +94,7 @@ started v = v / 8 * 8 + 4
 abbrev pub marked : ℕ → ℕ
 marked v = v % 8 + 8
 
--- ---------------------------------------------------------------- what a thread does
+-- ---------------------------------------------------------------- the acts of a thread
 
 -- a thread that is to run still waits while another runs and the bit is set; one that waits for a run does so
 -- until it has ended well

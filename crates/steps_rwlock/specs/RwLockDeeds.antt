@@ -38,7 +38,7 @@ use Rattle.spec_locks.specs.Sites.{Claim, Has, Pends, Role, idle, is_main, Site,
 pub use Rattle.spec_locks.specs.Deeds.{after_all, AllNeeded}
 use Rattle.spec_locks.specs.Codes.{code, HasLimit, count_in, has_aside, has_parked}
 
--- ---------------------------------------------------------------- what a thread does, by its place
+-- ---------------------------------------------------------------- the acts of a thread, by its place
 
 abbrev pub at_rest : Option Want → Option Claim → Role
 at_rest again claims = record idle { retries = again; claims = claims }

@@ -189,7 +189,7 @@ rwlock_profile a p = record {
   former = before p.purpose p.at;
 }
 
--- ---------------------------------------------------------------- what is asked of a place
+-- ---------------------------------------------------------------- the conditions on a place
 
 abbrev pub rwlock_taker : RwLockPlace → Option ℕ
 rwlock_taker p = hand_owner (hand_at p.at)

@@ -110,7 +110,7 @@ goes p to retries = At (record { purpose = p.purpose; retries = retries; at = to
 abbrev pub stays : RwLockPlace → RwLockAt → Next RwLockPlace
 stays p to = goes p to p.retries
 
--- ---------------------------------------------------------------- what a thread decides
+-- ---------------------------------------------------------------- a thread's decision
 
 abbrev pub waits : Bool → Decision
 waits parked = if parked then decisions.Park else decisions.Mark
@@ -137,7 +137,7 @@ decided_for a q seen = decision a (wanted (access_of q)) (patience_of q) seen
 abbrev pub decided : Admission → RwLockPlace → ℕ → Decision
 decided a p seen = decided_for a p.purpose seen
 
--- ---------------------------------------------------------------- what a thread does
+-- ---------------------------------------------------------------- the acts of a thread
 
 abbrev pub exchange : ℕ → ℕ → ℕ → Act
 exchange l from to = act.TheVariants.Word l (op.TheVariants.Exchange from to)
@@ -371,7 +371,7 @@ next_at a p to reply = stays p to
 abbrev pub rwlock_next : Admission → RwLockPlace → Reply → Next RwLockPlace
 rwlock_next a p reply = next_at a p p.at reply
 
--- ---------------------------------------------------------------- who owns
+-- ---------------------------------------------------------------- owners
 
 abbrev pub enters_by : Access → Change
 enters_by access.TheVariants.Exclusive = changes.Pend

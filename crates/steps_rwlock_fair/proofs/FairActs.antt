@@ -191,7 +191,7 @@ module _ (a : Admission) where
     goes = λ told plain. rw (none_given true p told plain) (bump_stands p.purpose (rwlock_next a p told));
   }
 
--- ---------------------------------------------------------------- who hands over, and who was handed the lock
+-- ------------------------------------------------ a thread that hands over, and one that was handed the lock
 
 module _ (l : ℕ) (a : Admission) where
   abbrev MovesAt : RwLockCallPlace → Type 0

@@ -156,7 +156,7 @@ module _ (r : Rules) (a : Admission) (s : Site) (t l : ℕ) where
   clears_tell : (any : Bool) → CallFollows r s.lock t l (call_profile a (Bump (leaver (at.Wake Second (waking.Clear any))))) (Clear Second ∷ []) (next_rows a (next.At (Bump (leaver (at.Wake Second (waking.Leave any))))))
   clears_tell any = record { one = tt; may = tt; comes = λ rights e. recalls _ _ (goes l t s.lock s.lock Shared true true rights e refl) }
 
-  -- ---------------------------------------------------------------- who was handed the lock
+  -- ---------------------------------------------------------------- a thread that was handed the lock
 
   -- it hadn't before what it has got in this call
   module _ (x : Want) (own : Owns s.lock t x) (v : LocksState) (rights : ℕ → Rights) (here : rights l ≡ rights_of s.lock t) (has : (k : ℕ) → rights_in v t k ≡ rights_where l s.lock t rights k) where

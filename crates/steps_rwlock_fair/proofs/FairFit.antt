@@ -42,7 +42,7 @@ use Rattle.steps_rwlock_fair.specs.FairDeeds.{holding, hand_over_role, exchanged
 use Rattle.steps_rwlock_fair.specs.FairCalls.{HandsOverAt}
 use Rattle.steps_rwlock_fair.specs.FairLaws.{FairStepsFollow, CallFollowsBy}
 
--- ---------------------------------------------------------------- what a thread does at the next place
+-- ---------------------------------------------------------------- a thread's act at the next place
 
 pub plain_role : (n : Next RwLockPlace) → call_role_next (plain_next n) ≡ role_next n
 plain_role (next.At p) = refl

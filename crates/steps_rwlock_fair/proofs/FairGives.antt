@@ -67,7 +67,7 @@ right_is : (l : ℕ) (y : Want) (b released : Bool) (x : Want) → IsToGive (rel
 right_is l y true released x h = (h.0, h.1)
 right_is l y false released x h = (h.0, h.2)
 
--- ---------------------------------------------------------------- what is got
+-- ---------------------------------------------------------------- the rights got
 
 got_by : (s s2 : LockState) (u : ℕ) (x : Want) (alone : Bool) → (readers s2 == 0) ≡ alone → (x ≡ Shared → slice_index s2.shared u ≡ slice_index s.shared u + 1)
     → HasClaim s2 u (Some (claim_handed alone x)) → HasGot s s2 u x

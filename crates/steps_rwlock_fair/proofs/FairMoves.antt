@@ -39,7 +39,7 @@ module _ (a : Admission) where
   abbrev of : RwLockPurpose → Bool → RwLockAt → RwLockPlace
   of q again to = record { purpose = q; retries = again; at = to }
 
-  -- ---------------------------------------------------------------- who hands over
+  -- ---------------------------------------------------------------- a thread that hands over
 
   stores : (b : Bool) (k : Taken) (word : ℕ) → Hands (call_move a (HandOver access.Exclusive b (handing.Store k))) (operation.Store word)
   stores b k word = record {
@@ -86,7 +86,7 @@ hand_overs_move l k a (HandOver access.Shared b to) op taken stands is e = absur
 hand_overs_move l k a (HandOver x b (handing.Look j)) op taken stands is e = absurd cc
 hand_overs_move l k a c op taken stands is e = absurd cc
 
--- ---------------------------------------------------------------- who is handed the lock
+-- ---------------------------------------------------------------- the thread that is handed the lock
 
 module _ (a : Admission) where
   abbrev Given : RwLockCallPlace → Type 0

@@ -39,7 +39,7 @@ use Rattle.steps_rwlock_fair.specs.FairCalls.{MayHearHanding, MayHearHanded}
 use Rattle.steps_rwlock_fair.specs.FairLaws.{CallFollowsBy, FairSectionsFollow}
 use Rattle.steps_rwlock_fair.proofs.FairFit.{plain_role, bump_role, released_role}
 
--- ---------------------------------------------------------------- what is told of a section goes to no hand
+-- ---------------------------------------------------------------- notes of a section go to no hand
 
 -- a thread in somebody's hand hears these
 abbrev pub IsOfHand : Reply → Type 0

@@ -49,7 +49,7 @@ use Rattle.steps_rwlock_fair.proofs.FairStands.{StaysFor, stays_for}
 use Rattle.steps_rwlock_fair.proofs.FairTells.{recalls}
 use Rattle.steps_rwlock_fair.proofs.FairRights.{one_more_of, rights_are}
 
--- ---------------------------------------------------------------- what was handed and is left out again
+-- ------------------------------------------------------------ rights that were handed and are left out again
 
 module _ (rights : ℕ → Rights) (l : ℕ) where
   same : (l == l) ≡ true
@@ -112,7 +112,7 @@ module _ (a : Admission) (l : ℕ) where
           (ap (λ q. call_by l (bumping q (rwlock_profile a p2)) rights) for ∙ ap (lifted (wanted x)) (hears p2 rights f) ∙ commutes (call_by l (rwlock_profile a p) rights))
       by_next (next.End answer) f for g = absurd cc
 
-  -- ---------------------------------------------------------------- who is handed the lock
+  -- ---------------------------------------------------------------- the thread that is handed the lock
 
   plain_given : (q : RwLockPurpose) (again : Bool) (to : RwLockAt) (u : ℕ) (alone : Bool) → StandsAt q again to → hand_at to ≡ hand u false → (rwlock_profile a (of q again to)).role.claims ≡ None → IsGiven a l (Plain (of q again to)) u alone
   plain_given (purpose.Enter x how) again (at.Park (parking.Taken v)) u alone stands h none = λ c2 rights y w e.

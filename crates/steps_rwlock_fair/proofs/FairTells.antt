@@ -59,7 +59,7 @@ module _ (r : Rules) (a : Admission) (s : Site) (t l : ℕ) where
   glance_tells access.Upgradable own true = record { one = tt; may = tt; comes = λ rights e. recalls _ _ (goes l t s.lock s.lock Upgradable false false rights e refl) }
   glance_tells access.Exclusive own true = record { one = tt; may = tt; comes = λ rights e. recalls _ _ (goes l t s.lock s.lock Exclusive false false rights e refl) }
 
-  -- ---------------------------------------------------------------- who hands over
+  -- ---------------------------------------------------------------- a thread that hands over
 
   -- a case of the lock that the call is made of: it takes, gives its right up, or hands over
   made_of : (b : Bool) (x : Want) (case : LockCase) → ReleasesBy x (is_fair_bump x) case → ReleasesBy x true case → IsMadeOf (release_purpose b x l) None false Blank l case

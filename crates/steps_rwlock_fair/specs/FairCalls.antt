@@ -76,7 +76,7 @@ pub record IsInCall (r : Rules) (a : Admission) (s : Site) (t : ℕ)
   pub stands : CallStands a c
   pub there : t < length s.lock.shared
 
--- ---------------------------------------------------------------- whom it has in hand
+-- ---------------------------------------------------------------- the waiters that it has in hand
 
 abbrev pub in_hand_of : RwLockCallPlace → Option Taken
 in_hand_of (HandOver x b to) = in_hand_at to
@@ -93,7 +93,7 @@ pub record HasInHand (s : LockState) (t : ℕ) (k : Taken) (whom : Option ℕ) :
   pub successor : IsSuccessor s t (heir_of whom k.successor)
   pub sharers : readers (sharing_handed t s) ≡ readers s + k.sharers
 
--- ---------------------------------------------------------------- what it may hear of its steps in and out of sections
+-- -------------------------------------------- the notes that it may hear of its steps in and out of sections
 
 abbrev pub MayHearHanding : Rules → Site → ℕ → HandOverAt → Option ℕ → Reply → Type 0
 MayHearHanding r s t handing.Enter whom reply.Done = IsFree s Main
@@ -114,7 +114,7 @@ CallMayHear r a s t (Glance x) whom told = ⊥
 CallMayHear r a s t (HandOver x b to) whom told = MayHearHanding r s t to whom told
 CallMayHear r a s t (Handed x how b to) whom told = MayHearHanded x to told
 
--- ---------------------------------------------------------------- what it may hear of any step
+-- ---------------------------------------------------------------- the notes that it may hear of any step
 
 abbrev pub CallMayBeTold : Admission → RwLockCallPlace → Reply → Type 0
 CallMayBeTold a (Plain p) told = MayBeTold a p p.at told

@@ -23,7 +23,7 @@ use Rattle.steps_rwlock_fair.specs.declared.handed.HandedAt.{HandedAt}
 use Rattle.steps_rwlock_fair.specs.declared.handed.HandedAt.TheVariants as handed
 use Rattle.steps_rwlock_fair.specs.FairSteps.{has_room, gives_way}
 
--- ---------------------------------------------------------------- what a thread does, by its place
+-- ---------------------------------------------------------------- the acts of a thread, by its place
 
 -- inside, an owner still, with those in hand whom the lock lets in once it has gone
 abbrev pub holding : Want → Taken → Role

@@ -147,7 +147,7 @@ pub record CallOpens (a : Admission) (c : RwLockCall) : Type 0 where
 abbrev pub CallsOpen : Type 0
 CallsOpen = (a : Admission) (c : RwLockCall) → CallOpens a c
 
--- ---------------------------------------------------------------- what a step makes of a call
+-- ---------------------------------------------------------------- a step's effect on a call
 
 abbrev pub next_rows : Admission → Next RwLockCallPlace → Next Profile
 next_rows a (next.At c) = next.At (call_profile a c)
@@ -184,7 +184,7 @@ FairSectionsTell =
     → IsInCall r a s t c → CallMayHear r a s t c whom told → IsNotLate told
     → CallTells r a s t l c whom told
 
--- ---------------------------------------------------------------- what befalls a thread asleep
+-- ---------------------------------------------------------------- effects on a thread asleep
 
 abbrev pub CallBecomes : Admission → ℕ → RwLockCallPlace → Reply → (CallState → CallState) → Type 0
 CallBecomes a l c told becomes =

@@ -71,7 +71,7 @@ FairActsMove =
     (l : ℕ) (a : Admission) (c : RwLockCallPlace) → CallStands a c
     → CallMoves l a.recursive (call_move a c) (call_hears a c) (call_act l a c)
 
--- ---------------------------------------------------------------- what befalls a thread asleep
+-- ---------------------------------------------------------------- effects on a thread asleep
 
 -- a thread in a line sleeps there or is inside its section, only a pending writer stands aside, and one in a
 -- hand is so to be woken until it is handed the lock

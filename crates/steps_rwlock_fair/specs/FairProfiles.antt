@@ -44,7 +44,7 @@ bumping q row = record row {
   former = λ l rights. bump_former q l (row.former l rights);
 }
 
--- ---------------------------------------------------------------- who hands over
+-- ---------------------------------------------------------------- a thread that hands over
 
 -- the waiters in its hand, to which it hands the lock
 abbrev pub in_hand_at : HandOverAt → Option Taken
@@ -78,7 +78,7 @@ release_purpose bumps x l = if bumps then Bumps l x else Releases l x true
 abbrev pub before_release : Bool → Want → ℕ → (ℕ → Rights) → ℕ → Rights
 before_release given x l rights = if given then one_more_at l x rights else rights
 
--- ---------------------------------------------------------------- who was handed the lock
+-- ---------------------------------------------------------------- a thread that was handed the lock
 
 abbrev pub hand_handed : HandedAt → Option Hand
 hand_handed (handed.Asleep by alone) = hand by true
@@ -122,7 +122,7 @@ call_profile a (Handed x how b to) = record blank {
   former = before_handed b (wanted x) (claim_at (wanted x) to);
 }
 
--- ---------------------------------------------------------------- what is asked of a place
+-- ---------------------------------------------------------------- the conditions on a place
 
 abbrev pub call_taker : RwLockCallPlace → Option ℕ
 call_taker (Plain p) = rwlock_taker p

@@ -76,7 +76,7 @@ without x seen = apply (op.TheVariants.Sub (token (wanted x))) seen
 abbrev pub with_taken : Access → Taken → ℕ → ℕ
 with_taken x k seen = parked_as k.none_left (plus (without x seen) (tokens k))
 
--- ---------------------------------------------------------------- who enters
+-- ---------------------------------------------------------------- a thread that enters
 
 abbrev pub entering : Bool → RwLockPlace → RwLockCallPlace
 entering bumps p = if bumps then Bump p else Plain p
@@ -88,7 +88,7 @@ enters_again x = Bump (rwlock_first (purpose.Enter x Patient))
 abbrev pub released : Access → Bool → Next RwLockCallPlace
 released x bumps = if bumps then At (enters_again x) else End Ok
 
--- ---------------------------------------------------------------- who hands over
+-- ---------------------------------------------------------------- a thread that hands over
 
 abbrev pub looked : ℕ → HandOverAt
 looked seen = if has_parked seen then handing.Enter else handing.Free seen
@@ -168,7 +168,7 @@ abbrev pub glances : Admission → Access → Reply → Next RwLockCallPlace
 glances a x (Value seen) = glance_next a x seen
 glances a x reply = At (Glance x)
 
--- ---------------------------------------------------------------- who was handed the lock
+-- ---------------------------------------------------------------- a thread that was handed the lock
 
 -- a writer beside readers is pending, and whoever else was handed the lock has its right
 abbrev pub handed_woken : Access → Patience → Bool → Bool → RwLockCallPlace
@@ -242,7 +242,7 @@ call_next a (Glance x) reply = glances a x reply
 call_next a (HandOver x b to) reply = hand_over_next a x b to reply
 call_next a (Handed x how b to) reply = handed_next x how b to reply
 
--- ---------------------------------------------------------------- who owns
+-- ---------------------------------------------------------------- owners
 
 abbrev pub without_owned : Access → Owners → Owners
 without_owned access.Shared o = o

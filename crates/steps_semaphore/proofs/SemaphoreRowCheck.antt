@@ -19,7 +19,7 @@ use Rattle.steps_semaphore.specs.SemaphoreProfiles.{semaphore_profile}
 use Rattle.steps_semaphore.specs.SemaphoreSteps.{acquire_act, is_free, release_act, semaphore_act, try_act}
 use Rattle.steps_base.proofs.RowCheck.{Going, Into, Asleep, Other, GoesAs, keeps_row, by_test, both}
 
--- ---------------------------------------------------------------- what a thread does next
+-- ---------------------------------------------------------------- the next act of a thread
 
 abbrev decided_going : Bool → Bool → Going
 decided_going a b = if a then Other else if b then Other else Into Main

@@ -35,7 +35,7 @@ pub bit_few : (p : Bool) → bit p ≤ 1
 bit_few true = omega arith
 bit_few false = omega arith
 
--- ---------------------------------------------------------------- what is read
+-- ---------------------------------------------------------------- the values read
 
 free_is : (n : ℕ) (p : Bool) → free_permits (word_of n p) ≡ n
 free_is n p = omega (arith, bit_few p)
@@ -55,7 +55,7 @@ pub one : (n : ℕ) (p : Bool) → (word_of n p == 1) ≡ true → (n ≡ 0) × 
 one n true e = let w = eqb-true (2 * n + 1) 1 e in (omega arith, refl)
 one n false e = absurd (let w = eqb-true (2 * n + 0) 1 e in omega arith)
 
--- ---------------------------------------------------------------- what operations leave
+-- ---------------------------------------------------------------- the values that operations leave
 
 pub cleared : (n : ℕ) (p : Bool) → n ≤ 2 ^ 62 → apply (op.And NOT_PARKED) (word_of n p) ≡ word_of n false
 cleared n p few = omega (arith, clears_low (word_of n p) (omega (arith, bit_few p)), bit_few p)

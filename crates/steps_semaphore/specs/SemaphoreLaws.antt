@@ -48,7 +48,7 @@ pub record IsAt (r : Rules) (s : Site) (t : ℕ) (p : SemaphorePlace) : Type 0 w
   pub here : t < length s.lock.shared
   pub role : s.role t ≡ semaphore_role p
 
--- ---------------------------------------------------------------- what it may be told
+-- ---------------------------------------------------------------- the notes that it may be told
 
 -- it takes the first waiter, if there is one
 pub record TakesFirst (s : Site) (whom : Option ℕ) (any none_left : Bool) : Type 0 where
@@ -120,7 +120,7 @@ SemaphoreStepsCode =
     → IsAt r s t p → MayHear r s t p whom (Value (code r s)) → semaphore_act l p ≡ act.Word l op
     → LeavesWord r s t p whom op
 
--- ---------------------------------------------------------------- what a step makes of its call
+-- ---------------------------------------------------------------- a step's effect on its call
 
 abbrev pub next_row : Next SemaphorePlace → Next Profile
 next_row (next.At p) = next.At (semaphore_profile p)
@@ -135,7 +135,7 @@ SemaphoreStepsTell =
     → CallFollows r s.lock t l (semaphore_profile p) (semaphore_deeds p whom told)
     (next_row (semaphore_next p told))
 
--- ---------------------------------------------------------------- what a row owes the promises
+-- ---------------------------------------------------------------- the conditions that the promises set a row
 
 abbrev pub SemaphoreRowsKeep : Type 0
 SemaphoreRowsKeep =

@@ -16,7 +16,7 @@ use Rattle.steps_semaphore.specs.declared.release.ReleaseAt.TheVariants as relea
 use Rattle.steps_semaphore.specs.declared.places.SemaphorePlace.{SemaphorePlace}
 use Rattle.steps_semaphore.specs.declared.places.SemaphorePlace.TheVariants.{Acquire, Try, Release}
 
--- ---------------------------------------------------------------- what a thread does about the lock
+-- ---------------------------------------------------------------- the role of a thread at the lock
 
 abbrev pub holder : Role
 holder = record idle { claims = Some (Has Shared) }
@@ -30,7 +30,7 @@ carrying = record inside { carries = true; covers = true }
 abbrev pub again : Bool → Role → Role
 again retries d = record d { retries = if retries then Some Shared else None }
 
--- ---------------------------------------------------------------- who waits for a permit
+-- ---------------------------------------------------------------- waiters for a permit
 
 abbrev pub patience : Bool → Patience
 patience timed = if timed then Timed else Patient
@@ -67,7 +67,7 @@ acquiring timed retries row = record row {
   purpose = λ l. Enters l Shared (patience timed);
 }
 
--- ---------------------------------------------------------------- who gives one back
+-- ---------------------------------------------------------------- a thread that gives one back
 
 -- its permits before, by what it holds now
 abbrev pub before_release : ℕ → Bool → (ℕ → Rights) → ℕ → Rights

@@ -50,7 +50,7 @@ abbrev pub semaphore_right : SemaphoreCall → ℕ → Bool
 semaphore_right (call.Acquire how) shares = true
 semaphore_right call.Release shares = not (shares == 0)
 
--- ---------------------------------------------------------------- what a thread does
+-- ---------------------------------------------------------------- the acts of a thread
 
 -- a free permit is taken; where none is free the bit is set, and where that was done the thread
 -- parks
@@ -163,7 +163,7 @@ semaphore_looking (Acquire timed retries (acquire.Decide seen)) =
     if seen == 0 then Some (Acquire timed retries acquire.Load) else None
 semaphore_looking at = None
 
--- ---------------------------------------------------------------- who holds permits
+-- ---------------------------------------------------------------- holders of permits
 
 -- an exchange that found a free permit, as it expected, took it
 abbrev pub taken_by : ℕ → ℕ → ℕ → Option ℕ

@@ -252,7 +252,7 @@ module _ (l : ℕ) (a : Admission) (x : Access) (retries : Bool) where
     told_may at.GiveWay on h = absurd on
     told_may (at.Wake m to) on h = absurd on
 
--- ---------------------------------------------------------------- what the locks see of a place
+-- ---------------------------------------------------------------- the locks' view of a place
 
 -- places by which a thread is taken alike
 abbrev TakenAlike : Place → Place → Type 0

@@ -82,7 +82,7 @@ solo_from (suc n) w t last last2 goes le = by_outcome (step_outcome w (go_of t))
     by_outcome outcome.NotNow ne = absurd (ne refl)
     by_outcome o ne = refl
 
--- ---------------------------------------------------------------- what is said of the locks alone
+-- ---------------------------------------------------------------- statements on the locks alone
 
 -- a call that waits for a right comes to the same by the locks that it sees
 module _ (before : Type 0) (w w2 v v2 : LocksState) (t l : ℕ) (o o2 : Outcome) (locks : w.locks l ≡ w2.locks l)

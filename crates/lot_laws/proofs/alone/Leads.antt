@@ -28,7 +28,7 @@ pub or_so : {A B C : Type 0} → (A → B) → A ⊎ C → B ⊎ C
 or_so so (inl a) = inl (so a)
 or_so so (inr c) = inr c
 
--- ---------------------------------------------------------------- who is barred
+-- ---------------------------------------------------------------- threads that are barred
 
 neither : (a : Bool) {b : Bool} → b ≡ false → (a && b) ≡ false
 neither true e = e

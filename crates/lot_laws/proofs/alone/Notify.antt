@@ -66,7 +66,7 @@ module _ (t l m : ℕ) (keeps : Keeps t) where
   move_steps false true = refl
   move_steps false false = refl
 
-  -- ---------------------------------------------------------------- behind its move
+  -- ---------------------------------------------------------------- after its move
 
   leaves : (w : State) (all any : Bool) (number : ℕ) (q : List Queued) → (lock_state w l).queue ≡ q
       → Alone w all (notify.Leave any number) → Leads 1 w t (Ends all number q)

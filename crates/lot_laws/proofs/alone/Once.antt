@@ -62,7 +62,7 @@ module _ (t l : ℕ) where
   rests : (w : State) (o : Outcome) → step_outcome w (go_of t) ≡ o → Rests o → RestsIn 1 w
   rests w o told h = leads_rest w t (λ v o. Rests o) o told h h
 
-  -- ---------------------------------------------------------------- who runs
+  -- ---------------------------------------------------------------- runners
 
   run_leaves : (forced b any : Bool) (v : ℕ) (w : State) (q : Queues) → Alone w (Run forced (run.Leave b any)) v q → RestsIn 1 w
   run_leaves forced b any v w q f = rests w (outcome.End (ended b)) (leave_comes w t l _ v q f Main (wakes_taken any Normal) refl).0 tt
@@ -92,7 +92,7 @@ module _ (t l : ℕ) where
   run_rests forced (run.Take b) v w q outside f = leads_more 2 4 w t (λ v o. Rests o) (omega arith) (run_takes forced b v w q f)
   run_rests forced (run.Leave b any) v w q outside f = leads_more 1 4 w t (λ v o. Rests o) (omega arith) (run_leaves forced b any v w q f)
 
-  -- ---------------------------------------------------------------- who looks
+  -- ---------------------------------------------------------------- a thread that looks
 
   ended_is_rest : (q : Queues) (c : OnceCall) (phase : Phase) (v : State) (o : Outcome) → Ended t l q c phase v o → Rests o
   ended_is_rest q (CallOnce forced) New v o h = rw (h.0) tt

@@ -99,7 +99,7 @@ module _ (t l : ℕ) (a : Admission) where
       goes w (Sleeps Second p q) 1 v _ (again p (at.Aside (parking.Leave true)) (p.retries && not true)) _ refl refl c
       (λ g. parks_sleeps Second p (p.retries && not true) v _ q _ (parks_last w t l _ v q f refl Second (want_at p)) g)
 
-  -- ---------------------------------------------------------------- who waits
+  -- ---------------------------------------------------------------- waiters
 
   -- the decision of who waits, by the parked bit that it saw
   abbrev waiting : Bool → Decision

@@ -61,7 +61,7 @@ same_answer Patient = refl
 same_answer Timed = refl
 same_answer Try = refl
 
--- ---------------------------------------------------------------- what a thread decides, by the lock as it is
+-- ---------------------------------------------------------------- a thread's decision, by the lock as it is
 
 module _ (w : State) (l : ℕ) (a : Admission) (steady : IsInductive w) (admits : Admits (rules_in w l) a) where
   abbrev r : Rules

@@ -61,7 +61,7 @@ module _ (t l : ℕ) where
   answer_rests : (k : ℕ) (w : State) (a : Answer) → Leads k w t (Answers t l a) → RestsIn k w
   answer_rests k w a h = leads_so k w t (Answers t l a) (λ v o. Rests o) (λ v o e. rw e tt) h
 
-  -- ---------------------------------------------------------------- who waits for a permit
+  -- ---------------------------------------------------------------- waiters for a permit
 
   module _ (timed : Bool) where
     ended_rests : (q : Queues) (free : Bool) (v : State) (o : Outcome) → Ended t l timed q free v o → Rests o
@@ -138,7 +138,7 @@ module _ (t l : ℕ) where
     acquire_rests again acquire.Clear v w q up f = more 2 8 w (omega arith) (clear_rests again v w q f)
     acquire_rests again acquire.GiveUp v w q up f = more 1 8 w (omega arith) (gives_up_rests again v w q f)
 
-  -- ---------------------------------------------------------------- who only tries
+  -- ---------------------------------------------------------------- a thread that only tries
 
   looks_rest : (v : ℕ) (w : State) (q : Queues)
       → Comes w t l (semaphore_goes l (in_try (looked v))) (outcome_of (semaphore_does l (in_try (looked v)))) v q → RestsIn 2 w
@@ -166,7 +166,7 @@ module _ (t l : ℕ) where
       either false false e g = anew op.Load (tries_so l seen false g) refl
           (ap (λ (b : Bool). b && is_free v) e)
 
-  -- ---------------------------------------------------------------- who gives a permit back
+  -- ---------------------------------------------------------------- a thread that gives a permit back
 
   release_rests : (at : ReleaseAt) (v : ℕ) (w : State) (q : Queues) → Alone w (Release at) v q → RestsIn 5 w
   release_rests release.Add v w q f = answer_rests 5 w answer.Ok (release_adds t l w q v f)

@@ -113,7 +113,7 @@ module _ (t l : ℕ) where
     pub ends : (answer : Answer) → n ≡ next.End answer → Leads 1 w t (Answers answer)
     ends answer is = leads_rest w t (Answers answer) (outcome.End answer) (c.0 ∙ ap (λ x. outcome_of (semaphore_does l x)) is) tt refl
 
-  -- ---------------------------------------------------------------- who waits for a permit
+  -- ---------------------------------------------------------------- waiters for a permit
 
   module _ (timed : Bool) where
     leaves : (again : Bool) (v : ℕ) (w : State) (q q2 : Queues) → q2 Main ≡ q Main ++ waiter (2 * l) t Shared ∷ []
@@ -157,7 +157,7 @@ module _ (t l : ℕ) where
         → Alone w (Acquire timed again acquire.Load) v q → Leads 5 w t (Ended q free)
     loads again w q v free e f = goes w v q _ (word_comes w t l _ v q f op.Load refl) 4 (Ended q free) (Acquire timed again (acquire.Decide v)) refl (steps_on l v) (λ g. decides again (after w (go_of t)) q v free e g)
 
-  -- ---------------------------------------------------------------- who only tries
+  -- ---------------------------------------------------------------- a thread that only tries
 
   abbrev pub tried : Bool → Answer
   tried free = if free then answer.Yes else answer.No
@@ -181,7 +181,7 @@ module _ (t l : ℕ) where
       → Leads 2 w t (Answers (tried free))
   try_loads w q v free e f = try_looks w q v free e (word_comes w t l _ v q f op.Load refl)
 
-  -- ---------------------------------------------------------------- who gives a permit back
+  -- ---------------------------------------------------------------- a thread that gives a permit back
 
   pub release_leaves : (any : Bool) (w : State) (q : Queues) (v : ℕ) → Alone w (Release (release.Leave any)) v q → Leads 1 w t (Answers answer.Ok)
   release_leaves any w q v f = ends w v q _ (leave_comes w t l _ v q f Main (wakes_taken any Normal) refl) answer.Ok refl

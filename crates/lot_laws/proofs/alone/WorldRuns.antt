@@ -67,7 +67,7 @@ run_refines w v [] (o ∷ os) h = absurd h
 run_refines w v (s ∷ ss) [] h = absurd h
 run_refines w v (s ∷ ss) (o ∷ os) h = (locks_of h.0, h.1.refines, run_refines h.0 v ss os h.2)
 
--- ---------------------------------------------------------------- what was told stands behind what was there
+-- ---------------------------------------------------------------- new text stands behind the old
 
 module _ (w v : State) (ss : List Step) (before now : List Outcome) (h : IsWorld w) (led : v ≡ after_steps w ss)
     (answers : now ≡ before ++ step_outcomes w ss) where

@@ -62,7 +62,7 @@ either_is false y x z h k = k refl
 abbrev pub rights : State → ℕ → ℕ → Rights
 rights w t l = rights_of (lock_state w l) t
 
--- ---------------------------------------------------------------- what happens to the locks
+-- ---------------------------------------------------------------- the effects on the locks
 
 -- tells what an event needs of its lock; of a notification's move the call says it
 abbrev pub Allows : State → ℕ → Event → Type 0
@@ -318,7 +318,7 @@ module _ (w v : State) (t : ℕ) (e : Event) (h : Happens w v t e) (call : CallS
   unfolding goes_with
   goes_with_event may called led others begins = refl
 
--- ---------------------------------------------------------------- of one lock
+-- ---------------------------------------------------------------- one lock's part
 
 module _ (w v : State) (t l : ℕ) (c : Option LockCase) (h : Happens w v t (event_by l c)) where
   pub led_here : lock_state v l ≡ after_event (rules_in w l) (event_by l c) (lock_state w l) t

@@ -37,7 +37,7 @@ use Rattle.steps_mutex.proofs.HandOffRights.{got, neither}
 use Rattle.lot_laws.proofs.mutex.Words.{mutex}
 use Rattle.lot_laws.proofs.calls.Events.{put_is, rights, rights_led, led_here, led_elsewhere, Happens, Others, OthersFollow}
 
--- ---------------------------------------------------------------- whom a thread has in hand
+-- ---------------------------------------------------------------- the waiters that a thread has in hand
 
 -- this befalls whom t has in hand at the lock, and nobody else
 abbrev pub Befalls : State → State → ℕ → ℕ → Reply → Type 0

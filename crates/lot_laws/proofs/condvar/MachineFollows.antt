@@ -93,7 +93,7 @@ module _ (w : State) (t l : ℕ) (at : CondvarPlace) (shape : IsWellFormed w) (s
   gone : times t (queue_at w (2 * l)) ≡ 0 → get_or (map (without t) w.queues) (2 * l) [] ≡ queue_at w (2 * l)
   gone unlisted = get_or-map (without t) w.queues (2 * l) [] ∙ without_absent t (queue_at w (2 * l)) unlisted
 
-  -- ---------------------------------------------------------------- what is done at the mutex
+  -- ---------------------------------------------------------------- deeds at the mutex
 
   module _ (m : ℕ) (apart : m ≢ l) where
     at_word : (p : Place) (f : Op) → Same (state_after_operation w t p m f)

@@ -70,7 +70,7 @@ debtor_beside sort c at l m debt = by_lock (c == l) (mutex_beside at) refl debt
         by_mutex true f d = (ap Some (eqb-true k l f), refl)
         by_mutex false f d = absurd (idle_owes sort m d)
 
--- ---------------------------------------------------------------- what it does
+-- ---------------------------------------------------------------- its acts
 
 -- it has the debt at its mutex, is awake, and stands nowhere, or is a wait that has released the mutex and owes there
 pub record LooksBeside (c : ℕ) (at : CondvarPlace) (m : ℕ) : Type 0 where

@@ -57,7 +57,7 @@ module _ (w : State) (t l m : ℕ) (all : Bool) (steady : IsInductive w) (is_the
   abbrev goes_to : NotifyAt → Act → Place
   goes_to at a = condvar_goes l (condvar_next (notifies at) (reply_to w t a))
 
-  -- ---------------------------------------------------------------- of the condition variable
+  -- ---------------------------------------------------------------- the condition variable's part
 
   module _ (lock : l < length w.locks) where
     abbrev KeptThere : NotifyAt → Op → Type 0
@@ -121,7 +121,7 @@ module _ (w : State) (t l m : ℕ) (all : Bool) (steady : IsInductive w) (is_the
         → FitsItsLock w (goes_to (notify.Clear any) (act.Word l (op.Store 0))) → KeptThere (notify.Clear any) (op.Store 0)
     clears any is fits = works (notify.Clear any) is (op.Store 0) refl refl (refl, refl, refl) refl tt fits
 
-  -- ---------------------------------------------------------------- of the mutex
+  -- ---------------------------------------------------------------- the mutex's part
 
   module _ (aside : WaitsAside (condvar_of w l) (site_of w m) m) (lock : m < length w.locks) where
     abbrev r : Rules

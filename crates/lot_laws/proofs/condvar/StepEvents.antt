@@ -159,7 +159,7 @@ module _ (w v : State) (t l m : ℕ) (p : CondvarPlace) (call_is : call_at w t �
       → OthersFollow w v t e → Begins (locks_of w) e o → GoesOn (locks_of w) t o (locks_of v)
   condvar_goes_on n o may led others begins = goes_with w v t e h call call_is o may (λ f. cc) led others begins
 
--- ---------------------------------------------------------------- what a thread in such a call is never told, nor does to itself
+-- --------------------- notes that a thread in such a call never gets, and deeds that it never does to itself
 
 runs_nothing_here : (l : ℕ) (p : CondvarPlace) → RunsNothing ((condvar_profile p).purpose l)
 runs_nothing_here l (Wait m timed at) = tt

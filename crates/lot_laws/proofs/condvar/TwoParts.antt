@@ -93,7 +93,7 @@ pub role_of_row : (n : Next CondvarPlace) → (row_there n).role ≡ record idle
 role_of_row (At p) = refl
 role_of_row (Over answer) = refl
 
--- ---------------------------------------------------------------- what a step leaves as it was
+-- ---------------------------------------------------------------- the parts that a step leaves as they were
 
 -- one row and the next say the same of the thread at the mutex
 abbrev pub SameBeside : Next CondvarPlace → Next CondvarPlace → Type 0

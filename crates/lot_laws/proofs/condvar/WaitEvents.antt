@@ -51,7 +51,7 @@ use Rattle.lot_laws.proofs.condvar.Replies.{apart, at_it, role_beside, fits_here
 use Rattle.lot_laws.proofs.machine.Parts.{same}
 use Rattle.lot_laws.proofs.condvar.MutexUntouched.{there_deeds}
 
--- ---------------------------------------------------------------- what it does to either lock is one case, and never to both
+-- -------------------------------------------------- its effect is on one of the two locks, and never on both
 
 -- a thread is never told of its own step that its time is up
 pub unheard : (w : State) (t : ℕ) (a : Act) (c : CallState) → heard (reply_to w t a) c ≡ c

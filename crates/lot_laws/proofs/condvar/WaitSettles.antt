@@ -41,7 +41,7 @@ use Rattle.lot_laws.proofs.condvar.Replies.{rules_beside, location_beside}
 use Rattle.lot_laws.proofs.machine.Parts.{same}
 use Rattle.lot_laws.proofs.condvar.WaitSleeps.{IsSettled, IsSettledNext}
 
--- ---------------------------------------------------------------- who has handed a mutex over
+-- ---------------------------------------------------------------- a thread that has handed a mutex over
 
 -- by its place
 handed_mutex : (at : MutexPlace) → (mutex_profile at).carries ≡ Some true

@@ -33,7 +33,7 @@ pub plain_sort : (k : Kind) → is_plain_mutex k ≡ true → (rules_of k).sort 
 plain_sort kind.Mutex plain = refl
 plain_sort k plain = absurd cc
 
--- ---------------------------------------------------------------- who waits
+-- ---------------------------------------------------------------- waiters
 
 -- a place of a call of the condition variable, where the thread stands in its queue
 pub record WaitsThere (w : State) (u l : ℕ) : Type 0 where

@@ -167,7 +167,7 @@ is_more t (Some h) x e = either (h.by == t) e
     either true f = by_share (wants_shared h.want) refl f
     either false f = absurd cc
 
--- ---------------------------------------------------------------- what the lock hands over
+-- ---------------------------------------------------------------- the rights that the lock hands over
 
 module _ (w : State) (t l : ℕ) (steady : IsInductive w) (own : IsOf l (place_at w t)) (any : Bool)
     (carries : carried_at (place_at w t) l ≡ in_hand any false) (k : Counted) (count : IsCounted w t k) where

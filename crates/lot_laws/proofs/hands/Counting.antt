@@ -120,7 +120,7 @@ are_counted w each t l a c k is counted = each t l k (ap (λ p. counted_on p l) 
 pub none_is : (k : Counted) (o : Option Counted) → o ≡ None → o ≡ Some k → ⊥
 none_is k o e f = let g : ◌≡◌ {A = Option Counted} None (Some k) = sym e ∙ f in cc
 
--- ---------------------------------------------------------------- what such a place says of its thread
+-- ---------------------------------------------------------------- such a place's fields, of its thread
 
 pub record HasCounted (l : ℕ) (p : Place) : Type 0 where
   pub of : IsOf l p

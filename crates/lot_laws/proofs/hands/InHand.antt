@@ -53,7 +53,7 @@ pub sharers_same : (t : ℕ) (p q : ℕ → Option Taken) → ((u : ℕ) → wan
 sharers_same t p q e i zero = refl
 sharers_same t p q e i (suc n) = λ j. (shares_by t (q i) ∙ ap share_of (e i) ∙ sym (shares_by t (p i))) j + sharers_same t p q e (i + 1) n j
 
--- ---------------------------------------------------------------- what the lock hands over
+-- ---------------------------------------------------------------- the rights that the lock hands over
 
 pub shared_by : (t : ℕ) (taken : ℕ → Option Taken) (i : ℕ) (ns : List ℕ)
     → sum (sharing_from t taken i ns) ≡ sum ns + sharers_from t taken i (length ns)
@@ -64,7 +64,7 @@ shared_by t taken i (n ∷ ns) =
     let c = shared_by t taken (i + 1) ns in
     omega arith
 
--- ---------------------------------------------------------------- what the machine counts
+-- ---------------------------------------------------------------- the machine's counts
 
 pub counted : (t i : ℕ) (taken : ℕ → Option Taken) (ps : List Place)
     → ((j : ℕ) → shares_handed t (taken (i + j)) ≡ (if shares_in_hand t (held (get_or ps j Idle)) then 1 else 0))

@@ -20,7 +20,7 @@ use Rattle.lot_laws.specs.Solo.{EntersSection, HasLine, IsBarred}
 use Rattle.lot_laws.specs.Locations.{location}
 use Rattle.lot_laws.proofs.machine.PlaceTest.{IsLineAct, call_facts, mutex_facts, once_facts, semaphore_facts}
 
--- ---------------------------------------------------------------- of the main line
+-- ---------------------------------------------------------------- the main line's part
 
 moves_never : (key l m : ℕ) (all locked : Bool) → EntersSection key (move_act all locked l m) → ⊥
 moves_never key l m true locked h = h
@@ -42,7 +42,7 @@ condvar_main l key (condvar.Notify all m notify.Enter) (inr h) = inr (m, refl, h
 condvar_main l key (condvar.Notify all m (notify.Move locked)) h = absurd (moves_never key l m all locked h)
 condvar_main l key (condvar.Notify all m at) h = absurd h
 
--- ---------------------------------------------------------------- of a line
+-- ---------------------------------------------------------------- a line
 
 same_lock : (k l : ℕ) (m n : Line) → key_of k m ≡ key_of l n → k ≡ l
 same_lock k l Main Main e = omega arith

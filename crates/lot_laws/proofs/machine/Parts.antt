@@ -542,7 +542,7 @@ inside_is p l = which (calls p l) (is_lock l (beside_of p))
 pub own_stance : (l : ℕ) (q : Place) (at : MutexPlace) → q ≡ Mutex l at → location_at q l ≡ mutex_location at
 own_stance l q at is = ap (λ x. location_at x l) is ∙ location_here l (Mutex l at) refl
 
--- ---------------------------------------------------------------- whom a thread has in hand is told
+-- ---------------------------------------------------------------- waiters in a thread's hand are told
 
 -- nobody is
 told_out : (t : ℕ) (reply : Reply) (ps : List Place) → ((x : ℕ) → is_thread t (taker (get_or ps x Idle)) ≡ false) → map (place_after_telling t reply) ps ≡ ps

@@ -109,7 +109,7 @@ IsLineAct l s (act.Remove key) = IsWithinLine l s key × StandsThere s
 IsLineAct l s (act.Requeue from to how) = ⊥
 IsLineAct l s a = Unit {0}
 
--- ---------------------------------------------------------------- what a place says
+-- ---------------------------------------------------------------- a place's fields
 
 -- for its row alone, at every lock
 pub record RowFacts (row : Profile) (a : Act) : Type 0 where

@@ -218,7 +218,7 @@ module _ (w : State) (t : ℕ) (steady : IsInductive w) where
       let stood = stands_free may.lock may.stands in
       elim (single_or_two (place_at w t)) [ inl single ↦ late_one may stood.0 stood.1 stood.2 single | inr two ↦ late_of_two may stood.0 stood.1 stood.2 two ]
 
--- ---------------------------------------------------------------- what a thread is told
+-- ---------------------------------------------------------------- the notes to a thread
 
 -- a thread that goes on is told that it sleeps where it sleeps then
 told_act : (a : Act) → (outcome_of a ≡ outcome.TheVariants.Sleep) ↔ (sleeps a ≡ true)

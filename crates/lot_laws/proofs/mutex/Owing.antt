@@ -43,7 +43,7 @@ use Rattle.lot_laws.specs.Owing.{line_let_in, tells_of}
 use Rattle.spec_locks.specs.Locks as locks
 use Rattle.spec_locks.specs.Sites.{Line, Second}
 
--- ---------------------------------------------------------------- what befalls another thread
+-- ---------------------------------------------------------------- effects on another thread
 
 owes_same_lock : (l k : ℕ) (e : _) (r : Bool) (a : LockAt) (t : ℕ)
     → line_owed (next_place (Mutex l (Lock e r a)) (TakenBy t)) k ≡ line_owed (Mutex l (Lock e r a)) k

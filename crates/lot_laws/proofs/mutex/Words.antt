@@ -37,7 +37,7 @@ use Rattle.lot_laws.proofs.hands.Handed.{handed_is}
 pub use Rattle.lot_laws.proofs.sites.OneStep.{AreSingle, others_same, same_filled, meets, Steps, queued_behind, queued_without, queued_times}
 use Rattle.lot_laws.specs.SitesOf.{Hands, carried_at}
 
--- ---------------------------------------------------------------- what one thread's step does to the lock that it calls
+-- -------------------------------------------------------------- one thread's step, at the lock that it calls
 
 abbrev pub parts : Base → ℕ → Owners → (main second : List Waiter) → Parts
 parts n word o main second = record { base = n; word = word; owners = o; main = main; second = second }

@@ -224,7 +224,7 @@ module _ (w : State) (t l : ℕ) (at : OncePlace) (steady : IsInductive w) (shap
   followed : (told : Reply) → MayHear (rules_in w l) here t at told → Followed told
   followed told hears = followed_by told (once_sections_follow (rules_in w l) here t at told at_now hears)
 
-  -- ---------------------------------------------------------------- who else calls the `Once`
+  -- ---------------------------------------------------------------- other callers of the `Once`
 
   many : TakesOne w l → ⊥
   many one = let both : locks.Mutex ≡ locks.Once = sym one ∙ sort_is in cc

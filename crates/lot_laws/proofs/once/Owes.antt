@@ -34,7 +34,7 @@ tells_so l (Look WaitTimed again at) m v = refl
 tells_so l (Run forced at) m v = refl
 tells_so l (GiveUp again at) m v = refl
 
--- ---------------------------------------------------------------- who looks, or waits
+-- ---------------------------------------------------------------- a thread that looks, or waits
 
 found_owes : (r : Reply) → (run_row (found r)).owes ≡ None
 found_owes (reply.Value seen) = refl
@@ -53,7 +53,7 @@ look_since l c again still r false true n m h = h
 look_since l c again still r false false (next.At at) m h = look_owes (is_timed c) (again_of c still) at m h
 look_since l c again still r false false (next.End answer) m h = absurd cc
 
--- ---------------------------------------------------------------- who runs its closure
+-- ---------------------------------------------------------------- a thread that runs its closure
 
 abbrev RunOwes : ℕ → ℕ → Bool → RunAt → Next RunAt → Type 0
 RunOwes l word forced at n =

@@ -102,7 +102,7 @@ by_event w u (AtLock k case) l t e = elim (cases_eq l k) [
     at_it (inl on) = inl on
     at_it (inr now) = inr (now.0, ap (AtLock l) now.1, now.2)
 
--- ---------------------------------------------------------------- who is in its closure stays there
+-- ---------------------------------------------------------------- a thread in its closure stays there
 
 look_runs_none : (l : ℕ) (c : OnceCall) (again : Bool) (at : LookAt) → runs_closure (act_of (Once l (Look c again at))) ≡ false
 look_runs_none l c again (look.Decide seen) = course_runs_none l seen (course_of c seen)

@@ -59,7 +59,7 @@ use Rattle.lot_laws.proofs.calls.OtherCalls.{WakesOwn, hands_nothing, wakes_own}
 use Rattle.lot_laws.proofs.promises.PlacePromises.{location_own}
 use Rattle.lot_laws.proofs.sites.SitesKept.{go_by}
 
--- ---------------------------------------------------------------- what it is told
+-- ---------------------------------------------------------------- the notes that it is told
 
 course_steps : (l v : ℕ) (k : Course) → outcome_of (course_act l v k) ≡ outcome.Step
 course_steps l v (Ends answer) = refl

@@ -89,7 +89,7 @@ released_lock (Awaits k forced timed) l h = absurd h
 released_lock (Waits k m timed) l h = absurd h
 released_lock (Notifies k all) l h = absurd h
 
--- ---------------------------------------------------------------- what others do to an owner
+-- ---------------------------------------------------------------- others' effects on an owner
 
 -- a deed at a `Once` changes no owner
 once_keeps : (case : OnceCase) (s : LockState) (u : ℕ)
@@ -182,7 +182,7 @@ taken_was s t u a x is (locks.OfCondvar case) n h = absurd (let e : locks.Mutex 
 taken_was s t u a x is (locks.SeeOwner owned) n h = inl h
 taken_was s t u a x is Rollback n h = inl (grind arith)
 
--- ---------------------------------------------------------------- what a fair release does by its own step
+-- ---------------------------------------------------------------- a fair release's effect by its own step
 
 -- tells what the mutex has come to
 abbrev ComesFrom : LockState → (word : ℕ) → ℕ → ℕ → State → Type 0

@@ -335,7 +335,7 @@ module _ (w : State) (steady : IsInductive w) where
           let nobody = (steady.sites.site l).state.exclusive_alone t alone in
           subst (λ o. IsSomePending o u) nobody.0 pending
 
-  -- ---------------------------------------------------------------- who was handed a lock
+  -- ---------------------------------------------------------------- a thread that was handed a lock
 
   module _ (t : ℕ) (asleep : act_of (place_at w t) ≡ Sleep) (nowhere : (l : ℕ) → standing t (lock_state w l) ≡ 0) where
     -- tells what it has, by what it claims

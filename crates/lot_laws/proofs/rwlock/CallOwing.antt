@@ -136,7 +136,7 @@ module _ (r : Rules) (shared : has_readers r.sort ≡ true) (a : Admission) (l w
       → RowFinds r.sort l word (call_profile a c) k → ⊥
   dark c m line none k s = let e : tells_at c m ≡ true = subst (λ k. tells_at c k ≡ true) (sym (sym line ∙ s.1)) s.2 in let f : false ≡ true = sym none ∙ e in cc
 
-  -- ---------------------------------------------------------------- who hands over
+  -- ---------------------------------------------------------------- a thread that hands over
 
   module _ (b : Bool) where
     abbrev up : HandOverAt → RwLockCallPlace
@@ -251,7 +251,7 @@ module _ (r : Rules) (shared : has_readers r.sort ≡ true) (a : Admission) (l w
           only : (m : Line) → call_act l a (gives_up_at access.Shared) ≡ act.Enter (One (key_of l m)) → ⊥
           only m f = cc
 
-  -- ---------------------------------------------------------------- who was handed the lock
+  -- ---------------------------------------------------------------- a thread that was handed the lock
 
   handed_owes : (x : Access) (how : Patience) (b : Bool) (to : HandedAt) (n : Next RwLockCallPlace) → (then_row n).owes ≡ None
       → Owing (Handed x how b to) n

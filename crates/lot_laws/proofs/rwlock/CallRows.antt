@@ -260,7 +260,7 @@ module _ (r : Rules) (a : Admission) (l : ℕ) (admits : Admits r a) where
       owes_none Main d free = absurd (elim d [ inl h ↦ cc | inr h ↦ elim h [ inl k ↦ cc | inr k ↦ cc ] ])
       owes_none Second d free = absurd cc
 
-  -- ---------------------------------------------------------------- who hands the lock over
+  -- ---------------------------------------------------------------- a thread that hands the lock over
 
   exchange_acts : (x : Access) (k : Taken) (seen : ℕ) → is_acting (exchange_act l a.limit x k seen) ≡ true
   exchange_acts x k seen = either (has_room a.limit k seen) _ _
@@ -415,7 +415,7 @@ module _ (r : Rules) (a : Admission) (l : ℕ) (admits : Admits r a) where
       known true sorts e = knows (sorts l) e x
       known false sorts e = knows (sorts l) e x
 
-  -- ---------------------------------------------------------------- who was handed the lock
+  -- ---------------------------------------------------------------- a thread that was handed the lock
 
   module _ (x : Access) (how : Patience) (b : Bool) (waits : WaitsFor b how) where
     has_time : (how : Patience) → HasTime how → how ≢ Try

@@ -107,7 +107,7 @@ role_is : (a : Admission) (n : Next RwLockCallPlace) → call_role_next n ≡ (r
 role_is a (next.At c) = sym (role_row a c)
 role_is a (next.End answer) = refl
 
--- ---------------------------------------------------------------- what a thread may be told
+-- ---------------------------------------------------------------- the notes that a thread may be told
 
 -- but of its entering, of the word, or of its time
 abbrev IsOther : Reply → Type 0
@@ -327,7 +327,7 @@ module _ (w : State) (t l : ℕ) (a : Admission) (c : RwLockCallPlace) (steady :
       → Followed whom told
   followed whom told hears may = let f = fair_sections_follow (rules_in w l) a here t c whom told at_now hears in followed_by whom told f.needed f.role may
 
-  -- ---------------------------------------------------------------- who else calls the lock
+  -- ---------------------------------------------------------------- other callers of the lock
 
   pub of_no_mutex : (u k : ℕ) (m : MutexPlace) → place_at w u ≡ Mutex k m → k ≡ l → ⊥
   of_no_mutex u k m e same_lock =

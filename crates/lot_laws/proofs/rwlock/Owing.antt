@@ -57,7 +57,7 @@ use Rattle.lot_laws.proofs.calls.PlainCalls.{plain_goes, plain_does}
 use Rattle.lot_laws.proofs.promises.RowPromises.{LetsIn, RowOwesNext, IsLateNext, Befalls}
 use Rattle.lot_laws.proofs.rwlock.Rows.{of, row_of, IsBefore, lesser, shut, shut_before, parking_inside, some_line}
 
--- ---------------------------------------------------------------- what befalls another thread
+-- ---------------------------------------------------------------- effects on another thread
 
 -- a line is owed by the place alone
 module _ (l : ℕ) (a : Admission) (k : ℕ) where

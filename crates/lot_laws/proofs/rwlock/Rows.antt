@@ -379,7 +379,7 @@ module _ (r : Rules) (readers : has_readers r.sort ≡ true) (a : Admission) (l 
   entering_owes q again at.GiveWay stands m h lets = absurd cc
   entering_owes q again to stands m h lets = absurd (shut_before q again to stands tt lets)
 
-  -- ---------------------------------------------------------------- who looks after the waiters
+  -- ---------------------------------------------------------------- the thread that looks after the waiters
 
   again_debt : (q : RwLockPurpose) (again : Bool) (to : RwLockAt) → Waits q → counts_some r.sort (again_of (of q again to)) ≡ true
       → HasDebt r.sort l (row_of a q again to) Main

@@ -50,7 +50,7 @@ use Rattle.lot_laws.proofs.promises.PlacePromises.{location_own}
 use Rattle.lot_laws.proofs.rwlock.Kept.{GoesFrom, goes_unhanded, stands}
 use Rattle.lot_laws.proofs.sites.SitesKept.{go_by}
 
--- ---------------------------------------------------------------- who hands over
+-- ---------------------------------------------------------------- a thread that hands over
 
 -- a call that only enters and releases hands nothing over
 plain_gives : (l k : ℕ) (a : Admission) (p : RwLockPlace) (op : Op) → MayStand a p → rwlock_act l a p ≡ act.HandOver k op → ⊥
@@ -72,7 +72,7 @@ gives_counted l k a (Handed access.Exclusive how b handed.Accept) op may e = abs
 gives_counted l k a (Handed access.Shared how b handed.Accept) op may e = absurd cc
 gives_counted l k a (Handed access.Upgradable how b handed.Accept) op may e = absurd cc
 
--- ---------------------------------------------------------------- what an act does
+-- ---------------------------------------------------------------- the effect of an act
 
 module _ (w : State) (t l : ℕ) (a : Admission) (c : RwLockCallPlace) where
   -- where it leads

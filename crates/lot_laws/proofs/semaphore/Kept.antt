@@ -205,7 +205,7 @@ module _ (w : State) (t l : ℕ) (at : SemaphorePlace) (steady : IsInductive w) 
   followed : (who : Option ℕ) (told : Reply) → told ≢ Late → MayHear (rules_in w l) here t at who told → Followed who told
   followed who told now hears = followed_by who told (late_tells_timed (semaphore_profile at).timed told now) (semaphore_steps_follow (rules_in w l) here t at who told at_now hears)
 
-  -- ---------------------------------------------------------------- who else calls the semaphore
+  -- ---------------------------------------------------------------- other callers of the semaphore
 
   many : TakesOne w l → ⊥
   many one = let both : locks.Mutex ≡ locks.Semaphore = sym one ∙ sort_is in cc

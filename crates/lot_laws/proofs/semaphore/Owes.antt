@@ -39,7 +39,7 @@ tries_quietly : (l : ℕ) (at : TryAt) → LetsIn locks.Semaphore l (semaphore_p
 tries_quietly l at (inr h) = let f : false ≡ true = h.0 in cc
 tries_quietly l at (inl h) = h
 
--- ---------------------------------------------------------------- who waits, or tries
+-- ---------------------------------------------------------------- a thread that waits, or tries
 
 acquire_since : (l : ℕ) (timed retries : Bool) (n : Next AcquireAt) (m : Line)
     → (profile (semaphore_goes l (in_acquire timed retries n))).owes ≡ Some m
@@ -57,7 +57,7 @@ try_since : (l : ℕ) (n : Next TryAt) (m : Line) → (profile (semaphore_goes l
 try_since l (next.At at) m h = absurd cc
 try_since l (next.End answer) m h = absurd cc
 
--- ---------------------------------------------------------------- who gives a permit back
+-- ---------------------------------------------------------------- a thread that gives a permit back
 
 abbrev ReleaseOwes : ℕ → ℕ → ReleaseAt → Next ReleaseAt → Type 0
 ReleaseOwes l word at n =

@@ -47,7 +47,7 @@ use Rattle.lot_laws.proofs.promises.RowPromises.{IsWaiting}
 use Rattle.lot_laws.proofs.semaphore.Kept.{GoesFrom, goes_semaphore, sort_is, whom_by}
 use Rattle.lot_laws.proofs.sites.SitesKept.{go_by}
 
--- ---------------------------------------------------------------- what it is told
+-- ---------------------------------------------------------------- the notes that it is told
 
 takes_steps : (l s : ℕ) (a b : Bool) → outcome_of (if a then act.Word l (op.Exchange s (s - 2)) else if b then act.Word l (op.Exchange 0 1) else act.Enter (One (2 * l))) ≡ outcome.Step
 takes_steps l s true b = refl

@@ -169,7 +169,7 @@ goes_all w v l ds steady g = record { follows = follows_all w v l ds steady g.fo
 pub goes_steady : (w v : State) (l : ℕ) (ds : List deeds.Act) → IsInductive w → Goes w v l ds → IsInductive v
 goes_steady w v l ds steady g = goes_all_steady w v (only_at l ds) steady (follows_all w v l ds steady g.follows) g.stands
 
--- ---------------------------------------------------------------- what an operation on the word makes of the lock
+-- ---------------------------------------------------------------- an operation's effect on the lock
 
 abbrev pub operated : State → ℕ → Place → ℕ → Op → Parts
 operated w t p l f = record {

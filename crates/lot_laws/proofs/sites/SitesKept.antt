@@ -123,7 +123,7 @@ pub alone_at : (w : State) (t l : ℕ) (at : MutexPlace) → IsInductive w → p
     → WantsAlone t (place_at w u)
 alone_at w t l at steady is = held_alone (place_at w) (aparts w steady) steady.stands.hands t l (of_carries l (place_at w t) (rw is refl)) (mutexes_at w t l at steady is)
 
--- ---------------------------------------------------------------- what the acts change
+-- ---------------------------------------------------------------- the effects of the acts
 
 -- tells what the act of a thread leads to
 abbrev pub go_by : State → ℕ → Place → Act → State
