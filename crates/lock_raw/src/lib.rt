@@ -6,6 +6,7 @@ pub mod counted;
 pub mod counts;
 pub mod rwlock;
 pub mod rwlock_fair;
+pub mod rwlock_upgrade;
 
 ghost use Rattle.std.specs.Prelude.{◌≡◌, ℕ, Bool, MatchResult, IfErr, IfNone, IfOk, IfSome};
 ghost use Rattle.std.specs.Arc.{arc_value};
@@ -23,11 +24,9 @@ use core_base::{Clock, Fault};
 use core_parts::Permit;
 pub use counted::{GetThreadId, RawMutexCounted};
 pub use counts::advance_count;
-pub use rwlock::{
-    RawRwLock, RawRwLockDowngrade, RawRwLockTimed, RawRwLockUpgrade, RawRwLockUpgradeDowngrade,
-    RawRwLockUpgradeTimed,
-};
+pub use rwlock::{RawRwLock, RawRwLockDowngrade, RawRwLockTimed};
 pub use rwlock_fair::{RawRwLockFair, RawRwLockUpgradeFair};
+pub use rwlock_upgrade::{RawRwLockUpgrade, RawRwLockUpgradeDowngrade, RawRwLockUpgradeTimed};
 use std::sync::{Arc, Wait};
 use std::time::Duration;
 

@@ -5,7 +5,8 @@ ghost use Rattle.spec_locks.specs.declared.calls.RwLockCall.TheVariants.{Release
 ghost use Rattle.spec_locks.specs.declared.outcomes.Answer.TheVariants as answers;
 ghost use Rattle.lock_raw.specs.Answers.{IsFull, reading_answer};
 
-use crate::rwlock::{RawRwLock, RawRwLockUpgrade};
+use crate::rwlock::RawRwLock;
+use crate::rwlock_upgrade::RawRwLockUpgrade;
 use core_base::Fault;
 use std::sync::Wait;
 
