@@ -38,7 +38,7 @@ use Rattle.steps_rwlock.specs.declared.places.RwLockPlace.{RwLockPlace}
 use Rattle.steps_rwlock.specs.declared.purposes.RwLockPurpose.{RwLockPurpose}
 use Rattle.steps_rwlock.specs.declared.purposes.RwLockPurpose.TheVariants as purpose
 use Rattle.steps_rwlock.specs.RwLockCalls.{StandsAt}
-use Rattle.steps_rwlock.specs.RwLockSteps.{act_at, came_in_for, counted, decided, decided_act, exchanged_next, looked, looked_by, missed, next_at, park_next, patience_at, rwlock_next}
+use Rattle.steps_rwlock.specs.RwLockSteps.{act_at, came_in_for, after_count, decided, decided_act, exchanged_next, looked, looked_by, missed, next_at, park_next, patience_at, rwlock_next}
 use Rattle.steps_rwlock_fair.specs.declared.places.RwLockCallPlace.{RwLockCallPlace}
 use Rattle.steps_rwlock_fair.specs.declared.places.RwLockCallPlace.TheVariants.{Plain, Glance, HandOver, Bump, Handed}
 use Rattle.steps_rwlock_fair.specs.declared.handed.HandedAt.{HandedAt}
@@ -133,7 +133,7 @@ module _ (a : Admission) (q : RwLockPurpose) (b : Bool) (was : RwLockAt)
   looked_waits : (seen : ℕ) → NextWaits (looked a p seen)
   looked_waits seen = looked_waits_by seen (decided a p seen)
 
-  counted_waits : (seen : ℕ) → NextWaits (counted p seen)
+  counted_waits : (seen : ℕ) → NextWaits (after_count p seen)
   counted_waits seen = either_is NextWaits (count_in seen == 0) _ _ tt (waiting (at.Count seen) refl)
 
   missed_waits : (how : Patience) → NextWaits (missed p how)

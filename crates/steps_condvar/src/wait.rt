@@ -17,7 +17,7 @@
 //! | `Lock` | locks its mutex, as `lock` does | ends |
 ghost use Rattle.std.specs.Prelude.{◌≡◌, ◌<◌, ◌^◌};
 ghost use Rattle.steps_condvar.specs.CondvarProfiles.{is_woken, taker_of, want_of, wait_row};
-ghost use Rattle.steps_condvar.specs.CondvarSteps.{befalls, behind, first_lock, late_place, relocked, released, waited, stands_after, asleep_next, next_wait, wait_act};
+ghost use Rattle.steps_condvar.specs.CondvarSteps.{befalls, behind_release, first_lock, late_place, relocked, released, waited, stands_after, asleep_next, next_wait, wait_act};
 
 use crate::places::{shown, shows};
 use core_base::{Keys, Line, Note, Op, Want, main_key};
@@ -161,7 +161,7 @@ pub(super) fn first_lock(retries: bool) -> MutexPlace
 
 /// Where a thread goes that has released its mutex.
 fn behind(stands: Stands) -> WaitAt
-    ensures { result ≡ behind stands }
+    ensures { result ≡ behind_release stands }
 {
     match stands {
         Stands::Noted(Note::Normal) => WaitAt::Lock {

@@ -7,7 +7,7 @@ use Rattle.core_words.specs.declared.owners.Ownership.{Ownership}
 use Rattle.parking_lot_core.specs.Tokens.{view_of, last_of}
 use Rattle.run_base.specs.Fitting.{CallPurpose, Fits, ReachedBy, IsOver, AreWordsFor, answer_of, call_purpose}
 use Rattle.run_base.specs.Paths.{closure_of}
-use Rattle.run_base.specs.Stages.{stage_of, inside_of}
+use Rattle.run_base.specs.Stages.{stage_of, section_view}
 use Rattle.run_base.specs.Words.{kind_in, at_in}
 use Rattle.run_base.proofs.Ending.{closed, closes_outside, end_of, ended, outside}
 use Rattle.run_base.proofs.Leading.{places_lead, fits_from, words_from}
@@ -54,13 +54,13 @@ pub returns-in-Some-answer_of-clause-stopped : goal.returns-in-Some-answer_of-cl
 returns-in-Some-answer_of-clause-stopped g c = let p = c.loop.place in let t = c.turn-reply in let new = t.new.token in let before = c.loop.invariant in let answer = c.in-Some-answer_of.answer in
     let is : answer_of (next_act c.loop.place c.turn-reply.result) ≡ Some c.in-Some-answer_of.answer = search rules in
     λ (base : List Ownership) fits. let over = subst (λ (o : Option Answer). ReachedBy (IsUp g.C.Clock.tells c.args.limit) base (call_purpose c.loop.place) (next_place c.loop.place c.turn-reply.result) o (stage_of c.turn-reply.new.token c.turn-reply.new.section)) is (t.ensures.reached base (before.fits base fits)) in
-    subst (λ (aim : CallPurpose). IsOver (IsUp g.C.Clock.tells c.args.limit) base aim c.in-Some-answer_of.answer (stage_of c.turn-reply.new.token None)) before.aim (ended (IsUp g.C.Clock.tells c.args.limit) base (view_of new).owns (call_purpose p) answer (inside_of t.new.section) (last_of new) (view_of new).steps over)
+    subst (λ (aim : CallPurpose). IsOver (IsUp g.C.Clock.tells c.args.limit) base aim c.in-Some-answer_of.answer (stage_of c.turn-reply.new.token None)) before.aim (ended (IsUp g.C.Clock.tells c.args.limit) base (view_of new).owns (call_purpose p) answer (section_view t.new.section) (last_of new) (view_of new).steps over)
 
 pub end-requires-in-Some-answer_of : goal.end-requires-in-Some-answer_of
 end-requires-in-Some-answer_of g c = let start = c.requires.start in let p = c.loop.place in let t = c.turn-reply in let new = t.new.token in let answer = c.in-Some-answer_of.answer in
     let is : answer_of (next_act c.loop.place c.turn-reply.result) ≡ Some c.in-Some-answer_of.answer = search rules in
     let over = subst (λ (o : Option Answer). ReachedBy (IsUp g.C.Clock.tells c.args.limit) c.requires.start.0 (call_purpose c.loop.place) (next_place c.loop.place c.turn-reply.result) o (stage_of c.turn-reply.new.token c.turn-reply.new.section)) is (t.ensures.reached start.0 (c.loop.invariant.fits start.0 start.1)) in
-    outside (IsUp g.C.Clock.tells c.args.limit) start.0 (view_of new).owns (call_purpose p) answer (inside_of t.new.section) (last_of new) (view_of new).steps over
+    outside (IsUp g.C.Clock.tells c.args.limit) start.0 (view_of new).owns (call_purpose p) answer (section_view t.new.section) (last_of new) (view_of new).steps over
 
 pub end-requires : goal.end-requires
 end-requires g c = let start = c.requires.start in let p = c.loop.place in let words = c.args.words in let st = stage_of c.loop.token c.loop.section in
@@ -72,7 +72,7 @@ pub returns-in-Some-closure_of-clause-stopped : goal.returns-in-Some-closure_of-
 returns-in-Some-closure_of-clause-stopped g c = let p = c.loop.place in let words = c.args.words in let before = c.loop.invariant in let token = c.loop.token in let st = stage_of c.loop.token c.loop.section in
     let is : closure_of (act_of c.loop.place) ≡ Some c.in-Some-closure_of.state = sym (ap closure_of c.loop.invariant.act) ∙ sym c.closure_of.ensures ∙ c.in-Some-closure_of.is in
     λ (base : List Ownership) fits. let needs = (places_lead (IsUp g.C.Clock.tells c.args.limit) (kind_in words) (at_in words) base p st before.words (before.fits base fits)).0 in
-    closed (IsUp g.C.Clock.tells c.args.limit) base (view_of token).owns (call_purpose c.args.start) p c.in-Some-closure_of.state (inside_of c.loop.section) (last_of token) (view_of token).steps is
+    closed (IsUp g.C.Clock.tells c.args.limit) base (view_of token).owns (call_purpose c.args.start) p c.in-Some-closure_of.state (section_view c.loop.section) (last_of token) (view_of token).steps is
     (closes_outside (kind_in words) (at_in words) st (act_of p) c.in-Some-closure_of.state is needs) (before.fits base fits) before.aim
 
 pub go_on-act-requires-clause-shown : goal.go_on-act-requires-clause-shown

@@ -10,7 +10,7 @@ use Rattle.run_base.specs.Fitting.{CallPurpose, AreWordsFor, Fits, IsOver, Reach
 use Rattle.run_base.specs.Paths.{Walks}
 use Rattle.run_base.specs.RwLockCalls.{rwlock_deciding}
 use Rattle.run_base.specs.Stages.{stage_of}
-use Rattle.run_base.specs.Words.{alone, at_in, kind_in}
+use Rattle.run_base.specs.Words.{single_word, at_in, kind_in}
 use Rattle.run_base.proofs.Ending.{end_of}
 use Rattle.run_locks.proofs.RwLockCalling.{rwlock_alone, rwlock_kinds}
 use Rattle.run_base.proofs.Turning.{words_on}
@@ -18,8 +18,8 @@ use Rattle.run_locks.proofs.rwlock_calls.rest_missed.Goals as goal
 
 pub run_out-requires-clause-words : goal.run_out-requires-clause-words
 run_out-requires-clause-words g c = let next : c.advance-next.result.0 ≡ next_place (rwlock_deciding c.args.word.now.number c.args.admission.now c.args.purpose.now c.args.expected) (Value c.args.found) = search rules in
-    subst (λ (p : Place). AreWordsFor p (kind_in (alone c.args.word.now)) (at_in (alone c.args.word.now))) (sym next)
-    (words_on (rwlock_deciding c.args.word.now.number c.args.admission.now c.args.purpose.now c.args.expected) (Value c.args.found) (kind_in (alone c.args.word.now)) (at_in (alone c.args.word.now)) (c.requires.own.3, rwlock_kinds c.args.word.now c.requires.own.2, rwlock_alone c.args.word.now c.requires.own.2))
+    subst (λ (p : Place). AreWordsFor p (kind_in (single_word c.args.word.now)) (at_in (single_word c.args.word.now))) (sym next)
+    (words_on (rwlock_deciding c.args.word.now.number c.args.admission.now c.args.purpose.now c.args.expected) (Value c.args.found) (kind_in (single_word c.args.word.now)) (at_in (single_word c.args.word.now)) (c.requires.own.3, rwlock_kinds c.args.word.now c.requires.own.2, rwlock_alone c.args.word.now c.requires.own.2))
 
 pub run_out-requires-clause-fits : goal.run_out-requires-clause-fits
 run_out-requires-clause-fits g c = let next : c.advance-next.result.0 ≡ next_place (rwlock_deciding c.args.word.now.number c.args.admission.now c.args.purpose.now c.args.expected) (Value c.args.found) = search rules in
@@ -38,7 +38,7 @@ returns-in-Some-clause-over g c = let some : answer_of (next_act (rwlock_decidin
 pub returns-in-None-clause-path : goal.returns-in-None-clause-path
 returns-in-None-clause-path g c = let next : c.advance-next.result.0 ≡ next_place (rwlock_deciding c.args.word.now.number c.args.admission.now c.args.purpose.now c.args.expected) (Value c.args.found) = search rules in
     inr (subst (λ (at : ℕ → ℕ). Walks at (next_place (rwlock_deciding c.args.word.now.number c.args.admission.now c.args.purpose.now c.args.expected) (Value c.args.found)) (view_of c.args.token.now).steps (view_of c.run_out.new.token).steps c.run_out.result) (rwlock_alone c.args.word.now c.requires.own.2)
-    (subst (λ (p : Place). Walks (at_in (alone c.args.word.now)) p (view_of c.args.token.now).steps (view_of c.run_out.new.token).steps c.run_out.result) next c.run_out.ensures.path))
+    (subst (λ (p : Place). Walks (at_in (single_word c.args.word.now)) p (view_of c.args.token.now).steps (view_of c.run_out.new.token).steps c.run_out.result) next c.run_out.ensures.path))
 
 pub returns-in-None-clause-over : goal.returns-in-None-clause-over
 returns-in-None-clause-over g c = let next : c.advance-next.result.0 ≡ next_place (rwlock_deciding c.args.word.now.number c.args.admission.now c.args.purpose.now c.args.expected) (Value c.args.found) = search rules in

@@ -5,7 +5,7 @@ use Rattle.lot_steps.specs.Steps.{next_act, next_place}
 use Rattle.lot_steps.specs.declared.places.Place.{Place}
 use Rattle.parking_lot_core.specs.declared.tokens.Token.{Token}
 use Rattle.run_base.specs.Fitting.{CallPurpose, Fits, IsStopped, call_purpose, answer_of}
-use Rattle.run_base.specs.Paths.{Runs, Walks}
+use Rattle.run_base.specs.Paths.{RunsTo, Walks}
 use Rattle.run_base.specs.Stages.{stage_of}
 use Rattle.run_base.specs.Telling.{owns_of, steps_of}
 use Rattle.run_base.specs.Words.{at_in}
@@ -24,7 +24,7 @@ returns-in-Some-clause-path g c = let n = c.args.word.number in let call = c.arg
 pub returns-in-Ended-clause-path : goal.returns-in-Ended-clause-path
 returns-in-Ended-clause-path g c = let n = c.args.word.number in let call = c.args.call in
     let next : c.advance-next.result.0 ≡ next_place (once_begin c.args.word.number c.args.call) (Value c.args.seen) = search rules in
-    let walks = subst (Runs (at_in c.alone.result) c.advance-next.result.0 (steps_of c.args.token.now) (steps_of c.run.new.token)) c.in-Ended.is c.run.ensures.path in
+    let walks = subst (RunsTo (at_in c.alone.result) c.advance-next.result.0 (steps_of c.args.token.now) (steps_of c.run.new.token)) c.in-Ended.is c.run.ensures.path in
     λ before saw. looks_on n call c.args.seen (steps_of before) (steps_of c.args.token.now) (steps_of c.run.new.token) c.in-Ended.answer saw.1
     (subst (λ (at : ℕ → ℕ). Walks at (next_place (once_begin c.args.word.number c.args.call) (Value c.args.seen)) (steps_of c.args.token.now) (steps_of c.run.new.token) c.in-Ended.answer) (ap at_in c.alone.ensures ∙ once_alone c.args.word c.requires.own.2)
     (subst (λ (p : Place). Walks (at_in c.alone.result) p (steps_of c.args.token.now) (steps_of c.run.new.token) c.in-Ended.answer) next walks))
@@ -54,7 +54,7 @@ returns-in-Paused-clause-path g c = let n = c.args.word.number in let call = c.a
     let stopped = subst (λ (stop : Stop). IsStopped (IsUp g.C.Clock.tells c.args.limit) (owns_of c.requires.seen.0) (call_purpose c.advance-next.result.0) stop (stage_of c.run.new.token None)) c.in-Paused.is (c.run.ensures.stopped base fits) in
     let closure = paused (IsUp g.C.Clock.tells c.args.limit) n call base c.in-Paused.place c.in-Paused.state (stage_of c.run.new.token None)
     (subst (λ (aim : CallPurpose). IsStopped (IsUp g.C.Clock.tells c.args.limit) (owns_of c.requires.seen.0) aim (Paused c.in-Paused.place c.in-Paused.state) (stage_of c.run.new.token None)) (ap call_purpose next ∙ on.1) stopped) in
-    let path = subst (Runs (at_in c.alone.result) c.advance-next.result.0 (steps_of c.args.token.now) (steps_of c.run.new.token)) c.in-Paused.is c.run.ensures.path in
+    let path = subst (RunsTo (at_in c.alone.result) c.advance-next.result.0 (steps_of c.args.token.now) (steps_of c.run.new.token)) c.in-Paused.is c.run.ensures.path in
     let comes = comes_by (at_in c.alone.result) n c.advance-next.result.0 (next_place (once_begin n call) (Value c.args.seen)) c.in-Paused.place (in_closure n closure.forced closure.poisoned) (steps_of c.args.token.now) (steps_of c.run.new.token) (ap at_in c.alone.ensures ∙ once_alone c.args.word c.requires.own.2) next closure.there path in
     λ before saw. (closure.forced, closure.poisoned, closure.call, closure.told, looks_to n call c.args.seen (steps_of before) (steps_of c.args.token.now) (steps_of c.run.new.token) (in_closure n closure.forced closure.poisoned) saw.1 comes)
 
