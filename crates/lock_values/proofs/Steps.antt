@@ -19,7 +19,7 @@ use denote.Memory.{shared_of}
 use denote.SharingLaws.{contraction, some_shr_laws}
 use Rattle.atomic_table.specs.Seated.{TableId}
 use Rattle.atomic_table.proofs.Roster.{moves, Moved, apart}
-use Rattle.lock_values.specs.Ownership.{Rec, Shut, Id, PlacePhase, part, seat, bench, book, entry_of, clash, shown, waits, between, state, Inv, reads, Jam, or_jam, rec_coded, seat_coded}
+use Rattle.lock_values.specs.Ownership.{Rec, Shut, Id, PlacePhase, part, seat, bench, book, entry_of, clash, shared_content, waits, between, state, Inv, reads, Jam, or_jam, rec_coded, seat_coded}
 use Rattle.lock_values.specs.Ownership.PlacePhase.{read, written, clashed}
 use Rattle.lock_values.proofs.Bench.{any_open, not_shut, collects, lays_out, sits, rises}
 use Rattle.lock_values.proofs.Clash.{halves, signs}
@@ -110,7 +110,7 @@ module _ {M : Type 1} {𝓤 : Ura M} (𝓛 : Logic 𝓤) {V : Type 0} (cv : Code
         qed 𝓛 (‵ (St (read a rs)) ∷ ‵ (Held i v) ∷ []) ∵ fsplit ! $ fsplit ! $ move ! (1 ∷ 3 ∷ []) $ use2 𝓛 (‵ (Bench a rs') ⊛ ‵ (flft (a ∷ []) (part full_share n))) (sits 𝓛 cv alone among z rs full_share a i v m) $ split ! $
         move ! (2 ∷ []) $ use1 𝓛 (raw (upd 𝓤 (⟦ Book rs' ⟧ ∗ ⟦ entry_of cv alone among z t.1.0 (0 + n) r ⟧))) (signs 𝓛 (rec_coded cv) t.1.0 rs 0 r) $ settle 𝓛 Z (‵ (Book rs') ⊛ ‵ (entry_of cv alone among z t.1.0 (0 + n) r)) $ split ! $
         rewrite ! 1 (λ (k : ℕ). ‵ (entry_of cv alone among z t.1.0 k r)) same refl $ move ! (4 ∷ []) $ fsplit ! $ move ! (1 ∷ []) $ fsplit ! $
-        use1 𝓛 (‵ (shown R b e (a ∷ t.0)) ⊛ ‵ (shown R b e (a ∷ t.0))) (contraction 𝓛 (shown R b e) (some_shr_laws R.Denot (λ x. shared_of R x b e) (λ x. K x b e)) (a ∷ t.0)) $ split ! $
+        use1 𝓛 (‵ (shared_content R b e (a ∷ t.0)) ⊛ ‵ (shared_content R b e (a ∷ t.0))) (contraction 𝓛 (shared_content R b e) (some_shr_laws R.Denot (λ x. shared_of R x b e) (λ x. K x b e)) (a ∷ t.0)) $ split ! $
         move ! (1 ∷ 2 ∷ []) $ fjoin ! $ move ! (2 ∷ 0 ∷ []) $ fjoin ! $ move ! (2 ∷ 4 ∷ []) $ fjoin ! $ fjoin ! $ fpack ! (PlacePhase V) St (read a rs') $ suffices ! _ (upd_i 𝓤 Z) $ frame ! $
         move ! (1 ∷ 2 ∷ 0 ∷ []) $ fjoin3 ! $ fpack ! (ℕ × ℕ) (λ s. reads cv alone among z R b e t i v s.0 s.1) (a, n) $ by ! (fine Reads)
     enters_read K m (written j w rs) = qed 𝓛 (‵ (St (written j w rs)) ∷ ‵ (Held i v) ∷ []) ∵ fsplit3 ! $ fpick ! (λ so. drop ! $ move ! (1 ∷ []) $ fsplit ! $ keep ! (0 ∷ 3 ∷ []) $ by ! (meets Reads j w i v so.0 (inr m)))

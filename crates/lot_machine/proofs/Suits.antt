@@ -46,7 +46,7 @@ use Rattle.steps_condvar.specs.declared.wait.Stands.TheVariants as stands
 use Rattle.steps_condvar.specs.declared.wait.WaitAt.{WaitAt}
 use Rattle.steps_condvar.specs.declared.wait.WaitAt.TheVariants as wait
 use Rattle.steps_condvar.specs.CondvarProfiles.{may_give_up}
-use Rattle.steps_condvar.specs.CondvarSteps.{stands_after, befalls, behind_release, condvar_next, in_notify, in_wait, is_shown, late_place, look_next, mutex_shown, notified, next_notify, next_wait, released, relocked}
+use Rattle.steps_condvar.specs.CondvarSteps.{stands_after, comes_from_another, behind_release, condvar_next, in_notify, in_wait, is_shown, late_place, look_next, mutex_shown, notified, next_notify, next_wait, released, relocked}
 use Rattle.lot_steps.specs.declared.places.Place.{Place}
 use Rattle.lot_steps.specs.declared.places.Place.TheVariants.{Idle, Mutex, RwLock, Once, Condvar, Semaphore}
 use Rattle.lot_steps.specs.Steps.{condvar_goes, first_place, mutex_goes, next_place, once_goes, rwlock_goes, semaphore_goes}
@@ -213,7 +213,7 @@ module _ (locks : ℕ) (kinds : ℕ → Kind) (c : ℕ) where
     wait_timely (wait.Release s at) reply h r = releases s at reply
       where
         releases : (s : Stands) (at : MutexPlace) (reply : Reply) → TimelyNext (next_wait m timed (wait.Release s at) reply)
-        releases s at reply = elim (befalls reply) as (λ b. GivesUpOnlyTimed (Wait m timed (if b then wait.Release (stands_after s reply) at else released s (mutex_next at reply)))) [
+        releases s at reply = elim (comes_from_another reply) as (λ b. GivesUpOnlyTimed (Wait m timed (if b then wait.Release (stands_after s reply) at else released s (mutex_next at reply)))) [
           | true ↦ tt
           | false ↦ releases_timely s at (mutex_next at reply) false
         ]

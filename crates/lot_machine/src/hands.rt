@@ -18,7 +18,7 @@ fn tell_if_taken(place: &mut Place, thread: usize, reply: Reply)
     ensures { place.new ≡ place_after_telling thread reply place.old }
 {
     if place.taker() == Some(thread) {
-        place.arrive(reply);
+        place.step(reply);
     }
 }
 
@@ -36,7 +36,7 @@ pub(crate) fn tell_each(places: &mut [Place], threads: &[usize], reply: Reply)
 {
     for thread in threads {
         if *thread < places.len() {
-            places[*thread].arrive(reply);
+            places[*thread].step(reply);
         }
     }
 }

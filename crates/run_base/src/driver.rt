@@ -195,7 +195,7 @@ pub fn run_from<'a, R: Wait, C: Clock>(
             return Stop::Paused { place, state };
         }
         let reply = turn(rt, lot, token, words, limit, &mut section, place, act);
-        act = place.go_on(reply);
+        act = place.advance(reply);
         if let Some(answer) = answer_of(act) {
             end(section);
             return Stop::Ended(answer);
@@ -239,7 +239,7 @@ fn place_behind(word: Word, call: MutexCall, seen: u64) -> Place
         lock: word.number(),
         at: MutexPlace::first(call, false),
     };
-    first.after(Reply::Value(seen))
+    first.next_place(Reply::Value(seen))
 }
 
 /// The rest of a call whose first step saw this.

@@ -192,7 +192,7 @@ fn mark_and_move<'a, R: Wait>(
         return move_some(rt, lot, token, pair, section, all, true);
     }
     let place = pair.notifies(all, NotifyAt::Set(seen));
-    let next = place.after(Reply::Value(found));
+    let next = place.next_place(Reply::Value(found));
     rest(rt, lot, token, words, NO_LIMIT, section, next)
 }
 

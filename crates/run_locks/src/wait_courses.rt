@@ -71,7 +71,7 @@ fn lock_free<'a, R: Wait, C: Clock>(
         return notified_answer(timed);
     }
     let place = pair.waits(timed, locks(LockAt::Decide(seen)));
-    let next = place.after(Reply::Value(found));
+    let next = place.next_place(Reply::Value(found));
     rest(rt, lot, token, pair.words, limit, section, next)
 }
 
@@ -154,7 +154,7 @@ fn fall_asleep<'a, R: Wait, C: Clock>(
     if matches!(reply, Reply::Woken(Note::Normal)) {
         return lock_again(rt, lot, token, pair, limit, section, timed);
     }
-    let next = place.after(reply);
+    let next = place.next_place(reply);
     rest(rt, lot, token, pair.words, limit, section, next)
 }
 

@@ -33,7 +33,7 @@ use Rattle.steps_condvar.specs.declared.wait.Stands.{Stands}
 use Rattle.steps_condvar.specs.declared.wait.Stands.TheVariants as stands
 use Rattle.steps_condvar.specs.declared.wait.WaitAt.{WaitAt}
 use Rattle.steps_condvar.specs.declared.wait.WaitAt.TheVariants as wait
-use Rattle.steps_condvar.specs.CondvarSteps.{stands_after, befalls, behind_release, condvar_act, condvar_owners, in_notify, in_wait, is_shown, marks, mutex_beside, mutex_shown, notified, released, relocked, shown_as}
+use Rattle.steps_condvar.specs.CondvarSteps.{stands_after, comes_from_another, behind_release, condvar_act, condvar_owners, in_notify, in_wait, is_shown, marks, mutex_beside, mutex_shown, notified, released, relocked, shown_as}
 use Rattle.steps_condvar.specs.CondvarProfiles.{is_listed, told_stage}
 use Rattle.steps_condvar.specs.CondvarDeeds.{AllCondvarNeeded, CondvarMovesFit, CondvarOwnersFollow, CondvarStepsCode, CondvarStepsFollow, Follows, IsAt, IsAtNext, IsListed, MayHear, after_condvar_deeds, condvar_deeds, relocked_deeds, word_showing}
 
@@ -144,7 +144,7 @@ module _ (c : CondvarSite) (t : ℕ) (site : IsCondvar c) where
     waits wait.Stand reply.Done a h = record { needed = (((m, a.stage), a.listed), tt); next = record { stage = refl; listed = times_behind t c.waiters a.listed; names = a.names } }
     waits wait.Leave reply.Done a h = record { needed = (may_go NothingToDo a.stage tt, tt); next = record { stage = tt; listed = a.listed; names = a.names } }
     waits wait.Refuse reply.Done a h = record { needed = (may_go (SeesOther m) a.stage tt, ((a.listed, tt), tt)); next = record { outside = tt; unlisted = a.listed; names = put_same c.waits_with t None } }
-    waits (wait.Release s at) told a h = record { needed = tt; next = releases s (stands_after s told) at a (befalls told) (mutex_next at told) h }
+    waits (wait.Release s at) told a h = record { needed = tt; next = releases s (stands_after s told) at a (comes_from_another told) (mutex_next at told) h }
     waits (wait.Asleep stands.Listed) reply.Late a h = record { needed = (h, tt); next = record { stage = refl; listed = a.listed; names = a.names } }
     waits (wait.Asleep stands.Moved) reply.Late a h = record { needed = tt; next = record { stage = a.stage; listed = a.listed; names = a.names } }
     waits wait.Remove (reply.Removed none_left) a h = record { needed = ((a.stage, subst (λ n. 1 ≤ n) (sym a.listed) (omega arith)), tt); next = leaves_list a none_left h }

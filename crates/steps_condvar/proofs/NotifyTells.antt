@@ -32,7 +32,7 @@ use Rattle.steps_condvar.specs.declared.wait.Stands.{Stands}
 use Rattle.steps_condvar.specs.declared.wait.Stands.TheVariants as stands
 use Rattle.steps_condvar.specs.declared.wait.WaitAt.TheVariants as wait
 use Rattle.core_base.specs.declared.notes.Note.TheVariants as note
-use Rattle.steps_condvar.specs.CondvarSteps.{behind_release, stands_after, befalls, condvar_next, in_notify, in_wait, is_shown, marks, moved_one, mutex_shown, notified, released, relocked}
+use Rattle.steps_condvar.specs.CondvarSteps.{behind_release, stands_after, comes_from_another, condvar_next, in_notify, in_wait, is_shown, marks, moved_one, mutex_shown, notified, released, relocked}
 use Rattle.steps_condvar.specs.CondvarProfiles.{has_mutex, may_give_up}
 use Rattle.steps_condvar.specs.CondvarDeeds.{IsAt, MayHear, condvar_deeds, word_showing}
 use Rattle.steps_condvar.specs.CondvarDeeds as deeds
@@ -262,7 +262,7 @@ module _ (c : CondvarSite) (t : ℕ) (site : IsCondvar c) where
   reaches (Wait m timed wait.Stand) Done reached h a late = tt
   reaches (Wait m timed wait.Leave) Done reached h a late = (tt, λ e. absurd cc)
   reaches (Wait m timed wait.Refuse) Done reached h a late = tt
-  reaches (Wait m timed (wait.Release st (mutex.Unlock at))) told reached h a late = releases m timed st (stands_after st told) at (befalls told) (next_unlock at told) h (owns_not st at told reached.1)
+  reaches (Wait m timed (wait.Release st (mutex.Unlock at))) told reached h a late = releases m timed st (stands_after st told) at (comes_from_another told) (next_unlock at told) h (owns_not st at told reached.1)
   reaches (Wait m timed (wait.Release st at)) told reached h a late = absurd reached.0
   reaches (Wait m timed (wait.Asleep stands.Listed)) Late reached h a late = late refl
   reaches (Wait m timed (wait.Asleep stands.Moved)) Late reached h a late = late refl

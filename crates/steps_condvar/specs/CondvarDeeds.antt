@@ -21,7 +21,7 @@ use Rattle.steps_condvar.specs.declared.places.CondvarPlace.TheVariants.{Wait, L
 use Rattle.steps_condvar.specs.declared.wait.Stands.TheVariants as stands
 use Rattle.steps_condvar.specs.declared.wait.WaitAt.{WaitAt}
 use Rattle.steps_condvar.specs.declared.wait.WaitAt.TheVariants as wait
-use Rattle.steps_condvar.specs.CondvarSteps.{befalls, condvar_act, condvar_next, condvar_owners, is_shown, mutex_beside, shown_as}
+use Rattle.steps_condvar.specs.CondvarSteps.{comes_from_another, condvar_act, condvar_next, condvar_owners, is_shown, mutex_beside, shown_as}
 use Rattle.steps_condvar.specs.CondvarProfiles.{condvar_row, notify_row}
 
 -- ---------------------------------------------------------------- the deeds of each step
@@ -110,7 +110,7 @@ MayHearWaiting c t wait.Show (Value seen) = seen ≡ word_showing c.shown
 MayHearWaiting c t wait.Stand Done = Unit {0}
 MayHearWaiting c t wait.Leave Done = Unit {0}
 MayHearWaiting c t wait.Refuse Done = Unit {0}
-MayHearWaiting c t (wait.Release s at) told = befalls told ≡ false
+MayHearWaiting c t (wait.Release s at) told = comes_from_another told ≡ false
 MayHearWaiting c t (wait.Asleep stands.Listed) Late = c.inside ≡ None
 MayHearWaiting c t (wait.Asleep stands.Moved) Late = Unit {0}
 MayHearWaiting c t wait.Remove (Removed none_left) = none_left ≡ is_empty (without t c.waiters)

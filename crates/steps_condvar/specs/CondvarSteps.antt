@@ -114,12 +114,12 @@ condvar_act c (Notify all m at) = notify_act all c m at
 -- ---------------------------------------------------------------- what befalls who waits
 
 -- a reply tells what another thread has done to this one
-abbrev pub befalls : Reply → Bool
-befalls (TakenBy by) = true
-befalls (MovedTo key) = true
-befalls (HandedBy by alone) = true
-befalls (Woken by) = true
-befalls reply = false
+abbrev pub comes_from_another : Reply → Bool
+comes_from_another (TakenBy by) = true
+comes_from_another (MovedTo key) = true
+comes_from_another (HandedBy by alone) = true
+comes_from_another (Woken by) = true
+comes_from_another reply = false
 
 abbrev pub stands_after : Stands → Reply → Stands
 stands_after s (TakenBy by) = stands.InHand by
@@ -165,7 +165,7 @@ asleep_next s reply = behind_release (stands_after s reply)
 
 abbrev pub release_next : Stands → MutexPlace → Reply → WaitAt
 release_next s at reply =
-    if befalls reply then wait.Release (stands_after s reply) at else released s (mutex_next at reply)
+    if comes_from_another reply then wait.Release (stands_after s reply) at else released s (mutex_next at reply)
 
 abbrev pub next_wait : ℕ → Bool → WaitAt → Reply → Next WaitAt
 next_wait m timed wait.Enter Done = At wait.Show

@@ -29,7 +29,7 @@ use Rattle.steps_condvar.specs.declared.places.CondvarPlace.TheVariants.{Wait, L
 use Rattle.steps_condvar.specs.declared.wait.Stands.{Stands}
 use Rattle.steps_condvar.specs.declared.wait.WaitAt.{WaitAt}
 use Rattle.steps_condvar.specs.declared.wait.WaitAt.TheVariants as wait
-use Rattle.steps_condvar.specs.CondvarSteps.{befalls, condvar_act, move_act, mutex_beside, notify_act, wait_act}
+use Rattle.steps_condvar.specs.CondvarSteps.{comes_from_another, condvar_act, move_act, mutex_beside, notify_act, wait_act}
 use Rattle.steps_condvar.specs.CondvarProfiles.{condvar_row, has_mutex, mutex_side, notify_row}
 use Rattle.steps_condvar.specs.CondvarCalls.{IsLockOf, IsReached}
 use Rattle.steps_condvar.specs.CondvarDeeds.{IsAt, MayHear, MayHearNotifying, MayHearWaiting, word_showing}
@@ -122,7 +122,7 @@ module _ (w : State) (t l : ℕ) (at : CondvarPlace) (steady : IsInductive w) (i
   left_waiters : (length (without t (queue_at w (2 * l))) == 0) ≡ is_empty (locks.without t here.waiters)
   left_waiters = sym (empty_line (without t (queue_at w (2 * l)))) ∙ ap is_empty (queued_without t (queue_at w (2 * l)))
 
-  releasing : (m : ℕ) (at : UnlockAt) → befalls (reply_to w t (unlock_act m at)) ≡ false
+  releasing : (m : ℕ) (at : UnlockAt) → comes_from_another (reply_to w t (unlock_act m at)) ≡ false
   releasing m unlock.Subtract = refl
   releasing m unlock.Enter = refl
   releasing m unlock.Take = refl
