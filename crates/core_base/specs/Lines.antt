@@ -38,9 +38,9 @@ abbrev pub threads_of : List Waiter → List ℕ
 threads_of waiters = map (λ (x : Waiter). x.thread) waiters
 
 -- the key under which a thread stands
-abbrev pub key_of : ℕ → List Waiter → Option ℕ
-key_of thread [] = None
-key_of thread (x ∷ xs) = if x.thread == thread then Some x.key else key_of thread xs
+abbrev pub queued_under : ℕ → List Waiter → Option ℕ
+queued_under thread [] = None
+queued_under thread (x ∷ xs) = if x.thread == thread then Some x.key else queued_under thread xs
 
 -- how often a thread stands in a list
 abbrev pub times : ℕ → List Waiter → ℕ

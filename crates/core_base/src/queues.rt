@@ -1,7 +1,7 @@
 //! The queues of all keys.
 ghost use Rattle.std.specs.Prelude.{◌≡◌, ◌≢◌, ℕ, ◌+◌, ◌<◌, ◌≤◌, List, ◌∷◌, ◌++◌, [], IfOk, IfErr, IfSome, MatchOption, length, vec_len, vec_capacity};
 ghost use Rattle.core_base.specs.declared.wants.Waiter.{Waiter};
-ghost use Rattle.core_base.specs.Lines.{waiter, line, lines, without, without_first, without_key, first_of, threads_of, key_of};
+ghost use Rattle.core_base.specs.Lines.{waiter, line, lines, without, without_first, without_key, first_of, threads_of, queued_under};
 ghost use Rattle.core_base.specs.Picks.{picked, without_picked};
 ghost use Rattle.core_base.specs.Requeues.{taken_by, moved_by, requeued};
 
@@ -87,7 +87,7 @@ pub trait Queues {
 
     /// The key under which a thread stands.
     fn key_of(&self, thread: usize) -> Option<Key>
-        ensures { result ≡ key_of thread (waiting self.now) };
+        ensures { result ≡ queued_under thread (waiting self.now) };
 
     /// The first who stands under a key from a place of the queues on, and the place behind it.
     /// The first place is 0.

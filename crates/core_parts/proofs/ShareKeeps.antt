@@ -7,7 +7,7 @@ use lib.ListN.{get_elem?}
 use Rattle.atomic_table.specs.Table.{Me, rest, keeps, takes, gives, step, Allows, Enters, Splits, opening}
 use Rattle.std.proofs.lemmas.List.{length-map, length-replicate}
 use Rattle.atomic_table.proofs.Lists.{set_here, set_else, at_set, at_snoc}
-use Rattle.core_parts.specs.Shares.{AllTagged, FitsShares, Shares, begins, enters, halved, in_hand, inside_at, shares_at, tag_in, times, total, view}
+use Rattle.core_parts.specs.Shares.{AllTagged, FitsShares, Shares, begins, enters, halved, slot_in_hand, inside_at, shares_of_place, tag_in, times, total, view}
 use Rattle.core_parts.specs.declared.view.View.{View}
 
 module _ {A : Type 0} (weight : A → ℕ) where
@@ -50,7 +50,7 @@ tagged-set {K} i t views id w all mine seat u there some' = ⊎_elim
     (λ e. all seat u e.1 some') (at_set views id seat w u there)
 
 module _ {T K : Type 0} (fits : ℕ → T → ℕ → Type 0) (tag : T → ℕ) where
-  owns-set : (r : ℕ) (views : List (View K)) (id : ℕ) (v w : View K) → get_elem? views id ≡ some v → shares_at r (set views id w) + times r v.owns ≡ shares_at r views + times r w.owns
+  owns-set : (r : ℕ) (views : List (View K)) (id : ℕ) (v w : View K) → get_elem? views id ≡ some v → shares_of_place r (set views id w) + times r v.owns ≡ shares_of_place r views + times r w.owns
   owns-set r views id v w at = total-set (λ (u : View K). times r u.owns) views id v w at
 
   inside-set : (r : ℕ) (views : List (View K)) (id : ℕ) (v w : View K) → get_elem? views id ≡ some v → inside_at r (set views id w) + times r v.inside ≡ inside_at r views + times r w.inside
@@ -60,7 +60,7 @@ module _ {T K : Type 0} (fits : ℕ → T → ℕ → Type 0) (tag : T → ℕ) 
   pub begin : (slots i : ℕ) (key : K) → Enters (Shares {T = T} {K = K} fits tag) slots i (λ n w. begins {T = T} {K = K} (step slots i 0 0 none) (view key [] [] 0 0 0, []) n (w, []))
   begin slots i key s r wide small =
       let new = view key [] [] 0 0 0 in
-      let same : (k : ℕ) → shares_at k (s.views ++ new ∷ []) ≡ shares_at k s.views = λ k. omega (arith, total-append (λ (v : View K). times k v.owns) s.views (new ∷ [])) in (
+      let same : (k : ℕ) → shares_of_place k (s.views ++ new ∷ []) ≡ shares_of_place k s.views = λ k. omega (arith, total-append (λ (v : View K). times k v.owns) s.views (new ∷ [])) in (
         new,
         record {
           slots = r.slots;
@@ -83,7 +83,7 @@ module _ {T K : Type 0} (fits : ℕ → T → ℕ → Type 0) (tag : T → ℕ) 
       let code : (k : ℕ) → ℕ = λ k. cond (eqb (get_or (set s.words i 1) k 0) 1) 1 0 in
       let size : (k : ℕ) → k < length (set s.words i 1) → k < length s.words = λ k h. omega (arith, h, length-set s.words i 1) in
       dite (ℕ_discrete (get_or s.words i 0) 1)
-      (λ taken. let same : (k : ℕ) → shares_at k (set s.views id v) ≡ shares_at k s.views = λ k. omega (arith, owns-set k s.views id v v at) in
+      (λ taken. let same : (k : ℕ) → shares_of_place k (set s.views id v) ≡ shares_of_place k s.views = λ k. omega (arith, owns-set k s.views id v v at) in
       let stays : (k : ℕ) → inside_at k (set s.views id v) ≡ inside_at k s.views = λ k. omega (arith, inside-set k s.views id v v at) in (
         v,
         keeps,
@@ -102,9 +102,9 @@ module _ {T K : Type 0} (fits : ℕ → T → ℕ → Type 0) (tag : T → ℕ) 
         },
         ((λ _. refl), λ ne. absurd (ne taken)),
       ))
-      (λ free. let t = r.home i near free in let known : ℕ = shares_at i s.views in let w = view key owns (i ∷ []) known mark (tag_in tag t.0) in
+      (λ free. let t = r.home i near free in let known : ℕ = shares_of_place i s.views in let w = view key owns (i ∷ []) known mark (tag_in tag t.0) in
       let vs = set s.views id w in
-      let same : (k : ℕ) → shares_at k vs ≡ shares_at k s.views = λ k. omega (arith, owns-set k s.views id v w at) in
+      let same : (k : ℕ) → shares_of_place k vs ≡ shares_of_place k s.views = λ k. omega (arith, owns-set k s.views id v w at) in
       let none_inside : inside_at i s.views ≡ 0 = r.inside i near ∙ not_one (get_or s.words i 0) free in (
         w,
         takes i t.0,
@@ -118,7 +118,7 @@ module _ {T K : Type 0} (fits : ℕ → T → ℕ → Type 0) (tag : T → ℕ) 
               stays ∙ (r.inside k (size k h) ∙ sym (ap (λ (n : ℕ). cond (eqb n 1) 1 0) (other k ne))));
           knows = λ seat u there k some'. ⊎_elim
               (λ t. ap (λ (x : View K). x.knows) (sym t.1) ∙ (dite (ℕ_discrete i k)
-              (λ (e : i ≡ k). ap (λ (q : ℕ). shares_at q s.views) e)
+              (λ (e : i ≡ k). ap (λ (q : ℕ). shares_of_place q s.views) e)
               (λ ne. absurd (omega (arith, some', ap (λ (x : View K). times k x.inside) t.1, elsewhere i k ne))) ∙ sym (same k)))
               (λ t. r.knows seat u t.1 k some' ∙ sym (same k)) (at_set s.views id seat w u there);
           tags = λ seat u there k some'. ⊎_elim
@@ -147,14 +147,14 @@ module _ {T K : Type 0} (fits : ℕ → T → ℕ → Type 0) (tag : T → ℕ) 
       let size : (k : ℕ) → k < length (set s.words i 0) → k < length s.words = λ k h. omega (arith, h, length-set s.words i 0) in
       let code : (k : ℕ) → ℕ = λ k. cond (eqb (get_or (set s.words i 0) k 0) 1) 1 0 in
       let mine : times i (i ∷ []) ≡ 1 = here i i refl in
-      let said : knows ≡ shares_at i s.views = r.knows id v at i (omega (arith, mine)) in
-      let now : shares_at i vs ≡ left = omega (arith, owns-set i s.views id v w at, said, balance) in
-      let same : (k : ℕ) → k ≢ i → shares_at k vs ≡ shares_at k s.views = λ k ne. omega (arith, owns-set k s.views id v w at, else' k ne) in
+      let said : knows ≡ shares_of_place i s.views = r.knows id v at i (omega (arith, mine)) in
+      let now : shares_of_place i vs ≡ left = omega (arith, owns-set i s.views id v w at, said, balance) in
+      let same : (k : ℕ) → k ≢ i → shares_of_place k vs ≡ shares_of_place k s.views = λ k ne. omega (arith, owns-set k s.views id v w at, else' k ne) in
       let most : inside_at i s.views ≤ 1 = dite (ℕ_discrete (get_or s.words i 0) 1) (λ e. omega (arith, r.inside i near, is_one (get_or s.words i 0) e)) (λ ne. omega (arith, r.inside i near, not_one (get_or s.words i 0) ne)) in
       let none_inside : inside_at i vs ≡ 0 = omega (arith, inside-set i s.views id v w at, most, mine) in
       let tagged : AllTagged i (tag_in tag content) vs = λ seat u there some'. ⊎_elim
       (λ t. subst (λ (x : View K). x.tag ≡ tag_in tag content) t.1 (mine' (subst (λ (x : View K). 0 < times i x.owns) (sym t.1) some')))
-      (λ t. let before : times i u.owns ≤ shares_at i s.views = term_le (λ (x : View K). times i x.owns) s.views seat u t.1 in let after : times i u.owns ≤ shares_at i vs = term_le (λ (x : View K). times i x.owns) vs seat u there in
+      (λ t. let before : times i u.owns ≤ shares_of_place i s.views = term_le (λ (x : View K). times i x.owns) s.views seat u t.1 in let after : times i u.owns ≤ shares_of_place i vs = term_le (λ (x : View K). times i x.owns) vs seat u there in
       r.tags id v at i (omega (arith, mine)) seat u t.1 some' ∙ sym (stays (omega (arith, before, some', said)) (omega (arith, after, some', now)))) (at_set s.views id seat w u there) in (
         w,
         gives,
@@ -178,7 +178,7 @@ module _ {T K : Type 0} (fits : ℕ → T → ℕ → Type 0) (tag : T → ℕ) 
               (λ (e : k ≡ i). (
                 content,
                 ap (get_elem? (set s.homes i (some content))) e ∙ set_here s.homes i (some content) (omega (arith, near, r.slots)),
-                subst (λ (q : ℕ). FitsShares (fits q) content (shares_at q vs)) (sym e) (subst (FitsShares (fits i) content) (sym now) ok),
+                subst (λ (q : ℕ). FitsShares (fits q) content (shares_of_place q vs)) (sym e) (subst (FitsShares (fits i) content) (sym now) ok),
                 subst (λ (q : ℕ). AllTagged q (tag_in tag content) vs) (sym e) tagged,
               ))
               (λ ne. let u = r.home k (size k h) (λ e. bare (other k ne ∙ e)) in (u.0, set_else s.homes i k (some content) ne ∙ u.1, subst (FitsShares (fits k) u.0) (sym (same k ne)) u.2, tagged-set k (tag_in tag u.0) s.views id w u.3 (λ m. absurd (omega (arith, m, only k ne)))));
@@ -199,7 +199,7 @@ module _ {T K : Type 0} (fits : ℕ → T → ℕ → Type 0) (tag : T → ℕ) 
       cut : Splits (Shares {T = T} {K = K} fits tag) id both half half
       cut s r at =
           let vs = set s.views id half in
-          let same : (k : ℕ) → shares_at k (vs ++ half ∷ []) ≡ shares_at k s.views = λ k. omega (arith, total-append (λ (x : View K). times k x.owns) vs (half ∷ []), owns-set k s.views id both half at) in
+          let same : (k : ℕ) → shares_of_place k (vs ++ half ∷ []) ≡ shares_of_place k s.views = λ k. omega (arith, total-append (λ (x : View K). times k x.owns) vs (half ∷ []), owns-set k s.views id both half at) in
           let stays : (k : ℕ) → inside_at k (vs ++ half ∷ []) ≡ inside_at k s.views = λ k. omega (arith, total-append (λ (x : View K). times k x.inside) vs (half ∷ []), inside-set k s.views id both half at) in
           let tagged : (k t : ℕ) → AllTagged k t s.views → AllTagged k t (vs ++ half ∷ []) = λ k t all.
           let mine : 0 < times k half.owns → mark ≡ t = λ some'. all id both at (omega (arith, some')) in tagged-snoc k t vs half (tagged-set k t s.views id half all mine) mine in
@@ -241,7 +241,7 @@ module _ {T K : Type 0} (fits : K → ℕ → T → ℕ → Type 0) (tag : T →
       record {
         slots = size ∙ sym (length-map (replicate count None) some ∙ length-replicate count None);
         inside = λ i h. sym (not_one (get_or words i 0) (λ e. omega (arith, e, free i)));
-        knows = λ seat. elim seat as (λ (q : ℕ). (v : View K) → get_elem? (view key [] [] 0 0 0 ∷ []) q ≡ some v → (i : ℕ) → 0 < times i v.inside → v.knows ≡ shares_at i (view key [] [] 0 0 0 ∷ [])) [
+        knows = λ seat. elim seat as (λ (q : ℕ). (v : View K) → get_elem? (view key [] [] 0 0 0 ∷ []) q ≡ some v → (i : ℕ) → 0 < times i v.inside → v.knows ≡ shares_of_place i (view key [] [] 0 0 0 ∷ [])) [
           | zero ↦ λ v at i some'. absurd (omega (arith, some', ap (λ (u : View K). times i u.inside) (some-injective (view key [] [] 0 0 0) v at)))
           | suc q ↦ λ v at i some'. absurd (some-ne-none v (sym at))
         ];
@@ -317,8 +317,8 @@ module _ {T K : Type 0} (fits : K → ℕ → T → ℕ → Type 0) (tag : T →
   stays_tagged i key None left found ok same some' = absurd (omega (arith, ok, some'))
   stays_tagged i key (Some value) left found ok same some' = same
 
-  pub laid_down : (i : ℕ) (old me : Me (Option T) (View K)) (content : Option T) → me ≡ (old.0, (i, content) ∷ rest old.1) → tag_in tag (in_hand me.1) ≡ tag_in tag content
-  laid_down i old me content is = ap (λ (m : Me (Option T) (View K)). tag_in tag (in_hand m.1)) is
+  pub laid_down : (i : ℕ) (old me : Me (Option T) (View K)) (content : Option T) → me ≡ (old.0, (i, content) ∷ rest old.1) → tag_in tag (slot_in_hand me.1) ≡ tag_in tag content
+  laid_down i old me content is = ap (λ (m : Me (Option T) (View K)). tag_in tag (slot_in_hand m.1)) is
 
 -- a share of one place is none of another
 pub other_place : (i k : ℕ) → k ≢ i → times k (i ∷ []) ≡ times k []

@@ -12,19 +12,19 @@ abbrev pub IsOutside : {K T : Type 0} → TableId → K → Seat (Option T) (Vie
 IsOutside table key seat = (seat.table_id ≡ table)
     × (seat.me ≡ (view key seat.me.0.owns [] 0 seat.me.0.tag 0, []))
 
-abbrev pub IsShareOf : {K T : Type 0} → TableId → K → ℕ → Share K T → Type 0
-IsShareOf table key at share = (share.seat.table_id ≡ table) × (share.seat.me.0.key ≡ key)
+abbrev pub IsShareOfPlace : {K T : Type 0} → TableId → K → ℕ → Share K T → Type 0
+IsShareOfPlace table key at share = (share.seat.table_id ≡ table) × (share.seat.me.0.key ≡ key)
     × (share.seat.me.0.owns ≡ at ∷ [])
 
 -- a thread inside a place has these shares
-abbrev pub IsInside : {K T : Type 0} → TableId → K → ℕ → List ℕ → Entered K T → Type 0
-IsInside table key at owns entered = (entered.seat.table_id ≡ table) × (entered.at ≡ at)
+abbrev pub IsInsidePlace : {K T : Type 0} → TableId → K → ℕ → List ℕ → Entered K T → Type 0
+IsInsidePlace table key at owns entered = (entered.seat.table_id ≡ table) × (entered.at ≡ at)
     × (entered.seat.me.0.key ≡ key) × (entered.seat.me.0.owns ≡ owns)
 
 -- and what was there fits the number of all shares, and has the tag of this one's shares
-abbrev pub HasEntered : {K T : Type 0} → (K → ℕ → T → ℕ → Type 0) → (T → ℕ) → TableId → K → ℕ
+abbrev pub HasEnteredPlace : {K T : Type 0} → (K → ℕ → T → ℕ → Type 0) → (T → ℕ) → TableId → K → ℕ
     → List ℕ → ℕ → Option T → Entered K T → Type 0
-HasEntered fits tag table key at owns tagged content entered = IsInside table key at owns entered
+HasEnteredPlace fits tag table key at owns tagged content entered = IsInsidePlace table key at owns entered
     × FitsShares (fits key at) content entered.seat.me.0.knows
     × (times at owns ≤ entered.seat.me.0.knows)
     × (tag_in tag content ≡ entered.seat.me.0.found)

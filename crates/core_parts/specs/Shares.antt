@@ -34,8 +34,8 @@ view key owns inside knows tag found = record {
   found = found;
 }
 
-abbrev pub shares_at : {K : Type 0} → ℕ → List (View K) → ℕ
-shares_at {K} i views = total (λ (v : View K). times i v.owns) views
+abbrev pub shares_of_place : {K : Type 0} → ℕ → List (View K) → ℕ
+shares_of_place {K} i views = total (λ (v : View K). times i v.owns) views
 
 abbrev pub inside_at : {K : Type 0} → ℕ → List (View K) → ℕ
 inside_at {K} i views = total (λ (v : View K). times i v.inside) views
@@ -53,12 +53,12 @@ pub record Shares {T K : Type 0} (fits : ℕ → T → ℕ → Type 0) (tag : T 
   pub inside : (i : ℕ) → i < length s.words
       → inside_at i s.views ≡ cond (slice_index s.words i == 1) 1 0
   pub knows : (seat : ℕ) (v : View K) → get_elem? s.views seat ≡ some v → (i : ℕ)
-      → 0 < times i v.inside → v.knows ≡ shares_at i s.views
+      → 0 < times i v.inside → v.knows ≡ shares_of_place i s.views
   pub tags : (seat : ℕ) (v : View K) → get_elem? s.views seat ≡ some v → (i : ℕ)
       → 0 < times i v.inside → AllTagged i v.found s.views
   pub home : (i : ℕ) → i < length s.words → slice_index s.words i ≢ 1
       → (content : Option T) × (get_elem? s.homes i ≡ some (some content))
-      × FitsShares (fits i) content (shares_at i s.views)
+      × FitsShares (fits i) content (shares_of_place i s.views)
       × AllTagged i (tag_in tag content) s.views
 
 abbrev pub Play : Type 0 → Type 0 → Type 1
@@ -78,20 +78,20 @@ enters {T} fits tag st me found after =
     )))
 
 -- the shares that a seat has in its hand
-abbrev pub in_hand : {T : Type 0} → List (ℕ × Option T) → Option T
-in_hand [] = None
-in_hand (slot ∷ slots) = slot.1
+abbrev pub slot_in_hand : {T : Type 0} → List (ℕ × Option T) → Option T
+slot_in_hand [] = None
+slot_in_hand (slot ∷ slots) = slot.1
 
 -- a seat that was inside leaves with a share of the place, which has the tag of what it leaves
 -- there, or with none
 abbrev pub gains : {T K : Type 0} → (T → ℕ) → Play T K
 gains tag st me found after =
-    after ≡ (view me.0.key (st.word ∷ []) [] 0 (tag_in tag (in_hand me.1)) 0, [])
+    after ≡ (view me.0.key (st.word ∷ []) [] 0 (tag_in tag (slot_in_hand me.1)) 0, [])
 
 -- a seat that was inside by a share leaves with two
 abbrev pub doubles : {T K : Type 0} → (T → ℕ) → Play T K
 doubles tag st me found after =
-    after ≡ (view me.0.key (st.word ∷ st.word ∷ []) [] 0 (tag_in tag (in_hand me.1)) 0, [])
+    after ≡ (view me.0.key (st.word ∷ st.word ∷ []) [] 0 (tag_in tag (slot_in_hand me.1)) 0, [])
 
 -- each half of a view that has two shares
 abbrev pub but_one : List ℕ → List ℕ

@@ -107,7 +107,7 @@ pub struct Entered<K, T> {
 }
 
 impl<K, T: Shared<K> + Drop> ShareRow<K, T> {
-    ghost use Rattle.core_parts.specs.Entries.{HasEntered, IsInside, IsOutside, IsShareOf};
+    ghost use Rattle.core_parts.specs.Entries.{HasEnteredPlace, IsInsidePlace, IsOutside, IsShareOfPlace};
 
     /// Makes a row of so many places, of which nobody has a share. It takes all memory that the row
     /// needs.
@@ -132,7 +132,7 @@ impl<K, T: Shared<K> + Drop> ShareRow<K, T> {
         requires { (at < self.now.count) × IsOutside
             self.now.table.shared.table_id self.now.table.shared.key seat }
         ensures { MatchResult result
-            (λ entered. HasEntered T.fits T.tag self.now.table.shared.table_id
+            (λ entered. HasEnteredPlace T.fits T.tag self.now.table.shared.table_id
             self.now.table.shared.key at seat.me.0.owns seat.me.0.tag entered.0 entered.1)
             (λ again. IsOutside self.now.table.shared.table_id self.now.table.shared.key again
             × (again.me ≡ seat.me)) }
@@ -156,7 +156,7 @@ impl<K, T: Shared<K> + Drop> ShareRow<K, T> {
     ) -> (Option<T>, Entered<K, T>)
         requires { (at < self.now.count) × IsOutside
             self.now.table.shared.table_id self.now.table.shared.key seat }
-        ensures { HasEntered T.fits T.tag self.now.table.shared.table_id
+        ensures { HasEnteredPlace T.fits T.tag self.now.table.shared.table_id
             self.now.table.shared.key at seat.me.0.owns seat.me.0.tag result.0 result.1 }
     {
         for _ in rt.forever() {
@@ -173,7 +173,7 @@ impl<K, T: Shared<K> + Drop> ShareRow<K, T> {
     fn enter_by<W: Wait>(&self, rt: &W, seat: Seat<K, T>, at: usize) -> (Option<T>, Entered<K, T>)
         requires { (at < self.now.count) × IsOutside
             self.now.table.shared.table_id self.now.table.shared.key seat }
-        ensures { HasEntered T.fits T.tag self.now.table.shared.table_id
+        ensures { HasEnteredPlace T.fits T.tag self.now.table.shared.table_id
             self.now.table.shared.key at seat.me.0.owns seat.me.0.tag result.0 result.1 }
     {
         match self.try_enter(seat, at) {
@@ -186,7 +186,7 @@ impl<K, T: Shared<K> + Drop> ShareRow<K, T> {
     #[inline]
     pub fn enter<W: Wait>(&self, rt: &W, at: usize) -> (Option<T>, Entered<K, T>)
         requires { at < self.now.count }
-        ensures inside { IsInside
+        ensures inside { IsInsidePlace
             self.now.table.shared.table_id self.now.table.shared.key at [] result.1 }
         ensures fits { FitsShares
             (T.fits self.now.table.shared.key at) result.0 result.1.seat.me.0.knows }
@@ -200,8 +200,8 @@ impl<K, T: Shared<K> + Drop> ShareRow<K, T> {
     #[inline]
     pub fn enter_with<W: Wait>(&self, rt: &W, at: usize, share: Share<K, T>) -> (T, Entered<K, T>)
         requires { (at < self.now.count)
-            × IsShareOf self.now.table.shared.table_id self.now.table.shared.key at share }
-        ensures inside { IsInside
+            × IsShareOfPlace self.now.table.shared.table_id self.now.table.shared.key at share }
+        ensures inside { IsInsidePlace
             self.now.table.shared.table_id self.now.table.shared.key at (at ∷ []) result.1 }
         ensures fits { (0 < result.1.seat.me.0.knows)
             × T.fits self.now.table.shared.key at result.0 result.1.seat.me.0.knows }
@@ -218,12 +218,12 @@ impl<K, T: Shared<K> + Drop> ShareRow<K, T> {
     #[inline]
     pub fn leave_with_more(&self, value: T, entered: Entered<K, T>) -> Share<K, T>
         requires inside { (entered.at < self.now.count)
-            × IsInside
+            × IsInsidePlace
             self.now.table.shared.table_id self.now.table.shared.key entered.at [] entered }
         requires fits { T.fits
             self.now.table.shared.key entered.at value (entered.seat.me.0.knows + 1) }
         requires tag { 0 < entered.seat.me.0.knows → T.tag value ≡ entered.seat.me.0.found }
-        ensures share { IsShareOf
+        ensures share { IsShareOfPlace
             self.now.table.shared.table_id self.now.table.shared.key entered.at result }
         ensures tag { result.seat.me.0.tag ≡ T.tag value }
     {
@@ -238,7 +238,7 @@ impl<K, T: Shared<K> + Drop> ShareRow<K, T> {
     #[inline]
     pub fn leave(&self, content: Option<T>, entered: Entered<K, T>)
         requires inside { (entered.at < self.now.count)
-            × IsInside
+            × IsInsidePlace
             self.now.table.shared.table_id self.now.table.shared.key entered.at [] entered }
         requires fits { FitsShares
             (T.fits self.now.table.shared.key entered.at) content entered.seat.me.0.knows }
@@ -254,12 +254,12 @@ impl<K, T: Shared<K> + Drop> ShareRow<K, T> {
     #[inline]
     pub fn leave_with_share(&self, value: T, entered: Entered<K, T>) -> Share<K, T>
         requires inside { (entered.at < self.now.count)
-            × IsInside
+            × IsInsidePlace
             self.now.table.shared.table_id self.now.table.shared.key entered.at (entered.at ∷ []) entered }
         requires fits { (0 < entered.seat.me.0.knows)
             × T.fits self.now.table.shared.key entered.at value entered.seat.me.0.knows }
         requires tag { T.tag value ≡ entered.seat.me.0.found }
-        ensures share { IsShareOf
+        ensures share { IsShareOfPlace
             self.now.table.shared.table_id self.now.table.shared.key entered.at result }
         ensures tag { result.seat.me.0.tag ≡ T.tag value }
     {
@@ -274,14 +274,14 @@ impl<K, T: Shared<K> + Drop> ShareRow<K, T> {
     #[inline]
     pub fn leave_with_another(&self, value: T, entered: Entered<K, T>) -> (Share<K, T>, Share<K, T>)
         requires inside { (entered.at < self.now.count)
-            × IsInside
+            × IsInsidePlace
             self.now.table.shared.table_id self.now.table.shared.key entered.at (entered.at ∷ []) entered }
         requires fits { T.fits
             self.now.table.shared.key entered.at value (entered.seat.me.0.knows + 1) }
         requires tag { T.tag value ≡ entered.seat.me.0.found }
-        ensures share { IsShareOf
+        ensures share { IsShareOfPlace
             self.now.table.shared.table_id self.now.table.shared.key entered.at result.0 }
-        ensures another { IsShareOf
+        ensures another { IsShareOfPlace
             self.now.table.shared.table_id self.now.table.shared.key entered.at result.1 }
         ensures tags { (result.0.seat.me.0.tag ≡ T.tag value) × (result.1.seat.me.0.tag ≡ T.tag value) }
     {
@@ -297,7 +297,7 @@ impl<K, T: Shared<K> + Drop> ShareRow<K, T> {
     #[inline]
     pub fn leave_with_less(&self, content: Option<T>, entered: Entered<K, T>)
         requires inside { (entered.at < self.now.count)
-            × IsInside self.now.table.shared.table_id self.now.table.shared.key entered.at
+            × IsInsidePlace self.now.table.shared.table_id self.now.table.shared.key entered.at
             (entered.at ∷ []) entered }
         requires fits { FitsShares
             (T.fits self.now.table.shared.key entered.at) content (entered.seat.me.0.knows - 1) }

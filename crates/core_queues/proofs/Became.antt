@@ -6,7 +6,7 @@ use Rattle.core_base.specs.declared.wants.Waiter.{Waiter}
 use Rattle.core_base.specs.declared.wants.Want.{Want}
 use Rattle.core_base.specs.Lines.{waiter, times, line, lines, without, without_first, first_of}
 use Rattle.core_queues.specs.Chains.{bucket_of, joined, Chained, IsHashed, chain}
-use Rattle.core_queues.specs.Links.{record_of, IsLinked, chains_of, key_in}
+use Rattle.core_queues.specs.Links.{record_of, IsLinked, chains_of, key_of_record}
 use Rattle.core_queues.specs.declared.records.Record.{Record}
 use Rattle.core_queues.specs.declared.records.Ends.{Ends}
 use Rattle.core_queues.proofs.Linked.{shown_is, hashed}
@@ -28,7 +28,7 @@ come_lines records others buckets new bits b key thread wanted linked now bucket
 
 -- each thread that has a record stands in its chain
 pub stands_there : (records : List (Option Record)) (buckets : List (Option Ends)) (bits thread : ℕ) (r : Record) → IsLinked records buckets bits (chains_of records buckets) → record_of records thread ≡ Some r → 1 ≤ times thread (slice_index_or (chains_of records buckets) (bucket_of bits r.key) [])
-stands_there records buckets bits thread r linked is = linked.stands thread r.key (ap key_in is)
+stands_there records buckets bits thread r linked is = linked.stands thread r.key (ap key_of_record is)
 
 -- ---------------------------------------------------------------- the first under a key
 

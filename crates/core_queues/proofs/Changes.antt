@@ -8,7 +8,7 @@ use Rattle.core_base.specs.declared.wants.Waiter.{Waiter}
 use Rattle.core_base.specs.declared.wants.Want.{Want}
 use Rattle.core_base.specs.Lines.{waiter, times, without}
 use Rattle.core_base.proofs.Counts.{times_append, times_without}
-use Rattle.core_queues.specs.Links.{standing, record_of, next_in, next_of, leading, with_next, Leads, EndsAt, first_in, unlinked_records, unlinked_ends, linked_records, linked_ends}
+use Rattle.core_queues.specs.Links.{standing_record, record_of, next_in, next_of, leading, with_next, Leads, EndsAt, first_in, unlinked_records, unlinked_ends, linked_records, linked_ends}
 use Rattle.core_queues.specs.declared.records.Record.{Record}
 use Rattle.core_queues.specs.declared.records.Ends.{Ends}
 use Rattle.core_queues.proofs.Leads.{times_here, times_more, times_later, once, nobody_without, leads_kept, last_of_all}
@@ -72,9 +72,9 @@ unlinked_at records from (x ∷ y ∷ ys) before thread a h next = elim (cases_e
       let others : times before ys ≡ 0 = grind (arith, nat_tests) in
       let apart_before : before ≢ thread = λ (k : before ≡ thread). apart (same ∙ k) in
       let left : without thread (x ∷ y ∷ ys) ≡ x ∷ ys = without_later thread x (y ∷ ys) apart ∙ ap (λ (l : List Waiter). x ∷ l) (without_here thread y ys gone ∙ without_none thread ys none) in
-      let was : record_of records before ≡ Some (standing x.key x.want (next_of records x.thread)) = ap (record_of records) (sym same) ∙ a.1 in
-      let is : record_of rest before ≡ Some (standing x.key x.want (next_of records thread)) = record_before records before thread (room records before _ was) apart_before ∙ rw was refl in
-      let here : record_of rest x.thread ≡ Some (standing x.key x.want (next_of records thread)) = ap (record_of rest) same ∙ is in
+      let was : record_of records before ≡ Some (standing_record x.key x.want (next_of records x.thread)) = ap (record_of records) (sym same) ∙ a.1 in
+      let is : record_of rest before ≡ Some (standing_record x.key x.want (next_of records thread)) = record_before records before thread (room records before _ was) apart_before ∙ rw was refl in
+      let here : record_of rest x.thread ≡ Some (standing_record x.key x.want (next_of records thread)) = ap (record_of rest) same ∙ is in
       let then : next_of rest x.thread ≡ next_of records thread = ap next_in here in
       let kept : Leads rest (next_of records thread) ys = leads_kept records rest (next_of records thread) ys
       (λ t stands. record_else records before thread t (λ k. let m : times before ys ≡ times t ys = ap (λ (u : ℕ). times u ys) (sym k) in omega arith) (λ k. let m : times thread ys ≡ times t ys = ap (λ (u : ℕ). times u ys) (sym k) in omega arith))
@@ -152,21 +152,21 @@ unlinked_end records e xs (Some before) thread (Some next) n a last h =
 linked_at : (records : List (Option Record)) (from : Option ℕ) (xs : List Waiter) (last thread key : ℕ) (wanted : Want) (e : Ends) → e.last ≡ last → record_of records thread ≡ None → thread < length records → Leads records from xs → 1 ≤ times last xs → next_of records last ≡ None → Leads (linked_records records (Some e) key thread wanted) from (xs ++ waiter key thread wanted ∷ [])
 linked_at records from [] last thread key wanted e is none fits a h end = absurd (omega arith)
 linked_at records from (x ∷ xs) last thread key wanted e is none fits a h end =
-    let fresh : List (Option Record) = slice_set records thread (Some (standing key wanted None)) in
+    let fresh : List (Option Record) = slice_set records thread (Some (standing_record key wanted None)) in
     let rest : List (Option Record) = linked_records records (Some e) key thread wanted in
-    let apart : x.thread ≢ thread = λ (k : x.thread ≡ thread). let c : None ≡ Some (standing x.key x.want (next_of records x.thread)) = sym none ∙ ap (record_of records) (sym k) ∙ a.1 in cc in
+    let apart : x.thread ≢ thread = λ (k : x.thread ≡ thread). let c : None ≡ Some (standing_record x.key x.want (next_of records x.thread)) = sym none ∙ ap (record_of records) (sym k) ∙ a.1 in cc in
     elim (cases_eq x.thread last) [
       | inl same ↦
           let empty : xs ≡ [] = last_of_all records xs (subst (λ (f : Option ℕ). Leads records f xs) (ap (next_of records) same ∙ end) a.2) in
-          let was : record_of fresh x.thread ≡ Some (standing x.key x.want (next_of records x.thread)) = get_or-set_other records thread x.thread _ None apart ∙ a.1 in
+          let was : record_of fresh x.thread ≡ Some (standing_record x.key x.want (next_of records x.thread)) = get_or-set_other records thread x.thread _ None apart ∙ a.1 in
           let at_last : e.last ≡ x.thread = is ∙ sym same in
           let fit : x.thread < length fresh = room fresh x.thread _ was in
-          let becomes : record_of rest x.thread ≡ Some (standing x.key x.want (Some thread)) =
-          subst (λ (t : ℕ). record_of (with_next fresh t (Some thread)) x.thread ≡ Some (standing x.key x.want (Some thread))) (sym at_last)
+          let becomes : record_of rest x.thread ≡ Some (standing_record x.key x.want (Some thread)) =
+          subst (λ (t : ℕ). record_of (with_next fresh t (Some thread)) x.thread ≡ Some (standing_record x.key x.want (Some thread))) (sym at_last)
           (get_or-set_same fresh x.thread _ None fit ∙ rw was refl) in
           let then : next_of rest x.thread ≡ Some thread = ap next_in becomes in
           let not_last : thread ≢ e.last = λ (k : thread ≡ e.last). apart (sym (k ∙ at_last)) in
-          let new : record_of rest thread ≡ Some (standing key wanted None) = get_or-set_other fresh e.last thread _ None not_last ∙ get_or-set_same records thread _ None fits in
+          let new : record_of rest thread ≡ Some (standing_record key wanted None) = get_or-set_other fresh e.last thread _ None not_last ∙ get_or-set_same records thread _ None fits in
           let alone : next_of rest thread ≡ None = ap next_in new in
           rw empty (a.0, rw then becomes, rw then (refl, rw alone new, alone))
       | inr differ ↦
@@ -179,18 +179,18 @@ linked_at records from (x ∷ xs) last thread key wanted e is none fits a h end 
 pub linked_leads : (records : List (Option Record)) (had : Option Ends) (xs : List Waiter) (key thread : ℕ) (wanted : Want) → record_of records thread ≡ None → thread < length records → Leads records (first_in had) xs → EndsAt records had xs → Leads (linked_records records had key thread wanted) (first_in (Some (linked_ends had thread))) (xs ++ waiter key thread wanted ∷ [])
 linked_leads records None xs key thread wanted none fits a empty =
     let rest : List (Option Record) = linked_records records None key thread wanted in
-    let new : record_of rest thread ≡ Some (standing key wanted None) = get_or-set_same records thread _ None fits in
+    let new : record_of rest thread ≡ Some (standing_record key wanted None) = get_or-set_same records thread _ None fits in
     let alone : next_of rest thread ≡ None = ap next_in new in
     rw empty (refl, rw alone new, alone)
 linked_leads records (Some e) xs key thread wanted none fits a last = linked_at records (Some e.first) xs e.last thread key wanted e refl none fits a last.0 last.1
 
 pub linked_end : (records : List (Option Record)) (had : Option Ends) (xs : List Waiter) (key thread : ℕ) (wanted : Want) → record_of records thread ≡ None → thread < length records → Leads records (first_in had) xs → EndsAt records had xs → EndsAt (linked_records records had key thread wanted) (Some (linked_ends had thread)) (xs ++ waiter key thread wanted ∷ [])
 linked_end records None xs key thread wanted none fits a empty =
-    let new : record_of (linked_records records None key thread wanted) thread ≡ Some (standing key wanted None) = get_or-set_same records thread _ None fits in
+    let new : record_of (linked_records records None key thread wanted) thread ≡ Some (standing_record key wanted None) = get_or-set_same records thread _ None fits in
     (grind (arith, nat_tests, times_append thread key thread wanted xs), ap next_in new)
 linked_end records (Some e) xs key thread wanted none fits a last =
-    let fresh : List (Option Record) = slice_set records thread (Some (standing key wanted None)) in
+    let fresh : List (Option Record) = slice_set records thread (Some (standing_record key wanted None)) in
     let gone : times thread xs ≡ 0 = nobody_without records (Some e.first) xs thread none a in
     let apart : thread ≢ e.last = λ (k : thread ≡ e.last). let m : times thread xs ≡ times e.last xs = ap (λ (u : ℕ). times u xs) k in let l = last.0 in absurd (omega arith) in
-    let new : record_of (linked_records records (Some e) key thread wanted) thread ≡ Some (standing key wanted None) = get_or-set_other fresh e.last thread _ None apart ∙ get_or-set_same records thread _ None fits in
+    let new : record_of (linked_records records (Some e) key thread wanted) thread ≡ Some (standing_record key wanted None) = get_or-set_other fresh e.last thread _ None apart ∙ get_or-set_same records thread _ None fits in
     (grind (arith, nat_tests, times_append thread key thread wanted xs), ap next_in new)

@@ -5,7 +5,7 @@ use Rattle.std.proofs.lemmas.Bool.Decides.{nat_tests}
 use Rattle.core_base.specs.declared.wants.Waiter.{Waiter}
 use Rattle.core_base.specs.Lines.{times}
 use Rattle.core_queues.specs.Chains.{behind}
-use Rattle.core_queues.specs.Links.{next_behind, shown_as, waiter_at, first_in, Leads}
+use Rattle.core_queues.specs.Links.{next_behind, waiter_of_record, waiter_at, first_in, Leads}
 use Rattle.core_queues.specs.declared.records.Record.{Record}
 use Rattle.core_queues.specs.declared.records.Ends.{Ends}
 use Rattle.core_queues.proofs.Leads.{times_here, times_more, behind_here, behind_later, leads_behind, seated}
@@ -16,7 +16,7 @@ head_of (x ∷ xs) = Some x
 
 waiter_is_head : (records : List (Option Record)) (from : Option ℕ) (xs : List Waiter) → Leads records from xs → waiter_at records from ≡ head_of xs
 waiter_is_head records from [] a = rw a refl
-waiter_is_head records from (x ∷ xs) a = ap (waiter_at records) a.0 ∙ ap (shown_as x.thread) a.1
+waiter_is_head records from (x ∷ xs) a = ap (waiter_at records) a.0 ∙ ap (waiter_of_record x.thread) a.1
 
 leads_from : (records : List (Option Record)) (ends : Option Ends) (xs : List Waiter) (before : Option ℕ) → Leads records (first_in ends) xs → IfSome before (λ b. 1 ≤ times b xs) → Leads records (next_behind records ends before) (behind before xs)
 leads_from records ends xs None a h = a

@@ -9,7 +9,7 @@ use Rattle.core_base.specs.declared.requeues.Requeue.TheVariants.{One, All, Take
 use Rattle.core_base.specs.declared.wants.Waiter.{Waiter}
 use Rattle.core_base.specs.declared.wants.Want.{Want}
 use Rattle.core_base.specs.declared.wants.Want.TheVariants.{Exclusive}
-use Rattle.core_base.specs.Lines.{waiter, times, line, lines, without, without_first, without_key, first_of, key_of}
+use Rattle.core_base.specs.Lines.{waiter, times, line, lines, without, without_first, without_key, first_of, queued_under}
 use Rattle.core_base.specs.Picks.{without_lock_picked, lock_answer, next_picker, lock_picker}
 use Rattle.core_base.specs.Requeues.{moved_by, requeued}
 use Rattle.core_base.proofs.Counts.{times_gone}
@@ -155,11 +155,11 @@ came_first key thread wanted xs ys xs' ys' none one other =
     ])
 
 -- the key of a thread in one list, or else in the other
-pub key_first : (thread key : ℕ) (xs ys : List Waiter) → Some key ≡ key_of thread xs → Some key ≡ key_of thread (xs ++ ys)
+pub key_first : (thread key : ℕ) (xs ys : List Waiter) → Some key ≡ queued_under thread xs → Some key ≡ queued_under thread (xs ++ ys)
 key_first thread key [] ys is = absurd cc
 key_first thread key (x ∷ xs) ys is = grind (arith, nat_tests, key_first thread key xs ys)
 
-pub key_other : (thread : ℕ) (xs ys : List Waiter) → None ≡ key_of thread xs → key_of thread ys ≡ key_of thread (xs ++ ys)
+pub key_other : (thread : ℕ) (xs ys : List Waiter) → None ≡ queued_under thread xs → queued_under thread ys ≡ queued_under thread (xs ++ ys)
 key_other thread [] ys none = refl
 key_other thread (x ∷ xs) ys none = grind (arith, nat_tests, key_other thread xs ys)
 
@@ -228,7 +228,7 @@ apart_moved from to thread xs ys xs' ys' once first taken come apart t stands =
 abbrev pub AreAsked : ℕ → List Waiter → List Waiter → List Waiter → Type 0
 AreAsked key xs rest ys = (thread : ℕ) → 1 ≤ times thread (line key xs) → (1 ≤ times thread rest) ⊎ (times thread ys ≡ 0)
 
-pub one_asked : (key : ℕ) (xs rest more ys : List Waiter) (x : Waiter) → rest ≡ x ∷ more → None ≡ key_of x.thread ys → AreAsked key xs rest ys → AreAsked key xs more ys
+pub one_asked : (key : ℕ) (xs rest more ys : List Waiter) (x : Waiter) → rest ≡ x ∷ more → None ≡ queued_under x.thread ys → AreAsked key xs rest ys → AreAsked key xs more ys
 one_asked key xs rest more ys x is none asked thread stands = elim (asked thread stands) [
   | inl there ↦ elim (cases_eq x.thread thread) [
     | inl same ↦ inr (ap (λ (t : ℕ). times t ys) (sym same) ∙ no_times x.thread ys (sym none))

@@ -7,7 +7,7 @@ use Rattle.std.proofs.lemmas.List.{get_or_past}
 use Rattle.core_base.specs.declared.wants.Waiter.{Waiter}
 use Rattle.core_base.specs.Lines.{times, IsSeated}
 use Rattle.core_queues.specs.Chains.{behind}
-use Rattle.core_queues.specs.Links.{standing, record_of, next_in, next_of, shown, chain_from, Leads}
+use Rattle.core_queues.specs.Links.{standing_record, record_of, next_in, next_of, waiters_of_record, chain_from, Leads}
 use Rattle.core_queues.specs.declared.records.Record.{Record}
 
 -- they lead to one end
@@ -77,7 +77,7 @@ once records from (x ∷ xs) thread a = elim (cases_eq x.thread thread) [
 pub nobody_without : (records : List (Option Record)) (from : Option ℕ) (xs : List Waiter) (thread : ℕ) → record_of records thread ≡ None → Leads records from xs → times thread xs ≡ 0
 nobody_without records from [] thread none a = refl
 nobody_without records from (x ∷ xs) thread none a =
-    let differ : x.thread ≢ thread = λ same. let e : None ≡ Some (standing x.key x.want (next_of records x.thread)) = sym none ∙ ap (record_of records) (sym same) ∙ a.1 in cc in
+    let differ : x.thread ≢ thread = λ same. let e : None ≡ Some (standing_record x.key x.want (next_of records x.thread)) = sym none ∙ ap (record_of records) (sym same) ∙ a.1 in cc in
     grind (arith, nat_tests, nobody_without records (next_of records x.thread) xs thread none a.2)
 
 -- they are shown as they lead
@@ -87,7 +87,7 @@ chain_is records zero from (x ∷ xs) h a = absurd (omega arith)
 chain_is records (suc n) from [] h a = rw a refl
 chain_is records (suc n) from (x ∷ xs) h a =
     let more = chain_is records n (next_of records x.thread) xs (omega arith) a.2 in
-    let here : shown x.thread (record_of records x.thread) ≡ x ∷ [] = rw a.1 refl in
+    let here : waiters_of_record x.thread (record_of records x.thread) ≡ x ∷ [] = rw a.1 refl in
     rw (a.0, here, more) refl
 
 -- they lead through the same where the records of these are the same

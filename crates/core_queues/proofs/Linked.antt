@@ -6,11 +6,11 @@ use Rattle.std.proofs.lemmas.Bool.Decides.{nat_tests}
 use Rattle.std.proofs.lemmas.List.{get_or_past, length-map, ext_get_or, set_past}
 use Rattle.core_base.specs.declared.wants.Waiter.{Waiter}
 use Rattle.core_base.specs.declared.wants.Want.{Want}
-use Rattle.core_base.specs.Lines.{waiter, times, without, key_of}
+use Rattle.core_base.specs.Lines.{waiter, times, without, queued_under}
 use Rattle.core_base.proofs.Counts.{times_append, times_without, times_gone}
 use Rattle.core_base.proofs.Seats.{length_seated}
 use Rattle.core_queues.specs.Chains.{bucket_of, behind, joined, AreOfBucket, IsHashed}
-use Rattle.core_queues.specs.Links.{standing, ends, record_of, next_in, key_in, next_of, leading, with_next, Leads, EndsAt, first_in, chain_from, chains_of, IsLinked, unlinked_records, unlinked_ends, linked_records, linked_ends}
+use Rattle.core_queues.specs.Links.{standing_record, ends, record_of, next_in, key_of_record, next_of, leading, with_next, Leads, EndsAt, first_in, chain_from, chains_of, IsLinked, unlinked_records, unlinked_ends, linked_records, linked_ends}
 use Rattle.core_queues.specs.declared.records.Record.{Record}
 use Rattle.core_queues.specs.declared.records.Ends.{Ends}
 use Rattle.core_queues.proofs.Leads.{times_here, times_more, times_later, nobody_without, leads_kept, seated, chain_is}
@@ -35,15 +35,15 @@ shown_is records buckets bits chains linked =
     (linked.leads i))
 
 -- a thread that stands has a key
-pub has_key : (records : List (Option Record)) (from : Option ℕ) (xs : List Waiter) (thread : ℕ) → Leads records from xs → 1 ≤ times thread xs → key_of thread xs ≡ key_in (record_of records thread)
+pub has_key : (records : List (Option Record)) (from : Option ℕ) (xs : List Waiter) (thread : ℕ) → Leads records from xs → 1 ≤ times thread xs → queued_under thread xs ≡ key_of_record (record_of records thread)
 has_key records from [] thread a h = absurd (omega arith)
 has_key records from (x ∷ xs) thread a h = elim (cases_eq x.thread thread) [
   | inl same ↦
-      let here : key_in (record_of records thread) ≡ Some x.key = ap key_in (ap (record_of records) (sym same) ∙ a.1) in
-      let first : key_of thread (x ∷ xs) ≡ Some x.key = grind (arith, nat_tests) in
+      let here : key_of_record (record_of records thread) ≡ Some x.key = ap key_of_record (ap (record_of records) (sym same) ∙ a.1) in
+      let first : queued_under thread (x ∷ xs) ≡ Some x.key = grind (arith, nat_tests) in
       first ∙ sym here
   | inr differ ↦
-      let later : key_of thread (x ∷ xs) ≡ key_of thread xs = grind (arith, nat_tests) in
+      let later : queued_under thread (x ∷ xs) ≡ queued_under thread xs = grind (arith, nat_tests) in
       later ∙ has_key records (next_of records x.thread) xs thread a.2 (times_later thread x xs differ h)
 ]
 
@@ -52,7 +52,7 @@ pub apart : (records : List (Option Record)) (buckets : List (Option Ends)) (bit
 apart records buckets bits chains b c thread linked here there = go (record_of records thread) refl where
   go : (r : Option Record) → record_of records thread ≡ r → b ≡ c
   go None none = absurd (omega (arith, nobody_without records (first_in (slice_index_or buckets b None)) (slice_index_or chains b []) thread none (linked.leads b)))
-  go (Some r) is = sym (linked.own_bucket b thread r.key (ap key_in is) here) ∙ linked.own_bucket c thread r.key (ap key_in is) there
+  go (Some r) is = sym (linked.own_bucket b thread r.key (ap key_of_record is) here) ∙ linked.own_bucket c thread r.key (ap key_of_record is) there
 
 -- ---------------------------------------------------------------- one chain changes
 
@@ -61,9 +61,9 @@ pub record IsChange (records others : List (Option Record)) (bits : ℕ) (chains
   pub leads : Leads others (first_in had) xs
   pub ends : EndsAt others had xs
   pub else : (thread c : ℕ) → c ≢ b → 1 ≤ times thread (slice_index_or chains c []) → record_of others thread ≡ record_of records thread
-  pub own : (thread key : ℕ) → key_in (record_of others thread) ≡ Some key → 1 ≤ times thread xs → bucket_of bits key ≡ b
-  pub stands : (thread key : ℕ) → key_in (record_of others thread) ≡ Some key → bucket_of bits key ≡ b → 1 ≤ times thread xs
-  pub kept : (thread key : ℕ) → key_in (record_of others thread) ≡ Some key → bucket_of bits key ≢ b → key_in (record_of records thread) ≡ Some key
+  pub own : (thread key : ℕ) → key_of_record (record_of others thread) ≡ Some key → 1 ≤ times thread xs → bucket_of bits key ≡ b
+  pub stands : (thread key : ℕ) → key_of_record (record_of others thread) ≡ Some key → bucket_of bits key ≡ b → 1 ≤ times thread xs
+  pub kept : (thread key : ℕ) → key_of_record (record_of others thread) ≡ Some key → bucket_of bits key ≢ b → key_of_record (record_of records thread) ≡ Some key
 
 ends_kept : (records others : List (Option Record)) (had : Option Ends) (xs : List Waiter) → ((thread : ℕ) → 1 ≤ times thread xs → record_of others thread ≡ record_of records thread) → EndsAt records had xs → EndsAt others had xs
 ends_kept records others None xs same h = h
@@ -91,7 +91,7 @@ changed records others buckets bits chains b had xs linked fits change =
         | inl same ↦ change.own thread key has (subst (λ (l : List Waiter). 1 ≤ times thread l) (ap (λ (u : ℕ). slice_index_or (slice_set chains b xs) u []) same ∙ at_chains) stands) ∙ sym same
         | inr differ ↦
             let there : 1 ≤ times thread (slice_index_or chains c []) = subst (λ (l : List Waiter). 1 ≤ times thread l) (get_or-set_other chains b c xs [] differ) stands in
-            linked.own_bucket c thread key (ap key_in (sym (change.else thread c differ there)) ∙ has) there
+            linked.own_bucket c thread key (ap key_of_record (sym (change.else thread c differ there)) ∙ has) there
       ];
       stands = λ thread key has. elim (cases_eq (bucket_of bits key) b) [
         | inl same ↦ rw (same, at_chains) (change.stands thread key has same)
@@ -99,24 +99,24 @@ changed records others buckets bits chains b had xs linked fits change =
       ];
     }
 
-key_leading : (r : Option Record) (next : Option ℕ) → key_in (leading r next) ≡ key_in r
+key_leading : (r : Option Record) (next : Option ℕ) → key_of_record (leading r next) ≡ key_of_record r
 key_leading None next = refl
 key_leading (Some r) next = refl
 
-key_with_next : (records : List (Option Record)) (at : ℕ) (next : Option ℕ) (other : ℕ) → key_in (record_of (with_next records at next) other) ≡ key_in (record_of records other)
+key_with_next : (records : List (Option Record)) (at : ℕ) (next : Option ℕ) (other : ℕ) → key_of_record (record_of (with_next records at next) other) ≡ key_of_record (record_of records other)
 key_with_next records at next other = elim (cases_eq other at) [
   | inl same ↦ elim (cases_lt at (length records)) [
-    | inl fits ↦ rw same (ap key_in (get_or-set_same records at (leading (record_of records at) next) None fits) ∙ key_leading (record_of records at) next)
-    | inr past ↦ ap (λ (l : List (Option Record)). key_in (record_of l other)) (set_past records at (leading (record_of records at) next) past)
+    | inl fits ↦ rw same (ap key_of_record (get_or-set_same records at (leading (record_of records at) next) None fits) ∙ key_leading (record_of records at) next)
+    | inr past ↦ ap (λ (l : List (Option Record)). key_of_record (record_of l other)) (set_past records at (leading (record_of records at) next) past)
   ]
-  | inr differ ↦ ap key_in (get_or-set_other records at other (leading (record_of records at) next) None differ)
+  | inr differ ↦ ap key_of_record (get_or-set_other records at other (leading (record_of records at) next) None differ)
 ]
 
 -- each record has its key still, but for that of who has left
-key_without : (records : List (Option Record)) (before : Option ℕ) (thread other : ℕ) → other ≢ thread → key_in (record_of (unlinked_records records before thread) other) ≡ key_in (record_of records other)
-key_without records None thread other differ = ap key_in (get_or-set_other records thread other None None differ)
+key_without : (records : List (Option Record)) (before : Option ℕ) (thread other : ℕ) → other ≢ thread → key_of_record (record_of (unlinked_records records before thread) other) ≡ key_of_record (record_of records other)
+key_without records None thread other differ = ap key_of_record (get_or-set_other records thread other None None differ)
 key_without records (Some before) thread other differ =
-    ap key_in (get_or-set_other (with_next records before (next_of records thread)) thread other None None differ) ∙ key_with_next records before (next_of records thread) other
+    ap key_of_record (get_or-set_other (with_next records before (next_of records thread)) thread other None None differ) ∙ key_with_next records before (next_of records thread) other
 
 set_none : (records : List (Option Record)) (thread : ℕ) → record_of (slice_set records thread None) thread ≡ None
 set_none records thread = elim (cases_lt thread (length records)) [
@@ -128,9 +128,9 @@ pub gone : (records : List (Option Record)) (before : Option ℕ) (thread : ℕ)
 gone records None thread = set_none records thread
 gone records (Some before) thread = set_none (with_next records before (next_of records thread)) thread
 
-not_gone : (records : List (Option Record)) (before : Option ℕ) (thread other key : ℕ) → key_in (record_of (unlinked_records records before thread) other) ≡ Some key → other ≢ thread
+not_gone : (records : List (Option Record)) (before : Option ℕ) (thread other key : ℕ) → key_of_record (record_of (unlinked_records records before thread) other) ≡ Some key → other ≢ thread
 not_gone records before thread other key has = λ (k : other ≡ thread).
-    let e : None ≡ Some key = sym (ap key_in (ap (record_of (unlinked_records records before thread)) k ∙ gone records before thread)) ∙ has in cc
+    let e : None ≡ Some key = sym (ap key_of_record (ap (record_of (unlinked_records records before thread)) k ∙ gone records before thread)) ∙ has in cc
 
 else_same : (records : List (Option Record)) (before : Option ℕ) (thread other : ℕ) → other ≢ thread → ((a : ℕ) → before ≡ Some a → other ≢ a) → record_of (unlinked_records records before thread) other ≡ record_of records other
 else_same records None thread other differ apart = get_or-set_other records thread other None None differ
@@ -166,24 +166,24 @@ one_leaves records buckets bits chains b e before thread linked fits is behind s
 
 -- ---------------------------------------------------------------- a thread comes
 
-key_with : (records : List (Option Record)) (had : Option Ends) (key thread other : ℕ) (wanted : Want) → other ≢ thread → key_in (record_of (linked_records records had key thread wanted) other) ≡ key_in (record_of records other)
-key_with records None key thread other wanted differ = ap key_in (get_or-set_other records thread other (Some (standing key wanted None)) None differ)
+key_with : (records : List (Option Record)) (had : Option Ends) (key thread other : ℕ) (wanted : Want) → other ≢ thread → key_of_record (record_of (linked_records records had key thread wanted) other) ≡ key_of_record (record_of records other)
+key_with records None key thread other wanted differ = ap key_of_record (get_or-set_other records thread other (Some (standing_record key wanted None)) None differ)
 key_with records (Some e) key thread other wanted differ =
-    key_with_next (slice_set records thread (Some (standing key wanted None))) e.last (Some thread) other
-    ∙ ap key_in (get_or-set_other records thread other (Some (standing key wanted None)) None differ)
+    key_with_next (slice_set records thread (Some (standing_record key wanted None))) e.last (Some thread) other
+    ∙ ap key_of_record (get_or-set_other records thread other (Some (standing_record key wanted None)) None differ)
 
-key_come : (records : List (Option Record)) (had : Option Ends) (key thread : ℕ) (wanted : Want) → thread < length records → key_in (record_of (linked_records records had key thread wanted) thread) ≡ Some key
-key_come records None key thread wanted fits = ap key_in (get_or-set_same records thread (Some (standing key wanted None)) None fits)
+key_come : (records : List (Option Record)) (had : Option Ends) (key thread : ℕ) (wanted : Want) → thread < length records → key_of_record (record_of (linked_records records had key thread wanted) thread) ≡ Some key
+key_come records None key thread wanted fits = ap key_of_record (get_or-set_same records thread (Some (standing_record key wanted None)) None fits)
 key_come records (Some e) key thread wanted fits =
-    key_with_next (slice_set records thread (Some (standing key wanted None))) e.last (Some thread) thread
-    ∙ ap key_in (get_or-set_same records thread (Some (standing key wanted None)) None fits)
+    key_with_next (slice_set records thread (Some (standing_record key wanted None))) e.last (Some thread) thread
+    ∙ ap key_of_record (get_or-set_same records thread (Some (standing_record key wanted None)) None fits)
 
 else_with : (records : List (Option Record)) (had : Option Ends) (key thread other : ℕ) (wanted : Want) → other ≢ thread → ((e : Ends) → had ≡ Some e → other ≢ e.last) → record_of (linked_records records had key thread wanted) other ≡ record_of records other
-else_with records None key thread other wanted differ apart = get_or-set_other records thread other (Some (standing key wanted None)) None differ
+else_with records None key thread other wanted differ apart = get_or-set_other records thread other (Some (standing_record key wanted None)) None differ
 else_with records (Some e) key thread other wanted differ apart =
-    let fresh = slice_set records thread (Some (standing key wanted None)) in
+    let fresh = slice_set records thread (Some (standing_record key wanted None)) in
     get_or-set_other fresh e.last other (leading (record_of fresh e.last) (Some thread)) None (apart e refl)
-    ∙ get_or-set_other records thread other (Some (standing key wanted None)) None differ
+    ∙ get_or-set_other records thread other (Some (standing_record key wanted None)) None differ
 
 last_stands : (records : List (Option Record)) (had : Option Ends) (e : Ends) (xs : List Waiter) → had ≡ Some e → EndsAt records had xs → 1 ≤ times e.last xs
 last_stands records had e xs is ends = (subst (λ (h : Option Ends). EndsAt records h xs) is ends).0
@@ -204,8 +204,8 @@ one_comes records buckets bits chains b key thread wanted linked fits hashed non
     let had : Option Ends = slice_index_or buckets b None in
     let more : List Waiter = xs ++ waiter key thread wanted ∷ [] in
     let nowhere = λ (c : ℕ). nobody_without records (first_in (slice_index_or buckets c None)) (slice_index_or chains c []) thread none (linked.leads c) in
-    let was = λ (other k : ℕ) (differ : other ≢ thread) (has : key_in (record_of (linked_records records had key thread wanted) other) ≡ Some k). sym (key_with records had key thread other wanted differ) ∙ has in
-    let new = λ (other k : ℕ) (same : other ≡ thread) (has : key_in (record_of (linked_records records had key thread wanted) other) ≡ Some k). key_is key k (sym (key_come records had key thread wanted below) ∙ ap (λ (t : ℕ). key_in (record_of (linked_records records had key thread wanted) t)) (sym same) ∙ has) in
+    let was = λ (other k : ℕ) (differ : other ≢ thread) (has : key_of_record (record_of (linked_records records had key thread wanted) other) ≡ Some k). sym (key_with records had key thread other wanted differ) ∙ has in
+    let new = λ (other k : ℕ) (same : other ≡ thread) (has : key_of_record (record_of (linked_records records had key thread wanted) other) ≡ Some k). key_is key k (sym (key_come records had key thread wanted below) ∙ ap (λ (t : ℕ). key_of_record (record_of (linked_records records had key thread wanted) t)) (sym same) ∙ has) in
     changed records (linked_records records had key thread wanted) buckets bits chains b (Some (linked_ends had thread)) more linked fits record {
       leads = linked_leads records had xs key thread wanted none below (linked.leads b) (linked.ends b);
       ends = linked_end records had xs key thread wanted none below (linked.leads b) (linked.ends b);
@@ -228,10 +228,10 @@ one_comes records buckets bits chains b key thread wanted linked fits hashed non
 
 -- ---------------------------------------------------------------- the view of them
 
-of_bucket : (records : List (Option Record)) (from : Option ℕ) (bits b : ℕ) (xs : List Waiter) → ((thread key : ℕ) → key_in (record_of records thread) ≡ Some key → 1 ≤ times thread xs → bucket_of bits key ≡ b) → Leads records from xs → AreOfBucket bits b xs
+of_bucket : (records : List (Option Record)) (from : Option ℕ) (bits b : ℕ) (xs : List Waiter) → ((thread key : ℕ) → key_of_record (record_of records thread) ≡ Some key → 1 ≤ times thread xs → bucket_of bits key ≡ b) → Leads records from xs → AreOfBucket bits b xs
 of_bucket records from bits b [] own a = tt
 of_bucket records from bits b (x ∷ xs) own a = (
-  own x.thread x.key (ap key_in a.1) (times_here x xs),
+  own x.thread x.key (ap key_of_record a.1) (times_here x xs),
   of_bucket records (next_of records x.thread) bits b xs (λ thread key has there. own thread key has (omega (arith, times_more thread x xs))) a.2,
 )
 
@@ -244,23 +244,23 @@ hashed records buckets bits chains linked = record {
   apart = λ b c thread here there. apart records buckets bits chains b c thread linked here there;
 }
 
-no_key : (thread : ℕ) (xs : List Waiter) → times thread xs ≡ 0 → key_of thread xs ≡ None
+no_key : (thread : ℕ) (xs : List Waiter) → times thread xs ≡ 0 → queued_under thread xs ≡ None
 no_key thread [] none = refl
 no_key thread (x ∷ xs) none = grind (arith, nat_tests, no_key thread xs)
 
-key_of_both : (thread : ℕ) (xs ys : List Waiter) (key : ℕ) → key_of thread xs ≡ Some key → key_of thread (xs ++ ys) ≡ Some key
+key_of_both : (thread : ℕ) (xs ys : List Waiter) (key : ℕ) → queued_under thread xs ≡ Some key → queued_under thread (xs ++ ys) ≡ Some key
 key_of_both thread [] ys key h = absurd cc
 key_of_both thread (x ∷ xs) ys key h = grind (arith, nat_tests, key_of_both thread xs ys key)
 
-key_of_second : (thread : ℕ) (xs ys : List Waiter) → key_of thread xs ≡ None → key_of thread (xs ++ ys) ≡ key_of thread ys
+key_of_second : (thread : ℕ) (xs ys : List Waiter) → queued_under thread xs ≡ None → queued_under thread (xs ++ ys) ≡ queued_under thread ys
 key_of_second thread [] ys h = refl
 key_of_second thread (x ∷ xs) ys h = grind (arith, nat_tests, key_of_second thread xs ys)
 
-nobody_joined : (thread : ℕ) (chains : List (List Waiter)) → ((i : ℕ) → times thread (slice_index_or chains i []) ≡ 0) → key_of thread (joined chains) ≡ None
+nobody_joined : (thread : ℕ) (chains : List (List Waiter)) → ((i : ℕ) → times thread (slice_index_or chains i []) ≡ 0) → queued_under thread (joined chains) ≡ None
 nobody_joined thread [] none = refl
 nobody_joined thread (c ∷ cs) none = key_of_second thread c (joined cs) (no_key thread c (none 0)) ∙ nobody_joined thread cs (λ i. none (suc i))
 
-key_joined : (thread key : ℕ) (chains : List (List Waiter)) (i : ℕ) → ((j : ℕ) → 1 ≤ times thread (slice_index_or chains j []) → key_of thread (slice_index_or chains j []) ≡ Some key) → 1 ≤ times thread (slice_index_or chains i []) → key_of thread (joined chains) ≡ Some key
+key_joined : (thread key : ℕ) (chains : List (List Waiter)) (i : ℕ) → ((j : ℕ) → 1 ≤ times thread (slice_index_or chains j []) → queued_under thread (slice_index_or chains j []) ≡ Some key) → 1 ≤ times thread (slice_index_or chains i []) → queued_under thread (joined chains) ≡ Some key
 key_joined thread key [] i has h = absurd (omega arith)
 key_joined thread key (c ∷ cs) zero has h = key_of_both thread c (joined cs) key (has 0 h)
 key_joined thread key (c ∷ cs) (suc i) has h = elim (cases_lt 0 (times thread c)) [
@@ -269,12 +269,12 @@ key_joined thread key (c ∷ cs) (suc i) has h = elim (cases_lt 0 (times thread 
 ]
 
 -- the key under which a thread stands is the one of its record
-pub key_found : (records : List (Option Record)) (buckets : List (Option Ends)) (bits : ℕ) (chains : List (List Waiter)) (thread : ℕ) → IsLinked records buckets bits chains → key_of thread (joined chains) ≡ key_in (record_of records thread)
+pub key_found : (records : List (Option Record)) (buckets : List (Option Ends)) (bits : ℕ) (chains : List (List Waiter)) (thread : ℕ) → IsLinked records buckets bits chains → queued_under thread (joined chains) ≡ key_of_record (record_of records thread)
 key_found records buckets bits chains thread linked = go (record_of records thread) refl where
-  go : (r : Option Record) → record_of records thread ≡ r → key_of thread (joined chains) ≡ key_in (record_of records thread)
-  go None none = nobody_joined thread chains (λ i. nobody_without records (first_in (slice_index_or buckets i None)) (slice_index_or chains i []) thread none (linked.leads i)) ∙ sym (ap key_in none)
+  go : (r : Option Record) → record_of records thread ≡ r → queued_under thread (joined chains) ≡ key_of_record (record_of records thread)
+  go None none = nobody_joined thread chains (λ i. nobody_without records (first_in (slice_index_or buckets i None)) (slice_index_or chains i []) thread none (linked.leads i)) ∙ sym (ap key_of_record none)
   go (Some r) is =
       key_joined thread r.key chains (bucket_of bits r.key)
-      (λ j there. has_key records (first_in (slice_index_or buckets j None)) (slice_index_or chains j []) thread (linked.leads j) there ∙ ap key_in is)
-      (linked.stands thread r.key (ap key_in is))
-      ∙ sym (ap key_in is)
+      (λ j there. has_key records (first_in (slice_index_or buckets j None)) (slice_index_or chains j []) thread (linked.leads j) there ∙ ap key_of_record is)
+      (linked.stands thread r.key (ap key_of_record is))
+      ∙ sym (ap key_of_record is)

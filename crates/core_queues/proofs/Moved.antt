@@ -5,9 +5,9 @@ use Rattle.std.proofs.lemmas.Bool.{cases_lt}
 use Rattle.std.proofs.lemmas.List.{get_or_read}
 use Rattle.core_base.specs.declared.wants.Waiter.{Waiter}
 use Rattle.core_base.specs.declared.wants.Want.{Want}
-use Rattle.core_base.specs.Lines.{waiter, times, without, first_of, key_of}
+use Rattle.core_base.specs.Lines.{waiter, times, without, first_of, queued_under}
 use Rattle.core_queues.specs.Chains.{bucket_of, behind, joined}
-use Rattle.core_queues.specs.Links.{standing, leading, with_next, record_of, next_of, key_in, first_in, Leads, EndsAt, IsLinked, chains_of, unlinked_records, ends_left, linked_records, linked_ends}
+use Rattle.core_queues.specs.Links.{standing_record, leading, with_next, record_of, next_of, key_of_record, first_in, Leads, EndsAt, IsLinked, chains_of, unlinked_records, ends_left, linked_records, linked_ends}
 use Rattle.core_queues.specs.declared.records.Record.{Record}
 use Rattle.core_queues.specs.declared.records.Ends.{Ends}
 use Rattle.core_queues.proofs.Leads.{leads_behind, seated}
@@ -59,21 +59,21 @@ left records buckets bits chains b (Some e) before thread linked fits is stands 
     let leads : Leads records (Some e.first) xs = subst (λ (h : Option Ends). Leads records (first_in h) xs) is (linked.leads b) in
     one_leaves records buckets bits chains b e before thread linked fits is (is_behind records e xs before thread leads stands first) (first_there before xs thread first)
 
-none_standing : (r : Option Record) → key_in r ≡ None → r ≡ None
+none_standing : (r : Option Record) → key_of_record r ≡ None → r ≡ None
 none_standing None h = refl
 none_standing (Some r) h = let e : Some r.key ≡ None = h in absurd cc
 
-pub no_record : (records : List (Option Record)) (buckets : List (Option Ends)) (bits : ℕ) (chains : List (List Waiter)) (thread : ℕ) → IsLinked records buckets bits chains → key_of thread (joined chains) ≡ None → record_of records thread ≡ None
+pub no_record : (records : List (Option Record)) (buckets : List (Option Ends)) (bits : ℕ) (chains : List (List Waiter)) (thread : ℕ) → IsLinked records buckets bits chains → queued_under thread (joined chains) ≡ None → record_of records thread ≡ None
 no_record records buckets bits chains thread linked alone = none_standing (record_of records thread) (sym (key_found records buckets bits chains thread linked) ∙ alone)
 
 -- the queues that are shown are linked
 pub as_shown : (records : List (Option Record)) (buckets : List (Option Ends)) (bits : ℕ) (chains : List (List Waiter)) → IsLinked records buckets bits chains → IsLinked records buckets bits (chains_of records buckets)
 as_shown records buckets bits chains linked = subst (λ (l : List (List Waiter)). IsLinked records buckets bits l) (sym (shown_is records buckets bits chains linked)) linked
 
-pub gone_from : (records : List (Option Record)) (before : Option ℕ) (buckets : List (Option Ends)) (bits : ℕ) (chains : List (List Waiter)) (thread : ℕ) → IsLinked (unlinked_records records before thread) buckets bits chains → key_of thread (joined (chains_of (unlinked_records records before thread) buckets)) ≡ None
+pub gone_from : (records : List (Option Record)) (before : Option ℕ) (buckets : List (Option Ends)) (bits : ℕ) (chains : List (List Waiter)) (thread : ℕ) → IsLinked (unlinked_records records before thread) buckets bits chains → queued_under thread (joined (chains_of (unlinked_records records before thread) buckets)) ≡ None
 gone_from records before buckets bits chains thread linked =
     key_found (unlinked_records records before thread) buckets bits (chains_of (unlinked_records records before thread) buckets) thread (as_shown (unlinked_records records before thread) buckets bits chains linked)
-    ∙ ap key_in (gone records before thread)
+    ∙ ap key_of_record (gone records before thread)
 
 -- the same by what the calls answer that do it
 pub left_now : (records others : List (Option Record)) (buckets : List (Option Ends)) (bits b : ℕ) (had new : Option Ends) (before next : Option ℕ) (thread : ℕ) → IsLinked records buckets bits (chains_of records buckets) → b < length (chains_of records buckets) → had ≡ slice_index_or buckets b had → IfSome before (λ b'. 1 ≤ times b' (slice_index_or (chains_of records buckets) b [])) → first_of (behind before (slice_index_or (chains_of records buckets) b [])) ≡ Some thread → next ≡ next_of records thread → others ≡ unlinked_records records before thread → new ≡ ends_left had before next → IsLinked others (slice_set buckets b new) bits (slice_set (chains_of records buckets) b (without thread (slice_index_or (chains_of records buckets) b [])))
@@ -83,7 +83,7 @@ left_now records others buckets bits b had new before next thread linked within 
     let is_had : slice_index_or buckets b None ≡ had = sym (get_or_read buckets b had fits read None) in
     rw (is_others, is_new, is_next) (left records buckets bits (chains_of records buckets) b had before thread linked fits is_had stands first)
 
-pub come_now : (records others : List (Option Record)) (buckets : List (Option Ends)) (bits b key thread : ℕ) (wanted : Want) (had : Option Ends) (new : Ends) → IsLinked records buckets bits (chains_of records buckets) → b < length (chains_of records buckets) → b ≡ bucket_of bits key → had ≡ slice_index_or buckets b had → key_of thread (joined (chains_of records buckets)) ≡ None → thread < length records → others ≡ linked_records records had key thread wanted → new ≡ linked_ends had thread → IsLinked others (slice_set buckets b (Some new)) bits (slice_set (chains_of records buckets) b (slice_index_or (chains_of records buckets) b [] ++ waiter key thread wanted ∷ []))
+pub come_now : (records others : List (Option Record)) (buckets : List (Option Ends)) (bits b key thread : ℕ) (wanted : Want) (had : Option Ends) (new : Ends) → IsLinked records buckets bits (chains_of records buckets) → b < length (chains_of records buckets) → b ≡ bucket_of bits key → had ≡ slice_index_or buckets b had → queued_under thread (joined (chains_of records buckets)) ≡ None → thread < length records → others ≡ linked_records records had key thread wanted → new ≡ linked_ends had thread → IsLinked others (slice_set buckets b (Some new)) bits (slice_set (chains_of records buckets) b (slice_index_or (chains_of records buckets) b [] ++ waiter key thread wanted ∷ []))
 come_now records others buckets bits b key thread wanted had new linked within bucket read alone below is_others is_new =
     let each = linked.each in
     let fits : b < length buckets = omega arith in
@@ -95,5 +95,5 @@ length-unlinked records None thread = length-set records thread None
 length-unlinked records (Some before) thread = length-set (with_next records before (next_of records thread)) thread None ∙ length-set records before (leading (record_of records before) (next_of records thread))
 
 pub length-linked : (records : List (Option Record)) (had : Option Ends) (key thread : ℕ) (wanted : Want) → length (linked_records records had key thread wanted) ≡ length records
-length-linked records None key thread wanted = length-set records thread (Some (standing key wanted None))
-length-linked records (Some e) key thread wanted = length-set (slice_set records thread (Some (standing key wanted None))) e.last _ ∙ length-set records thread (Some (standing key wanted None))
+length-linked records None key thread wanted = length-set records thread (Some (standing_record key wanted None))
+length-linked records (Some e) key thread wanted = length-set (slice_set records thread (Some (standing_record key wanted None))) e.last _ ∙ length-set records thread (Some (standing_record key wanted None))

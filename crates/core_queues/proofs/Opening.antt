@@ -5,7 +5,7 @@ use Rattle.std.proofs.lemmas.List.{length-replicate, length-map}
 use Rattle.std.proofs.Math.Nat.{mod-eq_of_lt}
 use Rattle.std.proofs.Math.Pow.{pow-lt}
 use Rattle.core_queues.specs.Chains.{joined}
-use Rattle.core_queues.specs.Links.{key_in, first_in, IsLinked, chain_from, chains_of}
+use Rattle.core_queues.specs.Links.{key_of_record, first_in, IsLinked, chain_from, chains_of}
 use Rattle.core_queues.specs.declared.records.Record.{Record}
 use Rattle.core_queues.specs.declared.records.Ends.{Ends}
 
@@ -39,8 +39,8 @@ opening threads bits =
       each = length-map buckets (λ (e : Option Ends). chain_from records (length records) (first_in e));
       leads = λ b. rw (no_chains records (2 ^ bits) b, all_none (Ends) (2 ^ bits) b) refl;
       ends = λ b. rw (no_chains records (2 ^ bits) b, all_none (Ends) (2 ^ bits) b) refl;
-      own_bucket = λ b thread key has there. let e : None ≡ Some key = ap key_in (sym (all_none (Record) threads thread)) ∙ has in absurd cc;
-      stands = λ thread key has. let e : None ≡ Some key = ap key_in (sym (all_none (Record) threads thread)) ∙ has in absurd cc;
+      own_bucket = λ b thread key has there. let e : None ≡ Some key = ap key_of_record (sym (all_none (Record) threads thread)) ∙ has in absurd cc;
+      stands = λ thread key has. let e : None ≡ Some key = ap key_of_record (sym (all_none (Record) threads thread)) ∙ has in absurd cc;
     }
 
 -- a one that is shifted

@@ -10,7 +10,7 @@ use Rattle.core_base.specs.declared.wants.Waiter.{Waiter}
 use Rattle.core_base.specs.declared.wants.Want.{Want}
 use Rattle.core_base.specs.declared.wants.Want.TheVariants.{Exclusive}
 use Rattle.core_base.specs.declared.requeues.Requeue.TheVariants.{One, All}
-use Rattle.core_base.specs.Lines.{waiter, times, line, lines, without, without_first, without_key, first_of, key_of}
+use Rattle.core_base.specs.Lines.{waiter, times, line, lines, without, without_first, without_key, first_of, queued_under}
 use Rattle.core_base.specs.Picks.{picked, without_picked}
 use Rattle.core_base.specs.Requeues.{requeued}
 use Rattle.core_queues.specs.Chains.{bucket_of, behind, joined, Chained, IsHashed, chain, rest_of}
@@ -30,27 +30,27 @@ nobody_behind thread (x ∷ xs) none = grind (arith, nat_tests, nobody_behind th
 rest_none : (q : Chained) (key place thread : ℕ) → place ≡ suc thread → times thread (chain q (bucket_of q.bits key)) ≡ 0 → rest_of q key place ≡ []
 rest_none q key place thread is none = ap (rest_of q key) is ∙ ap (line key) (nobody_behind thread (chain q (bucket_of q.bits key)) none)
 
-pub no_times : (thread : ℕ) (xs : List Waiter) → key_of thread xs ≡ None → times thread xs ≡ 0
+pub no_times : (thread : ℕ) (xs : List Waiter) → queued_under thread xs ≡ None → times thread xs ≡ 0
 no_times thread [] none = refl
 no_times thread (x ∷ xs) none = grind (arith, nat_tests, no_times thread xs)
 
-first_none : (thread : ℕ) (xs ys : List Waiter) → key_of thread (xs ++ ys) ≡ None → (key_of thread xs ≡ None) × (key_of thread ys ≡ None)
+first_none : (thread : ℕ) (xs ys : List Waiter) → queued_under thread (xs ++ ys) ≡ None → (queued_under thread xs ≡ None) × (queued_under thread ys ≡ None)
 first_none thread [] ys none = (refl, none)
 first_none thread (x ∷ xs) ys none = elim (cases_eq x.thread thread) [
-  | inl same ↦ let here : key_of thread (x ∷ xs ++ ys) ≡ Some x.key = grind (arith, nat_tests) in let e : Some x.key ≡ None = sym here ∙ none in absurd cc
+  | inl same ↦ let here : queued_under thread (x ∷ xs ++ ys) ≡ Some x.key = grind (arith, nat_tests) in let e : Some x.key ≡ None = sym here ∙ none in absurd cc
   | inr differ ↦
-      let later : key_of thread (x ∷ xs ++ ys) ≡ key_of thread (xs ++ ys) = grind (arith, nat_tests) in
-      let rest : key_of thread (x ∷ xs) ≡ key_of thread xs = grind (arith, nat_tests) in
+      let later : queued_under thread (x ∷ xs ++ ys) ≡ queued_under thread (xs ++ ys) = grind (arith, nat_tests) in
+      let rest : queued_under thread (x ∷ xs) ≡ queued_under thread xs = grind (arith, nat_tests) in
       let more = first_none thread xs ys (sym later ∙ none) in
       (rest ∙ more.0, more.1)
 ]
 
-nowhere : (thread : ℕ) (chains : List (List Waiter)) (i : ℕ) → key_of thread (joined chains) ≡ None → times thread (slice_index_or chains i []) ≡ 0
+nowhere : (thread : ℕ) (chains : List (List Waiter)) (i : ℕ) → queued_under thread (joined chains) ≡ None → times thread (slice_index_or chains i []) ≡ 0
 nowhere thread [] i none = refl
 nowhere thread (c ∷ cs) zero none = no_times thread c (first_none thread c (joined cs) none).0
 nowhere thread (c ∷ cs) (suc i) none = nowhere thread cs i (first_none thread c (joined cs) none).1
 
-pub behind_nobody : (q : Chained) (key place thread : ℕ) → place ≢ 0 → thread ≡ place - 1 → key_of thread (joined q.chains) ≡ None → rest_of q key place ≡ []
+pub behind_nobody : (q : Chained) (key place thread : ℕ) → place ≢ 0 → thread ≡ place - 1 → queued_under thread (joined q.chains) ≡ None → rest_of q key place ≡ []
 behind_nobody q key place thread some is none = rest_none q key place thread (omega arith) (nowhere thread q.chains (bucket_of q.bits key) none)
 
 pub in_another : (q : Chained) (key place thread other bucket others : ℕ) → IsHashed q → place ≢ 0 → thread ≡ place - 1 → 1 ≤ times thread (chain q (bucket_of q.bits other)) → bucket ≡ bucket_of q.bits key → others ≡ bucket_of q.bits other → others ≢ bucket → rest_of q key place ≡ []
@@ -62,7 +62,7 @@ in_another q key place thread other bucket others hashed some is stands here the
 
 -- ---------------------------------------------------------------- lists with the same lines
 
-pub without_nobody : (thread : ℕ) (xs : List Waiter) → key_of thread xs ≡ None → without thread xs ≡ xs
+pub without_nobody : (thread : ℕ) (xs : List Waiter) → queued_under thread xs ≡ None → without thread xs ≡ xs
 without_nobody thread xs none = without_none thread xs (no_times thread xs none)
 
 line_same : (xs ys : List Waiter) (k : ℕ) → lines xs ≡ lines ys → line k xs ≡ line k ys

@@ -7,8 +7,8 @@ use Rattle.core_queues.specs.Chains.{bucket_of}
 use Rattle.core_queues.specs.declared.records.Record.{Record}
 use Rattle.core_queues.specs.declared.records.Ends.{Ends}
 
-abbrev pub standing : ℕ → Want → Option ℕ → Record
-standing key want next = record { key = key; want = want; next = next }
+abbrev pub standing_record : ℕ → Want → Option ℕ → Record
+standing_record key want next = record { key = key; want = want; next = next }
 
 abbrev pub ends : ℕ → ℕ → Ends
 ends first last = record { first = first; last = last }
@@ -20,9 +20,9 @@ abbrev pub next_in : Option Record → Option ℕ
 next_in None = None
 next_in (Some r) = r.next
 
-abbrev pub key_in : Option Record → Option ℕ
-key_in None = None
-key_in (Some r) = Some r.key
+abbrev pub key_of_record : Option Record → Option ℕ
+key_of_record None = None
+key_of_record (Some r) = Some r.key
 
 -- the next thread of a record
 abbrev pub next_of : List (Option Record) → ℕ → Option ℕ
@@ -37,33 +37,33 @@ abbrev pub next_behind : List (Option Record) → Option Ends → Option ℕ →
 next_behind records ends None = first_in ends
 next_behind records ends (Some before) = next_of records before
 
-abbrev pub shown_as : ℕ → Option Record → Option Waiter
-shown_as thread None = None
-shown_as thread (Some r) = Some (waiter r.key thread r.want)
+abbrev pub waiter_of_record : ℕ → Option Record → Option Waiter
+waiter_of_record thread None = None
+waiter_of_record thread (Some r) = Some (waiter r.key thread r.want)
 
 -- a thread with its key and what it wants
 abbrev pub waiter_at : List (Option Record) → Option ℕ → Option Waiter
 waiter_at records None = None
-waiter_at records (Some thread) = shown_as thread (record_of records thread)
+waiter_at records (Some thread) = waiter_of_record thread (record_of records thread)
 
 -- the record with another behind it
 abbrev pub leading : Option Record → Option ℕ → Option Record
 leading None next = None
-leading (Some r) next = Some (standing r.key r.want next)
+leading (Some r) next = Some (standing_record r.key r.want next)
 
 abbrev pub with_next : List (Option Record) → ℕ → Option ℕ → List (Option Record)
 with_next records thread next = slice_set records thread (leading (record_of records thread) next)
 
-abbrev pub shown : ℕ → Option Record → List Waiter
-shown thread None = []
-shown thread (Some r) = waiter r.key thread r.want ∷ []
+abbrev pub waiters_of_record : ℕ → Option Record → List Waiter
+waiters_of_record thread None = []
+waiters_of_record thread (Some r) = waiter r.key thread r.want ∷ []
 
 -- the waiters of a chain from a thread on, so many at most
 abbrev pub chain_from : List (Option Record) → ℕ → Option ℕ → List Waiter
 chain_from records zero from = []
 chain_from records (suc n) None = []
 chain_from records (suc n) (Some thread) =
-    shown thread (record_of records thread) ++ chain_from records n (next_of records thread)
+    waiters_of_record thread (record_of records thread) ++ chain_from records n (next_of records thread)
 
 abbrev pub chains_of : List (Option Record) → List (Option Ends) → List (List Waiter)
 chains_of records buckets =
@@ -73,7 +73,7 @@ chains_of records buckets =
 abbrev pub Leads : List (Option Record) → Option ℕ → List Waiter → Type 0
 Leads records from [] = from ≡ None
 Leads records from (x ∷ xs) = (from ≡ Some x.thread)
-    × (record_of records x.thread ≡ Some (standing x.key x.want (next_of records x.thread)))
+    × (record_of records x.thread ≡ Some (standing_record x.key x.want (next_of records x.thread)))
     × Leads records (next_of records x.thread) xs
 
 -- the last of these is a thread
@@ -90,9 +90,9 @@ pub record IsLinked (records : List (Option Record)) (buckets : List (Option End
       → Leads records (first_in (slice_index_or buckets bucket None)) (slice_index_or chains bucket [])
   pub ends : (bucket : ℕ)
       → EndsAt records (slice_index_or buckets bucket None) (slice_index_or chains bucket [])
-  pub own_bucket : (bucket thread key : ℕ) → key_in (record_of records thread) ≡ Some key
+  pub own_bucket : (bucket thread key : ℕ) → key_of_record (record_of records thread) ≡ Some key
       → 1 ≤ times thread (slice_index_or chains bucket []) → bucket_of bits key ≡ bucket
-  pub stands : (thread key : ℕ) → key_in (record_of records thread) ≡ Some key
+  pub stands : (thread key : ℕ) → key_of_record (record_of records thread) ≡ Some key
       → 1 ≤ times thread (slice_index_or chains (bucket_of bits key) [])
 
 -- the chain without a thread, which stands behind another
@@ -115,9 +115,9 @@ ends_left (Some e) before next = unlinked_ends e before next
 abbrev pub linked_records : List (Option Record) → Option Ends → ℕ → ℕ → Want
     → List (Option Record)
 linked_records records None key thread want =
-    slice_set records thread (Some (standing key want None))
+    slice_set records thread (Some (standing_record key want None))
 linked_records records (Some e) key thread want =
-    with_next (slice_set records thread (Some (standing key want None))) e.last (Some thread)
+    with_next (slice_set records thread (Some (standing_record key want None))) e.last (Some thread)
 
 abbrev pub linked_ends : Option Ends → ℕ → Ends
 linked_ends None thread = ends thread thread

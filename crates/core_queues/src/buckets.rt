@@ -1,7 +1,7 @@
 //! Hashed buckets, each a chain of records.
 ghost use Rattle.std.specs.Prelude.{◌≡◌, ◌≢◌, ◌<◌, ◌≤◌, ◌++◌, ◌∷◌, [], Some, None, IfSome, IfOk, IfErr, MatchOption, length, slice_set, ◌^◌};
 ghost use Rattle.core_queues.specs.Chains.{bucket_of, chain, joined, behind, IsHashed, IsLeast};
-ghost use Rattle.core_base.specs.Lines.{waiter, without, without_first, line, first_of, key_of, times, lines};
+ghost use Rattle.core_base.specs.Lines.{waiter, without, without_first, line, first_of, queued_under, times, lines};
 
 use crate::formula::bucket_among;
 use crate::links::{behind, ends_with, ends_without, link, next, standing, unlink, waiter};
@@ -80,7 +80,7 @@ impl BucketQueues {
         ensures lines { lines (joined self.new.chains)
             ≡ lines (without thread (joined self.old.chains)) }
         ensures hashed { IsHashed self.new }
-        ensures gone { key_of thread (joined self.new.chains) ≡ None }
+        ensures gone { queued_under thread (joined self.new.chains) ≡ None }
     {
         let next = next(standing(&self.records, thread));
         let ends = self.buckets[bucket];
@@ -91,7 +91,7 @@ impl BucketQueues {
     /// Links a thread that stands nowhere to the end of the chain of its key's bucket.
     pub(crate) fn come(&mut self, key: Key, thread: usize, want: Want)
         requires below { thread < self.old.capacity }
-        requires alone { key_of thread (joined self.old.chains) ≡ None }
+        requires alone { queued_under thread (joined self.old.chains) ≡ None }
         ensures chains { self.new.chains ≡ slice_set self.old.chains (bucket_of self.old.bits key)
             (chain self.old (bucket_of self.old.bits key) ++ waiter key thread want ∷ []) }
         ensures same { (self.new.capacity ≡ self.old.capacity) × (self.new.bits ≡ self.old.bits) }
@@ -107,7 +107,7 @@ impl BucketQueues {
 
     /// Gives the key under which a thread stands.
     pub(crate) fn stands_under(&self, thread: usize) -> Option<Key>
-        ensures key { result ≡ key_of thread (joined self.now.chains) }
+        ensures key { result ≡ queued_under thread (joined self.now.chains) }
         ensures stands { IfSome result
             (λ key. 1 ≤ times thread (chain self.now (bucket_of self.now.bits key))) }
         ensures hashed { IsHashed self.now }
@@ -153,7 +153,7 @@ impl BucketQueues {
             ≡ lines (without_first key (joined self.old.chains)) }
         ensures same { (self.new.capacity ≡ self.old.capacity) × (self.new.bits ≡ self.old.bits) }
         ensures gone { IfSome result (λ thread. (thread < self.old.capacity)
-            × (key_of thread (joined self.new.chains) ≡ None)) }
+            × (queued_under thread (joined self.new.chains) ≡ None)) }
         ensures hashed { IsHashed self.new }
     {
         let bucket = self.bucket(key);
@@ -169,7 +169,7 @@ impl BucketQueues {
         ensures lines { lines (joined self.new.chains)
             ≡ lines (without thread (joined self.old.chains)) }
         ensures same { (self.new.capacity ≡ self.old.capacity) × (self.new.bits ≡ self.old.bits) }
-        ensures gone { key_of thread (joined self.new.chains) ≡ None }
+        ensures gone { queued_under thread (joined self.new.chains) ≡ None }
         ensures hashed { IsHashed self.new }
     {
         let Some(key) = self.stands_under(thread) else {

@@ -1,6 +1,6 @@
 //! Calls on the queues of two buckets.
 ghost use Rattle.std.specs.Prelude.{◌≡◌, ◌≢◌, ◌+◌, ◌<◌, ◌≤◌, ◌↔◌, [], ◌∷◌, ◌++◌, IsTrue, MatchOption, length, if◌then◌else◌};
-ghost use Rattle.core_base.specs.Lines.{waiter, line, lines, without, key_of};
+ghost use Rattle.core_base.specs.Lines.{waiter, line, lines, without, queued_under};
 ghost use Rattle.core_base.specs.Requeues.{taken_by, moved_by, requeued};
 ghost use Rattle.core_base.specs.declared.requeues.Requeue.TheVariants.{One, All};
 ghost use Rattle.core_queues.specs.Chains.{bucket_of};
@@ -91,7 +91,7 @@ impl Queueing {
     /// The key under which a thread stands in the buckets.
     pub fn key_beside(&self, other: &Queueing, thread: usize) -> Option<Key>
         ensures { result
-            ≡ key_of thread (self.now.queues.waiters ++ other.now.queues.waiters) }
+            ≡ queued_under thread (self.now.queues.waiters ++ other.now.queues.waiters) }
     {
         match self.key_of(thread) {
             Some(key) => Some(key),

@@ -2,7 +2,7 @@
 ghost use Rattle.std.specs.Prelude.{◌≡◌, ◌≢◌, ◌<◌, ◌≤◌, [], IfOk, IfErr, IfSome, MatchOption, take, ◌∷◌, ◌++◌, length, not, ◌==◌};
 ghost use Rattle.std.specs.List.{filter};
 ghost use Rattle.std.specs.Vec.{vec_capacity};
-ghost use Rattle.core_base.specs.Lines.{waiter, line, lines, without, without_first, without_key, first_of, threads_of, key_of};
+ghost use Rattle.core_base.specs.Lines.{waiter, line, lines, without, without_first, without_key, first_of, threads_of, queued_under};
 ghost use Rattle.core_base.specs.Picks.{lock_picked, without_lock_picked};
 ghost use Rattle.core_base.specs.Requeues.{taken_by, moved_by, requeued};
 ghost use Rattle.core_queues.specs.Chains.{bucket_of};
@@ -273,7 +273,7 @@ impl Queueing {
 
     /// The key under which a thread stands.
     pub fn key_of(&self, thread: usize) -> Option<Key>
-        ensures { result ≡ key_of thread self.now.queues.waiters }
+        ensures { result ≡ queued_under thread self.now.queues.waiters }
     {
         self.queues.key_of(thread)
     }

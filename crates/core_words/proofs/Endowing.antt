@@ -14,7 +14,7 @@ use Rattle.core_words.specs.Codes.{Codes, IsSemaphoreCode, Shows, everyone, excl
 use Rattle.core_words.specs.Rule.{LotRule, MayBeShown, MayHaveOut}
 use Rattle.core_words.specs.RuleLaws.{PermitsAreAllThere}
 use Rattle.core_words.specs.Permits.{slots_of}
-use Rattle.core_words.specs.Steps.{holding, listed, so_many_shared}
+use Rattle.core_words.specs.Steps.{holding, one_more_step, so_many_shared}
 use Rattle.core_words.specs.Plays.{WithinPermits, draws_permits, numbered, sees_free}
 use Rattle.core_words.specs.declared.owners.Owner.{Owner}
 use Rattle.core_words.specs.declared.owners.Owner.TheVariants.{Shared}
@@ -154,8 +154,8 @@ draw_permits words family slots id me permits seen few saw room s o wide at fits
     let n : ℕ = get_or s.words counter 0 in let new : ℕ = seen + 1 in let op = Exchange seen new in let bare : List WordKind = Semaphore 0 ∷ [] in
     let Goal : ℕ → Type 0 = λ (y : ℕ). (w : View) × (a : Act PermitSlot) × Valid s.homes me.1 a × LotRule words family (stepped s counter y id me.1 w a) × draws_permits permits (step slots counter seen new none) me n (w, carried_after me.1 a) in
     dite (ℕ_discrete n seen)
-    (λ e. let v : View = with_out me.0.out (view (listed me.0 counter op n) me.0.owns (numbered n bare ++ me.0.drawn) new) in
-    let w : View = with_out me.0.out (view (listed me.0 counter op n) (holding (word_index n (Semaphore permits)) permits ++ me.0.owns) (numbered n (Semaphore permits ∷ []) ++ me.0.drawn) new) in
+    (λ e. let v : View = with_out me.0.out (view (one_more_step me.0 counter op n) me.0.owns (numbered n bare ++ me.0.drawn) new) in
+    let w : View = with_out me.0.out (view (one_more_step me.0 counter op n) (holding (word_index n (Semaphore permits)) permits ++ me.0.owns) (numbered n (Semaphore permits ∷ []) ++ me.0.drawn) new) in
     let drew_none : (number : ℕ) → drew_permits number v ≡ drew_permits number me.0 = λ number. omega (arith, total-append (λ (word : Drawn). cond (eqb word.number number) (permits_in word.kind) 0) (numbered n bare) me.0.drawn, no_permits number n bare (refl, tt)) in
     let s₁ : State PermitSlot View = record { words = set s.words counter new; homes = s.homes; views = set s.views id v } in
     let o₁ : LotRule words family s₁ = count_turned words family s o id new me.0 v at (omega arith) room refl refl (omega arith) (λ r h. at_counter me.0 op n r h)
@@ -174,7 +174,7 @@ draw_permits words family slots id me permits seen few saw room s o wide at fits
       subst (λ views. LotRule words family (record { words = set s.words counter new; homes = s.homes; views = views })) (set_again s.views id v w) there,
       ((λ _. refl), λ ne. absurd (ne e)),
     ))
-    (λ ne. let w = with_out me.0.out (view (listed me.0 counter op n) me.0.owns me.0.drawn n) in
+    (λ ne. let w = with_out me.0.out (view (one_more_step me.0 counter op n) me.0.owns me.0.drawn n) in
     subst (λ b. Goal (either b new n)) (sym (ne_eqb n seen ne)) (
       w,
       keeps,

@@ -16,8 +16,8 @@ use Rattle.core_parts.specs.declared.slot.PermitSlot.{PermitSlot}
 use Rattle.core_base.specs.Words.{apply}
 use Rattle.core_base.specs.declared.ops.Op.{Op}
 use Rattle.core_base.specs.declared.ops.Op.TheVariants.{Load, Exchange}
-use Rattle.core_words.specs.Steps.{has, HasAll, trade, trading, CountAgrees, CodesWith, MayTie, MayStep, owns_after_step, listed, after_step, so_many_shared}
-use Rattle.core_words.specs.Plays.{looks, draws, numbered}
+use Rattle.core_words.specs.Steps.{has, HasAll, trade, trading, CountAgrees, CodesWith, MayTie, MayStep, owns_after_step, one_more_step, after_step, so_many_shared}
+use Rattle.core_words.specs.Plays.{looks_at_word, draws, numbered}
 use Rattle.core_words.specs.Draws.{NoPermits}
 use Rattle.core_words.specs.declared.owners.Ownership.{Ownership}
 use Rattle.core_words.specs.declared.views.WordStep.{WordStep}
@@ -182,7 +182,7 @@ module _ (words family : ℕ) (s : State PermitSlot View) (o : LotRule words fam
     permits = permits;
   }
 
-pub steps_more : (v : View) (at found r : ℕ) (op : Op) → total (λ (step : WordStep). cond (eqb step.at r) 1 0) (listed v at op found) ≡ steps_at r v + cond (eqb at r) 1 0
+pub steps_more : (v : View) (at found r : ℕ) (op : Op) → total (λ (step : WordStep). cond (eqb step.at r) 1 0) (one_more_step v at op found) ≡ steps_at r v + cond (eqb at r) 1 0
 steps_more v at found r op = omega (arith, total-append (λ (step : WordStep). cond (eqb step.at r) 1 0) v.steps (record { at = at; op = op; seen = found } ∷ []))
 
 -- tells what a step does to ownerships, by any weight of owners, and to what is said of count words
@@ -372,12 +372,12 @@ count_turned words family s o j m v w me up fits same-owns same-out saw same-ste
           o.permits number' below (omega (arith, total-set (outs r) s.views j v w me, ap (total (λ (k : ℕ). cond (eqb k r) 1 0)) same-out));
     }
 
-pub at_counter : (v : View) (op : Op) (found r : ℕ) → 0 < r → total (λ (step : WordStep). cond (eqb step.at r) 1 0) (listed v counter op found) ≡ steps_at r v
+pub at_counter : (v : View) (op : Op) (found r : ℕ) → 0 < r → total (λ (step : WordStep). cond (eqb step.at r) 1 0) (one_more_step v counter op found) ≡ steps_at r v
 at_counter v op found r above = omega (arith, steps_more v counter found r op, cond_other counter r 1 (λ e. omega arith))
 
 -- a look at the counter
-pub look : (words family slots id : ℕ) (me : Me PermitSlot View) → Allows (LotRule words family) slots id me counter (λ n. n) (looks (step slots counter 0 0 none) me)
-look words family slots id me s o wide at fits = let n : ℕ = get_or s.words counter 0 in let w = with_out me.0.out (view (listed me.0 counter Load n) me.0.owns me.0.drawn n) in
+pub look : (words family slots id : ℕ) (me : Me PermitSlot View) → Allows (LotRule words family) slots id me counter (λ n. n) (looks_at_word (step slots counter 0 0 none) me)
+look words family slots id me s o wide at fits = let n : ℕ = get_or s.words counter 0 in let w = with_out me.0.out (view (one_more_step me.0 counter Load n) me.0.owns me.0.drawn n) in
     (w, keeps, tt, count_turned words family s o id n me.0 w at (omega arith) o.enough refl refl (omega arith) (λ r h. at_counter me.0 Load n r h) (λ weight. refl) (λ number. refl), refl)
 
 -- the numbers that are drawn together
@@ -400,7 +400,7 @@ draw words family slots id me kinds seen bare saw room s o wide at fits =
     let n : ℕ = get_or s.words counter 0 in let new : ℕ = seen + length kinds in let op = Exchange seen new in
     let Goal : ℕ → Type 0 = λ (y : ℕ). (w : View) × (a : Act PermitSlot) × Valid s.homes me.1 a × LotRule words family (stepped s counter y id me.1 w a) × draws kinds (step slots counter seen new none) me n (w, carried_after me.1 a) in
     dite (ℕ_discrete n seen)
-    (λ e. let w = with_out me.0.out (view (listed me.0 counter op n) me.0.owns (numbered n kinds ++ me.0.drawn) new) in
+    (λ e. let w = with_out me.0.out (view (one_more_step me.0 counter op n) me.0.owns (numbered n kinds ++ me.0.drawn) new) in
     subst (λ b. Goal (either b new n)) (sym (eq-eqb n seen e)) (
       w,
       keeps,
@@ -410,7 +410,7 @@ draw words family slots id me kinds seen bare saw room s o wide at fits =
           (λ number. omega (arith, total-append (λ (word : Drawn). cond (eqb word.number number) (permits_in word.kind) 0) (numbered n kinds) me.0.drawn, no_permits number n kinds bare)),
       ((λ _. refl), λ ne. absurd (ne e)),
     ))
-    (λ ne. let w = with_out me.0.out (view (listed me.0 counter op n) me.0.owns me.0.drawn n) in
+    (λ ne. let w = with_out me.0.out (view (one_more_step me.0 counter op n) me.0.owns me.0.drawn n) in
     subst (λ b. Goal (either b new n)) (sym (ne_eqb n seen ne)) (
       w,
       keeps,

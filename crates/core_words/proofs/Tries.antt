@@ -7,7 +7,7 @@ use Rattle.core_words.specs.Indices.{word_index}
 use Rattle.core_words.specs.Views.{owning, shown, view, with_out}
 use Rattle.core_words.specs.Permits.{out_after, slots_of}
 use Rattle.core_words.specs.Rights.{named_by}
-use Rattle.core_words.specs.Steps.{CodesWith, after_step, has, listed}
+use Rattle.core_words.specs.Steps.{CodesWith, after_step, has, one_more_step}
 use Rattle.core_words.specs.Plays.{TakesStep, TakesStepOf, left_over, stepping}
 use Rattle.core_words.specs.Lots.{IsSeatOf}
 use Rattle.core_words.specs.declared.table.LotWords.{LotWords}
@@ -36,7 +36,7 @@ module _ (at family : ℕ) (me after : Me PermitSlot View) where
 
   abbrev GoesOut : ℕ → Type 0
   GoesOut n = n % 2 ≡ 0 → Told n
-      → after ≡ (with_out (at ∷ []) (view (listed me.0 at (Or 1) n) (owning at Exclusive ∷ me.0.owns) me.0.drawn me.0.saw), slots_of family (at ∷ []))
+      → after ≡ (with_out (at ∷ []) (view (one_more_step me.0 at (Or 1) n) (owning at Exclusive ∷ me.0.owns) me.0.drawn me.0.saw), slots_of family (at ∷ []))
 
   stays_out : (n : ℕ) → n < 4 → StaysOut n
   stays_out = each_code StaysOut (λ odd. absurd (odd refl)) (λ _ e. e) (λ odd. absurd (odd refl)) (λ _ e. e)
@@ -65,7 +65,7 @@ module _ (lot : LotWords) (before after : Seat PermitSlot View) (word : Word) (o
   tried_locked odd = ap (λ m. shown m.0) (stays_out i family before.me after.me found small odd tells.0)
 
   module _ (even : found % 2 ≡ 0) where
-    goes : after.me ≡ (with_out (i ∷ []) (view (listed before.me.0 i (Or 1) found) (owning i Exclusive ∷ before.me.0.owns) before.me.0.drawn before.me.0.saw), slots_of family (i ∷ []))
+    goes : after.me ≡ (with_out (i ∷ []) (view (one_more_step before.me.0 i (Or 1) found) (owning i Exclusive ∷ before.me.0.owns) before.me.0.drawn before.me.0.saw), slots_of family (i ∷ []))
     goes = goes_out i family before.me after.me found small even tells.0
 
     pub tried_out : after.me.0.out ≡ i ∷ []
@@ -76,4 +76,4 @@ module _ (lot : LotWords) (before after : Seat PermitSlot View) (word : Word) (o
 
     pub tried_left : left_over (named_by word Exclusive) after.me.0 ≡ stepping before.me.0 i (Or 1) found
     tried_left = ap (λ m. left_over (named_by word Exclusive) m.0) goes
-        ∙ ap (λ owns. view (listed before.me.0 i (Or 1) found) owns before.me.0.drawn before.me.0.saw) (without_first (named_by word Exclusive) before.me.0.owns)
+        ∙ ap (λ owns. view (one_more_step before.me.0 i (Or 1) found) owns before.me.0.drawn before.me.0.saw) (without_first (named_by word Exclusive) before.me.0.owns)

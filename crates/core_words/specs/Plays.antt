@@ -10,7 +10,7 @@ use Rattle.core_words.specs.Codes.{ShowsBeside, shared}
 use Rattle.core_words.specs.Views.{shown, view, with_out, owned, drew_permits}
 use Rattle.core_words.specs.Permits.{out_after, slots_of}
 use Rattle.core_parts.specs.declared.slot.PermitSlot.{PermitSlot}
-use Rattle.core_words.specs.Steps.{CodesWith, listed, after_step, holding, without}
+use Rattle.core_words.specs.Steps.{CodesWith, one_more_step, after_step, holding, without}
 use Rattle.core_words.specs.declared.owners.Ownership.{Ownership}
 use Rattle.core_words.specs.declared.views.Drawn.{Drawn}
 use Rattle.core_words.specs.declared.views.View.{View}
@@ -77,9 +77,9 @@ numbered number [] = []
 numbered number (kind ∷ kinds) =
     record { number = number; kind = kind } ∷ numbered (number + 1) kinds
 
-abbrev pub looks : {S : Type 0} → Play S
-looks st me found after = after ≡ (
-  with_out me.0.out (view (listed me.0 counter Load found) me.0.owns me.0.drawn found),
+abbrev pub looks_at_word : {S : Type 0} → Play S
+looks_at_word st me found after = after ≡ (
+  with_out me.0.out (view (one_more_step me.0 counter Load found) me.0.owns me.0.drawn found),
   me.1,
 )
 
@@ -87,13 +87,13 @@ looks st me found after = after ≡ (
 abbrev pub draws : {S : Type 0} → List WordKind → Play S
 draws kinds st me found after =
     (found ≡ st.first → after ≡ (
-      with_out me.0.out (view (listed me.0 counter (Exchange st.first st.second) found) me.0.owns
+      with_out me.0.out (view (one_more_step me.0 counter (Exchange st.first st.second) found) me.0.owns
           (numbered found kinds ++ me.0.drawn) st.second),
       me.1,
     ))
     × (found ≢ st.first → (st.first < found)
     × (after ≡ (
-      with_out me.0.out (view (listed me.0 counter (Exchange st.first st.second) found) me.0.owns
+      with_out me.0.out (view (one_more_step me.0 counter (Exchange st.first st.second) found) me.0.owns
           me.0.drawn found),
       me.1,
     )))
@@ -103,14 +103,14 @@ draws kinds st me found after =
 abbrev pub draws_permits : {S : Type 0} → ℕ → Play S
 draws_permits permits st me found after =
     (found ≡ st.first → after ≡ (
-      with_out me.0.out (view (listed me.0 counter (Exchange st.first st.second) found)
+      with_out me.0.out (view (one_more_step me.0 counter (Exchange st.first st.second) found)
           (holding (word_index found (Semaphore permits)) permits ++ me.0.owns)
           (numbered found (Semaphore permits ∷ []) ++ me.0.drawn) st.second),
       me.1,
     ))
     × (found ≢ st.first → (st.first < found)
     × (after ≡ (
-      with_out me.0.out (view (listed me.0 counter (Exchange st.first st.second) found) me.0.owns
+      with_out me.0.out (view (one_more_step me.0 counter (Exchange st.first st.second) found) me.0.owns
           me.0.drawn found),
       me.1,
     )))
@@ -144,7 +144,7 @@ goes_on_with v w = view (v.steps ++ w.steps) (w.owns ++ v.owns) v.drawn v.saw
 
 -- a view with one step more, which trades nothing
 abbrev pub stepping : View → ℕ → Op → ℕ → View
-stepping v at op found = view (listed v at op found) v.owns v.drawn v.saw
+stepping v at op found = view (one_more_step v at op found) v.owns v.drawn v.saw
 
 -- a step where the number that it expects of the word is the real one. Where it is another it is no
 -- step, and tells as much of the value found
@@ -155,16 +155,16 @@ TakesExpected family real op st me found after =
     × CodesWith (word_kind_at st.word) st.word found me.0.owns)
 
 -- a mutex is entered, and is given up
-abbrev pub enters : ℕ → Play PermitSlot
-enters family = TakesExpected family 0 (Exchange 0 1)
+abbrev pub takes_mutex : ℕ → Play PermitSlot
+takes_mutex family = TakesExpected family 0 (Exchange 0 1)
 
 -- the value that a step saw which enters an unlocked mutex, or finds another value
 abbrev pub entering_saw : {A : Type 0} → Result A ℕ → ℕ
 entering_saw (Ok taken) = 0
 entering_saw (Err seen) = seen
 
-abbrev pub leaves : ℕ → Play PermitSlot
-leaves family = TakesExpected family 1 (Sub 1)
+abbrev pub gives_mutex_up : ℕ → Play PermitSlot
+gives_mutex_up family = TakesExpected family 1 (Sub 1)
 
 abbrev pub leaves_alone : ℕ → Play PermitSlot
 leaves_alone family = TakesExpected family 1 (Exchange 1 0)

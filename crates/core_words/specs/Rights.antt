@@ -70,8 +70,8 @@ abbrev pub with_permit : Word → View
 with_permit word = with_out (word_index word.number word.kind ∷ []) (piece_of word Exclusive)
 
 -- the view of a right's seat: it owns this and nothing else, with the permit that goes along
-abbrev pub handed : Word → Owner → View
-handed word owner = cond (takes_permit word.kind owner) (with_permit word) (piece_of word owner)
+abbrev pub handed_view : Word → Owner → View
+handed_view word owner = cond (takes_permit word.kind owner) (with_permit word) (piece_of word owner)
 
 -- the view after the exchange that leaves a mutex where nobody waits, which saw this: where it missed, the
 -- mutex is owned still

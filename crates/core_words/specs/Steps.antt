@@ -181,10 +181,10 @@ MayStep kind at op owns = (n : ℕ) (owners : Owners) → n < 2 ^ 64 → Codes k
     → Codes kind (apply op n) after)
     × MayTie kind at n (apply op n) owns
 
-abbrev pub listed : View → ℕ → Op → ℕ → List WordStep
-listed v at op found = v.steps ++ record { at = at; op = op; seen = found } ∷ []
+abbrev pub one_more_step : View → ℕ → Op → ℕ → List WordStep
+one_more_step v at op found = v.steps ++ record { at = at; op = op; seen = found } ∷ []
 
 -- the view after a step at an index: the step is listed, and it owns what the step trades
 abbrev pub after_step : WordKind → ℕ → Op → ℕ → View → View
 after_step kind at op found v =
-    view (listed v at op found) (owns_after_step kind at op found v.owns) v.drawn v.saw
+    view (one_more_step v at op found) (owns_after_step kind at op found v.owns) v.drawn v.saw

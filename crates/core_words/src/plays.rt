@@ -2,7 +2,7 @@
 ghost use Rattle.std.specs.Prelude.{ℕ, [], ◌∷◌, List};
 ghost use Rattle.core_words.specs.Rule.{LotRule};
 ghost use Rattle.core_words.specs.Views.{blank, owning, with_out};
-ghost use Rattle.core_words.specs.Plays.{adds, ands, draws, draws_permits, enters, exchanges, goes_on_with, lays_back, leaves, leaves_alone, left_over, loads, looks, ors, piece, saw_set, sees_free, sees_locked, sees_shown, stores, subs, swaps, takes_in, takes_out, tries_seen};
+ghost use Rattle.core_words.specs.Plays.{adds, ands, draws, draws_permits, takes_mutex, exchanges, goes_on_with, lays_back, gives_mutex_up, leaves_alone, left_over, loads, looks_at_word, ors, piece, saw_set, sees_free, sees_locked, sees_shown, stores, subs, swaps, takes_in, takes_out, tries_seen};
 ghost use Rattle.core_words.specs.declared.owners.Ownership.{Ownership};
 ghost use Rattle.core_words.specs.declared.owners.Owner.TheVariants.{Exclusive};
 ghost use Rattle.core_words.specs.declared.words.WordKind.{WordKind};
@@ -144,7 +144,7 @@ impl<C: CondvarPick, P: PermitPick> Play<PermitSlot, View> for SeesShown<C, P> {
 pub struct Looks;
 
 impl<S> Play<S, View> for Looks {
-    ghost then = { looks };
+    ghost then = { looks_at_word };
 }
 
 /// The kinds of the words that are drawn together, picked at each call.
@@ -275,7 +275,7 @@ pub struct Enters<P: PermitPick> {
 }
 
 impl<P: PermitPick> Play<PermitSlot, View> for Enters<P> {
-    ghost then = { enters P.family };
+    ghost then = { takes_mutex P.family };
 }
 
 /// A subtraction by which it is given up, where that takes the locked bit, and else no step.
@@ -284,7 +284,7 @@ pub struct Leaves<P: PermitPick> {
 }
 
 impl<P: PermitPick> Play<PermitSlot, View> for Leaves<P> {
-    ghost then = { leaves P.family };
+    ghost then = { gives_mutex_up P.family };
 }
 
 /// The same by an exchange, where nobody waits.

@@ -1,6 +1,6 @@
 //! Ownerships that are split off a seat.
 ghost use Rattle.std.specs.Prelude.{◌≡◌, ◌≢◌, ◌↔◌, IsTrue, true};
-ghost use Rattle.core_words.specs.Rights.{handed, named_by, piece_of, takes_permit, want_of};
+ghost use Rattle.core_words.specs.Rights.{handed_view, named_by, piece_of, takes_permit, want_of};
 ghost use Rattle.core_words.specs.Views.{shown, with_out};
 ghost use Rattle.core_words.specs.declared.owners.Owner.TheVariants.{Exclusive};
 ghost use Rattle.core_words.specs.declared.words.WordKind.TheVariants.{Mutex};
@@ -48,7 +48,7 @@ pub struct Right {
     seat: Seat,
     word: Word,
     owner: Owner,
-    ghost names: { seat.me.0 ≡ handed word owner },
+    ghost names: { seat.me.0 ≡ handed_view word owner },
 }
 
 impl Right {

@@ -10,25 +10,25 @@ WaitsTimes {Token = Token} waited (suc times) old new = (last : Token)
     × WaitsTimes waited times old last × waited last new
 
 -- or any number of times, also none
-abbrev pub Waits : {Token : Type 0} → (Token → Token → Type 0) → Token → Token → Type 0
-Waits waited old new = (times : ℕ) × WaitsTimes waited times old new
+abbrev pub WaitsAnyTimes : {Token : Type 0} → (Token → Token → Type 0) → Token → Token → Type 0
+WaitsAnyTimes waited old new = (times : ℕ) × WaitsTimes waited times old new
 
 -- a call waits for as long as its condition holds, and each wait ends as notified, but for the last
 -- one where that is refused
 abbrev pub WaitsWhile : {Token A E : Type 0} → (Answer → Token → Token → Type 0) → Result A E
     → Token → Token → Type 0
-WaitsWhile waited (Ok guard) old new = Waits (waited answers.Ok) old new
+WaitsWhile waited (Ok guard) old new = WaitsAnyTimes (waited answers.Ok) old new
 WaitsWhile {Token = Token} waited (Err refused) old new = (last : Token)
-    × Waits (waited answers.Ok) old last × waited answers.TwoMutexes last new
+    × WaitsAnyTimes (waited answers.Ok) old last × waited answers.TwoMutexes last new
 
 -- the last wait of one with a limit may end as timed out too
 abbrev pub WaitsInTime : {Token A E : Type 0} → (Answer → Token → Token → Type 0) → Result A E
     → Token → Token → Type 0
 WaitsInTime {Token = Token} waited (Ok ended) old new = (last : Token)
-    × Waits (waited answers.Notified) old last
+    × WaitsAnyTimes (waited answers.Notified) old last
     × ((new ≡ last) ⊎ waited answers.TimedOut last new)
 WaitsInTime {Token = Token} waited (Err refused) old new = (last : Token)
-    × Waits (waited answers.Notified) old last × waited answers.TwoMutexes last new
+    × WaitsAnyTimes (waited answers.Notified) old last × waited answers.TwoMutexes last new
 
 -- its clock told a time from which so many nanoseconds end past all that a u64 tells
 abbrev pub NeverEnds : (ℕ → Type 0) → ℕ → Type 0

@@ -3,7 +3,7 @@ ghost use Rattle.std.specs.Prelude.{◌≡◌, ◌⊎◌, ◌*◌, false, true};
 ghost use Rattle.std.specs.Duration.{as_nanos};
 ghost use Rattle.std.specs.Iterator.Runs.{CallKeepsClosure};
 ghost use Rattle.core_base.specs.Clocks.{HasElapsed, HasPassed};
-ghost use Rattle.lock_raw.specs.Answers.{GivesBack, GivesBackTimed, IsLate, timed_answer};
+ghost use Rattle.lock_raw.specs.Answers.{GivesBack, GivesBackTimed, LateByClock, timed_answer};
 ghost use Rattle.lock_api.specs.Guards.{lock_of};
 ghost use Rattle.lock_api.specs.Conditions.{LastAnswered, LastRefused, WaitedOrNot};
 ghost use Rattle.lock_api.specs.Waits.{NeverEnds, WaitsInTime, WaitsWhile};
@@ -112,7 +112,7 @@ impl<R: RawCondvarTimed> Condvar<R> {
         ensures guard { GivesBackTimed result (λ back. lock_of back ≡ lock_of guard.entry) }
         ensures path { R.waited self.now (lock_of guard.entry) true
             (timed_answer result) token.old token.new }
-        ensures late { IsLate result (HasElapsed (C.tells clock.now) (as_nanos timeout)) }
+        ensures late { LateByClock result (HasElapsed (C.tells clock.now) (as_nanos timeout)) }
     {
         let (mutex, lot, guard) = guard.close();
         match self
@@ -145,7 +145,7 @@ impl<R: RawCondvarTimed> Condvar<R> {
         ensures guard { GivesBackTimed result (λ back. lock_of back ≡ lock_of guard.entry) }
         ensures path { R.waited self.now (lock_of guard.entry) true
             (timed_answer result) token.old token.new }
-        ensures late { IsLate result (HasPassed (C.tells clock.now) deadline) }
+        ensures late { LateByClock result (HasPassed (C.tells clock.now) deadline) }
     {
         let (mutex, lot, guard) = guard.close();
         match self
@@ -184,7 +184,7 @@ impl<R: RawCondvarTimed> Condvar<R> {
         ensures path { WaitsInTime (R.waited self.now (lock_of guard.entry) true)
             result token.old token.new }
         ensures ended { LastAnswered F.step (CallKeepsClosure F.FnMut condition) condition result }
-        ensures late { IsLate result (HasPassed (C.tells clock.now) deadline) }
+        ensures late { LateByClock result (HasPassed (C.tells clock.now) deadline) }
     {
         let mut late = false;
         for _ in rt.forever() {
@@ -233,7 +233,7 @@ impl<R: RawCondvarTimed> Condvar<R> {
             × WaitsWhile (R.waited self.now (lock_of guard.entry) false)
             result token.old token.new) }
         ensures ended { LastAnswered F.step (CallKeepsClosure F.FnMut condition) condition result }
-        ensures late { IsLate result (HasElapsed (C.tells clock.now) (as_nanos timeout)) }
+        ensures late { LateByClock result (HasElapsed (C.tells clock.now) (as_nanos timeout)) }
     {
         if let Some(deadline) = R::checked_duration_to_instant(clock.now(), timeout) {
             return self.wait_while_until(rt, token, guard, condition, clock, deadline);

@@ -1,7 +1,7 @@
 //! Fair releases and bumps of guards of reader-writer locks with a value.
 ghost use Rattle.std.specs.Prelude.{◌≡◌, IfErr, MatchResult};
 ghost use Rattle.lock_api_rw.specs.Guards.{lock_of};
-ghost use Rattle.lock_raw.specs.Answers.{IsFull, reading_answer};
+ghost use Rattle.lock_raw.specs.Answers.{IsReadersFull, reading_answer};
 ghost use Rattle.spec_locks.specs.declared.calls.Access.TheVariants as access;
 ghost use Rattle.spec_locks.specs.declared.calls.RwLockCall.TheVariants.{ReleaseFair, Bump};
 ghost use Rattle.spec_locks.specs.declared.outcomes.Answer.TheVariants as answers;
@@ -47,7 +47,7 @@ impl<'a, R: RawRwLockFair, T> Held<Reading<'a, R, T>, Seen<'a, T>> {
         requires { R.is_token_of (R.lot_of (lock_of self)) token.old }
         ensures token { R.is_token_of (R.lot_of (lock_of self.entry)) token.new
             × R.stays token.old token.new }
-        ensures guard { MatchResult result (λ guard. lock_of guard ≡ lock_of self.entry) IsFull }
+        ensures guard { MatchResult result (λ guard. lock_of guard ≡ lock_of self.entry) IsReadersFull }
         ensures path { R.walked (lock_of self.entry) (Bump access.Shared)
             (reading_answer result) token.old token.new }
         ensures full { IfErr result
@@ -94,7 +94,7 @@ impl<'a, R: RawRwLockUpgradeFair, T> Held<Upgrading<'a, R, T>, Seen<'a, T>> {
         requires { R.is_token_of (R.lot_of (lock_of self)) token.old }
         ensures token { R.is_token_of (R.lot_of (lock_of self.entry)) token.new
             × R.stays token.old token.new }
-        ensures guard { MatchResult result (λ guard. lock_of guard ≡ lock_of self.entry) IsFull }
+        ensures guard { MatchResult result (λ guard. lock_of guard ≡ lock_of self.entry) IsReadersFull }
         ensures path { R.walked (lock_of self.entry) (Bump access.Upgradable)
             (reading_answer result) token.old token.new }
         ensures full { IfErr result

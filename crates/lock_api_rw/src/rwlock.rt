@@ -1,7 +1,7 @@
 //! The reader-writer lock with its value.
 ghost use Rattle.std.specs.Prelude.{◌≡◌, ◌≤◌, IfErr, IfOk, IfSome, MatchResult};
 ghost use Rattle.std.specs.Arc.{arc_value};
-ghost use Rattle.lock_raw.specs.Answers.{IsFull, IsRefusal, TriesOrFull, answer_by, counted_answer, reading_answer};
+ghost use Rattle.lock_raw.specs.Answers.{IsReadersFull, IsRefusal, TriesOrFull, answer_by, counted_answer, reading_answer};
 ghost use Rattle.lock_api_rw.specs.Guards.{lock_of};
 ghost use Rattle.spec_locks.specs.declared.calls.Access.TheVariants as access;
 ghost use Rattle.spec_locks.specs.declared.calls.Patience.TheVariants.{Patient, Try};
@@ -144,7 +144,7 @@ impl<R: RawRwLock, T> RwLock<R, T> {
     ) -> Result<RwLockReadGuard<'_, R, T>, Fault>
         requires { R.is_token_of (R.lot_of self.now) token.old }
         ensures token { R.is_token_of (R.lot_of self.now) token.new × R.stays token.old token.new }
-        ensures guard { MatchResult result (λ guard. lock_of guard ≡ self.now) IsFull }
+        ensures guard { MatchResult result (λ guard. lock_of guard ≡ self.now) IsReadersFull }
         ensures path { R.walked self.now (Enter access.Shared Patient)
             (reading_answer result) token.old token.new }
         ensures full { IfErr result (λ _. R.saw_full self.now access.Shared token.old token.new) }
@@ -263,7 +263,7 @@ impl<R: RawRwLockUpgrade, T> RwLock<R, T> {
     ) -> Result<RwLockUpgradableReadGuard<'_, R, T>, Fault>
         requires { R.is_token_of (R.lot_of self.now) token.old }
         ensures token { R.is_token_of (R.lot_of self.now) token.new × R.stays token.old token.new }
-        ensures guard { MatchResult result (λ guard. lock_of guard ≡ self.now) IsFull }
+        ensures guard { MatchResult result (λ guard. lock_of guard ≡ self.now) IsReadersFull }
         ensures path { R.walked self.now (Enter access.Upgradable Patient)
             (reading_answer result) token.old token.new }
         ensures full { IfErr result

@@ -1,7 +1,7 @@
 //! Calls of a reader-writer lock that come in, run a closure on the value, and go.
 ghost use Rattle.std.specs.Prelude.{◌≡◌, ◌⊎◌, IfErr, IfSome, MatchOption, MatchResult, None, Some};
 ghost use Rattle.std.specs.Fn.{FnOnceReturnsAt, FnOnceReturnsAtMut};
-ghost use Rattle.lock_raw.specs.Answers.{IsFull, TriesOrFull};
+ghost use Rattle.lock_raw.specs.Answers.{IsReadersFull, TriesOrFull};
 ghost use Rattle.lock_api.specs.Visits.{CameAndWent};
 ghost use Rattle.lock_api_rw.specs.Visits.{CameUpAndWent};
 ghost use Rattle.spec_locks.specs.declared.calls.Access.TheVariants as access;
@@ -39,7 +39,7 @@ impl<R: RawRwLock, T> RwLock<R, T> {
         requires callable { F.IsAlwaysCallable f }
         ensures token { R.is_token_of (R.lot_of self.now) token.new × R.stays token.old token.new }
         ensures ran { MatchResult result
-            (λ answer. (found : T) × FnOnceReturnsAt F.FnOnce f found answer) IsFull }
+            (λ answer. (found : T) × FnOnceReturnsAt F.FnOnce f found answer) IsReadersFull }
         ensures path { MatchResult result
             (λ _. CameAndWent (R.walked self.now) (R.woke self.now)
             (Enter access.Shared Patient) answers.Ok (Release access.Shared) token.old token.new)
@@ -166,7 +166,7 @@ impl<R: RawRwLockUpgrade, T> RwLock<R, T> {
             ⊎ (((found : T) × FnOnceReturnsAt L.FnOnce look found None)
             × ((found : T) × (left : T) × FnOnceReturnsAtMut F.FnOnce write found answer left)
             × CameUpAndWent (R.walked self.now) (R.woke self.now) token.old token.new))
-            (λ fault. IsFull fault × R.walked self.now
+            (λ fault. IsReadersFull fault × R.walked self.now
             (Enter access.Upgradable Patient) answers.ReadersFull token.old token.new) }
         ensures full { IfErr result
             (λ _. R.saw_full self.now access.Upgradable token.old token.new) }

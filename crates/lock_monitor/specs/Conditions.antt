@@ -1,6 +1,6 @@
 -- One of several condition variables, and the steps of waits on it.
 use Rattle.std.specs.Prelude.{◌≡◌, ℕ, List, slice_index_or}
-use Rattle.lock_api.specs.Waits.{Waits}
+use Rattle.lock_api.specs.Waits.{WaitsAnyTimes}
 use Rattle.spec_locks.specs.declared.outcomes.Answer.{Answer}
 use Rattle.spec_locks.specs.declared.outcomes.Answer.TheVariants.{TwoMutexes}
 
@@ -13,9 +13,9 @@ At {X = X} conditions at holds = (condition : X)
 abbrev pub WaitsAtLast : {Token : Type 0} → (Answer → Token → Token → Type 0) → Answer
     → Token → Token → Type 0
 WaitsAtLast {Token = Token} waited answer old new = (last : Token)
-    × Waits (waited TwoMutexes) old last × waited answer last new
+    × WaitsAnyTimes (waited TwoMutexes) old last × waited answer last new
 
 -- any number of such waits, one after another, also none
 abbrev pub WaitsOften : {Token : Type 0} → (Answer → Token → Token → Type 0) → Answer
     → Token → Token → Type 0
-WaitsOften waited answer old new = Waits (WaitsAtLast waited answer) old new
+WaitsOften waited answer old new = WaitsAnyTimes (WaitsAtLast waited answer) old new

@@ -3,7 +3,7 @@ ghost use Rattle.std.specs.Prelude.{◌≡◌, ◌⊎◌, ◌↔◌, ◌+◌, Al
 ghost use Rattle.std.specs.Arc.{arc_value};
 ghost use Rattle.parking_lot_core.specs.Team.{AreSizes};
 ghost use Rattle.parking_lot_core.specs.Tokens.{IsTicketOf, IsTokenOf};
-ghost use Rattle.lock_monitor.specs.Calls.{MayAnswer, MayRun, StaysIn};
+ghost use Rattle.lock_monitor.specs.Calls.{MayAnswer, MayRun, GivesTokenBack};
 
 use parking_lot_core::{DEFAULT_WORDS, Fault, ParkingLot, Ticket, Token};
 use std::alloc::Global;
@@ -45,7 +45,7 @@ fn run_one<U, F: Fn(&mut Token) -> U>(lot: &ParkingLot, ticket: Ticket, f: &F) -
 
 // Calls the closure so many times in between.
 fn run_times<F: Fn(&mut Token)>(lot: &ParkingLot, ticket: Ticket, times: u64, f: &F) -> Ticket
-    requires { IsTicketOf lot.now ticket × MayRun F.Fn f.now lot.now × StaysIn F.Fn f.now lot.now }
+    requires { IsTicketOf lot.now ticket × MayRun F.Fn f.now lot.now × GivesTokenBack F.Fn f.now lot.now }
     ensures { IsTicketOf lot.now result }
 {
     let mut token = ticket.enter();
@@ -141,7 +141,7 @@ impl Team {
         f: &F,
     ) -> Result<Team, Fault>
         requires may { MayRun F.Fn f.now self }
-        requires stays { StaysIn F.Fn f.now self }
+        requires stays { GivesTokenBack F.Fn f.now self }
         ensures team { IfOk result (λ team. team ≡ self) }
         ensures err { IfErr result (λ fault. fault ≡ Fault.NoMemory) }
     {
@@ -152,7 +152,7 @@ impl Team {
             tickets,
             &|ticket: Ticket| -> Ticket
                 requires { IsTicketOf shared.now ticket × MayRun F.Fn f.now shared.now
-                    × StaysIn F.Fn f.now shared.now }
+                    × GivesTokenBack F.Fn f.now shared.now }
                 ensures { IsTicketOf shared.entry.now result }
             { run_times(shared, ticket, times, f) },
         )?;

@@ -33,12 +33,12 @@ IsRefusal found_full old new fault =
     ((fault ≡ faults.NoMemory) × (new ≡ old)) ⊎ ((fault ≡ faults.LotFull) × found_full old new)
 
 -- the lock is full of readers
-abbrev pub IsFull : Fault → Type 0
-IsFull fault = fault ≡ faults.ReadersFull
+abbrev pub IsReadersFull : Fault → Type 0
+IsReadersFull fault = fault ≡ faults.ReadersFull
 
 -- a call that may end without the lock has such a guard where it came in, or found the lock full of readers
 abbrev pub TriesOrFull : {A : Type 0} → Result (Option A) Fault → (A → Type 0) → Type 0
-TriesOrFull result holds = MatchResult result (λ entered. IfSome entered holds) IsFull
+TriesOrFull result holds = MatchResult result (λ entered. IfSome entered holds) IsReadersFull
 
 -- a wait without a limit ends with its guard, or is refused because of another mutex
 abbrev pub waiting_answer : {A E : Type 0} → Result A E → Answer
@@ -75,5 +75,5 @@ abbrev pub GivesBackTimed : {A B : Type 0} → Result (A × B) (Fault × A) → 
 GivesBackTimed result holds = MatchResult result (λ ended. holds ended.0) (IsRefusedWith holds)
 
 -- a call that tells that its time was up says so of its clock
-abbrev pub IsLate : {A E : Type 0} → Result (A × Bool) E → Type 0 → Type 0
-IsLate result passed = IfOk result (λ ended. ended.1 ≡ true → passed)
+abbrev pub LateByClock : {A E : Type 0} → Result (A × Bool) E → Type 0 → Type 0
+LateByClock result passed = IfOk result (λ ended. ended.1 ≡ true → passed)

@@ -23,18 +23,18 @@ first_count number = (number + 1) * 4294967296 + 1
 
 -- How counts are looked at, and how they are stored, by what was found and what was left: of a
 -- thread, between two states.
-abbrev pub Looks : Type 0 → Type 1
-Looks Token = ℕ → Token → Token → Type 0
+abbrev pub CountRelation : Type 0 → Type 1
+CountRelation Token = ℕ → Token → Token → Type 0
 
 abbrev pub Stores : Type 0 → Type 1
 Stores Token = ℕ → ℕ → Token → Token → Type 0
 
 -- the thread of this number saw another named, or none
-abbrev pub SawOthers : {Token : Type 0} → Looks Token → ℕ → Token → Token → Type 0
+abbrev pub SawOthers : {Token : Type 0} → CountRelation Token → ℕ → Token → Token → Type 0
 SawOthers saw number old new = (word : ℕ) × saw word old new × (Names number word → ⊥)
 
 -- it saw itself named, with a count below the greatest, and counted once more
-abbrev pub CountedAgain : {Token : Type 0} → Looks Token → Stores Token → ℕ → Token → Token
+abbrev pub CountedAgain : {Token : Type 0} → CountRelation Token → Stores Token → ℕ → Token → Token
     → Type 0
 CountedAgain {Token} saw stored number old new = (word : ℕ) × (looked : Token)
     × saw word old looked × Names number word × (times_in word < 4294967295)
@@ -46,7 +46,7 @@ CountedMore stored number old new = (word : ℕ) × Names number word × (times_
     × stored word (word + 1) old new
 
 -- it saw itself named with the greatest count
-abbrev pub SawFull : {Token : Type 0} → Looks Token → ℕ → Token → Token → Type 0
+abbrev pub SawFull : {Token : Type 0} → CountRelation Token → ℕ → Token → Token → Type 0
 SawFull saw number old new = (word : ℕ) × saw word old new × Names number word
     × (times_in word ≡ 4294967295)
 
@@ -59,11 +59,11 @@ abbrev pub CountedOut : {Token : Type 0} → Stores Token → Token → Token �
 CountedOut stored old new = (word : ℕ) × (times_in word ≡ 1) × stored word 0 old new
 
 -- it saw the count at 1, and counted out
-abbrev pub CountedOutAlone : {Token : Type 0} → Looks Token → Stores Token → Token → Token
+abbrev pub CountedOutAlone : {Token : Type 0} → CountRelation Token → Stores Token → Token → Token
     → Type 0
 CountedOutAlone {Token} saw stored old new = (word : ℕ) × (looked : Token)
     × saw word old looked × (times_in word ≡ 1) × stored word 0 looked new
 
 -- it saw another count
-abbrev pub SawMore : {Token : Type 0} → Looks Token → Token → Token → Type 0
+abbrev pub SawMore : {Token : Type 0} → CountRelation Token → Token → Token → Type 0
 SawMore saw old new = (word : ℕ) × saw word old new × (times_in word ≢ 1)

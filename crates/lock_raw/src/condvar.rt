@@ -5,7 +5,7 @@ ghost use Rattle.std.specs.Duration.{as_nanos};
 ghost use Rattle.core_base.specs.Clocks.{HasElapsed, HasPassed};
 ghost use Rattle.spec_locks.specs.declared.outcomes.Answer.{Answer};
 ghost use Rattle.spec_locks.specs.declared.outcomes.Answer.TheVariants.{No, Number};
-ghost use Rattle.lock_raw.specs.Answers.{GivesBack, GivesBackTimed, IsRefusal, IsLate, moved_first, notifying_answer, timed_answer, waiting_answer};
+ghost use Rattle.lock_raw.specs.Answers.{GivesBack, GivesBackTimed, IsRefusal, LateByClock, moved_first, notifying_answer, timed_answer, waiting_answer};
 
 use crate::RawMutex;
 use core_base::{Clock, Fault, to_deadline};
@@ -194,7 +194,7 @@ pub trait RawCondvarTimed: RawCondvar {
         ensures guard { GivesBackTimed result (Self.RawMutex.is_guard_of mutex.now) }
         ensures path { Self.waited self.now mutex.now true
             (timed_answer result) token.old token.new }
-        ensures late { IsLate result (HasElapsed (C.tells clock.now) (as_nanos timeout)) };
+        ensures late { LateByClock result (HasElapsed (C.tells clock.now) (as_nanos timeout)) };
 
     /// Waits as `wait` does, or until the clock has come to the deadline: it tells whether that was
     /// so.
@@ -222,5 +222,5 @@ pub trait RawCondvarTimed: RawCondvar {
         ensures guard { GivesBackTimed result (Self.RawMutex.is_guard_of mutex.now) }
         ensures path { Self.waited self.now mutex.now true
             (timed_answer result) token.old token.new }
-        ensures late { IsLate result (HasPassed (C.tells clock.now) deadline) };
+        ensures late { LateByClock result (HasPassed (C.tells clock.now) deadline) };
 }

@@ -13,7 +13,7 @@ ghost use Rattle.spec_locks.specs.declared.outcomes.Answer.{Answer};
 ghost use Rattle.spec_locks.specs.declared.outcomes.Answer.TheVariants as answers;
 ghost use Rattle.lock_values.specs.Ownership.{PlaceId};
 ghost use Rattle.core_words.specs.declared.views.View.{View};
-ghost use Rattle.lock_raw.specs.Answers.{IsFull, IsRefusal, TriesOrFull, answer_by, counted_answer, reading_answer};
+ghost use Rattle.lock_raw.specs.Answers.{IsReadersFull, IsRefusal, TriesOrFull, answer_by, counted_answer, reading_answer};
 
 use core_base::{Clock, Fault};
 use lock_values::{Open, Place, Seen};
@@ -130,7 +130,7 @@ pub trait RawRwLock {
     ) -> Result<Self::SharedGuard, Fault>
         requires { is_token_of (lot_of self.now) token.old }
         ensures token { is_token_of (lot_of self.now) token.new × stays token.old token.new }
-        ensures guard { MatchResult result (is_shared_of self.now) IsFull }
+        ensures guard { MatchResult result (is_shared_of self.now) IsReadersFull }
         ensures path { walked self.now (Enter access.Shared Patient)
             (reading_answer result) token.old token.new }
         ensures full { IfErr result (λ _. saw_full self.now access.Shared token.old token.new) };
@@ -203,7 +203,7 @@ pub trait RawRwLock {
         ensures token { is_token_of (lot_of self.now) token.new }
         ensures over { IfOk result
             (λ entered. stays token.old token.new
-            × MatchResult entered (is_shared_of self.now) IsFull
+            × MatchResult entered (is_shared_of self.now) IsReadersFull
             × walked self.now (Enter access.Shared Patient) (reading_answer entered)
             token.old token.new
             × IfErr entered (λ _. saw_full self.now access.Shared token.old token.new)) }
@@ -225,7 +225,7 @@ pub trait RawRwLock {
         requires begun { (before : Self.Token)
             × begun self.now (Enter access.Shared Patient) rest before token.old }
         ensures token { is_token_of (lot_of self.now) token.new }
-        ensures guard { MatchResult result (is_shared_of self.now) IsFull }
+        ensures guard { MatchResult result (is_shared_of self.now) IsReadersFull }
         ensures over { (before : Self.Token)
             → begun self.now (Enter access.Shared Patient) rest before token.old
             → stays before token.new

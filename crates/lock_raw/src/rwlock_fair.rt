@@ -3,7 +3,7 @@ ghost use Rattle.std.specs.Prelude.{IfErr, MatchResult};
 ghost use Rattle.spec_locks.specs.declared.calls.Access.TheVariants as access;
 ghost use Rattle.spec_locks.specs.declared.calls.RwLockCall.TheVariants.{ReleaseFair, Bump};
 ghost use Rattle.spec_locks.specs.declared.outcomes.Answer.TheVariants as answers;
-ghost use Rattle.lock_raw.specs.Answers.{IsFull, reading_answer};
+ghost use Rattle.lock_raw.specs.Answers.{IsReadersFull, reading_answer};
 
 use crate::rwlock::RawRwLock;
 use crate::rwlock_upgrade::RawRwLockUpgrade;
@@ -56,7 +56,7 @@ pub trait RawRwLockFair: RawRwLock {
         requires guard { Self.is_shared_of self.now guard }
         ensures token { Self.is_token_of (Self.lot_of self.now) token.new
             × Self.stays token.old token.new }
-        ensures guard { MatchResult result (Self.is_shared_of self.now) IsFull }
+        ensures guard { MatchResult result (Self.is_shared_of self.now) IsReadersFull }
         ensures path { Self.walked self.now (Bump access.Shared)
             (reading_answer result) token.old token.new }
         ensures full { IfErr result
@@ -117,7 +117,7 @@ pub trait RawRwLockUpgradeFair: RawRwLockUpgrade {
         ensures token { Self.RawRwLock.is_token_of (Self.RawRwLock.lot_of self.now) token.new
             × Self.RawRwLock.stays token.old token.new }
         ensures guard { MatchResult result
-            (Self.RawRwLockUpgrade.is_upgradable_of self.now) IsFull }
+            (Self.RawRwLockUpgrade.is_upgradable_of self.now) IsReadersFull }
         ensures path { Self.RawRwLock.walked self.now (Bump access.Upgradable)
             (reading_answer result) token.old token.new }
         ensures full { IfErr result

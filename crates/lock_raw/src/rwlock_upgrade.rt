@@ -8,7 +8,7 @@ ghost use Rattle.spec_locks.specs.declared.calls.Patience.TheVariants.{Patient, 
 ghost use Rattle.spec_locks.specs.declared.calls.RwLockCall.TheVariants.{Enter, Release, Downgrade, Upgrade};
 ghost use Rattle.spec_locks.specs.declared.outcomes.Answer.TheVariants as answers;
 ghost use Rattle.core_words.specs.declared.views.View.{View};
-ghost use Rattle.lock_raw.specs.Answers.{IsFull, TriesOrFull, counted_answer, reading_answer, upgrade_answer};
+ghost use Rattle.lock_raw.specs.Answers.{IsReadersFull, TriesOrFull, counted_answer, reading_answer, upgrade_answer};
 
 use crate::rwlock::RawRwLock;
 use core_base::{Clock, Fault};
@@ -42,7 +42,7 @@ pub trait RawRwLockUpgrade: RawRwLock {
         requires { Self.is_token_of (Self.lot_of self.now) token.old }
         ensures token { Self.is_token_of (Self.lot_of self.now) token.new
             × Self.stays token.old token.new }
-        ensures guard { MatchResult result (is_upgradable_of self.now) IsFull }
+        ensures guard { MatchResult result (is_upgradable_of self.now) IsReadersFull }
         ensures path { Self.walked self.now (Enter access.Upgradable Patient)
             (reading_answer result) token.old token.new }
         ensures full { IfErr result
@@ -96,7 +96,7 @@ pub trait RawRwLockUpgrade: RawRwLock {
         ensures token { Self.is_token_of (Self.lot_of self.now) token.new }
         ensures over { IfOk result
             (λ entered. Self.stays token.old token.new
-            × MatchResult entered (is_upgradable_of self.now) IsFull
+            × MatchResult entered (is_upgradable_of self.now) IsReadersFull
             × Self.walked self.now (Enter access.Upgradable Patient) (reading_answer entered)
             token.old token.new
             × IfErr entered (λ _. Self.saw_full self.now access.Upgradable token.old token.new)) }
@@ -119,7 +119,7 @@ pub trait RawRwLockUpgrade: RawRwLock {
         requires begun { (before : Self.Token)
             × Self.begun self.now (Enter access.Upgradable Patient) rest before token.old }
         ensures token { Self.is_token_of (Self.lot_of self.now) token.new }
-        ensures guard { MatchResult result (is_upgradable_of self.now) IsFull }
+        ensures guard { MatchResult result (is_upgradable_of self.now) IsReadersFull }
         ensures over { (before : Self.Token)
             → Self.begun self.now (Enter access.Upgradable Patient) rest before token.old
             → Self.stays before token.new

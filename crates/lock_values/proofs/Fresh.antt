@@ -14,7 +14,7 @@ use denote.Memory.{shared_of, part_at}
 use denote.Shares.{Shares}
 use denote.Steps.{nothing}
 use Rattle.core.proofs.cell.Borrows.{by_one}
-use Rattle.lock_values.specs.Ownership.{content, shown}
+use Rattle.lock_values.specs.Ownership.{content, shared_content}
 
 module _ {M : Type 1} {𝓤 : Ura M} (𝓛 : Logic 𝓤) (R : RattleType) (b e : ℕ) where
   open 𝓛 use {H, A}
@@ -51,7 +51,7 @@ module _ {M : Type 1} {𝓤 : Ura M} (𝓛 : Logic 𝓤) (R : RattleType) (b e :
         use1 𝓛 (‵ (fbor κ (At x)) ⊛ ‵ ftrue) (id⊢ 𝓤 _) $ split ! $ use1 𝓛 (raw (ex 𝓤 (λ (y : R.Denot). A.bor κ (At y)))) (ex_i 𝓤 (λ (y : R.Denot). A.bor κ (At y)) x) $ now ! $ keep ! (0 ∷ 2 ∷ []) $ done !)
 
   abbrev pub anew : Lft → ℕ → Fml
-  anew α a = fsep (flft (a ∷ []) full_share) (fsep (shown R b e (a ∷ α)) (flent (a ∷ α) (fbor α Value)))
+  anew α a = fsep (flft (a ∷ []) full_share) (fsep (shared_content R b e (a ∷ α)) (flent (a ∷ α) (fbor α Value)))
 
   abbrev pub Fresh : Lft → Fml
   Fresh α = fex ℕ (anew α)

@@ -11,8 +11,8 @@ use denote.Param.Send.{IsSend, IsSync, part_keyless}
 use types.Keyed.{entry_keyless}
 use Rattle.atomic_table.specs.Seated.{halved, TableId}
 use Rattle.atomic_table.proofs.Sent.{roster_keyless}
-use Rattle.lock_values.specs.Ownership.{Rec, Phase, Id, berth, bench, state, rec_coded}
-use Rattle.lock_values.specs.Ownership.Phase.{read, written, clashed}
+use Rattle.lock_values.specs.Ownership.{Rec, PlacePhase, Id, berth, bench, state, rec_coded}
+use Rattle.lock_values.specs.Ownership.PlacePhase.{read, written, clashed}
 
 module _ {V : Type 0} (cv : Coded V) (alone among : V → Type 0) (z : TableId) where
   berth_keyless : (q : Share) (a : ℕ) (y : Bool) (r : ℕ × (ℕ × V)) → Keyless (berth cv alone among z q a y r)
@@ -23,7 +23,7 @@ module _ {V : Type 0} (cv : Coded V) (alone among : V → Type 0) (z : TableId) 
   bench_keyless q a [] = tt
   bench_keyless q a (r ∷ rs) = (berth_keyless q a r.0 r.1, bench_keyless (right q) a rs)
 
-  pub state_keyless : (R : RattleType) → IsSend R → IsSync R → (b e : ℕ) (t : Id) (y : Phase V) → Keyless (state cv alone among z R b e t y)
+  pub state_keyless : (R : RattleType) → IsSend R → IsSync R → (b e : ℕ) (t : Id) (y : PlacePhase V) → Keyless (state cv alone among z R b e t y)
   state_keyless R s y b e t (read a rs) = ((roster_keyless (rec_coded cv).code t.1.0 0 rs, bench_keyless full_share a rs), ((λ g. (tt, tt)), ((λ x. y.shared x b e (a ∷ t.0)), (λ x. part_keyless R s full_share x b e))))
   state_keyless R s y b e t (written i v rs) = ((λ _. tt), (roster_keyless (rec_coded cv).code t.1.0 0 rs, (entry_keyless halved z.views_name i _, tt)))
   state_keyless R s y b e t (clashed i v q j w r) = ((λ _. tt), (entry_keyless halved z.views_name i _, entry_keyless halved z.views_name j _))

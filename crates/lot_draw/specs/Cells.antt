@@ -11,9 +11,9 @@ use Rattle.lot_draw.specs.declared.cells.Deed.{Deed}
 use Rattle.lot_draw.specs.declared.cells.Deed.TheVariants.{Owes, Waits, WaitsAside, Retries, Taken, Calls}
 
 -- the first right of a thread among these
-abbrev pub right_in : List (Owner × ℕ) → ℕ → Option Owner
-right_in [] t = None
-right_in (r ∷ rs) t = if r.1 == t then Some r.0 else right_in rs t
+abbrev pub right_among : List (Owner × ℕ) → ℕ → Option Owner
+right_among [] t = None
+right_among (r ∷ rs) t = if r.1 == t then Some r.0 else right_among rs t
 
 -- whether this thread is inside a section
 abbrev pub is_thread : ℕ → Option ℕ → Bool
@@ -21,24 +21,24 @@ is_thread t None = false
 is_thread t (Some s) = s == t
 
 -- whether a thread is inside one of the two sections of a lock
-abbrev pub is_inside : State → ℕ → ℕ → Bool
-is_inside w t l = is_thread t (section_at w (2 * l)) || is_thread t (section_at w (2 * l + 1))
+abbrev pub is_inside_lock : State → ℕ → ℕ → Bool
+is_inside_lock w t l = is_thread t (section_at w (2 * l)) || is_thread t (section_at w (2 * l + 1))
 
 -- how a thread waits that stands under a key of a lock
 abbrev pub waiting_under : ℕ → ℕ → Deed
 waiting_under l key = if key == 2 * l then Waits else WaitsAside
 
 -- how a thread waits among these
-abbrev pub waiting_in : List Waiter → ℕ → ℕ → Option Deed
-waiting_in [] t l = None
-waiting_in (x ∷ xs) t l = if x.thread == t then Some (waiting_under l x.key) else waiting_in xs t l
+abbrev pub waits_among : List Waiter → ℕ → ℕ → Option Deed
+waits_among [] t l = None
+waits_among (x ∷ xs) t l = if x.thread == t then Some (waiting_under l x.key) else waits_among xs t l
 
 -- the deed of a thread that neither owes, nor stands in a queue, nor tries again, where it was
 -- taken or not by one that is inside
 abbrev pub call_deed : State → Place → ℕ → Option ℕ → Option Deed
 call_deed w p l None = if calls p l then Some Calls else None
 call_deed w p l (Some by) =
-    if is_inside w by l then Some Taken
+    if is_inside_lock w by l then Some Taken
     else if calls p l then Some Calls else None
 
 abbrev pub waking_deed : State → Place → ℕ → Option Deed
@@ -52,12 +52,12 @@ or_deed None other = other
 abbrev pub deed_of : State → ℕ → ℕ → Option Deed
 deed_of w t l =
     if owes_on (place_at w t) l then Some Owes
-    else or_deed (waiting_in (queue_of w l) t l) (waking_deed w (place_at w t) l)
+    else or_deed (waits_among (queue_of w l) t l) (waking_deed w (place_at w t) l)
 
 -- the part of a thread at a lock
 abbrev pub cell_at : State → ℕ → ℕ → Cell
 cell_at w t l = record {
-  right = right_in (owners_of w l) t;
+  right = right_among (owners_of w l) t;
   deed = deed_of w t l;
-  is_inside = is_inside w t l;
+  is_inside = is_inside_lock w t l;
 }

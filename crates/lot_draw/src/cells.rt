@@ -2,7 +2,7 @@
 ghost use Rattle.std.specs.Prelude.{◌≡◌, ◌<◌, length};
 ghost use Rattle.lot_steps.specs.Steps.{calls};
 ghost use Rattle.lot_machine.specs.Machine.{place_at};
-ghost use Rattle.lot_draw.specs.Cells.{right_in, is_inside, waiting_in, deed_of, cell_at};
+ghost use Rattle.lot_draw.specs.Cells.{right_among, is_inside_lock, waits_among, deed_of, cell_at};
 
 use core_base::{Queues, main_key};
 use lot_world::{MOST_LOCKS, Owner, OwnersOf, Place, QueueOf, World};
@@ -61,7 +61,7 @@ pub fn cell_of<Q: Queues + Drop>(world: &World<Q>, thread: usize, lock: usize) -
 
 /// Returns the first right that a thread has among these.
 fn right_in(owners: OwnersOf<'_>, thread: usize) -> Option<Owner>
-    ensures { result ≡ right_in owners.entry thread }
+    ensures { result ≡ right_among owners.entry thread }
 {
     for (owner, who) in owners {
         if who == thread {
@@ -74,7 +74,7 @@ fn right_in(owners: OwnersOf<'_>, thread: usize) -> Option<Owner>
 /// Tells whether a thread is inside one of the two sections of a lock.
 fn is_inside<Q: Queues + Drop>(world: &World<Q>, thread: usize, lock: usize) -> bool
     requires { lock < length world.now.locks }
-    ensures { result ≡ is_inside world.now thread lock }
+    ensures { result ≡ is_inside_lock world.now thread lock }
 {
     let (main, aside) = world.inside(lock);
     main == Some(thread) || aside == Some(thread)
@@ -111,7 +111,7 @@ fn deed_at<Q: Queues + Drop>(
 /// Returns how a thread waits in this queue of a lock.
 fn waiting_deed<Q: Queues + Drop>(queue: QueueOf<'_, Q>, thread: usize, lock: usize) -> Option<Deed>
     requires { lock < MOST_LOCKS }
-    ensures { result ≡ waiting_in queue.entry thread lock }
+    ensures { result ≡ waits_among queue.entry thread lock }
 {
     for waiter in queue {
         if waiter.thread == thread {

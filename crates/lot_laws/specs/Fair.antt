@@ -21,8 +21,8 @@ IsFairRelease (Some (Bumps l Exclusive)) k = l ≡ k
 IsFairRelease purpose k = ⊥
 
 -- an owner that releases its mutex fairly
-abbrev pub ReleasesFairly : State → ℕ → ℕ → Type 0
-ReleasesFairly w t l =
+abbrev pub OwnerReleasesFairly : State → ℕ → ℕ → Type 0
+OwnerReleasesFairly w t l =
     IsFairRelease (call_at w t).purpose l × Owns (lock_state w l) t Exclusive
     × (is_mutex (kind_at w l) ≡ true)
 
@@ -62,9 +62,9 @@ FairReleaseComesTo r s s2 word t x =
 
 -- a step of any thread, from w to v
 pub record IsFair (w v : State) : Type 0 where
-  pub gives : (t l : ℕ) → ReleasesFairly w t l → OwnsOn v t l ⊎ (HandsMutexOver w v t l ⊎ LetsMutexGo w v t l)
+  pub gives : (t l : ℕ) → OwnerReleasesFairly w t l → OwnsOn v t l ⊎ (HandsMutexOver w v t l ⊎ LetsMutexGo w v t l)
   -- the waiter that it has taken was the first of the queue
-  pub takes : (t l u : ℕ) → ReleasesFairly w t l → IsTaken (lock_state v l) t u Exclusive
+  pub takes : (t l u : ℕ) → OwnerReleasesFairly w t l → IsTaken (lock_state v l) t u Exclusive
       → IsTaken (lock_state w l) t u Exclusive ⊎ (first_thread (lock_state w l).queue ≡ Some u)
   pub shared : (t l : ℕ) (x : Want) → GivesUpFairly w t l x
       → FairReleaseComesTo (rules_in w l) (lock_state w l) (lock_state v l) (word_at w l) t x

@@ -23,16 +23,16 @@ use Rattle.lot_laws.specs.Fair.{IsFair}
 use Rattle.lot_laws.specs.Promises.{IsKept}
 use Rattle.spec_locks.specs.Runs.{IsRun}
 
-abbrev turn_of : ℕ → Turn → Step
-turn_of t x = record { thread = t; turn = x }
+abbrev step_of_turn : ℕ → Turn → Step
+step_of_turn t x = record { thread = t; turn = x }
 
 -- a thread begins a call of the mutex
-abbrev calls : ℕ → MutexCall → Step
-calls t c = turn_of t (Begin (call.Mutex 0 c))
+abbrev begins_call : ℕ → MutexCall → Step
+begins_call t c = step_of_turn t (Begin (call.Mutex 0 c))
 
 -- and goes on
-abbrev goes : ℕ → Step
-goes t = turn_of t Go
+abbrev goes_on_step : ℕ → Step
+goes_on_step t = step_of_turn t Go
 
 -- three threads and a mutex
 abbrev pub three : State
@@ -40,10 +40,10 @@ three = opening (kind.Mutex ∷ []) 3
 
 -- Thread 0 locks it. Threads 1 and 2 wait for it in this order. Thread 0 unlocks it fairly.
 abbrev pub row : List Step
-row = calls 0 Lock ∷ goes 0
-    ∷ calls 1 Lock ∷ goes 1 ∷ goes 1 ∷ goes 1 ∷ goes 1 ∷ goes 1 ∷ goes 1
-    ∷ calls 2 Lock ∷ goes 2 ∷ goes 2 ∷ goes 2 ∷ goes 2 ∷ goes 2
-    ∷ calls 0 UnlockFair ∷ goes 0 ∷ goes 0 ∷ goes 0 ∷ goes 0 ∷ goes 0 ∷ []
+row = begins_call 0 Lock ∷ goes_on_step 0
+    ∷ begins_call 1 Lock ∷ goes_on_step 1 ∷ goes_on_step 1 ∷ goes_on_step 1 ∷ goes_on_step 1 ∷ goes_on_step 1 ∷ goes_on_step 1
+    ∷ begins_call 2 Lock ∷ goes_on_step 2 ∷ goes_on_step 2 ∷ goes_on_step 2 ∷ goes_on_step 2 ∷ goes_on_step 2
+    ∷ begins_call 0 UnlockFair ∷ goes_on_step 0 ∷ goes_on_step 0 ∷ goes_on_step 0 ∷ goes_on_step 0 ∷ goes_on_step 0 ∷ []
 
 -- the outcome of each step
 abbrev pub row_told : List Outcome

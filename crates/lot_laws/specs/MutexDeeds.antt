@@ -7,9 +7,9 @@ use Rattle.steps_mutex.specs.declared.hand_off.HandOffAt.TheVariants as hand_off
 use Rattle.steps_base.specs.declared.acts.Reply.{Reply}
 use Rattle.steps_base.specs.declared.acts.Reply.TheVariants.{Value}
 use Rattle.lot_laws.specs.Locations.{Location, location_by}
-pub use Rattle.steps_mutex.specs.MutexDeeds.{enters, hands_over, hand_off_deeds, lock_deeds, mutex_deeds, queued, takes, unlock_deeds}
+pub use Rattle.steps_mutex.specs.MutexDeeds.{enter_deeds, handing_deeds, hand_off_deeds, lock_deeds, mutex_deeds, queued, take_deeds, unlock_deeds}
 pub use Rattle.steps_mutex.specs.MutexLaws.{mutex_role, mutex_row}
-pub use Rattle.steps_mutex.specs.MutexProfiles.{mutex_profile, owner, inside, again, carrying}
+pub use Rattle.steps_mutex.specs.MutexProfiles.{mutex_profile, owner, inside, with_retry, carrying}
 pub use Rattle.steps_base.specs.Profiles.{Hand, Of, hand, hand_owner, in_hand}
 use Rattle.spec_locks.specs.Sites.{Has, Deed, Begin}
 
@@ -35,9 +35,9 @@ claims_of (Some u) = record { by = u; deed = Begin (Some (Has Exclusive)) } ∷ 
 -- the deeds of the step of a thread at a place, by what it is told
 abbrev pub deeds : ℕ → MutexPlace → Option ℕ → Reply → List Act
 deeds t (HandOff bumps (hand_off.Store any none_left)) whom (Value seen) =
-    acts t (hands_over whom none_left) ++ claims_of whom
+    acts t (handing_deeds whom none_left) ++ claims_of whom
 deeds t at whom reply = acts t (mutex_deeds at whom reply)
 
 -- the deed with which a call begins
-abbrev pub begins : MutexPlace → Deed
-begins at = Begin (mutex_role at).claims
+abbrev pub begin_deed : MutexPlace → Deed
+begin_deed at = Begin (mutex_role at).claims

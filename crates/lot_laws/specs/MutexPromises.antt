@@ -14,7 +14,7 @@ use Rattle.lot_machine.specs.Machine.{State, place_at, word_at, kind_at}
 use Rattle.lot_laws.specs.Refinement.{owner_at, lock_state, call_at}
 use Rattle.lot_laws.specs.SitesOf.{is_mutex}
 use Rattle.lot_laws.specs.Owing.{Owes, IsInside, IsWait, ReleasesLock, OwesSince}
-use Rattle.lot_laws.specs.Promises.{WaitsFor, HasReleased, IsAboutToMark, IsKept, mutex_seen}
+use Rattle.lot_laws.specs.Promises.{WaitsFor, WaitHasReleased, IsAboutToMark, IsKept, mutex_seen}
 
 -- a word says whether there is an owner, beside the parked bit
 abbrev pub IsMutexWord : ℕ → Option ℕ → Type 0
@@ -30,7 +30,7 @@ WakesOne purpose recalls l = ⊥
 
 -- its call is a wait that has released the mutex
 abbrev pub HasReleasedIt : State → ℕ → ℕ → Type 0
-HasReleasedIt w t l = HasReleased (call_at w t).purpose (call_at w t).released l Main
+HasReleasedIt w t l = WaitHasReleased (call_at w t).purpose (call_at w t).released l Main
 
 -- some thread, which is awake, owes a wake on the mutex in such a call, or was woken on it and is
 -- about to try again; it stands in no queue and isn't taken, but for a wait that has released the

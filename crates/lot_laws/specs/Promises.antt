@@ -59,9 +59,9 @@ IsToMark w t l = IsAboutToMark w t l
 -- ---------------------------------------------------------------- debts
 
 -- a wait that has released its mutex, whose waiters it wakes then
-abbrev pub HasReleased : Option Purpose → Bool → ℕ → Line → Type 0
-HasReleased (Some (Waits l n timed)) released k Main = (n ≡ k) × (released ≡ true)
-HasReleased purpose released k m = ⊥
+abbrev pub WaitHasReleased : Option Purpose → Bool → ℕ → Line → Type 0
+WaitHasReleased (Some (Waits l n timed)) released k Main = (n ≡ k) × (released ≡ true)
+WaitHasReleased purpose released k m = ⊥
 
 -- a call that lets others in, and enters the section of the line next
 abbrev pub GoesToWake : State → ℕ → ℕ → Line → Type 0
@@ -69,7 +69,7 @@ GoesToWake w t l m =
     (act_of (place_at w t) ≡ Enter (One (key_of l m)))
     × (LetsOthersIn w t l
     ⊎ (WakesAside (call_at w t).purpose l m
-    ⊎ HasReleased (call_at w t).purpose (call_at w t).released l m))
+    ⊎ WaitHasReleased (call_at w t).purpose (call_at w t).released l m))
 
 -- it owes a wake on the main line, and its call wakes whom it takes; or it was woken, is about to
 -- try again, and wants what passes the turn on (of a mutex anything, of a reader-writer lock more
@@ -84,25 +84,25 @@ IsDebtorOf w t l Second = Owes w t l Second
 
 -- some thread, which is awake, stands in no queue and isn't taken, is such a debtor; but a wait
 -- that has released its mutex and owes a wake there may stand in one, or be taken
-pub record IsLookedAfter (w : State) (l : ℕ) (m : Line) : Type 0 where
+pub record IsLookedAfterIn (w : State) (l : ℕ) (m : Line) : Type 0 where
   pub debtor : ℕ
   pub debt : IsDebtorOf w debtor l m
   pub awake : act_of (place_at w debtor) ≢ Sleep
   pub stands_nowhere : (k : ℕ) → (standing debtor (lock_state w k) ≡ 0)
-      ⊎ (HasReleased (call_at w debtor).purpose (call_at w debtor).released l m × Owes w debtor l m)
+      ⊎ (WaitHasReleased (call_at w debtor).purpose (call_at w debtor).released l m × Owes w debtor l m)
 
 -- a lock that is shared was never at its limit
 abbrev pub WasNeverFull : State → ℕ → Type 0
 WasNeverFull w l = has_readers (sort_at w l) ≡ true → filled_at w l ≡ false
 
-pub record NobodyForgotten (w : State) : Type 0 where
+pub record NobodyForgottenIn (w : State) : Type 0 where
   -- a thread that waits for a lock whose way nobody bars is looked after
   pub main : (t l : ℕ) → WaitsFor w t l → IsOpenNow (rules_in w l) (lock_state w l)
       → WasNeverFull w l
-      → IsLookedAfter w l Main
+      → IsLookedAfterIn w l Main
   -- and so is a writer aside of whom nobody shares any more
   pub second : (l : ℕ) → (lock_state w l).aside ≢ None → readers (lock_state w l) ≡ 0
-      → IsLookedAfter w l Second
+      → IsLookedAfterIn w l Second
 
 -- some thread, which is awake, stands in no queue and isn't taken, owes a wake on the queue of the
 -- lock
@@ -118,7 +118,7 @@ IsAsleepNowhere w t = (act_of (place_at w t) ≡ Sleep) × ((l : ℕ) → standi
 
 -- it has what it waited for, and the thread inside the section has it in its hand, and wakes all
 -- whom it has there as it leaves
-pub record IsHandedOver (w : State) (t : ℕ) : Type 0 where
+pub record IsHandedOverIn (w : State) (t : ℕ) : Type 0 where
   pub lock : ℕ
   pub by : ℕ
   pub want : Want
@@ -197,7 +197,7 @@ pub record IsKept (w : State) : Type 0 where
   pub coded : (l : ℕ) → IsCoded w l
   pub limited : (l : ℕ) → has_readers (sort_at w l) ≡ true
       → IsWithinLimit (rules_in w l) (lock_state w l)
-  pub nobody_forgotten : NobodyForgotten w
+  pub nobody_forgotten : NobodyForgottenIn w
   -- a queued `call_once` of a `Once` that nobody runs has a thread, awake and in no queue, that
   -- owes on its queue
   pub callers : (l : ℕ) → sort_at w l ≡ Once → has_caller (lock_state w l).queue ≡ true
@@ -225,7 +225,7 @@ pub record IsKept (w : State) : Type 0 where
   pub tries : (t : ℕ) → IsTry (call_at w t).purpose → GoesFreely ((locks_of w).stances t)
   -- a sleeper that stands nowhere was handed the lock that it waited for, by a thread that is inside the
   -- section and wakes it
-  pub handing : (t : ℕ) → IsAsleepNowhere w t → IsHandedOver w t
+  pub handing : (t : ℕ) → IsAsleepNowhere w t → IsHandedOverIn w t
   -- a waiter implies the parked bit while nobody is inside the section: else the thread inside has
   -- just brought it and is about to set the bit; or the thread that has ended a run of a `Once` and
   -- cleared the bit owes it its wake

@@ -8,7 +8,7 @@ use Rattle.steps_mutex.specs.declared.places.MutexPlace.{MutexPlace}
 use Rattle.steps_base.specs.declared.acts.Act.{Act}
 use Rattle.steps_base.specs.declared.acts.Act.TheVariants.{Enter, Sleep}
 use Rattle.core_base.specs.declared.keys.Keys.{Keys}
-use Rattle.lot_steps.specs.Steps.{act_of, beside_of, looking, lock_of, calls, is_lock, profile, profile_beside}
+use Rattle.lot_steps.specs.Steps.{act_of, beside_of, looking, called_lock, calls, is_lock, profile, profile_beside}
 pub use Rattle.steps_mutex.specs.MutexProfiles.{mutex_profile, is_bump, entry_purpose, release_purpose, before_entry, before_release}
 pub use Rattle.lot_machine.specs.Machine.{runs_closure}
 use Rattle.lot_machine.specs.Machine.{State, place_at, word_at, owners_at, shares_at, kind_at, queue_at, section_at}
@@ -75,7 +75,7 @@ call_on_both (Some m) None row beside rights = no_call
 call_on_both (Some m) (Some l) row beside rights = call_of_two l m row beside rights
 
 abbrev pub call_state : Place → (ℕ → Rights) → CallState
-call_state p rights = call_on_both (beside_of p) (lock_of p) (profile p) (profile_beside p) rights
+call_state p rights = call_on_both (beside_of p) (called_lock p) (profile p) (profile_beside p) rights
 
 -- ---------------------------------------------------------------- the world
 
@@ -96,7 +96,7 @@ call_at w t = (locks_of w).calls t
 
 -- a thread is in its call of the lock, and runs its closure
 abbrev pub RunsClosure : State → ℕ → ℕ → Type 0
-RunsClosure w t l = (lock_of (place_at w t) ≡ Some l)
+RunsClosure w t l = (called_lock (place_at w t) ≡ Some l)
     × (runs_closure (act_of (place_at w t)) ≡ true)
 
 -- a step changes one word at most, or queues whose sections its thread is in, never both

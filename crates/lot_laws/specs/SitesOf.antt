@@ -11,11 +11,11 @@ use Rattle.spec_locks.specs.Sites.{Line, Main, Second, Site, IsSite, has_readers
 use Rattle.spec_locks.specs.Codes.{code, parked_in, aside_in, HasLimit}
 use Rattle.spec_locks.specs.Permits.{HasPermits}
 use Rattle.spec_locks.specs.Purposes.{rules_of}
-use Rattle.lot_machine.specs.Machine.{State, held, place_at, word_at, shares_at, sharers, successor_from, want_of_successor, wants_more_in_hand, filled_at, kind_at, queue_at, section_at}
+use Rattle.lot_machine.specs.Machine.{State, held, place_at, word_at, shares_at, sharers_in_hand, successor_from, want_of_successor, wants_more_in_hand, filled_at, kind_at, queue_at, section_at}
 use Rattle.lot_machine.specs.Fits.{IsWellFormed}
 use Rattle.lot_laws.specs.Refinement.{RunsClosure, lock_state}
 use Rattle.spec_locks.specs.Onces.{InProgress}
-use Rattle.spec_locks.specs.Condvars.{CondvarSite, Inside, IsCondvar, Rests, Stage}
+use Rattle.spec_locks.specs.Condvars.{CondvarSite, Inside, IsCondvar, NothingToDo, CondvarStage}
 use Rattle.lot_steps.specs.Steps.{profile_at}
 use Rattle.spec_locks.specs.declared.kinds.Kind.{Kind}
 use Rattle.spec_locks.specs.declared.kinds.Kind as kind
@@ -104,8 +104,8 @@ AreWaiting at l m [] = Unit {0}
 AreWaiting at l m (x ∷ q) =
     ((x.key ≡ key_of l m) × ((at x.thread l).waits ≡ Some x.want)) × AreWaiting at l m q
 
-abbrev pub Waits : (ℕ → ℕ → Location) → (ℕ → List Waiter) → Type 0
-Waits at queue = (l : ℕ) (m : Line) → AreWaiting at l m (queue (key_of l m))
+abbrev pub AllAreWaiting : (ℕ → ℕ → Location) → (ℕ → List Waiter) → Type 0
+AllAreWaiting at queue = (l : ℕ) (m : Line) → AreWaiting at l m (queue (key_of l m))
 
 -- the threads that a thread has in hand
 pub record HandsBy (one : ℕ → Type 0) (at : ℕ → ℕ → Location) : Type 0 where
@@ -162,7 +162,7 @@ FitsItsLock w (OfSemaphore l at) = ((rules_in w l).sort ≡ SemaphoreSort) × La
 pub record Stands (w : State) : Type 0 where
   pub sections : Sections (locations_of (place_at w)) (section_at w)
   pub lines : Lines (locations_of (place_at w)) (queue_at w)
-  pub waits : Waits (locations_of (place_at w)) (queue_at w)
+  pub waits : AllAreWaiting (locations_of (place_at w)) (queue_at w)
   pub hands : Hands (TakesOne w) (place_at w)
   pub calls : (t : ℕ) → FitsItsLock w (place_at w t)
 
@@ -180,8 +180,8 @@ pub record IsInductive (w : State) : Type 0 where
 -- ---------------------------------------------------------------- the threads that it hands its lock
 
 -- as many want to share, and who wants more wants this; that is one thread at most
-pub record IsCounted (w : State) (t : ℕ) (k : Counted) : Type 0 where
-  pub number : sharers t w.places ≡ k.sharers
+pub record IsCountOfHand (w : State) (t : ℕ) (k : Counted) : Type 0 where
+  pub number : sharers_in_hand t w.places ≡ k.sharers
   pub more : want_of_successor (successor_from t 0 w.places) ≡ k.successor
   pub one : (u v : ℕ) (x y : Want) → wants_more_in_hand t (held (place_at w u)) ≡ Some x
       → wants_more_in_hand t (held (place_at w v)) ≡ Some y → u ≡ v
@@ -191,16 +191,16 @@ abbrev pub AreCounted : State → Type 0
 AreCounted w =
     (t l : ℕ) (a : Admission) (c : RwLockCallPlace) (k : Counted) → place_at w t ≡ OfRwLock l a c
     → in_hand_of c ≡ Some k
-    → IsCounted w t k
+    → IsCountOfHand w t k
 
 -- ---------------------------------------------------------------- condition variables
 
-abbrev pub stage_or : Option Stage → Stage
-stage_or None = Rests
+abbrev pub stage_or : Option CondvarStage → CondvarStage
+stage_or None = NothingToDo
 stage_or (Some stage) = stage
 
 -- the thread inside the section, and its aim by its place
-abbrev pub inside_as : Option ℕ → (ℕ → Option Stage) → Option Inside
+abbrev pub inside_as : Option ℕ → (ℕ → Option CondvarStage) → Option Inside
 inside_as None stage = None
 inside_as (Some t) stage = Some (record { thread = t; stage = stage_or (stage t) })
 

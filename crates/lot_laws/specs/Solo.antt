@@ -14,7 +14,7 @@ use Rattle.spec_locks.specs.declared.outcomes.OnceState as once_state
 use Rattle.steps_condvar.specs.declared.places.CondvarPlace.TheVariants.{Look}
 use Rattle.lot_steps.specs.declared.places.Place.{Place}
 use Rattle.lot_steps.specs.declared.places.Place.TheVariants.{Idle, Condvar}
-use Rattle.lot_steps.specs.Steps.{act_of, beside_of, lock_of}
+use Rattle.lot_steps.specs.Steps.{act_of, beside_of, called_lock}
 use Rattle.lot_machine.specs.Machine.{State, place_at, word_at, kind_at, section_at, go_of, after_steps, runs_closure}
 use Rattle.spec_locks.specs.Locks.{Sort, Mutex, Recursive, Rules, LockState, first_thread, Queued, MayEnter, IsBlocked, Owns, count, readers, with_right}
 use Rattle.spec_locks.specs.Sites.{Line, Main, Second, has_readers}
@@ -46,7 +46,7 @@ mutex_to_come w p = None
 
 -- a lock whose sections a call may enter: its own, or the mutex beside
 abbrev pub MayEnterOf : State → Place → ℕ → Type 0
-MayEnterOf w p l = (lock_of p ≡ Some l) ⊎ ((beside_of p ≡ Some l) ⊎ (mutex_to_come w p ≡ Some l))
+MayEnterOf w p l = (called_lock p ≡ Some l) ⊎ ((beside_of p ≡ Some l) ⊎ (mutex_to_come w p ≡ Some l))
 
 -- it is this thread, if anybody
 abbrev pub IsOnly : ℕ → Option ℕ → Type 0

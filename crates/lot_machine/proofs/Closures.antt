@@ -39,7 +39,7 @@ use Rattle.steps_rwlock_fair.specs.declared.hand_over.HandOverAt.{HandOverAt}
 use Rattle.steps_rwlock_fair.specs.declared.hand_over.HandOverAt.TheVariants as handing
 use Rattle.steps_rwlock_fair.specs.declared.hand_over.Taken.{Taken}
 use Rattle.steps_rwlock_fair.specs.declared.handed.HandedAt.TheVariants as handed
-use Rattle.steps_rwlock_fair.specs.FairSteps.{accept_act, call_act, hand_over_act, has_room, parked_as, with_taken, without}
+use Rattle.steps_rwlock_fair.specs.FairSteps.{accept_act, call_act, hand_over_act, has_room, parked_as, with_taken, word_without}
 use Rattle.steps_base.specs.declared.acts.Reply.TheVariants.{Closed}
 use Rattle.lot_steps.specs.Steps.{act_of, next_place}
 use Rattle.lot_machine.specs.Machine.{State, place_at, runs_closure, can_do, closed_place}
@@ -112,7 +112,7 @@ rwlock_own l a p at.RollBack = refl
 rwlock_own l a p at.GiveWay = refl
 rwlock_own l a p (at.Wake m to) = wakes_own l a p.purpose m to
 
-exchanges_own : (l limit : ℕ) (x : Access) (k : Taken) (s : ℕ) (b : Bool) → IsOwn l (if b then HandOver l (op.TheVariants.Exchange s (with_taken x k s)) else Word l (op.TheVariants.Exchange s (parked_as k.none_left (without x s))))
+exchanges_own : (l limit : ℕ) (x : Access) (k : Taken) (s : ℕ) (b : Bool) → IsOwn l (if b then HandOver l (op.TheVariants.Exchange s (with_taken x k s)) else Word l (op.TheVariants.Exchange s (parked_as k.none_left (word_without x s))))
 exchanges_own l limit x k s true = refl
 exchanges_own l limit x k s false = refl
 

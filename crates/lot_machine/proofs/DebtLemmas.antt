@@ -10,13 +10,13 @@ use Rattle.lot_machine.specs.declared.debts.Debt.{Debt}
 use Rattle.lot_machine.specs.declared.debts.Link.{Link}
 use Rattle.lot_machine.specs.declared.debts.Tag.TheVariants.{Nowhere, On}
 use Rattle.lot_machine.specs.declared.debts.Debt.TheVariants.{Owes, Retries}
-use Rattle.lot_machine.specs.Debts.{AreLinked, AreLinkedFrom, Skips, Tells, place_of, unlinked}
+use Rattle.lot_machine.specs.Debts.{AreLinked, AreLinkedFrom, Skips, TagCovers, place_of_thread, unlinked}
 use Rattle.lot_machine.specs.Views.{debtors, has_debt}
 
 -- ---------------------------------------------------------------- skipped lines
 
 -- so many places without the debt at the head of a list
-skips_front : (debt : Debt) (l : ℕ) (ps : List Place) (n k : ℕ) → ((i : ℕ) → i < k → has_debt (place_of ps i) debt l ≡ false) → debtors debt l n ps ≡ debtors debt l (n + k) (drop k ps)
+skips_front : (debt : Debt) (l : ℕ) (ps : List Place) (n k : ℕ) → ((i : ℕ) → i < k → has_debt (place_of_thread ps i) debt l ≡ false) → debtors debt l n ps ≡ debtors debt l (n + k) (drop k ps)
 skips_front debt l ps n zero none = let same : n ≡ n + 0 = omega arith in ap (λ (m : ℕ). debtors debt l m ps) same
 skips_front debt l [] n (suc k) none = refl
 skips_front debt l (p ∷ ps) n (suc k) none =
@@ -40,12 +40,12 @@ skips_debtors places debt l from to le none =
     ∙ ap (λ m. debtors debt l m (drop m places)) there
 
 -- the one who has the debt comes first, and then those from the next one on
-pub debtor_there : (places : List Place) (debt : Debt) (l t next : ℕ) → t < length places → has_debt (place_of places t) debt l ≡ true → t < next → Skips places l (t + 1) next → debtors debt l t (drop t places) ≡ (debt, t) ∷ debtors debt l next (drop next places)
+pub debtor_there : (places : List Place) (debt : Debt) (l t next : ℕ) → t < length places → has_debt (place_of_thread places t) debt l ≡ true → t < next → Skips places l (t + 1) next → debtors debt l t (drop t places) ≡ (debt, t) ∷ debtors debt l next (drop next places)
 debtor_there places debt l t next there has later none =
     ap (λ ps. debtors debt l t ps) (drop_more places t Idle there)
     ∙ rw has (ap (λ rest. (debt, t) ∷ rest) (skips_debtors places debt l (t + 1) next (omega (arith, later)) none))
 
-pub debtor_past : (places : List Place) (debt : Debt) (l t next : ℕ) → t < length places → has_debt (place_of places t) debt l ≡ false → t < next → Skips places l (t + 1) next → debtors debt l t (drop t places) ≡ debtors debt l next (drop next places)
+pub debtor_past : (places : List Place) (debt : Debt) (l t next : ℕ) → t < length places → has_debt (place_of_thread places t) debt l ≡ false → t < next → Skips places l (t + 1) next → debtors debt l t (drop t places) ≡ debtors debt l next (drop next places)
 debtor_past places debt l t next there none later skips =
     ap (λ ps. debtors debt l t ps) (drop_more places t Idle there)
     ∙ rw none (skips_debtors places debt l (t + 1) next (omega (arith, later)) skips)
@@ -59,7 +59,7 @@ debts_from places l first none =
 -- ---------------------------------------------------------------- how a thread is linked
 
 -- a thread without a debt on the lock is skipped too
-skips_one : (places : List Place) (l t to : ℕ) → ((debt : Debt) → has_debt (place_of places t) debt l ≡ false) → Skips places l (t + 1) to → Skips places l t to
+skips_one : (places : List Place) (l t to : ℕ) → ((debt : Debt) → has_debt (place_of_thread places t) debt l ≡ false) → Skips places l (t + 1) to → Skips places l t to
 skips_one places l t to none rest u le lt debt = elim (cases_eq u t) [
   | inl same ↦ rw same (none debt)
   | inr ne ↦ rest u (omega (arith, le, ne)) lt debt
@@ -88,12 +88,12 @@ begins_at links places from size within linked = record {
 
 module _ (links : List Link) (first : List ℕ) (places : List Place) (t : ℕ) (there : t < length places) (few : length places ≤ 1024) (f : AreLinkedFrom links first places (t + 1)) where
   -- a thread without debts on a lock stands before its chain
-  goes_before : (l : ℕ) → l < 256 → ((debt : Debt) → has_debt (place_of places t) debt l ≡ false) → (t ≤ get_or first l 0) × (get_or first l 0 ≤ length places) × Skips places l t (get_or first l 0)
+  goes_before : (l : ℕ) → l < 256 → ((debt : Debt) → has_debt (place_of_thread places t) debt l ≡ false) → (t ≤ get_or first l 0) × (get_or first l 0 ≤ length places) × Skips places l t (get_or first l 0)
   goes_before l lt none = let begins = f.begins l lt in
       (omega (arith, begins.0), begins.1, skips_one places l t (get_or first l 0) none begins.2)
 
   -- a thread that has no debts
-  pub links_nowhere : Tells Nowhere (place_of places t) → AreLinkedFrom links first places t
+  pub links_nowhere : TagCovers Nowhere (place_of_thread places t) → AreLinkedFrom links first places t
   links_nowhere tells = record {
     sizes = f.sizes;
     begins = λ l lt. goes_before l lt (λ debt. tells debt l refl);
@@ -101,7 +101,7 @@ module _ (links : List Link) (first : List ℕ) (places : List Place) (t : ℕ) 
   }
 
   -- or has them on a lock for which no chain begins
-  pub links_past : (own : ℕ) → 256 ≤ own → Tells (On own) (place_of places t) → AreLinkedFrom links first places t
+  pub links_past : (own : ℕ) → 256 ≤ own → TagCovers (On own) (place_of_thread places t) → AreLinkedFrom links first places t
   links_past own past tells = record {
     sizes = f.sizes;
     begins = λ l lt. goes_before l lt (λ debt. tells debt l (ne_eqb own l (λ same. omega (arith, same, past, lt))));
@@ -109,7 +109,7 @@ module _ (links : List Link) (first : List ℕ) (places : List Place) (t : ℕ) 
   }
 
   -- a thread that may have debts on one lock stands before those of its chain
-  module _ (own : ℕ) (lt : own < 256) (tells : Tells (On own) (place_of places t)) where
+  module _ (own : ℕ) (lt : own < 256) (tells : TagCovers (On own) (place_of_thread places t)) where
     abbrev pub own_link : Link
     own_link = record { lock = Some own; next = get_or first own 0 }
 

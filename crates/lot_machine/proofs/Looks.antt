@@ -32,14 +32,14 @@ use Rattle.steps_condvar.specs.declared.wait.WaitAt.TheVariants as wait
 use Rattle.steps_condvar.specs.CondvarSteps.{condvar_looking, in_lock}
 use Rattle.lot_steps.specs.declared.places.Place.{Place}
 use Rattle.lot_steps.specs.declared.places.Place.TheVariants.{Idle, Mutex, RwLock, Once, Condvar, Semaphore}
-use Rattle.lot_steps.specs.Steps.{act_of, lock_of, looking, in_mutex, in_rwlock, in_once, in_condvar, in_semaphore, profile}
+use Rattle.lot_steps.specs.Steps.{act_of, called_lock, looking, in_mutex, in_rwlock, in_once, in_condvar, in_semaphore, profile}
 use Rattle.spec_locks.specs.declared.kinds.Kind.{Kind}
 use Rattle.lot_machine.specs.Fits.{IsOfItsKind, PlaceFits}
 
 pub record IsLook (p q : Place) : Type 0 where
   pub lock : ℕ
-  pub before : lock_of p ≡ Some lock
-  pub now : lock_of q ≡ Some lock
+  pub before : called_lock p ≡ Some lock
+  pub now : called_lock q ≡ Some lock
   pub loaded : ℕ
   pub loads : act_of q ≡ Word loaded Load
   pub row : profile q ≡ profile p

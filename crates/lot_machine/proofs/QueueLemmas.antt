@@ -19,7 +19,7 @@ use Rattle.lot_machine.specs.Views.{StandUnder}
 use Rattle.std.proofs.Common.{length-set}
 use Rattle.steps_base.specs.declared.acts.Reply.{Reply}
 use Rattle.lot_steps.specs.declared.places.Place.{Place}
-use Rattle.lot_machine.specs.Machine.{places_told, lines_from, queues_with_last, queues_without_first, queues_without, left_behind, moved_under, queues_requeued}
+use Rattle.lot_machine.specs.Machine.{places_told, lines_from, queues_with_last, queues_without_first, queues_without, left_in_line, moved_under, queues_requeued}
 
 -- the line of a key is the one at its place
 pub line_at : (key n i : ℕ) (xs : List Waiter) → i < n → slice_index_or (lines_from key n xs) i [] ≡ line (key + i) xs
@@ -202,7 +202,7 @@ line_moved_other : (k key : ℕ) (q : List Waiter) → k ≢ key → line k (mov
 line_moved_other k key [] ne = refl
 line_moved_other k key (x ∷ q) ne = grind (arith, nat_tests, line_moved_other k key q ne)
 
-lines_left : (n from : ℕ) (how : Requeue) (xs : List Waiter) → from < n → lines_from 0 n (left_by how from xs) ≡ slice_set (lines_from 0 n xs) from (left_behind how (line from xs))
+lines_left : (n from : ℕ) (how : Requeue) (xs : List Waiter) → from < n → lines_from 0 n (left_by how from xs) ≡ slice_set (lines_from 0 n xs) from (left_in_line how (line from xs))
 lines_left n from requeue.TheVariants.One xs h = lines_first 0 n from from xs h (omega arith) ∙ ap (λ q. slice_set (lines_from 0 n xs) from (drop 1 q)) (line_here n from xs h)
 lines_left n from requeue.TheVariants.All xs h = lines_all_taken n from xs (without_key from xs) h refl
 lines_left n from requeue.TheVariants.TakeOneMoveRest xs h = lines_all_taken n from xs (without_key from xs) h refl
@@ -210,7 +210,7 @@ lines_left n from requeue.TheVariants.TakeOneMoveRest xs h = lines_all_taken n f
 -- tells what it does to the lines
 pub lines_requeued : (n from to : ℕ) (how : Requeue) (xs ys : List Waiter) → from < n → to < n → lines ys ≡ lines (requeued how from to xs) → lines_from 0 n ys ≡ queues_requeued (lines_from 0 n xs) from to how
 lines_requeued n from to how xs ys hf ht e =
-    let left : lines_from 0 n (left_by how from xs) ≡ slice_set (lines_from 0 n xs) from (left_behind how (line from xs)) = lines_left n from how xs hf in
+    let left : lines_from 0 n (left_by how from xs) ≡ slice_set (lines_from 0 n xs) from (left_in_line how (line from xs)) = lines_left n from how xs hf in
     rw (line_here n from xs hf, ← left, line_here n to (left_by how from xs) ht)
     (lines_one 0 n to to (left_by how from xs) ys ht (omega arith) elsewhere ∙ ap (λ q. slice_set (lines_from 0 n (left_by how from xs)) to q) here)
   where
@@ -221,10 +221,10 @@ lines_requeued n from to how xs ys hf ht e =
     here = line_in to (requeued how from to xs) ys e ∙ line_both to (left_by how from xs) (moved_under to (moved_by how (line from xs))) ∙ ap (λ q. line to (left_by how from xs) ++ q) (line_moved to (moved_by how (line from xs)))
 
 -- the waiters left in the line
-pub line_left : (from to : ℕ) (how : Requeue) (xs ys : List Waiter) → from ≢ to → lines ys ≡ lines (requeued how from to xs) → line from ys ≡ left_behind how (line from xs)
+pub line_left : (from to : ℕ) (how : Requeue) (xs ys : List Waiter) → from ≢ to → lines ys ≡ lines (requeued how from to xs) → line from ys ≡ left_in_line how (line from xs)
 line_left from to how xs ys ne e = line_in from (requeued how from to xs) ys e ∙ line_both from (left_by how from xs) (moved_under to (moved_by how (line from xs))) ∙ ap (λ q. line from (left_by how from xs) ++ q) (line_moved_other from to (moved_by how (line from xs)) ne) ∙ append-nil (line from (left_by how from xs)) ∙ stay how
   where
-    stay : (how : Requeue) → line from (left_by how from xs) ≡ left_behind how (line from xs)
+    stay : (how : Requeue) → line from (left_by how from xs) ≡ left_in_line how (line from xs)
     stay requeue.TheVariants.One = line_first from xs
     stay requeue.TheVariants.All = line_gone from xs
     stay requeue.TheVariants.TakeOneMoveRest = line_gone from xs

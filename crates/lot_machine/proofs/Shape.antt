@@ -63,10 +63,10 @@ use Rattle.spec_locks.specs.Calls.{lock_in}
 use Rattle.steps_base.specs.Profiles.{in_line}
 use Rattle.spec_locks.specs.Sites.{Main}
 use Rattle.lot_steps.specs.Steps.{is_idle, first_place, act_of, next_place, mutex_goes, rwlock_goes, once_goes, looking, late_key, key_in, HasKeys, condvar_goes, semaphore_goes}
-use Rattle.lot_machine.specs.Machine.{first_word, state_after_hand_over_by, hand_over_told, State, unlocked, opening, kind_at, word_at, place_at, queue_at, put, state_after_operation, state_with_sections, queues_with_last, queues_without_first, queues_without, state_after_park, state_after_reply, place_after_telling, state_after_telling, state_after_hand_over, state_after_taking, state_after_wake, state_after_act, state_after_takes, state_after_take_first, state_after_requeue, queues_requeued, left_behind, moved_under, moved_threads, listed, places_told, state_after_going, going_outcome, closed_place, state_after_close, close_outcome, can_close, runs_closure, can_do, state_after_go, reply_to, state_after_begin, can_begin, is_open_to, state_after_spin, state_after_late, state_after_late_on, state_after_turn, can_turn, is_possible, after, state_after_look, look_outcome, spin_outcome, can_spin, can_go, go_outcome}
+use Rattle.lot_machine.specs.Machine.{first_word, state_after_hand_over_by, hand_over_told, State, unlocked, opening, kind_at, word_at, place_at, queue_at, put, state_after_operation, state_with_sections, queues_with_last, queues_without_first, queues_without, state_after_park, state_after_reply, place_after_telling, state_after_telling, state_after_hand_over, state_after_taking, state_after_wake, state_after_act, state_after_takes, state_after_take_first, state_after_requeue, queues_requeued, left_in_line, moved_under, moved_threads, listed, places_told, state_after_going, going_outcome, closed_place, state_after_close, close_outcome, can_close, runs_closure, can_do, state_after_go, reply_to, state_after_begin, can_begin, is_open_to, state_after_spin, state_after_late, state_after_late_on, state_after_turn, can_turn, is_possible, after, state_after_look, look_outcome, spin_outcome, can_spin, can_go, go_outcome}
 use Rattle.steps_mutex.specs.declared.lock.LockAt as lock
 use Rattle.steps_base.specs.declared.acts.Whom as whom
-use Rattle.lot_machine.specs.Fits.{ActFits, AllBelow, IsOfItsKind, IsWellFormed, PlaceFits, SameSize, Shows}
+use Rattle.lot_machine.specs.Fits.{ActFits, AllBelow, IsOfItsKind, IsWellFormed, PlaceFits, SameSize, ShowsPlainMutex}
 use Rattle.steps_condvar.specs.declared.notify.NotifyAt.{NotifyAt}
 use Rattle.steps_condvar.specs.declared.places.CondvarPlace.{CondvarPlace}
 use Rattle.steps_condvar.specs.declared.places.CondvarPlace.TheVariants.{Wait, Look, Notify}
@@ -141,7 +141,7 @@ below_requeued n key requeue.TheVariants.One xs h = below_moved n key (moved_by 
 below_requeued n key requeue.TheVariants.All xs h = below_moved n key xs h
 below_requeued n key requeue.TheVariants.TakeOneMoveRest xs h = below_moved n key (drop 1 xs) (below_rest n xs h)
 
-below_behind_requeue : (n : ℕ) (how : Requeue) (xs : List Waiter) → AllBelow n xs → AllBelow n (left_behind how xs)
+below_behind_requeue : (n : ℕ) (how : Requeue) (xs : List Waiter) → AllBelow n xs → AllBelow n (left_in_line how xs)
 below_behind_requeue n requeue.TheVariants.One xs h = below_rest n xs h
 below_behind_requeue n requeue.TheVariants.All xs h = tt
 below_behind_requeue n requeue.TheVariants.TakeOneMoveRest xs h = tt
@@ -223,11 +223,11 @@ takes_lined w t key taken left s below = led_lined w (set w.queues key left) (pl
 requeued_lined : (w : State) (t from to : ℕ) (how : Requeue) → IsLined w → IsLined (state_after_requeue w t from to how)
 requeued_lined w t from to how s = led_lined w (queues_requeued w.queues from to how) (places_told (MovedTo to) (moved_threads how (threads_of (queue_at w from))) (places_told (TakenBy t) (listed (taken_by how (queue_at w from))) w.places)) s
     (told_count (MovedTo to) (moved_threads how (threads_of (queue_at w from))) (places_told (TakenBy t) (listed (taken_by how (queue_at w from))) w.places) ∙ told_count (TakenBy t) (listed (taken_by how (queue_at w from))) w.places)
-    (length-set (set w.queues from (left_behind how (queue_at w from))) to _ ∙ length-set w.queues from _)
-    (set_all (AllBelow (length w.places)) (set w.queues from (left_behind how (queue_at w from))) to _ [] (below_both (length w.places) _ _ (stays to) (below_requeued (length w.places) to how (queue_at w from) (s.waiting from))) stays)
+    (length-set (set w.queues from (left_in_line how (queue_at w from))) to _ ∙ length-set w.queues from _)
+    (set_all (AllBelow (length w.places)) (set w.queues from (left_in_line how (queue_at w from))) to _ [] (below_both (length w.places) _ _ (stays to) (below_requeued (length w.places) to how (queue_at w from) (s.waiting from))) stays)
   where
-    stays : (key : ℕ) → AllBelow (length w.places) (get_or (set w.queues from (left_behind how (queue_at w from))) key [])
-    stays = set_all (AllBelow (length w.places)) w.queues from (left_behind how (queue_at w from)) [] (below_behind_requeue (length w.places) how (queue_at w from) (s.waiting from)) s.waiting
+    stays : (key : ℕ) → AllBelow (length w.places) (get_or (set w.queues from (left_in_line how (queue_at w from))) key [])
+    stays = set_all (AllBelow (length w.places)) w.queues from (left_in_line how (queue_at w from)) [] (below_behind_requeue (length w.places) how (queue_at w from) (s.waiting from)) s.waiting
 
 removed_lined : (w : State) (t : ℕ) → IsLined w → IsLined (record w { queues = queues_without w.queues t })
 removed_lined w t s = queues_lined w (queues_without w.queues t) s (length-map w.queues (without t)) (λ k. rw (get_or-map (without t) w.queues k []) (below_without (length w.places) t (queue_at w k) (s.waiting k)))
@@ -336,8 +336,8 @@ module _ (w : State) (t : ℕ) (p : Place) (a : Act) where
   suits_then : (q : Place) → Suits (length w.locks) (kind_at w) q → Suits (length done.locks) (kind_at done) q
   suits_then q h = subst (λ n. Suits n (kind_at done) q) (sym (performed_counts w t p a).1) (subst (λ f. Suits (length w.locks) f q) (sym same_kinds) h)
 
-  shows_then : (v : ℕ) → Shows (length w.locks) (kind_at w) v → Shows (length done.locks) (kind_at done) v
-  shows_then v h = subst (λ n. Shows n (kind_at done) v) (sym (performed_counts w t p a).1) (subst (λ f. Shows (length w.locks) f v) (sym same_kinds) h)
+  shows_then : (v : ℕ) → ShowsPlainMutex (length w.locks) (kind_at w) v → ShowsPlainMutex (length done.locks) (kind_at done) v
+  shows_then v h = subst (λ n. ShowsPlainMutex n (kind_at done) v) (sym (performed_counts w t p a).1) (subst (λ f. ShowsPlainMutex (length w.locks) f v) (sym same_kinds) h)
 
   performed_suits : IsWellFormed w → (u : ℕ) → Suits (length w.locks) (kind_at w) (place_at done u)
   performed_suits s u = acted_keeps (Suits (length w.locks) (kind_at w)) w u t p a (λ loud r b q h. next_suits (length w.locks) (kind_at w) q r h (befallen_fits (length w.locks) (kind_at w) q r b)) (suits w s u)

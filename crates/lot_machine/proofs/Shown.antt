@@ -31,27 +31,27 @@ use Rattle.lot_steps.specs.declared.places.Place.TheVariants.{Idle, Mutex, RwLoc
 use Rattle.lot_steps.specs.Steps.{act_of}
 use Rattle.lot_machine.specs.declared.locks.Lock.{Lock}
 use Rattle.lot_machine.specs.Machine.{State, kind_at, queue_at, queues_with_last, queues_without_first, state_after_act, state_after_hand_over_by, state_after_taking, unlocked, word_at}
-use Rattle.lot_machine.specs.Fits.{IsWellFormed, Shows, is_once, is_rwlock, is_semaphore}
+use Rattle.lot_machine.specs.Fits.{IsWellFormed, ShowsPlainMutex, is_once, is_rwlock, is_semaphore}
 use Rattle.lot_machine.proofs.Closures.{IsOwn, call_own, course_own, mutex_own, semaphore_own}
 use Rattle.lot_machine.proofs.KindsStay.{set_all}
 use Rattle.lot_machine.proofs.Suits.{Suits}
 
 abbrev pub AreShown : State → Type 0
-AreShown w = (l : ℕ) → is_condvar (kind_at w l) ≡ true → Shows (length w.locks) (kind_at w) (word_at w l)
+AreShown w = (l : ℕ) → is_condvar (kind_at w l) ≡ true → ShowsPlainMutex (length w.locks) (kind_at w) (word_at w l)
 
 -- an act on a word leaves one that may stand there
 abbrev pub Writes : State → Act → Type 0
-Writes w (Word l f) = is_condvar (kind_at w l) ≡ true → Shows (length w.locks) (kind_at w) (apply f (word_at w l))
-Writes w (HandOver l f) = is_condvar (kind_at w l) ≡ true → Shows (length w.locks) (kind_at w) (apply f (word_at w l))
+Writes w (Word l f) = is_condvar (kind_at w l) ≡ true → ShowsPlainMutex (length w.locks) (kind_at w) (apply f (word_at w l))
+Writes w (HandOver l f) = is_condvar (kind_at w l) ≡ true → ShowsPlainMutex (length w.locks) (kind_at w) (apply f (word_at w l))
 Writes w a = Unit {0}
 
 -- ---------------------------------------------------------------- words behind acts
 
 abbrev LockShows : State → Lock → Type 0
-LockShows w x = is_condvar x.kind ≡ true → Shows (length w.locks) (kind_at w) x.word
+LockShows w x = is_condvar x.kind ≡ true → ShowsPlainMutex (length w.locks) (kind_at w) x.word
 
 pub performed_shown : (w : State) (t : ℕ) (p : Place) (a : Act) → AreShown w → Writes w a → (l : ℕ)
-    → is_condvar (kind_at (state_after_act w t p a) l) ≡ true → Shows (length w.locks) (kind_at w) (word_at (state_after_act w t p a) l)
+    → is_condvar (kind_at (state_after_act w t p a) l) ≡ true → ShowsPlainMutex (length w.locks) (kind_at w) (word_at (state_after_act w t p a) l)
 performed_shown w t p (Word k f) shown writes l = set_all (LockShows w) w.locks k _ (unlocked kinds.Mutex) writes shown l
 performed_shown w t p (HandOver k f) shown writes l = either (takes_effect f (word_at w k))
   where
@@ -129,13 +129,13 @@ plain_is_other k h = refl
 
 module _ (w : State) (shown : AreShown w) (c : ℕ) (of : is_condvar (kind_at w c) ≡ true) where
   -- a wait shows its mutex where none is shown
-  shows_its_own : (m : ℕ) → m < length w.locks → is_plain_mutex (kind_at w m) ≡ true → Shows (length w.locks) (kind_at w) (if word_at w c == 0 then shown_as m else word_at w c)
+  shows_its_own : (m : ℕ) → m < length w.locks → is_plain_mutex (kind_at w m) ≡ true → ShowsPlainMutex (length w.locks) (kind_at w) (if word_at w c == 0 then shown_as m else word_at w c)
   shows_its_own m there plain = either (word_at w c == 0)
     where
-      own : Shows (length w.locks) (kind_at w) (m + 1)
+      own : ShowsPlainMutex (length w.locks) (kind_at w) (m + 1)
       own = let less : (m + 1) - 1 ≡ m = omega arith in inr (subst (λ k. k < length w.locks) (sym less) there, subst (λ k. is_plain_mutex (kind_at w k) ≡ true) (sym less) plain)
 
-      either : (b : Bool) → Shows (length w.locks) (kind_at w) (if b then shown_as m else word_at w c)
+      either : (b : Bool) → ShowsPlainMutex (length w.locks) (kind_at w) (if b then shown_as m else word_at w c)
       either true = own
       either false = shown c of
 

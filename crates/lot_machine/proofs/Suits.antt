@@ -46,12 +46,12 @@ use Rattle.steps_condvar.specs.declared.wait.Stands.TheVariants as stands
 use Rattle.steps_condvar.specs.declared.wait.WaitAt.{WaitAt}
 use Rattle.steps_condvar.specs.declared.wait.WaitAt.TheVariants as wait
 use Rattle.steps_condvar.specs.CondvarProfiles.{may_give_up}
-use Rattle.steps_condvar.specs.CondvarSteps.{stands_after, befalls, behind, condvar_next, in_notify, in_wait, is_shown, late_place, look_next, mutex_shown, notified, next_notify, next_wait, released, relocked}
+use Rattle.steps_condvar.specs.CondvarSteps.{stands_after, comes_from_another, behind_release, condvar_next, in_notify, in_wait, is_shown, late_place, look_next, mutex_shown, notified, next_notify, next_wait, released, relocked}
 use Rattle.lot_steps.specs.declared.places.Place.{Place}
 use Rattle.lot_steps.specs.declared.places.Place.TheVariants.{Idle, Mutex, RwLock, Once, Condvar, Semaphore}
 use Rattle.lot_steps.specs.Steps.{condvar_goes, first_place, mutex_goes, next_place, once_goes, rwlock_goes, semaphore_goes}
-use Rattle.lot_machine.specs.Machine.{State, has_mutex, holds_right, is_open_to, kind_at}
-use Rattle.lot_machine.specs.Fits.{GivesUpTimed, IsOfItsKind, IsTimely, PlaceFits, Shows, is_once, is_rwlock, is_semaphore}
+use Rattle.lot_machine.specs.Machine.{State, names_mutex_there, holds_right, is_open_to, kind_at}
+use Rattle.lot_machine.specs.Fits.{GivesUpTimed, IsOfItsKind, GivesUpOnlyTimed, PlaceFits, ShowsPlainMutex, is_once, is_rwlock, is_semaphore}
 
 abbrev pub Suits : ℕ → (ℕ → Kind) → Place → Type 0
 Suits locks kinds p = PlaceFits locks p × IsOfItsKind kinds p
@@ -68,7 +68,7 @@ MayBeLate p = Unit {0}
 
 -- a notification sees a mutex that is there
 abbrev pub SeesFit : ℕ → (ℕ → Kind) → Place → ℕ → Type 0
-SeesFit locks kinds (Condvar l (Look all)) seen = Shows locks kinds seen
+SeesFit locks kinds (Condvar l (Look all)) seen = ShowsPlainMutex locks kinds seen
 SeesFit locks kinds p seen = Unit {0}
 
 -- only a timed call is told that it is late
@@ -177,30 +177,30 @@ semaphore_suits locks kinds l at (next.TheVariants.End answer) h = (tt, tt)
 module _ (locks : ℕ) (kinds : ℕ → Kind) (c : ℕ) where
   module _ (m : ℕ) (timed : Bool) where
     abbrev TimelyNext : Next WaitAt → Type 0
-    TimelyNext (next.TheVariants.At at) = IsTimely (Wait m timed at)
+    TimelyNext (next.TheVariants.At at) = GivesUpOnlyTimed (Wait m timed at)
     TimelyNext (next.TheVariants.End answer) = Unit {0}
 
     -- a thread that has released its mutex is not late
-    behind_timely : (s : Stands) → IsTimely (Wait m timed (behind s))
+    behind_timely : (s : Stands) → GivesUpOnlyTimed (Wait m timed (behind_release s))
     behind_timely (stands.Noted note.TheVariants.Normal) = tt
     behind_timely (stands.Noted note.TheVariants.HandOff) = tt
     behind_timely s = tt
 
-    releases_timely : (s : Stands) (at : MutexPlace) (n : Next MutexPlace) (b : Bool) → IsTimely (Wait m timed (if b then wait.Release s at else released s n))
+    releases_timely : (s : Stands) (at : MutexPlace) (n : Next MutexPlace) (b : Bool) → GivesUpOnlyTimed (Wait m timed (if b then wait.Release s at else released s n))
     releases_timely s at n true = tt
     releases_timely s at (next.TheVariants.At at2) false = tt
     releases_timely s at (next.TheVariants.End answer) false = behind_timely s
 
-    relocks_timely : (timed_out : Bool) (at : MutexPlace) (n : Next MutexPlace) → IsTimely (Wait m timed (wait.Lock timed_out at)) → TimelyNext (relocked timed timed_out n)
+    relocks_timely : (timed_out : Bool) (at : MutexPlace) (n : Next MutexPlace) → GivesUpOnlyTimed (Wait m timed (wait.Lock timed_out at)) → TimelyNext (relocked timed timed_out n)
     relocks_timely timed_out at (next.TheVariants.At at2) h = h
     relocks_timely timed_out at (next.TheVariants.End answer) h = tt
 
-    late_timely : (s : Stands) → timed ≡ true → IsTimely (Wait m timed (late_place s))
+    late_timely : (s : Stands) → timed ≡ true → GivesUpOnlyTimed (Wait m timed (late_place s))
     late_timely stands.Listed late = late
     late_timely stands.Moved late = late
     late_timely s late = tt
 
-    wait_timely : (at : WaitAt) (reply : Reply) → IsTimely (Wait m timed at) → ReplyFits locks kinds (Condvar c (Wait m timed at)) reply → TimelyNext (next_wait m timed at reply)
+    wait_timely : (at : WaitAt) (reply : Reply) → GivesUpOnlyTimed (Wait m timed at) → ReplyFits locks kinds (Condvar c (Wait m timed at)) reply → TimelyNext (next_wait m timed at reply)
     wait_timely wait.Enter Done h r = tt
     wait_timely wait.Show (Value seen) h r = either ((seen == 0) || is_shown seen m)
       where
@@ -213,7 +213,7 @@ module _ (locks : ℕ) (kinds : ℕ → Kind) (c : ℕ) where
     wait_timely (wait.Release s at) reply h r = releases s at reply
       where
         releases : (s : Stands) (at : MutexPlace) (reply : Reply) → TimelyNext (next_wait m timed (wait.Release s at) reply)
-        releases s at reply = elim (befalls reply) as (λ b. IsTimely (Wait m timed (if b then wait.Release (stands_after s reply) at else released s (mutex_next at reply)))) [
+        releases s at reply = elim (comes_from_another reply) as (λ b. GivesUpOnlyTimed (Wait m timed (if b then wait.Release (stands_after s reply) at else released s (mutex_next at reply)))) [
           | true ↦ tt
           | false ↦ releases_timely s at (mutex_next at reply) false
         ]
@@ -240,7 +240,7 @@ module _ (locks : ℕ) (kinds : ℕ → Kind) (c : ℕ) where
   notify_suits all m at (next.TheVariants.End answer) h = (tt, tt)
 
   -- a notification goes on with the mutex that it sees
-  looks_suit : (all : Bool) (seen : ℕ) → Suits locks kinds (Condvar c (Look all)) → Shows locks kinds seen → Suits locks kinds (condvar_goes c (look_next all seen))
+  looks_suit : (all : Bool) (seen : ℕ) → Suits locks kinds (Condvar c (Look all)) → ShowsPlainMutex locks kinds seen → Suits locks kinds (condvar_goes c (look_next all seen))
   looks_suit all seen h (inl none) = subst (λ v. Suits locks kinds (condvar_goes c (look_next all v))) (sym none) (tt, tt)
   looks_suit all seen h (inr shown) = either (seen == 0)
     where
@@ -305,11 +305,11 @@ condvar_called k l c has = absurd cc
 -- a call that may begin stands at a lock of its own kind, and a wait names a plain mutex
 pub call_suits : (w : State) (t : ℕ) (c : Call) → is_open_to w t c ≡ true → Suits (length w.locks) (kind_at w) (first_place (kind_at w (lock_in c)) c)
 call_suits w t c may =
-    let parts = both (nat_lt (lock_in c) (length w.locks)) (has_call (kind_at w (lock_in c)) c && (has_mutex w (mutex_in c) && holds_right w t c)) may in
-    let has = both (has_call (kind_at w (lock_in c)) c) (has_mutex w (mutex_in c) && holds_right w t c) parts.1 in
-    by_call c (ltb-true (lock_in c) (length w.locks) parts.0) has.0 (both (has_mutex w (mutex_in c)) (holds_right w t c) has.1).0
+    let parts = both (nat_lt (lock_in c) (length w.locks)) (has_call (kind_at w (lock_in c)) c && (names_mutex_there w (mutex_in c) && holds_right w t c)) may in
+    let has = both (has_call (kind_at w (lock_in c)) c) (names_mutex_there w (mutex_in c) && holds_right w t c) parts.1 in
+    by_call c (ltb-true (lock_in c) (length w.locks) parts.0) has.0 (both (names_mutex_there w (mutex_in c)) (holds_right w t c) has.1).0
   where
-    by_call : (c : Call) → lock_in c < length w.locks → has_call (kind_at w (lock_in c)) c ≡ true → has_mutex w (mutex_in c) ≡ true → Suits (length w.locks) (kind_at w) (first_place (kind_at w (lock_in c)) c)
+    by_call : (c : Call) → lock_in c < length w.locks → has_call (kind_at w (lock_in c)) c ≡ true → names_mutex_there w (mutex_in c) ≡ true → Suits (length w.locks) (kind_at w) (first_place (kind_at w (lock_in c)) c)
     by_call (call.TheVariants.Mutex l c) lt has m = (first_fits (length w.locks) l (is_fair (kind_at w l)) c lt, mutex_called (kind_at w l) l c has)
     by_call (call.TheVariants.RwLock l c) lt has m = (lt, rwlock_called (kind_at w l) l c has)
     by_call (call.TheVariants.Once l c) lt has m = (lt, once_called (kind_at w l) l c has)

@@ -15,20 +15,20 @@ may_have (On own) l = own == l
 may_have Anywhere l = true
 
 -- a tag tells of a place that has no debt on the locks which the tag leaves out
-abbrev pub Tells : Tag → Place → Type 0
-Tells tag p = (debt : Debt) (l : ℕ) → may_have tag l ≡ false → has_debt p debt l ≡ false
+abbrev pub TagCovers : Tag → Place → Type 0
+TagCovers tag p = (debt : Debt) (l : ℕ) → may_have tag l ≡ false → has_debt p debt l ≡ false
 
 -- a place has no debts but on one lock
 abbrev pub HasDebtsOnlyOn : ℕ → Place → Type 0
 HasDebtsOnlyOn own p = (debt : Debt) (l : ℕ) → (own == l) ≡ false → has_debt p debt l ≡ false
 
-abbrev pub place_of : List Place → ℕ → Place
-place_of places t = slice_index_or places t Idle
+abbrev pub place_of_thread : List Place → ℕ → Place
+place_of_thread places t = slice_index_or places t Idle
 
 -- no thread from one up to another has a debt on a lock
 abbrev pub Skips : List Place → ℕ → ℕ → ℕ → Type 0
 Skips places l from to = (t : ℕ) → from ≤ t → t < to → (debt : Debt)
-    → has_debt (place_of places t) debt l ≡ false
+    → has_debt (place_of_thread places t) debt l ≡ false
 
 abbrev pub unlinked : Link
 unlinked = record { lock = None; next = 0 }

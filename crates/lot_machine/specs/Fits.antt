@@ -43,8 +43,8 @@ abbrev pub GivesUpTimed : MutexPlace → Type 0
 GivesUpTimed at = Implies (mutex_profile at).late (mutex_profile at).timed
 
 -- only a timed wait gives up, or tells that its time was up
-abbrev pub IsTimely : CondvarPlace → Type 0
-IsTimely at = Implies (is_late at) (has_deadline at)
+abbrev pub GivesUpOnlyTimed : CondvarPlace → Type 0
+GivesUpOnlyTimed at = Implies (is_late at) (has_deadline at)
 
 -- a lock that is named is there
 abbrev pub IsThere : ℕ → Option ℕ → Type 0
@@ -58,7 +58,7 @@ PlaceFits locks (Mutex lock at) = (lock < locks) × GivesUpTimed at
 PlaceFits locks (RwLock lock a at) = lock < locks
 PlaceFits locks (Once lock at) = lock < locks
 PlaceFits locks (Semaphore lock at) = lock < locks
-PlaceFits locks (Condvar lock at) = (lock < locks) × IsThere locks (mutex_beside at) × IsTimely at
+PlaceFits locks (Condvar lock at) = (lock < locks) × IsThere locks (mutex_beside at) × GivesUpOnlyTimed at
 
 -- whether it is a reader-writer lock
 abbrev pub is_rwlock : Kind → Bool
@@ -91,9 +91,9 @@ is_semaphore kind.Condvar = false
 is_semaphore kind.Once = false
 
 -- a condition variable works with plain mutexes
-abbrev pub IsPlain : (ℕ → Kind) → Option ℕ → Type 0
-IsPlain kinds None = Unit {0}
-IsPlain kinds (Some m) = is_plain_mutex (kinds m) ≡ true
+abbrev pub NamesPlainMutex : (ℕ → Kind) → Option ℕ → Type 0
+NamesPlainMutex kinds None = Unit {0}
+NamesPlainMutex kinds (Some m) = is_plain_mutex (kinds m) ≡ true
 
 -- a call is of a lock of its own kind
 abbrev pub IsOfItsKind : (ℕ → Kind) → Place → Type 0
@@ -103,11 +103,11 @@ IsOfItsKind kinds (RwLock lock a at) = is_rwlock (kinds lock) ≡ true
 IsOfItsKind kinds (Once lock at) = is_once (kinds lock) ≡ true
 IsOfItsKind kinds (Semaphore lock at) = is_semaphore (kinds lock) ≡ true
 IsOfItsKind kinds (Condvar lock at) =
-    (is_condvar (kinds lock) ≡ true) × IsPlain kinds (mutex_beside at)
+    (is_condvar (kinds lock) ≡ true) × NamesPlainMutex kinds (mutex_beside at)
 
 -- the word of a condition variable is 0, or shows a plain mutex that is there
-abbrev pub Shows : ℕ → (ℕ → Kind) → ℕ → Type 0
-Shows locks kinds word =
+abbrev pub ShowsPlainMutex : ℕ → (ℕ → Kind) → ℕ → Type 0
+ShowsPlainMutex locks kinds word =
     (word ≡ 0) ⊎ ((mutex_shown word < locks) × (is_plain_mutex (kinds (mutex_shown word)) ≡ true))
 
 -- each waiter is a thread that is there
@@ -122,7 +122,7 @@ pub record IsWellFormed (w : State) : Type 0 where
   pub places : (t : ℕ) → PlaceFits (length w.locks) (place_at w t)
   pub kinds : (t : ℕ) → IsOfItsKind (kind_at w) (place_at w t)
   pub shown : (l : ℕ) → is_condvar (kind_at w l) ≡ true
-      → Shows (length w.locks) (kind_at w) (word_at w l)
+      → ShowsPlainMutex (length w.locks) (kind_at w) (word_at w l)
   pub waiting : (key : ℕ) → AllBelow (length w.places) (queue_at w key)
 
 -- the same numbers of threads and of locks

@@ -40,7 +40,7 @@ use Rattle.spec_locks.specs.declared.outcomes.Outcome as outcome
 use Rattle.spec_locks.specs.Kinds.{has_call, is_plain_mutex}
 use Rattle.steps_base.specs.Acts.{holds, takes_effect, outcome_of}
 use Rattle.steps_base.specs.Owners.{is_thread, with_exclusive}
-use Rattle.spec_locks.specs.Calls.{lock_in, mutex_in, right_in}
+use Rattle.spec_locks.specs.Calls.{lock_in, mutex_in, lock_of_right}
 use Rattle.lot_steps.specs.Steps.{first_place, has_right, is_idle, act_of, next_place, next_act, owners_after, shares_after, taker, wants, looking, late_key}
 use Rattle.spec_locks.specs.Codes.{fills}
 use Rattle.spec_locks.specs.Locks.{Taken, wants_shared}
@@ -161,12 +161,12 @@ state_after_operation w t p l op =
       shares = shares_with w l t (shares_after p (word_at w l) (share_at w l t));
     }
 
-abbrev pub is_free : State → ℕ → Bool
-is_free w key = is_none (section_at w key)
+abbrev pub section_is_free : State → ℕ → Bool
+section_is_free w key = is_none (section_at w key)
 
 abbrev pub are_free : State → Keys → Bool
-are_free w (keys.TheVariants.One key) = is_free w key
-are_free w (keys.TheVariants.Two first second) = is_free w first && is_free w second
+are_free w (keys.TheVariants.One key) = section_is_free w key
+are_free w (keys.TheVariants.Two first second) = section_is_free w first && section_is_free w second
 
 -- somebody is inside the sections now, or nobody
 abbrev pub state_with_sections : State → Keys → Option ℕ → State
@@ -225,8 +225,8 @@ shares_in_hand t None = false
 shares_in_hand t (Some h) = (h.by == t) && wants_shared h.want
 
 -- how many t has in hand who want to share
-abbrev pub sharers : ℕ → List Place → ℕ
-sharers t ps = length (filter (λ (p : Place). shares_in_hand t (held p)) ps)
+abbrev pub sharers_in_hand : ℕ → List Place → ℕ
+sharers_in_hand t ps = length (filter (λ (p : Place). shares_in_hand t (held p)) ps)
 
 -- its want, where t has it in hand and it wants more than to share
 abbrev pub wants_more_in_hand : ℕ → Option Taken → Option Want
@@ -259,8 +259,8 @@ shares_given t [] ns = ns
 shares_given t (p ∷ ps) [] = []
 shares_given t (p ∷ ps) (n ∷ ns) = with_share (shares_in_hand t (held p)) n ∷ shares_given t ps ns
 
-abbrev pub pending_for : ℕ → Owners → Owners
-pending_for u owners = record owners
+abbrev pub owners_with_pending : ℕ → Owners → Owners
+owners_with_pending u owners = record owners
     { pending = Some (record { thread = u; fallback = fallback.TheVariants.Nothing }) }
 
 -- a writer owns where nobody shares, and else is pending, with nothing to fall back to
@@ -268,7 +268,7 @@ abbrev pub owners_of_successor : ℕ → Option Successor → Owners → Owners
 owners_of_successor readers None owners = owners
 owners_of_successor readers (Some s) owners = elim s.want [
   | Exclusive ↦ if readers == 0 then with_exclusive owners (Some s.thread)
-      else pending_for s.thread owners
+      else owners_with_pending s.thread owners
   | Upgradable ↦ record owners { upgradable = Some s.thread }
   | Shared ↦ owners
   | Wait ↦ owners
@@ -332,9 +332,9 @@ state_after_take w t key whom.TheVariants.All =
     state_after_takes w t key (threads_of (queue_at w key)) []
 
 -- the waiters left in a line after a requeue
-abbrev pub left_behind : Requeue → List Waiter → List Waiter
-left_behind requeue.TheVariants.One q = drop 1 q
-left_behind how q = []
+abbrev pub left_in_line : Requeue → List Waiter → List Waiter
+left_in_line requeue.TheVariants.One q = drop 1 q
+left_in_line how q = []
 
 -- a waiter that is moved stands behind the last of the other line, and wants to own alone
 abbrev pub moved_under : ℕ → List Waiter → List Waiter
@@ -349,7 +349,7 @@ moved_threads requeue.TheVariants.TakeOneMoveRest us = drop 1 us
 abbrev pub queues_requeued : List (List Waiter) → ℕ → ℕ → Requeue → List (List Waiter)
 queues_requeued queues from to how =
     let q = slice_index_or queues from [] in
-    let others = slice_set queues from (left_behind how q) in
+    let others = slice_set queues from (left_in_line how q) in
     slice_set others to (slice_index_or others to [] ++ moved_under to (moved_by how q))
 
 abbrev pub listed : Option ℕ → List ℕ
@@ -399,7 +399,7 @@ reply_to_take w t key whom.TheVariants.First =
     Took (is_there (first_of (queue_at w key))) (length (drop 1 (queue_at w key)) == 0)
 reply_to_take w t key (whom.TheVariants.Picked start recursive) =
     let v = state_after_take w t key (whom.TheVariants.Picked start recursive) in
-    Picked (sharers t v.places) (want_of_successor (successor_from t 0 v.places))
+    Picked (sharers_in_hand t v.places) (want_of_successor (successor_from t 0 v.places))
     (length (without_lock_picked start recursive key (queue_at w key)) == 0)
 reply_to_take w t key whom.TheVariants.All = Took (not (length (queue_at w key) == 0)) true
 
@@ -412,7 +412,7 @@ reply_to w t (Take key whom) = reply_to_take w t key whom
 reply_to w t (act.Requeue from to how) =
     Requeued (length (listed (taken_by how (queue_at w from))) + length
     (moved_by how (queue_at w from)))
-    (length (left_behind how (queue_at w from)) == 0)
+    (length (left_in_line how (queue_at w from)) == 0)
 reply_to w t (Remove key) = Removed (length (without t (queue_at w key)) == 0)
 reply_to w t act = Done
 
@@ -462,20 +462,20 @@ abbrev pub close_outcome : State → ℕ → Bool → Outcome
 close_outcome w t succeeded = go_outcome (put w t (closed_place w t succeeded)) t
 
 -- a call names no mutex, or one that is there
-abbrev pub has_mutex : State → Option ℕ → Bool
-has_mutex w None = true
-has_mutex w (Some m) = nat_lt m (length w.locks) && is_plain_mutex (kind_at w m)
+abbrev pub names_mutex_there : State → Option ℕ → Bool
+names_mutex_there w None = true
+names_mutex_there w (Some m) = nat_lt m (length w.locks) && is_plain_mutex (kind_at w m)
 
 -- the thread has the right that the call needs
 abbrev pub holds_right : State → ℕ → Call → Bool
-holds_right w t call = has_right call t (owners_at w (right_in call)) (share_at w (right_in call) t)
+holds_right w t call = has_right call t (owners_at w (lock_of_right call)) (share_at w (lock_of_right call) t)
 
 -- the lock is there, has the call, and the thread has the right that the call needs
 abbrev pub is_open_to : State → ℕ → Call → Bool
 is_open_to w t call =
     nat_lt (lock_in call) (length w.locks)
     && (has_call (kind_at w (lock_in call)) call
-    && (has_mutex w (mutex_in call) && holds_right w t call))
+    && (names_mutex_there w (mutex_in call) && holds_right w t call))
 
 abbrev pub can_begin : State → ℕ → Call → Bool
 can_begin w t call = is_idle (place_at w t) && is_open_to w t call
@@ -504,7 +504,7 @@ spin_outcome w t = look_outcome w t (looking (place_at w t))
 
 abbrev pub is_free_under : State → Option ℕ → Bool
 is_free_under w None = false
-is_free_under w (Some key) = is_free w key
+is_free_under w (Some key) = section_is_free w key
 
 -- a thread sleeps in a timed call, and the section of the queue where it stands is free
 abbrev pub can_be_late : State → ℕ → Bool
@@ -575,19 +575,19 @@ abbrev pub go_of : ℕ → Step
 go_of t = record { thread = t; turn = turn.TheVariants.Go }
 
 -- where steps of a thread alone have led, and the last outcome that came of a possible one
-pub record Alone : Type 0 where
+pub record SoloEnd : Type 0 where
   pub state : State
   pub outcome : Outcome
 
 -- the outcome of one more step: none was possible, the thread goes on, or it rests
-abbrev pub alone_after : Outcome → State → State → Outcome → Alone → Alone
+abbrev pub alone_after : Outcome → State → State → Outcome → SoloEnd → SoloEnd
 alone_after outcome.TheVariants.NotNow w v last more = record { state = w; outcome = last }
 alone_after outcome.TheVariants.Step w v last more = more
 alone_after rests w v last more = record { state = v; outcome = rests }
 
 -- at most n steps of a thread alone, until its call ends, sleeps or is in its closure, or until
 -- none is possible
-unfoldable pub solo : ℕ → State → ℕ → Outcome → Alone
+unfoldable pub solo : ℕ → State → ℕ → Outcome → SoloEnd
 solo zero w t last = record { state = w; outcome = last }
 solo (suc n) w t last = alone_after (step_outcome w (go_of t)) w (after w (go_of t)) last
     (solo n (after w (go_of t)) t outcome.TheVariants.Step)

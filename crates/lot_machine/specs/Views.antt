@@ -4,7 +4,7 @@ use Rattle.steps_base.specs.declared.owners.Owner.{Owner}
 use Rattle.steps_base.specs.declared.owners.Owner.TheVariants.{Exclusive, Pending, Upgradable, Running, Shared}
 use Rattle.steps_base.specs.declared.owners.Owners.{Owners}
 use Rattle.steps_base.specs.declared.owners.Pending as pending
-use Rattle.steps_base.specs.Owners.{runner}
+use Rattle.steps_base.specs.Owners.{running_thread}
 use Rattle.lot_steps.specs.declared.places.Place.{Place}
 use Rattle.lot_steps.specs.Steps.{owes_on, retries_on}
 use Rattle.core_base.specs.declared.wants.Waiter.{Waiter}
@@ -25,7 +25,7 @@ abbrev pub owners_listed : Owners → List (Owner × ℕ)
 owners_listed o =
     owner_of Exclusive o.exclusive
     ++ (pending_of o.pending
-    ++ (owner_of Upgradable o.upgradable ++ owner_of Running (runner o.phase)))
+    ++ (owner_of Upgradable o.upgradable ++ owner_of Running (running_thread o.phase)))
 
 -- the sharers of a lock, once for each right, by the numbers of rights of threads from this one on
 abbrev pub sharers_listed : ℕ → List ℕ → List (Owner × ℕ)

@@ -2,7 +2,7 @@
 ghost use Rattle.std.specs.Prelude.{◌≡◌, ◌<◌, ◌≤◌, ◌+◌, ◌++◌, ◌∷◌, [], MatchOption, length, drop};
 ghost use Rattle.std.specs.Iterator.{YieldsFirst, item_count};
 ghost use Rattle.lot_machine.specs.Views.{debtors, has_debt};
-ghost use Rattle.lot_machine.specs.Debts.{AreLinked, AreLinkedFrom, HasDebtsOnlyOn, Tells, Skips};
+ghost use Rattle.lot_machine.specs.Debts.{AreLinked, AreLinkedFrom, HasDebtsOnlyOn, TagCovers, Skips};
 
 use lot_steps::Place;
 use std::marker::Model;
@@ -138,7 +138,7 @@ fn put_before(places: &[Place], links: &mut [Link; LINKED], first: &mut [u16; LO
 
 /// The tag of a thread at this place.
 fn tag_of(place: &Place) -> Tag
-    ensures { Tells result place.now }
+    ensures { TagCovers result place.now }
 {
     match place {
         Place::Idle => Tag::Nowhere,
@@ -153,7 +153,7 @@ fn tag_of(place: &Place) -> Tag
 /// The tag of a thread that has no debts but on this lock.
 fn tag_at(place: &Place, lock: usize) -> Tag
     requires { HasDebtsOnlyOn lock place.now }
-    ensures { Tells result place.now }
+    ensures { TagCovers result place.now }
 {
     if has_debt(place, Debt::Owes, lock) || has_debt(place, Debt::Retries, lock) {
         Tag::On(lock)

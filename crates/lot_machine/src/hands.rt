@@ -1,7 +1,7 @@
 //! The threads that a thread has in hand: it has taken them from queues, and has not woken them
 //! yet.
 ghost use Rattle.std.specs.Prelude.{◌≡◌, ◌≤◌, vec_capacity, length, map};
-ghost use Rattle.lot_machine.specs.Machine.{places_told, listed, moved_threads, held, shares_in_hand, sharers, wants_more_in_hand, successor_from, want_of_successor, place_after_telling};
+ghost use Rattle.lot_machine.specs.Machine.{places_told, listed, moved_threads, held, shares_in_hand, sharers_in_hand, wants_more_in_hand, successor_from, want_of_successor, place_after_telling};
 
 use core_base::{Requeue, Want};
 use lot_steps::{Place, Reply};
@@ -18,7 +18,7 @@ fn tell_if_taken(place: &mut Place, thread: usize, reply: Reply)
     ensures { place.new ≡ place_after_telling thread reply place.old }
 {
     if place.taker() == Some(thread) {
-        place.arrive(reply);
+        place.step(reply);
     }
 }
 
@@ -36,7 +36,7 @@ pub(crate) fn tell_each(places: &mut [Place], threads: &[usize], reply: Reply)
 {
     for thread in threads {
         if *thread < places.len() {
-            places[*thread].arrive(reply);
+            places[*thread].step(reply);
         }
     }
 }
@@ -85,7 +85,7 @@ pub(crate) fn shares_in_hand(thread: usize, place: &Place) -> bool
 
 /// How many a thread has in hand who want to share.
 pub(crate) fn sharers(thread: usize, places: &[Place]) -> usize
-    ensures { result ≡ sharers thread places.now }
+    ensures { result ≡ sharers_in_hand thread places.now }
 {
     places
         .iter()

@@ -4,7 +4,7 @@ use Rattle.std.specs.Prelude.{◌==◌}
 use Rattle.std.specs.List.{onto_first}
 use Rattle.lot_text.specs.Lines.{lines_of}
 use Rattle.lot_text.specs.Text.{malformed_line}
-use Rattle.lot_replay.specs.Stages.{Stage, nothing, after_line}
+use Rattle.lot_replay.specs.Stages.{ReplayStage, nothing, after_line}
 use Rattle.lot_replay.specs.Replay.{IsReplay, LinesWrite, IsBeginning, BeginningsBegin, EarlyTextsBegin, HasOneText}
 
 -- the lines of a text in front of a line feed: at least one
@@ -29,14 +29,14 @@ some_lines : (front : List ℕ) → SomeLines front
 some_lines [] = record { first = []; others = []; fed = λ back. refl }
 some_lines (b ∷ front) = more_lines (b == 10) b front refl (some_lines front)
 
-none_some : (s : Stage) (t : List ℕ) → ◌≡◌ {A = Option (Stage × List ℕ)} None (Some (s, t)) → ⊥
+none_some : (s : ReplayStage) (t : List ℕ) → ◌≡◌ {A = Option (ReplayStage × List ℕ)} None (Some (s, t)) → ⊥
 none_some s t e = cc
 
-some_pair : (s u : Stage) (t v : List ℕ) → ◌≡◌ {A = Option (Stage × List ℕ)} (Some (s, t)) (Some (u, v)) → (s ≡ u) × (t ≡ v)
-some_pair s u t v e = let p : ◌≡◌ {A = Stage × List ℕ} (s, t) (u, v) = cc in (ap (λ (x : Stage × List ℕ). x.0) p, ap (λ (x : Stage × List ℕ). x.1) p)
+some_pair : (s u : ReplayStage) (t v : List ℕ) → ◌≡◌ {A = Option (ReplayStage × List ℕ)} (Some (s, t)) (Some (u, v)) → (s ≡ u) × (t ≡ v)
+some_pair s u t v e = let p : ◌≡◌ {A = ReplayStage × List ℕ} (s, t) (u, v) = cc in (ap (λ (x : ReplayStage × List ℕ). x.0) p, ap (λ (x : ReplayStage × List ℕ). x.1) p)
 
 -- tells what follows of two replays of the same first lines
-next_begins : (k : ℕ) (s : Stage) (lines more : List (List ℕ)) (t u : List ℕ) (st su : ℕ) → IsReplay k s lines t st → IsReplay k s (lines ++ more) u su → IsBeginning t u
+next_begins : (k : ℕ) (s : ReplayStage) (lines more : List (List ℕ)) (t u : List ℕ) (st su : ℕ) → IsReplay k s lines t st → IsReplay k s (lines ++ more) u su → IsBeginning t u
 next_begins k s [] more t u st su h g = (u, ap (λ l. l ++ u) h.0)
 next_begins k s (line ∷ lines) more t u st su (inl h) (inl g) = ([], append-nil t ∙ h.1 ∙ sym g.1)
 next_begins k s (line ∷ lines) more t u st su (inl h) (inr g) = absurd (none_some g.0 g.1 (sym h.0 ∙ g.3))
@@ -59,7 +59,7 @@ early input whole status h = (
 )
 
 -- one text, and no other
-same_replay : (k : ℕ) (s : Stage) (lines : List (List ℕ)) (t u : List ℕ) (st su : ℕ) → IsReplay k s lines t st → IsReplay k s lines u su → (u ≡ t) × (su ≡ st)
+same_replay : (k : ℕ) (s : ReplayStage) (lines : List (List ℕ)) (t u : List ℕ) (st su : ℕ) → IsReplay k s lines t st → IsReplay k s lines u su → (u ≡ t) × (su ≡ st)
 same_replay k s [] t u st su h g = (g.0 ∙ sym h.0, g.1 ∙ sym h.1)
 same_replay k s (line ∷ lines) t u st su (inl h) (inl g) = (g.1 ∙ sym h.1, g.2 ∙ sym h.2)
 same_replay k s (line ∷ lines) t u st su (inl h) (inr g) = absurd (none_some g.0 g.1 (sym h.0 ∙ g.3))
@@ -69,16 +69,16 @@ same_replay k s (line ∷ lines) t u st su (inr h) (inr g) =
     let rest = same_replay (k + 1) h.0 lines h.2 g.2 st su h.5 (subst (λ n. IsReplay (k + 1) n lines g.2 su) (sym same.0) g.5) in
     (g.4 ∙ ap (λ l. l ++ g.2) (sym same.1) ∙ ap (λ l. h.1 ++ l) rest.0 ∙ sym h.4, rest.1)
 
-pub record HasReplay (k : ℕ) (s : Stage) (lines : List (List ℕ)) : Type 0 where
+pub record HasReplay (k : ℕ) (s : ReplayStage) (lines : List (List ℕ)) : Type 0 where
   text : List ℕ
   status : ℕ
   is : IsReplay k s lines text status
 
-first_replay : (k : ℕ) (s : Stage) (line : List ℕ) (lines : List (List ℕ)) (o : Option (Stage × List ℕ)) → after_line s line ≡ o → ((n : Stage) → HasReplay (k + 1) n lines) → HasReplay k s (line ∷ lines)
+first_replay : (k : ℕ) (s : ReplayStage) (line : List ℕ) (lines : List (List ℕ)) (o : Option (ReplayStage × List ℕ)) → after_line s line ≡ o → ((n : ReplayStage) → HasReplay (k + 1) n lines) → HasReplay k s (line ∷ lines)
 first_replay k s line lines None e rest = record { text = malformed_line k; status = 2; is = inl (e, refl, refl) }
 first_replay k s line lines (Some a) e rest = let r = rest a.0 in record { text = a.1 ++ r.text; status = r.status; is = inr (a.0, a.1, r.text, e, refl, r.is) }
 
-has_replay : (lines : List (List ℕ)) (k : ℕ) (s : Stage) → HasReplay k s lines
+has_replay : (lines : List (List ℕ)) (k : ℕ) (s : ReplayStage) → HasReplay k s lines
 has_replay [] k s = record { text = []; status = 0; is = (refl, refl) }
 has_replay (line ∷ lines) k s = first_replay k s line lines (after_line s line) refl (has_replay lines (k + 1))
 

@@ -8,7 +8,7 @@ use Rattle.lot_text.specs.declared.grammar.NamedTurn.{NamedTurn}
 use Rattle.core_base.specs.declared.queues.Queues.{Ghosts}
 use Rattle.lot_replay.specs.declared.session.Session.{Session}
 use Rattle.lot_replay.specs.Sessions.{session_stage, session_world, stage_with, world_with}
-use Rattle.lot_replay.specs.Stages.{Stage, obeyed, played, after_line}
+use Rattle.lot_replay.specs.Stages.{ReplayStage, obeyed, played, after_line}
 use Rattle.lot_text.specs.Lines.{line_len}
 use Rattle.lot_text.specs.Grammar.{meaning}
 use Rattle.lot_text.specs.Turns.{named_turn, IsTurn}
@@ -22,7 +22,7 @@ turn_obeyed s t turn = by_world s.world
     by_world (Some w) = refl
 
 -- the line of a plain turn leads where the turn leads
-pub turn_after : (stage : Stage) (line : List ℕ) (t : ℕ) (turn : PlainTurn) → IsTurn line t turn → after_line stage line ≡ obeyed stage (command.TheVariants.Turn t (named_turn turn))
+pub turn_after : (stage : ReplayStage) (line : List ℕ) (t : ℕ) (turn : PlainTurn) → IsTurn line t turn → after_line stage line ≡ obeyed stage (command.TheVariants.Turn t (named_turn turn))
 turn_after stage line t turn h = elim (leb_tells (length line) line_len) [
   | inl fits ↦ ap (λ b. cond b (option_and_then (obeyed stage) (meaning line)) None) fits.0 ∙ ap (option_and_then (obeyed stage)) h.1
   | inr long ↦ absurd (omega (arith, long.1, h.0))

@@ -8,25 +8,25 @@ use Rattle.lot_text.specs.Grammar.{meaning}
 use Rattle.lot_text.specs.declared.grammar.Command.{Command}
 use Rattle.lot_text.specs.declared.grammar.Command as command
 use Rattle.lot_text.specs.Text.{malformed_line, no_memory_line}
-use Rattle.lot_replay.specs.Stages.{Stage, nothing, after_line}
+use Rattle.lot_replay.specs.Stages.{ReplayStage, nothing, after_line}
 use Rattle.lot_replay.specs.Answers.{is_drain}
 
 -- ---------------------------------------------------------------- the text of a schedule
 
 -- a line may lead from a stage to another with this text
-abbrev pub MayAnswer : Stage → List ℕ → Stage → List ℕ → Type 0
-MayAnswer stage line next text = after_line stage line ≡ Some (next, text)
+abbrev pub LineMayLead : ReplayStage → List ℕ → ReplayStage → List ℕ → Type 0
+LineMayLead stage line next text = after_line stage line ≡ Some (next, text)
 
-abbrev pub IsMalformed : Stage → List ℕ → Type 0
+abbrev pub IsMalformed : ReplayStage → List ℕ → Type 0
 IsMalformed stage line = after_line stage line ≡ None
 
 -- the lines from a number on have this text and end in this status: the first of another form is
 -- the last that is answered
-abbrev pub IsReplay : ℕ → Stage → List (List ℕ) → List ℕ → ℕ → Type 0
+abbrev pub IsReplay : ℕ → ReplayStage → List (List ℕ) → List ℕ → ℕ → Type 0
 IsReplay number stage [] text status = (text ≡ []) × (status ≡ 0)
 IsReplay number stage (line ∷ lines) text status =
     (IsMalformed stage line × (text ≡ malformed_line number) × (status ≡ 2))
-    ⊎ ((next : Stage) × (first : List ℕ) × (others : List ℕ) × MayAnswer stage line next first
+    ⊎ ((next : ReplayStage) × (first : List ℕ) × (others : List ℕ) × LineMayLead stage line next first
     × (text ≡ first ++ others) × IsReplay (number + 1) next lines others status)
 
 -- all lines of a schedule

@@ -4,18 +4,18 @@ use Rattle.spec_locks.specs.declared.kinds.Kind.{Kind}
 use Rattle.lot_machine.specs.Machine.{State, opening}
 use Rattle.core_base.specs.declared.queues.Queues.{Ghosts}
 use Rattle.lot_replay.specs.declared.session.Session.{Session}
-use Rattle.lot_replay.specs.Stages.{Stage, nothing, declaring, running}
+use Rattle.lot_replay.specs.Stages.{ReplayStage, nothing, declaring, running}
 
-abbrev pub stage_with : ℕ → List (List ℕ) → List Kind → Option State → Stage
+abbrev pub stage_with : ℕ → List (List ℕ) → List Kind → Option State → ReplayStage
 stage_with threads names kinds None = declaring threads names kinds
 stage_with threads names kinds (Some w) = running names w
 
-abbrev pub session_stage : {Q : Type 0} {queues : Ghosts Q} → Session Q queues → Stage
+abbrev pub session_stage : {Q : Type 0} {queues : Ghosts Q} → Session Q queues → ReplayStage
 session_stage s = stage_with s.threads s.names s.kinds.items s.world
 
-abbrev pub stage_of : {Q : Type 0} {queues : Ghosts Q} → Option (Session Q queues) → Stage
-stage_of None = nothing
-stage_of (Some s) = session_stage s
+abbrev pub replay_stage_of : {Q : Type 0} {queues : Ghosts Q} → Option (Session Q queues) → ReplayStage
+replay_stage_of None = nothing
+replay_stage_of (Some s) = session_stage s
 
 abbrev pub world_with : ℕ → List Kind → Option State → State
 world_with threads kinds None = opening kinds threads

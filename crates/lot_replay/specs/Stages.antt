@@ -33,10 +33,10 @@ use Rattle.lot_replay.specs.declared.actions.Action as actions
 
 -- nothing yet; so many threads, and locks of these names and kinds; or a world of locks of these
 -- names
-pub data Stage : Type 0 where
-  nothing : Stage
-  declaring : ℕ → List (List ℕ) → List Kind → Stage
-  running : List (List ℕ) → State → Stage
+pub data ReplayStage : Type 0 where
+  nothing : ReplayStage
+  declaring : ℕ → List (List ℕ) → List Kind → ReplayStage
+  running : List (List ℕ) → State → ReplayStage
 
 -- ---------------------------------------------------------------- turns
 
@@ -52,21 +52,21 @@ wait_with lock timed mutex = calls.TheVariants.Condvar lock (condvar.Wait mutex 
 
 -- the call of a lock of this kind: a wait names a mutex exactly where the lock is a condition
 -- variable
-abbrev pub call_at : List (List ℕ) → Kind → NamedCall → ℕ → Option Call
-call_at names kind (calling.Mutex call) lock = Some (calls.TheVariants.Mutex lock call)
-call_at names kind (calling.RwLock call) lock = Some (calls.TheVariants.RwLock lock call)
-call_at names kind (calling.Once call) lock =
+abbrev pub call_of_kind : List (List ℕ) → Kind → NamedCall → ℕ → Option Call
+call_of_kind names kind (calling.Mutex call) lock = Some (calls.TheVariants.Mutex lock call)
+call_of_kind names kind (calling.RwLock call) lock = Some (calls.TheVariants.RwLock lock call)
+call_of_kind names kind (calling.Once call) lock =
     if is_condvar kind && is_bare_wait call then None else Some (calls.TheVariants.Once lock call)
-call_at names kind (calling.Semaphore call) lock = Some (calls.TheVariants.Semaphore lock call)
-call_at names kind (calling.Notify all) lock =
+call_of_kind names kind (calling.Semaphore call) lock = Some (calls.TheVariants.Semaphore lock call)
+call_of_kind names kind (calling.Notify all) lock =
     Some (calls.TheVariants.Condvar lock (condvar.Notify all))
-call_at names kind (calling.Wait mutex timed) lock =
+call_of_kind names kind (calling.Wait mutex timed) lock =
     if is_condvar kind then option_map (wait_with lock timed) (lock_named names mutex) else None
 
 -- the call of the lock that has the name
 abbrev pub call_named : List (List ℕ) → State → NamedCall → List ℕ → Option Call
 call_named names w call name =
-    option_and_then (λ lock. call_at names (kind_at w lock) call lock) (lock_named names name)
+    option_and_then (λ lock. call_of_kind names (kind_at w lock) call lock) (lock_named names name)
 
 abbrev pub action_of : List (List ℕ) → State → NamedTurn → Option Action
 action_of names w (named.TheVariants.Begin call name) =
@@ -82,8 +82,8 @@ action_of names w (named.TheVariants.Do call name) =
     option_map actions.TheVariants.Do (call_named names w call name)
 
 -- where a step leads, and its outcome
-abbrev pub stepped : State → ℕ → Turn → State × Outcome
-stepped w t turn =
+abbrev pub step_told : State → ℕ → Turn → State × Outcome
+step_told w t turn =
     let s : Step = record { thread = t; turn = turn } in (after w s, step_outcome w s)
 
 -- at most 64 steps of a thread alone
@@ -97,26 +97,26 @@ did w t call =
     if is_possible w s then went_alone (after w s) t else (w, outcome.TheVariants.NotNow)
 
 abbrev pub done_by : State → ℕ → Action → State × Outcome
-done_by w t (actions.TheVariants.Turn turn) = stepped w t turn
+done_by w t (actions.TheVariants.Turn turn) = step_told w t turn
 done_by w t actions.TheVariants.Solo = went_alone w t
 done_by w t (actions.TheVariants.Do call) = did w t call
 
 -- ---------------------------------------------------------------- lines
 
 -- the stage and the text after a thread's action
-abbrev pub acted : List (List ℕ) → State → ℕ → Action → Stage × List ℕ
+abbrev pub acted : List (List ℕ) → State → ℕ → Action → ReplayStage × List ℕ
 acted names w t action = (running names (done_by w t action).0, turn_line t (done_by w t action).1)
 
 -- and after a `drain`: its schedule is written and its steps are taken, or the world isn't one that
 -- may be drained
-abbrev pub drained : List (List ℕ) → State → Stage × List ℕ
+abbrev pub drained : List (List ℕ) → State → ReplayStage × List ℕ
 drained names w =
     if is_drainable w
     then (running names (after_steps w (schedule_of w)), drain_lines names (schedule_of w))
     else (running names w, drain_refused_line)
 
 -- the effect of a turn, a `show` or a `drain` in a world, or none where it names no lock or is none of these
-abbrev pub played : List (List ℕ) → State → Command → Option (Stage × List ℕ)
+abbrev pub played : List (List ℕ) → State → Command → Option (ReplayStage × List ℕ)
 played names w (command.TheVariants.Turn t turn) =
     option_map (acted names w t) (action_of names w turn)
 played names w command.TheVariants.Show = Some (running names w, show_lines w 0 names)
@@ -129,7 +129,7 @@ may_declare threads names kind name =
     nat_lt (length names) 256 && (fits kind threads && is_none (lock_named names name))
 
 -- the stage and the text after a line with a meaning, or none where the line may not stand there
-abbrev pub obeyed : Stage → Command → Option (Stage × List ℕ)
+abbrev pub obeyed : ReplayStage → Command → Option (ReplayStage × List ℕ)
 obeyed nothing (command.TheVariants.Threads threads) =
     if nat_le 1 threads && nat_le threads 1024 then Some (declaring threads [] [], []) else None
 obeyed nothing _ = None
@@ -140,6 +140,6 @@ obeyed (declaring threads names kinds) command = played names (opening kinds thr
 obeyed (running names w) command = played names w command
 
 -- the stage and the text after a line, or none where it is malformed
-abbrev pub after_line : Stage → List ℕ → Option (Stage × List ℕ)
+abbrev pub after_line : ReplayStage → List ℕ → Option (ReplayStage × List ℕ)
 after_line stage line =
     if nat_le (length line) line_len then option_and_then (obeyed stage) (meaning line) else None

@@ -3,7 +3,7 @@ ghost use Rattle.std.specs.Prelude.{◌≡◌, ◌≤◌, ℕ, List, MatchOption
 ghost use Rattle.lot_text.specs.Sent.{Puts};
 ghost use Rattle.lot_replay.specs.Answers.{last_line, last_status};
 ghost use Rattle.lot_replay.specs.Fronts.{AnswersFront, AnswersRead, RefusesFirst, RefusesRead};
-ghost use Rattle.lot_replay.specs.Sessions.{stage_of};
+ghost use Rattle.lot_replay.specs.Sessions.{replay_stage_of};
 ghost use Rattle.lot_replay.specs.Replay.{MayWrite, Replays, BeginningsBegin, EarlyTextsBegin, HasOneText};
 
 use crate::state::{Refusal, State};
@@ -102,12 +102,12 @@ fn answer_shown<Q: Queues + Drop, R: BufRead, W: Write>(
 ) -> Option<Front>
     ensures { MatchOption result
         (AnswersRead (R.remaining reader.old) (R.remaining reader.new) 0
-        (stage_of state.old.session) (stage_of state.new.session)
+        (replay_stage_of state.old.session) (replay_stage_of state.new.session)
         (Puts (W.contents writer.old) (W.contents writer.new) page.old page.new))
         (λ front. AnswersRead (R.remaining reader.old) (R.remaining reader.new) front.lines
-        (stage_of state.old.session) (stage_of state.new.session)
+        (replay_stage_of state.old.session) (replay_stage_of state.new.session)
         (Puts (W.contents writer.old) (W.contents writer.new) page.old page.new)
-        × RefusesRead front.refusal (stage_of state.new.session) (R.remaining reader.old)
+        × RefusesRead front.refusal (replay_stage_of state.new.session) (R.remaining reader.old)
         (R.remaining reader.new)) }
 {
     let front = match reader.fill_buf() {
@@ -133,9 +133,9 @@ fn answer_front<Q: Queues + Drop, W: Write>(
 ) -> Front
     ensures within { result.len ≤ length shown.now }
     ensures answered { AnswersFront shown.now (drop result.len shown.now) result.lines
-        (stage_of state.old.session) (stage_of state.new.session)
+        (replay_stage_of state.old.session) (replay_stage_of state.new.session)
         (Puts (W.contents writer.old) (W.contents writer.new) page.old page.new) }
-    ensures refused { RefusesFirst result.refusal (stage_of state.new.session)
+    ensures refused { RefusesFirst result.refusal (replay_stage_of state.new.session)
         (drop result.len shown.now) }
 {
     let mut front = Front::NONE;

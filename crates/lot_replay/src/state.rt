@@ -6,7 +6,7 @@ ghost use Rattle.lot_text.specs.Sent.{Puts};
 ghost use Rattle.lot_text.specs.Grammar.{meaning};
 ghost use Rattle.lot_text.specs.Turns.{Says, named_turn};
 ghost use Rattle.lot_replay.specs.Stages.{nothing, declaring, running, acted, played, obeyed, after_line};
-ghost use Rattle.lot_replay.specs.Sessions.{session_stage, session_world, stage_of};
+ghost use Rattle.lot_replay.specs.Sessions.{session_stage, session_world, replay_stage_of};
 ghost use Rattle.lot_replay.specs.Answers.{AnswersTo};
 
 use crate::actions::{Action, perform, plain_action};
@@ -34,7 +34,7 @@ pub struct State<Q: Queues + Drop> {
 
 impl<Q: Queues + Drop> State<Q> {
     pub fn new() -> State<Q>
-        ensures { stage_of result.session ≡ nothing }
+        ensures { replay_stage_of result.session ≡ nothing }
     {
         State { session: None }
     }
@@ -42,7 +42,7 @@ impl<Q: Queues + Drop> State<Q> {
     /// The world with the names of its locks, from the first turn, `show` or `drain` on.
     pub fn scene(&self) -> Option<(&World<Q>, &[Name])>
         ensures { IfSome result
-            (λ scene. stage_of self.now.session ≡ running scene.1.now scene.0.now) }
+            (λ scene. replay_stage_of self.now.session ≡ running scene.1.now scene.0.now) }
     {
         let session = self.session.as_ref()?;
         let world = session.world.as_ref()?;
@@ -61,8 +61,8 @@ impl<Q: Queues + Drop> State<Q> {
         kept: &[u8],
     ) -> Result<(), Refusal>
         requires { Says said kept.now }
-        ensures { AnswersTo (meaning kept.now) (after_line (stage_of self.old.session) kept.now)
-            result (stage_of self.old.session) (stage_of self.new.session)
+        ensures { AnswersTo (meaning kept.now) (after_line (replay_stage_of self.old.session) kept.now)
+            result (replay_stage_of self.old.session) (replay_stage_of self.new.session)
             (Puts (W.contents writer.old) (W.contents writer.new) page.old page.new) }
     {
         match said {
@@ -85,8 +85,8 @@ impl<Q: Queues + Drop> State<Q> {
         turn: PlainTurn,
     ) -> Result<(), Refusal>
         ensures { AnswersTo (Some (Command.Turn thread (named_turn turn)))
-            (obeyed (stage_of self.old.session) (Command.Turn thread (named_turn turn))) result
-            (stage_of self.old.session) (stage_of self.new.session)
+            (obeyed (replay_stage_of self.old.session) (Command.Turn thread (named_turn turn))) result
+            (replay_stage_of self.old.session) (replay_stage_of self.new.session)
             (Puts (W.contents writer.old) (W.contents writer.new) page.old page.new) }
     {
         match &mut self.session {
@@ -104,8 +104,8 @@ impl<Q: Queues + Drop> State<Q> {
         line: &[u8],
     ) -> Result<(), Refusal>
         requires { length line.now ≤ line_len }
-        ensures { AnswersTo (meaning line.now) (after_line (stage_of self.old.session) line.now)
-            result (stage_of self.old.session) (stage_of self.new.session)
+        ensures { AnswersTo (meaning line.now) (after_line (replay_stage_of self.old.session) line.now)
+            result (replay_stage_of self.old.session) (replay_stage_of self.new.session)
             (Puts (W.contents writer.old) (W.contents writer.new) page.old page.new) }
     {
         let Some(command) = meaning(line) else {
@@ -119,9 +119,9 @@ impl<Q: Queues + Drop> State<Q> {
 
     /// The first line has to say how many threads there are.
     fn open(&mut self, alloc: Global, command: Command) -> Result<(), Refusal>
-        requires { stage_of self.old.session ≡ nothing }
+        requires { replay_stage_of self.old.session ≡ nothing }
         ensures { AnswersTo (Some command) (obeyed nothing command) result nothing
-            (stage_of self.new.session) (λ text. text ≡ []) }
+            (replay_stage_of self.new.session) (λ text. text ≡ []) }
     {
         match command {
             Command::Threads(threads) if 1 <= threads && threads <= MOST_THREADS => {

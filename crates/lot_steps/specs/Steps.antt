@@ -17,9 +17,9 @@ use Rattle.steps_mutex.specs.MutexSteps.{mutex_first, mutex_right, mutex_act, mu
 use Rattle.core_base.specs.declared.keys.Line.{Line}
 use Rattle.core_base.specs.declared.wants.Want.{Want}
 use Rattle.core_base.specs.Keys.{key_of}
-use Rattle.steps_base.specs.Profiles.{Profile, blank, bringing_nobody, hand_owner}
+use Rattle.steps_base.specs.Profiles.{Profile, blank_row, bringing_nobody, hand_owner}
 use Rattle.steps_rwlock.specs.declared.places.Admission.{Admission}
-use Rattle.steps_rwlock.specs.RwLockBegins.{admission_of}
+use Rattle.steps_rwlock.specs.RwLockBegins.{admission_of_kind}
 use Rattle.steps_rwlock_fair.specs.declared.places.RwLockCallPlace.{RwLockCallPlace}
 use Rattle.steps_rwlock_fair.specs.FairBegins.{call_first, call_right}
 use Rattle.steps_rwlock_fair.specs.FairSteps.{call_act, call_next, call_owners, call_shares}
@@ -38,7 +38,7 @@ use Rattle.steps_semaphore.specs.SemaphoreProfiles.{semaphore_profile}
 -- where a call of a lock of a kind begins
 abbrev pub first_place : Kind → Call → Place
 first_place kind (call.TheVariants.Mutex lock c) = Mutex lock (mutex_first (is_fair kind) c)
-first_place kind (call.TheVariants.RwLock lock c) = RwLock lock (admission_of kind) (call_first c)
+first_place kind (call.TheVariants.RwLock lock c) = RwLock lock (admission_of_kind kind) (call_first c)
 first_place kind (call.TheVariants.Once lock c) = Once lock (once_first c)
 first_place kind (call.TheVariants.Condvar lock c) = Condvar lock (condvar_first c)
 first_place kind (call.TheVariants.Semaphore lock c) = Semaphore lock (semaphore_first c)
@@ -61,13 +61,13 @@ is_idle (Condvar lock at) = false
 is_idle (Semaphore lock at) = false
 
 -- the lock that a thread calls
-abbrev pub lock_of : Place → Option ℕ
-lock_of Idle = None
-lock_of (Mutex lock at) = Some lock
-lock_of (RwLock lock a at) = Some lock
-lock_of (Once lock at) = Some lock
-lock_of (Condvar lock at) = Some lock
-lock_of (Semaphore lock at) = Some lock
+abbrev pub called_lock : Place → Option ℕ
+called_lock Idle = None
+called_lock (Mutex lock at) = Some lock
+called_lock (RwLock lock a at) = Some lock
+called_lock (Once lock at) = Some lock
+called_lock (Condvar lock at) = Some lock
+called_lock (Semaphore lock at) = Some lock
 
 -- whether it is the lock
 abbrev pub is_lock : ℕ → Option ℕ → Bool
@@ -76,11 +76,11 @@ is_lock lock (Some own) = own == lock
 
 -- whether a thread calls the lock
 abbrev pub calls : Place → ℕ → Bool
-calls p lock = is_lock lock (lock_of p)
+calls p lock = is_lock lock (called_lock p)
 
 -- the row of a place at the lock that it calls
 abbrev pub profile : Place → Profile
-profile Idle = blank
+profile Idle = blank_row
 profile (Mutex lock at) = bringing_nobody (mutex_profile at)
 profile (RwLock lock a at) = call_profile a at
 profile (Once lock at) = once_profile at
@@ -98,17 +98,17 @@ beside_of (Semaphore lock at) = None
 
 -- and what a place says of its thread there
 abbrev pub profile_beside : Place → Profile
-profile_beside Idle = blank
-profile_beside (Mutex lock at) = blank
-profile_beside (RwLock lock a at) = blank
-profile_beside (Once lock at) = blank
+profile_beside Idle = blank_row
+profile_beside (Mutex lock at) = blank_row
+profile_beside (RwLock lock a at) = blank_row
+profile_beside (Once lock at) = blank_row
 profile_beside (Condvar lock at) = mutex_side at
-profile_beside (Semaphore lock at) = blank
+profile_beside (Semaphore lock at) = blank_row
 
 -- at any lock
 abbrev pub profile_at : Place → ℕ → Profile
 profile_at p lock = if calls p lock then profile p else if is_lock lock (beside_of p)
-    then profile_beside p else blank
+    then profile_beside p else blank_row
 
 -- this, or else that
 abbrev pub or_else : {A : Type 0} → Option A → Option A → Option A
@@ -264,7 +264,7 @@ key_in lock m = None
 -- the key under which a thread sleeps in a call that may give up
 abbrev pub late_key : Place → Option ℕ
 late_key p = or_else (key_in (beside_of p) (profile_beside p).late_line)
-    (key_in (lock_of p) (profile p).late_line)
+    (key_in (called_lock p) (profile p).late_line)
 
 -- the line on which a thread owes a wake on a lock
 abbrev pub line_owed : Place → ℕ → Option Line

@@ -95,8 +95,8 @@ impl Place {
         }
     }
 
-    /// The step of `advance`, of a place that is kept: a running thread copies none of it.
-    pub fn go_on(&mut self, reply: Reply) -> Act
+    /// The step of `call_step`, of a place that is kept: a running thread copies none of it.
+    pub fn advance(&mut self, reply: Reply) -> Act
         requires keys { HasKeys self.old }
         requires shown { ShowsKeys self.old reply }
         ensures place { self.new ≡ next_place self.old reply }
@@ -157,7 +157,7 @@ impl Place {
 
     /// The step of every call: where the reply to its act leads a thread. It answers what the thread
     /// is told.
-    pub fn arrive(&mut self, reply: Reply) -> Outcome
+    pub fn step(&mut self, reply: Reply) -> Outcome
         ensures place { self.new ≡ next_place self.old reply }
         ensures outcome { result ≡ outcome_of (next_act self.old reply) }
     {
@@ -218,11 +218,11 @@ impl Place {
     }
 
     /// Where the reply to its act, or what befalls it asleep, leads the thread.
-    pub fn after(self, reply: Reply) -> Place
+    pub fn next_place(self, reply: Reply) -> Place
         ensures { result ≡ next_place self reply }
     {
         let mut next = self;
-        next.arrive(reply);
+        next.step(reply);
         next
     }
 
@@ -393,13 +393,13 @@ pub fn has_right(call: Call, thread: usize, owners: Owners, shares: usize) -> bo
 }
 
 /// The step of every call, with what the thread does next in place of what it is told.
-pub fn advance(place: Place, reply: Reply) -> (Place, Act)
+pub fn call_step(place: Place, reply: Reply) -> (Place, Act)
     requires keys { HasKeys place }
     requires shown { ShowsKeys place reply }
     ensures place { result.0 ≡ next_place place reply }
     ensures act { result.1 ≡ next_act place reply }
 {
     let mut next = place;
-    let act = next.go_on(reply);
+    let act = next.advance(reply);
     (next, act)
 }

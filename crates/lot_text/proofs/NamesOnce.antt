@@ -8,7 +8,7 @@ use Rattle.std.proofs.lemmas.Bool.Decides.{nat_tests}
 use Rattle.std.proofs.lemmas.List.{get_or_append_left, get_or_push}
 use Rattle.std.proofs.lemmas.List.Folds.{position_or_len_push}
 use Rattle.std.proofs.lemmas.Slice.Eq.{bytes_eq-Decides}
-use Rattle.lot_text.specs.Names.{lock_named, StandOnce}
+use Rattle.lot_text.specs.Names.{lock_named, NamesAreDistinct}
 
 -- the place of a name, where it is found
 placed : (p : List ℕ → Bool) (xs : List (List ℕ)) (k : ℕ) → position p xs ≡ Some k → position_or_len p xs ≡ k
@@ -45,7 +45,7 @@ stands_last names name e =
     (last_of (λ other. bytes_eq other name) names name (bytes_eq-refl name) e)
     (omega (arith, length-append names (name ∷ [])))
 
-pub one_more : (names : List (List ℕ)) (name : List ℕ) → StandOnce names → lock_named names name ≡ None → StandOnce (names ++ name ∷ [])
+pub one_more : (names : List (List ℕ)) (name : List ℕ) → NamesAreDistinct names → lock_named names name ≡ None → NamesAreDistinct (names ++ name ∷ [])
 one_more names name once new k within = elim (cases_lt k (length names)) [
   | inl lt ↦ subst (λ x. lock_named (names ++ name ∷ []) x ≡ Some k) (sym (get_or_append_left names (name ∷ []) [] k lt)) (stands_still names name (slice_index_or names k []) k (once k lt) lt)
   | inr le ↦

@@ -6,7 +6,7 @@ use Rattle.std.proofs.lemmas.Fmt.{decimal-digits_value}
 use Rattle.std.proofs.lemmas.Str.Parse.{IsNumeralModel, numerals_by_fold, digits_value_short}
 use Rattle.std.proofs.lemmas.Bool.Decides.{nat_tests}
 use Rattle.lot_text.specs.Names.{is_digit}
-use Rattle.lot_text.specs.Grammar.{digits_after, has_form, number_of}
+use Rattle.lot_text.specs.Grammar.{digits_after, has_form, number_read}
 
 abbrev pub AreDigits : List ℕ → Type 0
 AreDigits [] = Unit {0}
@@ -46,7 +46,7 @@ pub record Form (word : List ℕ) : Type 0 where
 formed : (word : List ℕ) → has_form word ≡ true → Form word
 formed word e = record { some = grind (arith, nat_tests); few = grind (arith, nat_tests); plain = λ h. grind (arith, nat_tests) }
 
-number_form : (b : Bool) (word : List ℕ) (n : ℕ) → has_form word ≡ b → number_of word ≡ Some n → (has_form word ≡ true) × (digits_after 0 word ≡ Some n)
+number_form : (b : Bool) (word : List ℕ) (n : ℕ) → has_form word ≡ b → number_read word ≡ Some n → (has_form word ≡ true) × (digits_after 0 word ≡ Some n)
 number_form true word n d e = (d, sym (ap (λ t. cond t (digits_after 0 word) None) d) ∙ e)
 number_form false word n d e = absurd (none_some n (sym (ap (λ t. cond t (digits_after 0 word) None) d) ∙ e))
 
@@ -55,12 +55,12 @@ pub record IsNumber (word : List ℕ) : Type 0 where
   pub digits : AreDigits word
   pub few : length word ≤ 19
 
-pub number_is : (word : List ℕ) (n : ℕ) → number_of word ≡ Some n → IsNumber word
+pub number_is : (word : List ℕ) (n : ℕ) → number_read word ≡ Some n → IsNumber word
 number_is word n e =
     let f = number_form (has_form word) word n refl e in
     record { digits = (reads word 0 n f.1).0; few = (formed word f.0).few }
 
-pub number_is_decimal : (word : List ℕ) (n : ℕ) → number_of word ≡ Some n → (decimal n ≡ word) × (n < 10 ^ 19)
+pub number_is_decimal : (word : List ℕ) (n : ℕ) → number_read word ≡ Some n → (decimal n ≡ word) × (n < 10 ^ 19)
 number_is_decimal word n e =
     let f = number_form (has_form word) word n refl e in
     let form = formed word f.0 in

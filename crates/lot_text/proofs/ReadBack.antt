@@ -28,7 +28,7 @@ use Rattle.lot_text.specs.declared.grammar.NamedCall.{NamedCall}
 use Rattle.lot_text.specs.declared.grammar.NamedCall.TheVariants as named
 use Rattle.lot_text.specs.declared.grammar.NamedTurn.{NamedTurn}
 use Rattle.lot_text.specs.declared.grammar.NamedTurn.TheVariants as turns
-use Rattle.lot_text.specs.Grammar.{call_of, calling_command_of, calling_turn_of, command_of, digits_after, has_form, limited_kind_of, lock_command, meaning, number_of, turn_command, turn_of, wait_of, words_of}
+use Rattle.lot_text.specs.Grammar.{call_of, calling_command_of, calling_turn_of, command_of, digits_after, has_form, limited_kind_of, lock_command, meaning, number_read, turn_command, turn_of, wait_of, words_of}
 use Rattle.lot_text.specs.Names.{is_digit, is_name, name_of}
 use Rattle.lot_text.specs.Steps.{AreNamed, StepsAreReadBack, condvar_word, mutex_word, name_at, once_word, semaphore_word, rwlock_word, step_text, turn_named}
 use Rattle.lot_text.proofs.GrammarLemmas.{words_only}
@@ -54,7 +54,7 @@ decimal_form (suc n) below =
     let wide : suc n < 2 ^ 64 = omega arith in
     form_is (decimal (suc n)) (decimal_nonempty (suc n) wide) (length-decimal-le 19 (suc n) (omega arith) below wide) (first_decimal (suc n) (omega arith) wide)
 
-number_back : (n : ℕ) → n < 10 ^ 19 → number_of (decimal n) ≡ Some n
+number_back : (n : ℕ) → n < 10 ^ 19 → number_read (decimal n) ≡ Some n
 number_back n below =
     let wide : n < 2 ^ 64 = omega arith in
     ap (λ t. cond t (digits_after 0 (decimal n)) None) (decimal_form n below)
@@ -63,11 +63,11 @@ number_back n below =
 no_space : (n : ℕ) → n < 10 ^ 19 → All (λ b. b ≢ 32) (decimal n)
 no_space n below = no_other 32 (omega arith) (decimal n) (digits_decimal own n (omega arith))
 
-not_lock : (word : List ℕ) (n : ℕ) → number_of word ≡ Some n → bytes_eq word (codes "lock") ≡ false
+not_lock : (word : List ℕ) (n : ℕ) → number_read word ≡ Some n → bytes_eq word (codes "lock") ≡ false
 not_lock word n e = go (bytes_eq word (codes "lock")) refl
   where
     go : (b : Bool) → bytes_eq word (codes "lock") ≡ b → b ≡ false
-    go true d = absurd (none_some n (sym (ap number_of ((bytes_eq-Decides word (codes "lock")).0 d)) ∙ e))
+    go true d = absurd (none_some n (sym (ap number_read ((bytes_eq-Decides word (codes "lock")).0 d)) ∙ e))
     go false d = refl
 
 -- ---------------------------------------------------------------- names
@@ -172,7 +172,7 @@ module _ (t : ℕ) (below : t < 10 ^ 19) where
   one_back word k name is named_so =
       ap (λ l. meaning (thread ++ 32 ∷ (codes "begin" ++ 32 ∷ (word ++ 32 ∷ l)))) (append-nil name)
       ∙ ap command_of (begins (word ++ 32 ∷ name) ∙ ap (λ l. thread ∷ (codes "begin" ∷ l)) (words_two word name (lacks_all 32 word is.lacks) ∙ ap (λ l. word ∷ l) (name_alone name named_so)))
-      ∙ ap (λ b. cond b (lock_command (name_of (codes "begin")) (limited_kind_of word (number_of name))) (calling_command_of thread (codes "begin") (call_of word) name)) (not_lock thread t (number_back t below))
+      ∙ ap (λ b. cond b (lock_command (name_of (codes "begin")) (limited_kind_of word (number_read name))) (calling_command_of thread (codes "begin") (call_of word) name)) (not_lock thread t (number_back t below))
       ∙ calls_back (call_of word) k name is.read named_so
 
   -- a wait, with its mutex

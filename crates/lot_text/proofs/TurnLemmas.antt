@@ -6,8 +6,8 @@ use Rattle.std.proofs.lemmas.List.Elements.{All-nil, All-cons, All-append}
 use Rattle.std.proofs.lemmas.List.Splits.{slice_split_at}
 use Rattle.std.proofs.lemmas.Slice.Eq.{bytes_eq-Decides}
 use Rattle.lot_text.specs.Reads.{IsOneLine}
-use Rattle.lot_text.specs.Grammar.{words_of, number_of, turn_of, turn_command, command_of, meaning}
-use Rattle.lot_text.specs.Turns.{named_turn, word_of, BeginsWithWord, BeginsWithTurn, BeginsWithLine}
+use Rattle.lot_text.specs.Grammar.{words_of, number_read, turn_of, turn_command, command_of, meaning}
+use Rattle.lot_text.specs.Turns.{named_turn, word_of_turn, BeginsWithWord, BeginsWithTurn, BeginsWithLine}
 use Rattle.lot_text.specs.declared.grammar.Command.TheVariants.{Threads, Turn}
 use Rattle.lot_text.specs.declared.grammar.NamedTurn.{NamedTurn}
 use Rattle.lot_text.specs.declared.turns.PlainTurn.{PlainTurn}
@@ -21,30 +21,30 @@ pub no_other : (x : ℕ) → x < 48 → (cs : List ℕ) → AreDigits cs → All
 no_other x low [] h = All-nil (λ b. b ≢ x)
 no_other x low (c ∷ cs) h = All-cons (λ b. b ≢ x) c cs (λ e. omega (arith, e, h.0.0, low)) (no_other x low cs h.1)
 
-threads_no_number : (n : ℕ) → number_of (codes "threads") ≡ Some n → ⊥
+threads_no_number : (n : ℕ) → number_read (codes "threads") ≡ Some n → ⊥
 threads_no_number n e = none_some n e
 
-pub not_threads : (word : List ℕ) (n : ℕ) → number_of word ≡ Some n → bytes_eq word (codes "threads") ≡ false
+pub not_threads : (word : List ℕ) (n : ℕ) → number_read word ≡ Some n → bytes_eq word (codes "threads") ≡ false
 not_threads word n e = go (bytes_eq word (codes "threads")) refl
   where
     go : (b : Bool) → bytes_eq word (codes "threads") ≡ b → b ≡ false
-    go true d = absurd (threads_no_number n (sym (ap number_of ((bytes_eq-Decides word (codes "threads")).0 d)) ∙ e))
+    go true d = absurd (threads_no_number n (sym (ap number_read ((bytes_eq-Decides word (codes "threads")).0 d)) ∙ e))
     go false d = refl
 
 pub words_two : (word second : List ℕ) → All (λ b. b ≢ 32) word → words_of (word ++ 32 ∷ second) ≡ word ∷ words_of second
 words_two word second h = slice_split_at (λ b. eqb b 32) word 32 second (λ k d i. ne_eqb (get_or word k d) 32 (h k d i)) refl
 
-plain_words : (turn : PlainTurn) → words_of (word_of turn) ≡ word_of turn ∷ []
+plain_words : (turn : PlainTurn) → words_of (word_of_turn turn) ≡ word_of_turn turn ∷ []
 plain_words Go = refl
 plain_words Spin = refl
 plain_words Late = refl
 
-plain_turns : (turn : PlainTurn) → turn_of (word_of turn) ≡ Some (named_turn turn)
+plain_turns : (turn : PlainTurn) → turn_of (word_of_turn turn) ≡ Some (named_turn turn)
 plain_turns Go = refl
 plain_turns Spin = refl
 plain_turns Late = refl
 
-plain_short : (turn : PlainTurn) → length (word_of turn) ≤ 4
+plain_short : (turn : PlainTurn) → length (word_of_turn turn) ≤ 4
 plain_short Go = omega arith
 plain_short Spin = omega arith
 plain_short Late = omega arith
@@ -65,32 +65,32 @@ pub lacks_all : (x : ℕ) (bs : List ℕ) → lacks x bs ≡ true → All (λ b.
 lacks_all x [] h = All-nil (λ b. b ≢ x)
 lacks_all x (b ∷ bs) h = lacks_head x b bs (eqb b x) refl h (lacks_all x bs)
 
-plain_line : (turn : PlainTurn) → All (λ b. b ≢ 10) (32 ∷ word_of turn)
-plain_line Go = lacks_all 10 (32 ∷ word_of Go) refl
-plain_line Spin = lacks_all 10 (32 ∷ word_of Spin) refl
-plain_line Late = lacks_all 10 (32 ∷ word_of Late) refl
+plain_line : (turn : PlainTurn) → All (λ b. b ≢ 10) (32 ∷ word_of_turn turn)
+plain_line Go = lacks_all 10 (32 ∷ word_of_turn Go) refl
+plain_line Spin = lacks_all 10 (32 ∷ word_of_turn Spin) refl
+plain_line Late = lacks_all 10 (32 ∷ word_of_turn Late) refl
 
-pub two_words : (a b : List ℕ) (t : ℕ) (turn : NamedTurn) → bytes_eq a (codes "threads") ≡ false → number_of a ≡ Some t → turn_of b ≡ Some turn → command_of (a ∷ b ∷ []) ≡ Some (Turn t turn)
+pub two_words : (a b : List ℕ) (t : ℕ) (turn : NamedTurn) → bytes_eq a (codes "threads") ≡ false → number_read a ≡ Some t → turn_of b ≡ Some turn → command_of (a ∷ b ∷ []) ≡ Some (Turn t turn)
 two_words a b t turn f g h =
-    ap (λ c. cond c (option_map Threads (number_of b)) (turn_command (number_of a) (turn_of b))) f
+    ap (λ c. cond c (option_map Threads (number_read b)) (turn_command (number_read a) (turn_of b))) f
     ∙ ap (λ o. turn_command o (turn_of b)) g ∙ ap (turn_command (Some t)) h
 
-turn_means : (word : List ℕ) (t : ℕ) (turn : PlainTurn) → number_of word ≡ Some t → AreDigits word → meaning (word ++ 32 ∷ word_of turn) ≡ Some (Turn t (named_turn turn))
+turn_means : (word : List ℕ) (t : ℕ) (turn : PlainTurn) → number_read word ≡ Some t → AreDigits word → meaning (word ++ 32 ∷ word_of_turn turn) ≡ Some (Turn t (named_turn turn))
 turn_means word t turn e digits =
-    ap command_of (words_two word (word_of turn) (no_other 32 (omega arith) word digits) ∙ ap (λ l. word ∷ l) (plain_words turn))
-    ∙ two_words word (word_of turn) t (named_turn turn) (not_threads word t e) e (plain_turns turn)
+    ap command_of (words_two word (word_of_turn turn) (no_other 32 (omega arith) word digits) ∙ ap (λ l. word ∷ l) (plain_words turn))
+    ∙ two_words word (word_of_turn turn) t (named_turn turn) (not_threads word t e) e (plain_turns turn)
 
-pub turn_begins : (text : List ℕ) (digits t len : ℕ) (turn : PlainTurn) → digits ≤ length text → number_of (take digits text) ≡ Some t → BeginsWithWord (drop digits text) turn len → BeginsWithTurn text t turn (digits + len)
+pub turn_begins : (text : List ℕ) (digits t len : ℕ) (turn : PlainTurn) → digits ≤ length text → number_read (take digits text) ≡ Some t → BeginsWithWord (drop digits text) turn len → BeginsWithTurn text t turn (digits + len)
 turn_begins text digits t len turn within e w =
     let word = take digits text in
-    let line = word ++ 32 ∷ word_of turn in
+    let line = word ++ 32 ∷ word_of_turn turn in
     let is = number_is word t e in
-    let long = length-append word (32 ∷ word_of turn) in (
+    let long = length-append word (32 ∷ word_of_turn turn) in (
       line,
       w.0,
-      sym (take-append-drop digits text) ∙ ap (λ l. word ++ l) w.1 ∙ sym (append_assoc word (32 ∷ word_of turn) (10 ∷ w.0)),
+      sym (take-append-drop digits text) ∙ ap (λ l. word ++ l) w.1 ∙ sym (append_assoc word (32 ∷ word_of_turn turn) (10 ∷ w.0)),
       omega (arith, length-take-le digits text within, long, w.2),
-      All-append (λ b. b ≢ 10) word (32 ∷ word_of turn) (no_other 10 (omega arith) word is.digits) (plain_line turn),
+      All-append (λ b. b ≢ 10) word (32 ∷ word_of_turn turn) (no_other 10 (omega arith) word is.digits) (plain_line turn),
       (omega (arith, long, is.few, plain_short turn), turn_means word t turn e is.digits),
     )
 

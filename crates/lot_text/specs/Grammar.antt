@@ -38,8 +38,8 @@ abbrev pub has_form : List ℕ → Bool
 has_form word = (nat_lt 0 (length word) && nat_le (length word) 19) &&
     ((length word == 1) || not (slice_index word 0 == 48))
 
-abbrev pub number_of : List ℕ → Option ℕ
-number_of word = if has_form word then digits_after 0 word else None
+abbrev pub number_read : List ℕ → Option ℕ
+number_read word = if has_form word then digits_after 0 word else None
 
 -- a reader-writer lock with a limit
 abbrev pub rwlock_kind_of : List ℕ → ℕ → Option Kind
@@ -195,7 +195,7 @@ lock_command (Some name) kind = option_map (command.TheVariants.Lock name) kind
 -- a thread's number, `begin` or `do`, a call and the name of a lock
 abbrev pub calling_command_of : List ℕ → List ℕ → Option NamedCall → List ℕ → Option Command
 calling_command_of a b c d =
-    turn_command (number_of a)
+    turn_command (number_read a)
     (option_and_then (λ call. option_and_then (calling_turn_of b call) (name_of d)) c)
 
 -- the words of a line with a meaning: `show`, `drain`, `threads N`, `T TURN`, `lock NAME KIND`,
@@ -206,12 +206,12 @@ command_of (a ∷ []) =
     if bytes_eq a (codes "show") then Some command.TheVariants.Show
     else (if bytes_eq a (codes "drain") then Some command.TheVariants.Drain else None)
 command_of (a ∷ b ∷ []) =
-    if bytes_eq a (codes "threads") then option_map command.TheVariants.Threads (number_of b)
-    else turn_command (number_of a) (turn_of b)
+    if bytes_eq a (codes "threads") then option_map command.TheVariants.Threads (number_read b)
+    else turn_command (number_read a) (turn_of b)
 command_of (a ∷ b ∷ c ∷ []) =
     if bytes_eq a (codes "lock") then lock_command (name_of b) (kind_of c) else None
 command_of (a ∷ b ∷ c ∷ d ∷ []) =
-    if bytes_eq a (codes "lock") then lock_command (name_of b) (limited_kind_of c (number_of d))
+    if bytes_eq a (codes "lock") then lock_command (name_of b) (limited_kind_of c (number_read d))
     else calling_command_of a b (call_of c) d
 command_of (a ∷ b ∷ c ∷ d ∷ e ∷ []) = calling_command_of a b (wait_of c (name_of e)) d
 command_of _ = None

@@ -26,8 +26,8 @@ abbrev pub lock_named : List (List ℕ) → List ℕ → Option ℕ
 lock_named names name = position (λ other. bytes_eq other name) names
 
 -- each name is found where it stands, so it stands nowhere else
-abbrev pub StandOnce : List (List ℕ) → Type 0
-StandOnce names =
+abbrev pub NamesAreDistinct : List (List ℕ) → Type 0
+NamesAreDistinct names =
     (k : ℕ) → k < length names → lock_named names (slice_index_or names k []) ≡ Some k
 
 -- a name is kept in 16 bytes, with zeros behind it

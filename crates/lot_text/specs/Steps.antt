@@ -161,15 +161,15 @@ abbrev pub condvar_named : List (List ℕ) → CondvarCall → NamedCall
 condvar_named names (condvar.Wait m timed) = named.Wait (name_at names m) timed
 condvar_named names (condvar.Notify all) = named.Notify all
 
-abbrev pub call_named : List (List ℕ) → Call → NamedCall
-call_named names (call.Mutex l c) = named.Mutex c
-call_named names (call.RwLock l c) = named.RwLock c
-call_named names (call.Once l c) = named.Once c
-call_named names (call.Condvar l c) = condvar_named names c
-call_named names (call.Semaphore l c) = named.Semaphore c
+abbrev pub named_call : List (List ℕ) → Call → NamedCall
+named_call names (call.Mutex l c) = named.Mutex c
+named_call names (call.RwLock l c) = named.RwLock c
+named_call names (call.Once l c) = named.Once c
+named_call names (call.Condvar l c) = condvar_named names c
+named_call names (call.Semaphore l c) = named.Semaphore c
 
 abbrev pub turn_named : List (List ℕ) → Turn → NamedTurn
-turn_named names (turn.Begin c) = turns.Begin (call_named names c) (name_at names (lock_in c))
+turn_named names (turn.Begin c) = turns.Begin (named_call names c) (name_at names (lock_in c))
 turn_named names turn.Go = turns.Go
 turn_named names turn.Spin = turns.Spin
 turn_named names turn.Late = turns.Late

@@ -16,10 +16,10 @@ named_turn plain.Go = named.Go
 named_turn plain.Spin = named.Spin
 named_turn plain.Late = named.Late
 
-abbrev pub word_of : PlainTurn → List ℕ
-word_of plain.Go = codes "go"
-word_of plain.Spin = codes "spin"
-word_of plain.Late = codes "late"
+abbrev pub word_of_turn : PlainTurn → List ℕ
+word_of_turn plain.Go = codes "go"
+word_of_turn plain.Spin = codes "spin"
+word_of_turn plain.Late = codes "late"
 
 -- a line is a turn of a thread
 abbrev pub IsTurn : List ℕ → ℕ → PlainTurn → Type 0
@@ -28,8 +28,8 @@ IsTurn line thread turn = (length line ≤ line_len)
 
 -- a text begins with a space, the word of a turn and a line feed, which are so many bytes
 abbrev pub BeginsWithWord : List ℕ → PlainTurn → ℕ → Type 0
-BeginsWithWord text turn len = (rest : List ℕ) × (text ≡ 32 ∷ (word_of turn ++ 10 ∷ rest))
-    × (len ≡ length (word_of turn) + 2)
+BeginsWithWord text turn len = (rest : List ℕ) × (text ≡ 32 ∷ (word_of_turn turn ++ 10 ∷ rest))
+    × (len ≡ length (word_of_turn turn) + 2)
 
 -- a text begins with the line of a turn and its line feed, which are so many bytes
 abbrev pub BeginsWithTurn : List ℕ → ℕ → PlainTurn → ℕ → Type 0

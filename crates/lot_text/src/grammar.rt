@@ -1,7 +1,7 @@
 //! The meaning of a line.
 ghost use Rattle.std.specs.Prelude.{ℕ, List, Some, decimal, ◌^◌, ◌≡◌, ◌≢◌, ◌<◌, ◌≤◌, [], ◌∷◌, length, take, slice_index, All, MatchOption};
 ghost use Rattle.lot_text.specs.Names.{name_of};
-ghost use Rattle.lot_text.specs.Grammar.{words_of, number_of, digits_after, kind_of, rwlock_kind_of, limited_kind_of, mutex_call_of, entering_call_of, fair_call_of, other_call_of, once_call_of, semaphore_call_of, notification_of, wait_of, call_of, turn_of, closing_turn_of, calling_turn_of, lock_command, turn_command, calling_command_of, command_of, meaning};
+ghost use Rattle.lot_text.specs.Grammar.{words_of, number_read, digits_after, kind_of, rwlock_kind_of, limited_kind_of, mutex_call_of, entering_call_of, fair_call_of, other_call_of, once_call_of, semaphore_call_of, notification_of, wait_of, call_of, turn_of, closing_turn_of, calling_turn_of, lock_command, turn_command, calling_command_of, command_of, meaning};
 
 use crate::names::Name;
 use crate::words::is_text;
@@ -171,7 +171,7 @@ fn command_of_five(
 /// A lock with a reader limit, or with its permits.
 fn limited_lock(name: &[u8], kind: &[u8], limit: &[u8]) -> Option<Command>
     ensures { result ≡ lock_command (name_of name.now)
-        (limited_kind_of kind.now (number_of limit.now)) }
+        (limited_kind_of kind.now (number_read limit.now)) }
 {
     let name = Name::from_word(name)?;
     let kind = limited_kind(kind, number(limit)?)?;
@@ -472,7 +472,7 @@ fn wait(word: &[u8], mutex: Option<Name>) -> Option<NamedCall>
 
 /// The number that a word spells as it would be printed, in at most 19 digits.
 pub(crate) fn number(word: &[u8]) -> Option<usize>
-    ensures { result ≡ number_of word.now }
+    ensures { result ≡ number_read word.now }
 {
     if word.is_empty() || word.len() > MOST_DIGITS {
         return None;
@@ -500,6 +500,6 @@ fn digits(word: &[u8]) -> Option<usize>
 
 /// A number is read only as it would be printed.
 pub fn numbers_are_decimal()
-    ensures { (word : List ℕ) (n : ℕ) → number_of word ≡ Some n
+    ensures { (word : List ℕ) (n : ℕ) → number_read word ≡ Some n
         → (decimal n ≡ word) × (n < 10 ^ 19) }
 {}

@@ -126,13 +126,13 @@ pub struct Names {
 
 impl Model for Names {
     ghost use Rattle.std.specs.Prelude.{ℕ, List};
-    ghost use Rattle.lot_text.specs.Names.{StandOnce};
+    ghost use Rattle.lot_text.specs.Names.{NamesAreDistinct};
 
     ghost Value = { List (List ℕ) };
 
     ghost view = { λ n. n.names.items };
 
-    ghost invariant = { λ n. StandOnce n.names.items };
+    ghost invariant = { λ n. NamesAreDistinct n.names.items };
 }
 
 impl Names {

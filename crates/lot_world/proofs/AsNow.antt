@@ -4,7 +4,7 @@ use Rattle.spec_locks.specs.Locks.{LockState, Rules, Sort, Semaphore, OfOnce, pu
 use Rattle.core_base.specs.declared.wants.Want.TheVariants.{Exclusive, Shared}
 use Rattle.spec_locks.specs.Onces.{Start, Finish, Fail, Rest, TakeAll}
 use Rattle.spec_locks.specs.Locks.{Enter, Leave, Convert, HandOff}
-use Rattle.spec_locks.specs.Sites.{Role, Site, IsSite, Deed, Mark, Clear, Bring, Case, Main, Second, has_readers, is_full, after_deed, Needed, IsOpen, IsDebtor, shares_less}
+use Rattle.spec_locks.specs.Sites.{Role, Site, IsSite, Deed, Mark, Clear, Bring, Case, Main, Second, has_readers, is_full, after_deed, Needed, IsOpen, IsDebtorRole, shares_less}
 use Rattle.spec_locks.proofs.SiteKeeps.{deed_keeps}
 use Rattle.lot_world.specs.Drained.{EachDeedKeepsNow}
 
@@ -91,7 +91,7 @@ another r s b h full spare = record {
   where
     by_spare : (s.lock.queue ≢ []) ⊎ ((t : ℕ) × ((s.role t).brings ≡ true)) → IsOpen r.sort s.lock
         → (s.filled ≡ false) ⊎ ((s.lock.queue ≡ []) × (has_readers r.sort ≡ true))
-        → (t : ℕ) × IsDebtor r.sort (s.role t)
+        → (t : ℕ) × IsDebtorRole r.sort (s.role t)
     by_spare some is_open (inl room) = h.main some is_open room
     by_spare (inl some) is_open (inr none) = absurd (some none.0)
     by_spare (inr brings) is_open (inr none) = absurd (let mutex = (h.brought brings.0 brings.1).2 in let readers = none.1 in let g : has_readers r.sort ≡ false = ap has_readers mutex in cc)

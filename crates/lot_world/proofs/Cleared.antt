@@ -24,10 +24,10 @@ use Rattle.lot_laws.proofs.calls.Begins.{begin_possible}
 use Rattle.lot_laws.proofs.machine.Parts.{IsSingle}
 use Rattle.lot_laws.proofs.alone.Rests.{ends_alone}
 use Rattle.lot_world.specs.Drained.{Drains}
-use Rattle.lot_world.specs.Quiet.{IsOver}
+use Rattle.lot_world.specs.Quiet.{IsAllOver}
 use Rattle.lot_world.specs.Turns.{NobodyInside, begin_of}
 use Rattle.lot_world.specs.Drains.{IsDrained}
-use Rattle.lot_world.specs.Schedules.{Progress, call_alone, clear, entry_of, fair_release_of, one_more, passed_through}
+use Rattle.lot_world.specs.Schedules.{Progress, call_alone, clear, entry_call, fair_release_of, one_more, passed_through}
 use Rattle.lot_world.proofs.Clears.{IsFree, free_by_code, free_of, free_rights, mutex_word, shared_word}
 use Rattle.lot_world.proofs.Passes.{Passes, begins, led, may}
 use Rattle.lot_world.proofs.Passing.{Runs, lock_runs, release_runs_1, release_runs_2, release_runs_3, unlock_runs, write_runs_1, write_runs_2, write_runs_3}
@@ -161,7 +161,7 @@ pub record IsCleared (w : State) (d e : Progress) : Type 0 where
   pub gone : HasGone w 130 d e
   pub drained : IsDrained e.state
 
-module _ (w : State) (d : Progress) (ready : IsReady d.state) (over : IsOver d.state) (h : HasCome w d) (some : 1 ≤ length d.state.places) where
+module _ (w : State) (d : Progress) (ready : IsReady d.state) (over : IsAllOver d.state) (h : HasCome w d) (some : 1 ≤ length d.state.places) where
   abbrev s : State
   s = d.state
 
@@ -197,23 +197,23 @@ module _ (w : State) (d : Progress) (ready : IsReady d.state) (over : IsOver d.s
   by_kind : (k : Kind) → kind_at s 0 ≡ k → Drains (rules_of k).sort → (v : ℕ) → word_at s 0 ≡ v → v ≢ 0 → word_at s 0 ≡ code (rules_of k) (site_of s 0) → Result k
   by_kind kind.Mutex e drains v is bits coded = elim (mutex_word (site_of s 0) free) [
     | inl none ↦ absurd (bits (sym is ∙ coded ∙ none))
-    | inr two ↦ two_calls kind.Mutex 2 3 3 5 w d (stands kind.Mutex e 2 (coded ∙ two)) h ready.outside free drains (entry_of kind.Mutex) (fair_release_of kind.Mutex) refl refl refl tt tt (omega arith) (omega arith) (lock_runs kind.Mutex) (unlock_runs kind.Mutex) (λ x o. o)
+    | inr two ↦ two_calls kind.Mutex 2 3 3 5 w d (stands kind.Mutex e 2 (coded ∙ two)) h ready.outside free drains (entry_call kind.Mutex) (fair_release_of kind.Mutex) refl refl refl tt tt (omega arith) (omega arith) (lock_runs kind.Mutex) (unlock_runs kind.Mutex) (λ x o. o)
   ]
   by_kind kind.Fair e drains v is bits coded = elim (mutex_word (site_of s 0) free) [
     | inl none ↦ absurd (bits (sym is ∙ coded ∙ none))
-    | inr two ↦ two_calls kind.Fair 2 3 3 5 w d (stands kind.Fair e 2 (coded ∙ two)) h ready.outside free drains (entry_of kind.Fair) (fair_release_of kind.Fair) refl refl refl tt tt (omega arith) (omega arith) (lock_runs kind.Fair) (unlock_runs kind.Fair) (λ x o. o)
+    | inr two ↦ two_calls kind.Fair 2 3 3 5 w d (stands kind.Fair e 2 (coded ∙ two)) h ready.outside free drains (entry_call kind.Fair) (fair_release_of kind.Fair) refl refl refl tt tt (omega arith) (omega arith) (lock_runs kind.Fair) (unlock_runs kind.Fair) (λ x o. o)
   ]
   by_kind (kind.RwLock limit) e drains v is bits coded = elim (shared_word (site_of s 0) free) [
     | inl none ↦ absurd (bits (sym is ∙ coded ∙ none))
-    | inr (inl one) ↦ two_calls (kind.RwLock limit) 1 9 4 5 w d (stands (kind.RwLock limit) e 1 (coded ∙ one)) h ready.outside free drains (entry_of (kind.RwLock limit)) (fair_release_of (kind.RwLock limit)) refl refl refl tt tt (omega arith) (omega arith) (write_runs_1 (kind.RwLock limit) _) (release_runs_1 (kind.RwLock limit) _) (λ x o. o)
-    | inr (inr (inl two)) ↦ two_calls (kind.RwLock limit) 2 10 4 5 w d (stands (kind.RwLock limit) e 2 (coded ∙ two)) h ready.outside free drains (entry_of (kind.RwLock limit)) (fair_release_of (kind.RwLock limit)) refl refl refl tt tt (omega arith) (omega arith) (write_runs_2 (kind.RwLock limit) _) (release_runs_2 (kind.RwLock limit) _) (λ x o. o)
-    | inr (inr (inr three)) ↦ two_calls (kind.RwLock limit) 3 11 4 5 w d (stands (kind.RwLock limit) e 3 (coded ∙ three)) h ready.outside free drains (entry_of (kind.RwLock limit)) (fair_release_of (kind.RwLock limit)) refl refl refl tt tt (omega arith) (omega arith) (write_runs_3 (kind.RwLock limit) _) (release_runs_3 (kind.RwLock limit) _) (λ x o. o)
+    | inr (inl one) ↦ two_calls (kind.RwLock limit) 1 9 4 5 w d (stands (kind.RwLock limit) e 1 (coded ∙ one)) h ready.outside free drains (entry_call (kind.RwLock limit)) (fair_release_of (kind.RwLock limit)) refl refl refl tt tt (omega arith) (omega arith) (write_runs_1 (kind.RwLock limit) _) (release_runs_1 (kind.RwLock limit) _) (λ x o. o)
+    | inr (inr (inl two)) ↦ two_calls (kind.RwLock limit) 2 10 4 5 w d (stands (kind.RwLock limit) e 2 (coded ∙ two)) h ready.outside free drains (entry_call (kind.RwLock limit)) (fair_release_of (kind.RwLock limit)) refl refl refl tt tt (omega arith) (omega arith) (write_runs_2 (kind.RwLock limit) _) (release_runs_2 (kind.RwLock limit) _) (λ x o. o)
+    | inr (inr (inr three)) ↦ two_calls (kind.RwLock limit) 3 11 4 5 w d (stands (kind.RwLock limit) e 3 (coded ∙ three)) h ready.outside free drains (entry_call (kind.RwLock limit)) (fair_release_of (kind.RwLock limit)) refl refl refl tt tt (omega arith) (omega arith) (write_runs_3 (kind.RwLock limit) _) (release_runs_3 (kind.RwLock limit) _) (λ x o. o)
   ]
   by_kind (kind.Recursive limit) e drains v is bits coded = elim (shared_word (site_of s 0) free) [
     | inl none ↦ absurd (bits (sym is ∙ coded ∙ none))
-    | inr (inl one) ↦ two_calls (kind.Recursive limit) 1 9 4 5 w d (stands (kind.Recursive limit) e 1 (coded ∙ one)) h ready.outside free drains (entry_of (kind.Recursive limit)) (fair_release_of (kind.Recursive limit)) refl refl refl tt tt (omega arith) (omega arith) (write_runs_1 (kind.Recursive limit) _) (release_runs_1 (kind.Recursive limit) _) (λ x o. o)
-    | inr (inr (inl two)) ↦ two_calls (kind.Recursive limit) 2 10 4 5 w d (stands (kind.Recursive limit) e 2 (coded ∙ two)) h ready.outside free drains (entry_of (kind.Recursive limit)) (fair_release_of (kind.Recursive limit)) refl refl refl tt tt (omega arith) (omega arith) (write_runs_2 (kind.Recursive limit) _) (release_runs_2 (kind.Recursive limit) _) (λ x o. o)
-    | inr (inr (inr three)) ↦ two_calls (kind.Recursive limit) 3 11 4 5 w d (stands (kind.Recursive limit) e 3 (coded ∙ three)) h ready.outside free drains (entry_of (kind.Recursive limit)) (fair_release_of (kind.Recursive limit)) refl refl refl tt tt (omega arith) (omega arith) (write_runs_3 (kind.Recursive limit) _) (release_runs_3 (kind.Recursive limit) _) (λ x o. o)
+    | inr (inl one) ↦ two_calls (kind.Recursive limit) 1 9 4 5 w d (stands (kind.Recursive limit) e 1 (coded ∙ one)) h ready.outside free drains (entry_call (kind.Recursive limit)) (fair_release_of (kind.Recursive limit)) refl refl refl tt tt (omega arith) (omega arith) (write_runs_1 (kind.Recursive limit) _) (release_runs_1 (kind.Recursive limit) _) (λ x o. o)
+    | inr (inr (inl two)) ↦ two_calls (kind.Recursive limit) 2 10 4 5 w d (stands (kind.Recursive limit) e 2 (coded ∙ two)) h ready.outside free drains (entry_call (kind.Recursive limit)) (fair_release_of (kind.Recursive limit)) refl refl refl tt tt (omega arith) (omega arith) (write_runs_2 (kind.Recursive limit) _) (release_runs_2 (kind.Recursive limit) _) (λ x o. o)
+    | inr (inr (inr three)) ↦ two_calls (kind.Recursive limit) 3 11 4 5 w d (stands (kind.Recursive limit) e 3 (coded ∙ three)) h ready.outside free drains (entry_call (kind.Recursive limit)) (fair_release_of (kind.Recursive limit)) refl refl refl tt tt (omega arith) (omega arith) (write_runs_3 (kind.Recursive limit) _) (release_runs_3 (kind.Recursive limit) _) (λ x o. o)
   ]
   by_kind kind.Once e drains v is bits coded = absurd drains
   by_kind (kind.Semaphore permits) e drains v is bits coded = absurd drains

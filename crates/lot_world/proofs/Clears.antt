@@ -5,7 +5,7 @@ use Rattle.std.proofs.lemmas.Bool.Decides.{nat_tests}
 use Rattle.spec_locks.specs.declared.kinds.Kind.{Kind}
 use Rattle.spec_locks.specs.declared.kinds.Kind.TheVariants as kind
 use Rattle.spec_locks.specs.Codes.{bit, code, packed, writers}
-use Rattle.spec_locks.specs.Locks.{IsLockState, LockState, Pending, Rights, count, is_pending, is_thread, one_if_some, readers, rights_of}
+use Rattle.spec_locks.specs.Locks.{IsLockState, LockState, Pending, Rights, count, one_if_pending, one_if_thread, one_if_some, readers, rights_of}
 use Rattle.spec_locks.specs.Purposes.{rules_of}
 use Rattle.spec_locks.specs.Runs.{no_rights}
 use Rattle.spec_locks.specs.Sites.{Site}
@@ -22,16 +22,16 @@ pub record IsFree (s : LockState) : Type 0 where
   pub upgradable : s.upgradable ≡ None
   pub readers : readers s ≡ 0
 
-pub one_pending : (p : Pending) → is_pending p.thread (Some p) ≡ 1
+pub one_pending : (p : Pending) → one_if_pending p.thread (Some p) ≡ 1
 one_pending p = grind (arith, nat_tests)
 
-no_thread : (o : Option ℕ) → ((t : ℕ) → is_thread t o ≡ 0) → o ≡ None
+no_thread : (o : Option ℕ) → ((t : ℕ) → one_if_thread t o ≡ 0) → o ≡ None
 no_thread None h = refl
-no_thread (Some u) h = absurd (let a : is_thread u (Some u) ≡ 1 = one_thread u in let b : is_thread u (Some u) ≡ 0 = h u in omega arith)
+no_thread (Some u) h = absurd (let a : one_if_thread u (Some u) ≡ 1 = one_thread u in let b : one_if_thread u (Some u) ≡ 0 = h u in omega arith)
 
-no_pending : (o : Option Pending) → ((t : ℕ) → is_pending t o ≡ 0) → o ≡ None
+no_pending : (o : Option Pending) → ((t : ℕ) → one_if_pending t o ≡ 0) → o ≡ None
 no_pending None h = refl
-no_pending (Some p) h = absurd (let a : is_pending p.thread (Some p) ≡ 1 = one_pending p in let b : is_pending p.thread (Some p) ≡ 0 = h p.thread in omega arith)
+no_pending (Some p) h = absurd (let a : one_if_pending p.thread (Some p) ≡ 1 = one_pending p in let b : one_if_pending p.thread (Some p) ≡ 0 = h p.thread in omega arith)
 
 pub free_of : (s : LockState) → ((t : ℕ) → rights_of s t ≡ no_rights) → IsFree s
 free_of s none = record {
@@ -42,7 +42,7 @@ free_of s none = record {
 }
 
 pub free_rights : (s : LockState) → IsFree s → (t : ℕ) → rights_of s t ≡ no_rights
-free_rights s free t = rights_are (rights_of s t) no_rights (ap (is_thread t) free.exclusive) (ap (is_pending t) free.pending) (ap (is_thread t) free.upgradable)
+free_rights s free t = rights_are (rights_of s t) no_rights (ap (one_if_thread t) free.exclusive) (ap (one_if_pending t) free.pending) (ap (one_if_thread t) free.upgradable)
     (let a : slice_index s.shared t ≤ sum s.shared = index_sum s.shared t in let b : sum s.shared ≡ 0 = free.readers in omega arith)
 
 -- ---------------------------------------------------------------- by the word

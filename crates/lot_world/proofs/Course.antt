@@ -11,7 +11,7 @@ use Rattle.lot_laws.specs.Refinement.{lock_state}
 use Rattle.lot_world.specs.Few.{number}
 use Rattle.lot_world.specs.Potential.{GoesAlone, one_if, potential}
 use Rattle.lot_world.proofs.Potential.{each_turn_lowers, turns_are_few}
-use Rattle.lot_world.specs.Waits.{waits}
+use Rattle.lot_world.specs.Waits.{waits_or_idle}
 use Rattle.lot_world.specs.Turns.{after_alone, after_release, awake, begin_of, weight, weight_of}
 use Rattle.lot_world.specs.Course.{Over, Alone, Release, CoursesAreFew, CoursesEnd, end_of, left_in}
 use Rattle.lot_world.proofs.Turns.{each_turn_falls, solo_keeps}
@@ -47,7 +47,7 @@ courses_end (suc n) w (Release t c x fair may releases more) h strict outside =
     (ih.0, ih.1, ih.2, omega arith)
 
 pub weighs : (p : Place) (r : Rights) → weight_of p r ≤ 2
-weighs p r = by_bits (is_idle p) (waits p) (not (number r == 0))
+weighs p r = by_bits (is_idle p) (waits_or_idle p) (not (number r == 0))
   where
     by_bits : (a b c : Bool) → (if a then one_if c else if b then 1 else 2) ≤ 2
     by_bits true b true = omega arith

@@ -6,7 +6,7 @@ use Rattle.std.proofs.lemmas.Bool.Decides.{nat_tests}
 use Rattle.std.proofs.lemmas.List.Sums.{sum_by-set}
 use Rattle.spec_locks.proofs.HandLimits.{sum_cons}
 use Rattle.spec_locks.specs.Locks.{LockState, count, one_if_some}
-use Rattle.lot_world.specs.Drained.{NobodyIsLeftOut, OneEach, counted}
+use Rattle.lot_world.specs.Drained.{NobodyIsLeftOut, OneEach, counting_rights}
 
 few_sum : (xs : List ℕ) → ((t : ℕ) → slice_index xs t ≤ 1) → sum xs ≤ length xs
 few_sum [] h = omega arith
@@ -20,7 +20,7 @@ spare_sum (x ∷ xs) zero h lt e = let all : sum (x ∷ xs) ≡ x + sum xs = sum
 spare_sum (x ∷ xs) (suc q) h lt e = let all : sum (x ∷ xs) ≡ x + sum xs = sum_cons x xs in let first : x ≤ 1 = h 0 in let rest : sum xs + 1 ≤ length xs = spare_sum xs q (λ t. h (suc t)) (omega arith) e in omega arith
 
 -- the upgradable owner is counted with those who share
-counted_too : (s : LockState) (q : ℕ) → OneEach s → (o : Option ℕ) → s.upgradable ≡ o → q < length s.shared → counted s q ≡ 0
+counted_too : (s : LockState) (q : ℕ) → OneEach s → (o : Option ℕ) → s.upgradable ≡ o → q < length s.shared → counting_rights s q ≡ 0
     → count s + 1 ≤ length s.shared
 counted_too s q each None e lt none = grind (arith, spare_sum s.shared q (λ t. let h = each.one t in omega arith) lt (omega arith))
 counted_too s q each (Some u) e lt none =
@@ -34,7 +34,7 @@ counted_too s q each (Some u) e lt none =
     with_owner : List ℕ
     with_owner = slice_set s.shared u (slice_index s.shared u + 1)
 
-    at : (t : ℕ) → slice_index with_owner t ≡ counted s t
+    at : (t : ℕ) → slice_index with_owner t ≡ counting_rights s t
     at t = elim (cases_eq t u) [
       | inl same ↦ grind (arith, nat_tests, get_or-set_same s.shared u (slice_index s.shared u + 1) 0 (each.there u e))
       | inr other ↦ grind (arith, nat_tests, get_or-set_other s.shared u t (slice_index s.shared u + 1) 0 other)
@@ -47,9 +47,9 @@ counted_too s q each (Some u) e lt none =
     none_there = at q ∙ none
 
 pub nobody_is_left_out : NobodyIsLeftOut
-nobody_is_left_out r s t room each full there = by_number (counted s t) refl (each.one t)
+nobody_is_left_out r s t room each full there = by_number (counting_rights s t) refl (each.one t)
   where
-    by_number : (n : ℕ) → counted s t ≡ n → n ≤ 1 → counted s t ≡ 1
+    by_number : (n : ℕ) → counting_rights s t ≡ n → n ≤ 1 → counting_rights s t ≡ 1
     by_number zero e le = absurd (let spare = counted_too s t each s.upgradable refl there e in grind (arith, nat_tests))
     by_number (suc zero) e le = e
     by_number (suc (suc n)) e le = absurd (omega arith)

@@ -17,7 +17,7 @@ use Rattle.lot_world.specs.Second.{left_inside}
 use Rattle.lot_world.specs.Quiet.{IsDraining}
 use Rattle.lot_world.specs.Full.{IsStrict}
 use Rattle.lot_world.specs.Turns.{IsOrdered, NobodyInside, after_alone}
-use Rattle.lot_world.specs.Entry.{EntryLeaves, state_out_of_main, out_of_second, state_where_inside}
+use Rattle.lot_world.specs.Entry.{EntryLeaves, state_out_of_main, state_out_of_second, state_where_inside}
 use Rattle.lot_world.proofs.Quiet.{OnlyHere}
 use Rattle.lot_world.proofs.Turns.{here, never_closes, single_of, solo_keeps, solo_rests_there, stands_of, stands_there, stepped}
 use Rattle.lot_world.proofs.Outside.{OnlyInside, all_free, only_step, outside_at}
@@ -74,7 +74,7 @@ module _ (w : State) (t : ℕ) (h : IsStrict w) (inside : section_at w 1 ≡ Som
   ]
 
 second_left : (n : ℕ) (w : State) → IsDraining w → IsStrict w
-    → ((t : ℕ) → section_at w 1 ≡ Some t → left_inside (place_at w t) ≤ n) → Outside (out_of_second n w)
+    → ((t : ℕ) → section_at w 1 ≡ Some t → left_inside (place_at w t) ≤ n) → Outside (state_out_of_second n w)
 second_left zero w h strict few = by_inside (section_at w 1) refl
   where
     by_inside : (o : Option ℕ) → section_at w 1 ≡ o → Outside w
@@ -83,8 +83,8 @@ second_left zero w h strict few = by_inside (section_at w 1) refl
 second_left (suc n) w h strict few = by_inside (section_at w 1) refl (λ t. second_left n (after w (go_of t)) (draining_goes_on w t h strict) (strict_goes_on w t strict))
   where
     by_inside : (o : Option ℕ) → section_at w 1 ≡ o
-        → ((t : ℕ) → ((u : ℕ) → section_at (after w (go_of t)) 1 ≡ Some u → left_inside (place_at (after w (go_of t)) u) ≤ n) → Outside (out_of_second n (after w (go_of t))))
-        → Outside (state_where_inside o w (λ t. out_of_second n (after w (go_of t))))
+        → ((t : ℕ) → ((u : ℕ) → section_at (after w (go_of t)) 1 ≡ Some u → left_inside (place_at (after w (go_of t)) u) ≤ n) → Outside (state_out_of_second n (after w (go_of t))))
+        → Outside (state_where_inside o w (λ t. state_out_of_second n (after w (go_of t))))
     by_inside None e more = (h, strict, e)
     by_inside (Some t) e more = more t
         (λ u now. subst (λ x. left_inside (place_at (after w (go_of t)) x) ≤ n) (sym (only_it w t strict e u now))
@@ -138,4 +138,4 @@ then_main w o = by_inside (section_at w 0) refl
         (kept.0, kept.1, main_left w t o.1.ordered o.2 e)
 
 pub entry_leaves : EntryLeaves
-entry_leaves w h strict = then_main (out_of_second 3 w) (second_left 3 w h strict (λ t e. at_most w t strict e))
+entry_leaves w h strict = then_main (state_out_of_second 3 w) (second_left 3 w h strict (λ t e. at_most w t strict e))

@@ -8,7 +8,7 @@ use Rattle.spec_locks.specs.Locks.{rights_of}
 use Rattle.lot_machine.specs.Machine.{State, after, go_of, kind_at, place_at, section_at, step_outcome}
 use Rattle.lot_laws.specs.Refinement.{lock_state}
 use Rattle.lot_laws.proofs.alone.Steps.{after_stuck}
-use Rattle.lot_world.specs.Schedules.{Progress, one_more, alone, alone_by, where_inside, out_of_second, is_up, first_up, releases, first_begin, or_else, first_release, next_turn, turn_taken, where_some, turns}
+use Rattle.lot_world.specs.Schedules.{Progress, one_more, run_alone, alone_by, where_inside, out_of_second, is_up, first_up, releases, first_begin, or_else, first_release, next_turn, turn_taken, where_some, turns}
 use Rattle.lot_world.specs.Drainable.{holds_few, all_hold_few}
 
 one_left : (n i : ℕ) → i < n → n - i ≡ suc (n - (i + 1))
@@ -16,8 +16,8 @@ one_left n i h = omega arith
 
 -- ---------------------------------------------------------------- one thread
 
-alone_more : (n : ℕ) (d : Progress) (t : ℕ) → alone (suc n) d t ≡ alone_by (step_outcome d.state (go_of t)) d (one_more d (go_of t)) (alone n (one_more d (go_of t)) t)
-unfolding alone
+alone_more : (n : ℕ) (d : Progress) (t : ℕ) → run_alone (suc n) d t ≡ alone_by (step_outcome d.state (go_of t)) d (one_more d (go_of t)) (run_alone n (one_more d (go_of t)) t)
+unfolding run_alone
 alone_more n d t = refl
 
 rests_by : (o : Outcome) (d next more : Progress) → o ≢ outcome.Step → alone_by o d next next ≡ alone_by o d next more
@@ -28,19 +28,19 @@ rests_by (outcome.Closure s) d next more h = refl
 rests_by (outcome.End a) d next more h = refl
 
 -- one step of it
-pub alone_goes : (n i : ℕ) (d e : Progress) (t : ℕ) (o : Outcome) → i < n → o ≡ step_outcome d.state (go_of t) → e ≡ alone_by o d (one_more d (go_of t)) (one_more d (go_of t)) → o ≡ outcome.Step → alone (n - (i + 1)) e t ≡ alone (n - i) d t
+pub alone_goes : (n i : ℕ) (d e : Progress) (t : ℕ) (o : Outcome) → i < n → o ≡ step_outcome d.state (go_of t) → e ≡ alone_by o d (one_more d (go_of t)) (one_more d (go_of t)) → o ≡ outcome.Step → run_alone (n - (i + 1)) e t ≡ run_alone (n - i) d t
 alone_goes n i d e t o h told is steps =
     let next = one_more d (go_of t) in
-    let more = alone (n - (i + 1)) next t in
-    ap (λ (p : Progress). alone (n - (i + 1)) p t) (is ∙ ap (λ x. alone_by x d next next) steps)
-    ∙ sym (ap (λ m. alone m d t) (one_left n i h) ∙ alone_more (n - (i + 1)) d t ∙ ap (λ x. alone_by x d next more) (sym told ∙ steps))
+    let more = run_alone (n - (i + 1)) next t in
+    ap (λ (p : Progress). run_alone (n - (i + 1)) p t) (is ∙ ap (λ x. alone_by x d next next) steps)
+    ∙ sym (ap (λ m. run_alone m d t) (one_left n i h) ∙ alone_more (n - (i + 1)) d t ∙ ap (λ x. alone_by x d next more) (sym told ∙ steps))
 
 -- the last one
-pub alone_rests : (n i : ℕ) (d e : Progress) (t : ℕ) (o : Outcome) → i < n → o ≡ step_outcome d.state (go_of t) → e ≡ alone_by o d (one_more d (go_of t)) (one_more d (go_of t)) → o ≢ outcome.Step → e ≡ alone (n - i) d t
+pub alone_rests : (n i : ℕ) (d e : Progress) (t : ℕ) (o : Outcome) → i < n → o ≡ step_outcome d.state (go_of t) → e ≡ alone_by o d (one_more d (go_of t)) (one_more d (go_of t)) → o ≢ outcome.Step → e ≡ run_alone (n - i) d t
 alone_rests n i d e t o h told is rests =
     let next = one_more d (go_of t) in
-    let more = alone (n - (i + 1)) next t in
-    is ∙ rests_by o d next more rests ∙ sym (ap (λ m. alone m d t) (one_left n i h) ∙ alone_more (n - (i + 1)) d t ∙ ap (λ x. alone_by x d next more) (sym told))
+    let more = run_alone (n - (i + 1)) next t in
+    is ∙ rests_by o d next more rests ∙ sym (ap (λ m. run_alone m d t) (one_left n i h) ∙ alone_more (n - (i + 1)) d t ∙ ap (λ x. alone_by x d next more) (sym told))
 
 -- a step that isn't possible isn't taken
 pub not_taken : (d next : Progress) (t : ℕ) (w : State) (steps : List Step) (o : Outcome) → o ≡ step_outcome d.state (go_of t) → o ≡ outcome.NotNow → w ≡ after d.state (go_of t) → steps ≡ d.steps
@@ -50,8 +50,8 @@ not_taken d next t w steps o told none is same =
     let kept : ◌≡◌ {A = Progress} (record { state = w; steps = steps }) d = λ i. record { state = still i; steps = same i } in
     kept ∙ sym (ap (λ x. alone_by x d next next) none)
 
-pub alone_end : (n : ℕ) (d : Progress) (t : ℕ) → n ≡ 0 → alone n d t ≡ d
-unfolding alone
+pub alone_end : (n : ℕ) (d : Progress) (t : ℕ) → n ≡ 0 → run_alone n d t ≡ d
+unfolding run_alone
 alone_end zero d t h = refl
 alone_end (suc n) d t h = absurd (omega (arith, h))
 

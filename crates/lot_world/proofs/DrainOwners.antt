@@ -13,7 +13,7 @@ use Rattle.spec_locks.specs.declared.calls.Call.{Call}
 use Rattle.spec_locks.specs.declared.calls.Call.TheVariants as call
 use Rattle.spec_locks.specs.declared.calls.MutexCall.TheVariants as mutex_call
 use Rattle.spec_locks.specs.declared.calls.RwLockCall.TheVariants as rwlock_call
-use Rattle.spec_locks.specs.Locks.{IsLockState, LockState, Owns, is_thread, readers, rights_of}
+use Rattle.spec_locks.specs.Locks.{IsLockState, LockState, Owns, one_if_thread, readers, rights_of}
 use Rattle.spec_locks.specs.Purposes.{Releases, purpose_of, rules_of}
 use Rattle.spec_locks.specs.Calls.{lock_in}
 use Rattle.spec_locks.specs.Runs.{HasRight, no_rights, purpose_at}
@@ -26,13 +26,13 @@ use Rattle.lot_world.proofs.Few.{rights_are}
 use Rattle.lot_world.specs.Full.{IsStrict}
 use Rattle.lot_world.specs.Owners.{OwnersMayRelease, ReleaseThere, releases}
 
-owner_is : (t : ℕ) (o : Option ℕ) → 1 ≤ is_thread t o → o ≡ Some t
+owner_is : (t : ℕ) (o : Option ℕ) → 1 ≤ one_if_thread t o → o ≡ Some t
 owner_is t None h = absurd (let a : 1 ≤ 0 = h in omega arith)
 owner_is t (Some u) h = either (u == t) refl
   where
     either : (b : Bool) → (u == t) ≡ b → Some u ≡ Some t
     either true e = ap Some (let f : u ≡ t = grind (arith, nat_tests) in f)
-    either false e = absurd (let a : is_thread t (Some u) ≡ 0 = grind (arith, nat_tests) in omega arith)
+    either false e = absurd (let a : one_if_thread t (Some u) ≡ 0 = grind (arith, nat_tests) in omega arith)
 
 pub index_sum : (xs : List ℕ) (t : ℕ) → slice_index xs t ≤ sum xs
 index_sum [] t = omega arith
@@ -42,9 +42,9 @@ index_sum (x ∷ xs) (suc t) = let all : sum (x ∷ xs) ≡ x + sum xs = sum_con
 -- one of the three
 some_right : (s : LockState) (t : ℕ) → IsPlain (rights_of s t) → rights_of s t ≢ no_rights
     → (Owns s t Exclusive) ⊎ (Owns s t Upgradable ⊎ Owns s t Shared)
-some_right s t plain some = by_exclusive (nat_lt 0 (is_thread t s.exclusive)) refl
+some_right s t plain some = by_exclusive (nat_lt 0 (one_if_thread t s.exclusive)) refl
   where
-    by_upgradable : is_thread t s.exclusive ≡ 0 → (b : Bool) → nat_lt 0 (is_thread t s.upgradable) ≡ b → (Owns s t Exclusive) ⊎ (Owns s t Upgradable ⊎ Owns s t Shared)
+    by_upgradable : one_if_thread t s.exclusive ≡ 0 → (b : Bool) → nat_lt 0 (one_if_thread t s.upgradable) ≡ b → (Owns s t Exclusive) ⊎ (Owns s t Upgradable ⊎ Owns s t Shared)
     by_upgradable ne true e = inr (inl (owner_is t s.upgradable (grind (arith, nat_tests))))
     by_upgradable ne false e = inr (inr (by_shared (nat_lt 0 (slice_index s.shared t)) refl))
       where
@@ -52,12 +52,12 @@ some_right s t plain some = by_exclusive (nat_lt 0 (is_thread t s.exclusive)) re
         by_shared true f = grind (arith, nat_tests)
         by_shared false f = absurd (some (rights_are (rights_of s t) no_rights ne
             (let p : number (rights_of s t) + (rights_of s t).pending ≤ 1 = plain in omega arith)
-            (let g : is_thread t s.upgradable ≡ 0 = grind (arith, nat_tests) in g)
+            (let g : one_if_thread t s.upgradable ≡ 0 = grind (arith, nat_tests) in g)
             (let g : slice_index s.shared t ≡ 0 = grind (arith, nat_tests) in g)))
 
-    by_exclusive : (b : Bool) → nat_lt 0 (is_thread t s.exclusive) ≡ b → (Owns s t Exclusive) ⊎ (Owns s t Upgradable ⊎ Owns s t Shared)
+    by_exclusive : (b : Bool) → nat_lt 0 (one_if_thread t s.exclusive) ≡ b → (Owns s t Exclusive) ⊎ (Owns s t Upgradable ⊎ Owns s t Shared)
     by_exclusive true e = inl (owner_is t s.exclusive (grind (arith, nat_tests)))
-    by_exclusive false e = by_upgradable (let g : is_thread t s.exclusive ≡ 0 = grind (arith, nat_tests) in g) (nat_lt 0 (is_thread t s.upgradable)) refl
+    by_exclusive false e = by_upgradable (let g : one_if_thread t s.exclusive ≡ 0 = grind (arith, nat_tests) in g) (nat_lt 0 (one_if_thread t s.upgradable)) refl
 
 module _ (w : State) (t : ℕ) (h : IsStrict w) (idle : place_at w t ≡ Idle) (some : rights_of (lock_state w 0) t ≢ no_rights) where
   abbrev s : LockState

@@ -9,7 +9,7 @@ use Rattle.spec_locks.specs.declared.kinds.Kind.TheVariants as kind
 use Rattle.spec_locks.specs.Kinds.{is_condvar}
 use Rattle.steps_base.specs.declared.owners.Pending as owners
 use Rattle.steps_base.specs.Owners.{pending_owner}
-use Rattle.spec_locks.specs.Locks.{Rights, is_thread, is_pending, rights_of}
+use Rattle.spec_locks.specs.Locks.{Rights, one_if_thread, one_if_pending, rights_of}
 use Rattle.spec_locks.specs.Purposes.{rules_of}
 use Rattle.spec_locks.specs.Runs.{no_rights}
 use Rattle.steps_mutex.specs.declared.places.MutexPlace.TheVariants as mutex
@@ -152,22 +152,22 @@ owners_drain kind.Once = (λ e. absurd cc, λ u. absurd u)
 owners_drain (kind.Semaphore permits) = (λ e. absurd cc, λ u. absurd u)
 
 -- each thread that owns alone is one of n threads
-past_thread : (o : Option ℕ) (n t : ℕ) → is_below o n ≡ true → n ≤ t → is_thread t o ≡ 0
+past_thread : (o : Option ℕ) (n t : ℕ) → is_below o n ≡ true → n ≤ t → one_if_thread t o ≡ 0
 past_thread None n t h past = refl
 past_thread (Some u) n t h past = let low = lt_true u n h in grind (arith, nat_tests)
 
-past_pending : (o : Option owners.Pending) (n t : ℕ) → is_below (pending_thread o) n ≡ true → n ≤ t → is_pending t (pending_owner o) ≡ 0
+past_pending : (o : Option owners.Pending) (n t : ℕ) → is_below (pending_thread o) n ≡ true → n ≤ t → one_if_pending t (pending_owner o) ≡ 0
 past_pending None n t h past = refl
 past_pending (Some p) n t h past = let low = lt_true p.thread n h in grind (arith, nat_tests)
 
-below_thread : (o : Option ℕ) (n : ℕ) → ((t : ℕ) → n ≤ t → is_thread t o ≡ 0) → is_below o n ≡ true
+below_thread : (o : Option ℕ) (n : ℕ) → ((t : ℕ) → n ≤ t → one_if_thread t o ≡ 0) → is_below o n ≡ true
 below_thread None n h = refl
 below_thread (Some u) n h = elim (cases_lt u n) [
   | inl low ↦ true_lt u n low
   | inr high ↦ let none = h u high in absurd (grind (arith, nat_tests))
 ]
 
-below_pending : (o : Option owners.Pending) (n : ℕ) → ((t : ℕ) → n ≤ t → is_pending t (pending_owner o) ≡ 0) → is_below (pending_thread o) n ≡ true
+below_pending : (o : Option owners.Pending) (n : ℕ) → ((t : ℕ) → n ≤ t → one_if_pending t (pending_owner o) ≡ 0) → is_below (pending_thread o) n ≡ true
 below_pending None n h = refl
 below_pending (Some p) n h = elim (cases_lt p.thread n) [
   | inl low ↦ true_lt p.thread n low
@@ -211,8 +211,8 @@ of_owners n kinds (place.Once l o) one d fits is = let first : l ≡ 0 = omega (
 of_owners n kinds (place.Semaphore l o) one d fits is = let first : l ≡ 0 = omega (arith, one, fits) in no_semaphore (kinds 0) (subst (λ k. is_semaphore (kinds k) ≡ true) first is) d
 of_owners n kinds (place.Condvar l v) one d fits is = let first : l ≡ 0 = omega (arith, one, fits.0) in no_condvar (kinds 0) (subst (λ k. is_condvar (kinds k) ≡ true) first is.0) d
 
-counts_itself : (o : Option ℕ) (t : ℕ) → o ≡ Some t → 1 ≤ is_thread t o
-counts_itself o t e = subst (λ x. 1 ≤ is_thread t x) (sym e) (grind (arith, nat_tests))
+counts_itself : (o : Option ℕ) (t : ℕ) → o ≡ Some t → 1 ≤ one_if_thread t o
+counts_itself o t e = subst (λ x. 1 ≤ one_if_thread t x) (sym e) (grind (arith, nat_tests))
 
 owns_handed : (w : State) (t : ℕ) (e : Entry) (retries : Bool) (la : LockAt) → IsWorld w → place_at w t ≡ place.Mutex 0 (mutex.Lock e retries la) → OwnsHanded (mutex.Lock e retries la) (rights_of (lock_state w 0) t)
 owns_handed w t e retries (lock.Handed by) world is h = counts_itself (owners_at w 0).exclusive t ((world.steady.sites.site 0).held t (Has Exclusive) (ap (λ p. (role_on p 0).claims) is))

@@ -1,11 +1,11 @@
 -- A lock all of whose threads rest, and of which nobody owns anything, is empty.
 use Rattle.std.proofs.Common.{ℕ, false, Option, Some, None, ◌≡◌, List, [], ◌∷◌, inl, inr, refl, sym, ◌∙◌, ap}
 use Rattle.spec_locks.specs.Locks.{Pending, Queued, Rules, Sort, Mutex, Normal, Recursive, Taken}
-use Rattle.spec_locks.specs.Sites.{Role, Site, IsSite, IsOpen, IsDebtor, counts_some}
+use Rattle.spec_locks.specs.Sites.{Role, Site, IsSite, IsOpen, IsDebtorRole, counts_some}
 use Rattle.lot_world.specs.Drained.{IsResting, OwnsNothing, Drains, RestingIsEmpty}
 
 -- a thread that rests looks after nobody
-no_debtor : (sort : Sort) (d : Role) → IsResting d → IsDebtor sort d → ⊥
+no_debtor : (sort : Sort) (d : Role) → IsResting d → IsDebtorRole sort d → ⊥
 no_debtor sort d rest (inl e) = let f = rest.wakes in cc
 no_debtor sort d rest (inr (inl e)) = let f = rest.covers in cc
 no_debtor sort d rest (inr (inr e)) = absurd (let f : counts_some sort d.retries ≡ false = ap (counts_some sort) rest.retries in cc)

@@ -10,7 +10,7 @@ use Rattle.core_base.specs.Lines.{times}
 use Rattle.spec_locks.specs.declared.outcomes.Outcome.{Outcome}
 use Rattle.spec_locks.specs.declared.outcomes.Outcome.TheVariants as outcome
 use Rattle.spec_locks.specs.Onces.{Start, Rest, Fail}
-use Rattle.spec_locks.specs.Locks.{LockState, Rights, count, is_thread, rights_of, with_right}
+use Rattle.spec_locks.specs.Locks.{LockState, Rights, count, one_if_thread, rights_of, with_right}
 use Rattle.spec_locks.specs.Locks as locks
 use Rattle.spec_locks.specs.Picks.{queued_of}
 use Rattle.spec_locks.specs.Purposes.{Purpose, Recall, Releases, WasMoved}
@@ -18,7 +18,7 @@ use Rattle.spec_locks.specs.Runs.{AtLock, CallState, Event, GoesOn, LocksState, 
 use Rattle.spec_locks.specs.Sites.{Main, has_readers, is_full}
 use Rattle.lot_steps.specs.declared.places.Place.{Place}
 use Rattle.lot_steps.specs.declared.places.Place.TheVariants.{Idle, Mutex, RwLock, Once, Condvar, Semaphore}
-use Rattle.lot_steps.specs.Steps.{is_idle, is_lock, lock_of, profile}
+use Rattle.lot_steps.specs.Steps.{is_idle, is_lock, called_lock, profile}
 use Rattle.lot_machine.specs.Machine.{State, after, can_go, go_of, is_possible, place_at, queue_at, state_after_go, step_outcome}
 use Rattle.lot_machine.specs.Fits.{AllBelow, SameSize}
 use Rattle.lot_machine.proofs.Shape.{after_size}
@@ -26,7 +26,7 @@ use Rattle.lot_laws.specs.Refinement.{call_at, call_state, lock_state, locks_of}
 use Rattle.lot_laws.specs.SitesOf.{key_of, rules_in, stood_in}
 use Rattle.lot_laws.specs.Locations.{location, location_at}
 use Rattle.lot_laws.proofs.sites.StandsKept.{in_main}
-use Rattle.lot_world.specs.Drained.{OneEach, counted}
+use Rattle.lot_world.specs.Drained.{OneEach, counting_rights}
 use Rattle.lot_world.specs.Few.{HasFew, IsFew, IsPlain, number}
 use Rattle.lot_world.proofs.Crowded.{nobody_is_left_out}
 use Rattle.lot_world.proofs.Few.{began_same}
@@ -46,7 +46,7 @@ not_one u t ne = grind (arith, nat_tests)
 -- ---------------------------------------------------------------- each thread's rights
 
 -- a release at its place
-fresh_at : (p : Place) (rights : ℕ → Rights) → lock_of p ≡ Some 0 → MayStandAt p
+fresh_at : (p : Place) (rights : ℕ → Rights) → called_lock p ≡ Some 0 → MayStandAt p
     → ((x : Want) (fair : Bool) → (call_state p rights).purpose ≡ Some (Releases 0 x fair) → (call_state p rights).released ≡ false → (call_state p rights).former 0 ≡ with_right x no_rights)
     → ReleasesOne p rights
 fresh_at Idle rights of stands h x fair is free = absurd cc
@@ -76,19 +76,19 @@ module _ (w : State) (h : IsStrict w) where
     | inr only ↦ places_own_few (place_at w t) (rights t) only.1 only.0 (began (place_at w t) (rights t) only.0 only.1 (h.ordered.few t)) (fresh_at (place_at w t) (rights t) only.0 only.1 (h.fresh t))
   ]
 
-  one_counted : (t : ℕ) → counted s t ≤ 1
+  one_counted : (t : ℕ) → counting_rights s t ≤ 1
   one_counted t = let few : number (rights t 0) ≤ 1 = all_few t in omega arith
 
   threads_own : (o : Option ℕ) → s.upgradable ≡ o → (u : ℕ) → o ≡ Some u → u < length w.places
   threads_own None e u f = absurd cc
   threads_own (Some x) e u f = by_size (nat_lt u (length w.places)) refl
     where
-      owns : is_thread u s.upgradable ≡ 1
-      owns = ap (is_thread u) (e ∙ f) ∙ (let g : is_thread u (Some u) ≡ 1 = grind (arith, nat_tests) in g)
+      owns : one_if_thread u s.upgradable ≡ 1
+      owns = ap (one_if_thread u) (e ∙ f) ∙ (let g : one_if_thread u (Some u) ≡ 1 = grind (arith, nat_tests) in g)
 
       by_size : (b : Bool) → nat_lt u (length w.places) ≡ b → u < length w.places
       by_size true g = grind (arith, nat_tests)
-      by_size false g = absurd (let one = owns in let none : is_thread u s.upgradable ≡ 0 = ap (λ (r : Rights). r.upgradable) (h.past u (grind (arith, nat_tests))) in omega arith)
+      by_size false g = absurd (let one = owns in let none : one_if_thread u s.upgradable ≡ 0 = ap (λ (r : Rights). r.upgradable) (h.past u (grind (arith, nat_tests))) in omega arith)
 
   long : length s.shared ≡ length w.places
   long = h.ordered.world.steady.numbers.threads 0
@@ -100,7 +100,7 @@ module _ (w : State) (h : IsStrict w) where
   }
 
   -- a thread in the main line owns nothing
-  queued_none : (t : ℕ) → 1 ≤ times t (queue_at w (key_of 0 Main)) → counted s t ≡ 0
+  queued_none : (t : ℕ) → 1 ≤ times t (queue_at w (key_of 0 Main)) → counting_rights s t ≡ 0
   queued_none t stands = elim (here w h.ordered t) [
     | inl idle ↦ absurd (let e : stood_in (location_at Idle 0).stands Main ≡ 0 = refl in let f : times t (queue_at w (key_of 0 Main)) ≡ stood_in (location_at Idle 0).stands Main = lines ∙ ap (λ p. stood_in (location_at p 0).stands Main) idle in omega arith)
     | inr only ↦
@@ -108,7 +108,7 @@ module _ (w : State) (h : IsStrict w) where
         let main : (profile (place_at w t)).stands ≡ Some Main = sym (ap (λ x. x.stands) own) ∙ in_main (location_at (place_at w t) 0).stands (let l = lines in omega arith) in
         let none : rights t 0 ≡ no_rights = queued_own_nothing (place_at w t) (rights t) only.1 only.0 main (began (place_at w t) (rights t) only.0 only.1 (h.ordered.few t)) in
         let a : slice_index s.shared t ≡ 0 = ap (λ (r : Rights). r.shared) none in
-        let b : is_thread t s.upgradable ≡ 0 = ap (λ (r : Rights). r.upgradable) none in
+        let b : one_if_thread t s.upgradable ≡ 0 = ap (λ (r : Rights). r.upgradable) none in
         omega arith
   ]
     where

@@ -15,7 +15,7 @@ use Rattle.steps_rwlock.specs.declared.places.RwLockAt.{RwLockAt}
 use Rattle.steps_rwlock.specs.declared.places.RwLockAt.TheVariants as at
 use Rattle.steps_rwlock.specs.declared.purposes.RwLockPurpose.{RwLockPurpose}
 use Rattle.steps_rwlock.specs.declared.purposes.RwLockPurpose.TheVariants as purpose
-use Rattle.steps_rwlock.specs.RwLockDeeds.{role_at, again_of}
+use Rattle.steps_rwlock.specs.RwLockDeeds.{role_at, retried_want}
 use Rattle.steps_rwlock_fair.specs.declared.places.RwLockCallPlace.TheVariants.{Plain, Glance, HandOver, Bump, Handed}
 use Rattle.steps_rwlock_fair.specs.declared.hand_over.HandOverAt.TheVariants as handing
 use Rattle.lot_steps.specs.declared.places.Place.{Place}
@@ -128,8 +128,8 @@ leaves_second w t (Mutex l (mutex.HandOff bumps hand_off.Enter)) stands h = absu
 leaves_second w t (Mutex l (mutex.HandOff bumps hand_off.Take)) stands h = absurd cc
 leaves_second w t (Mutex l (mutex.HandOff bumps (hand_off.Store any none_left))) stands h = absurd cc
 leaves_second w t (Mutex l (mutex.HandOff bumps (hand_off.Leave any))) stands h = absurd cc
-leaves_second w t (RwLock l a (Plain p)) stands h = plain_falls w t l a p.purpose p.retries p.at (again_of p) h
-leaves_second w t (RwLock l a (Bump p)) stands h = bump_falls w t l a p.purpose p.retries p.at (again_of p) h
+leaves_second w t (RwLock l a (Plain p)) stands h = plain_falls w t l a p.purpose p.retries p.at (retried_want p) h
+leaves_second w t (RwLock l a (Bump p)) stands h = bump_falls w t l a p.purpose p.retries p.at (retried_want p) h
 leaves_second w t (RwLock l a (Glance x)) stands h = absurd cc
 leaves_second w t (RwLock l a (HandOver x b handing.Load)) stands h = absurd cc
 leaves_second w t (RwLock l a (HandOver x b (handing.Free seen))) stands h = absurd cc

@@ -12,7 +12,7 @@ use Rattle.spec_locks.specs.declared.kinds.Kind.TheVariants as kind
 use Rattle.spec_locks.specs.Calls.{lock_in}
 use Rattle.steps_base.specs.declared.acts.Act.{Act}
 use Rattle.steps_base.specs.declared.acts.Act.TheVariants as act
-use Rattle.spec_locks.specs.Locks.{LockState, Owns, Rights, is_thread, rights_of}
+use Rattle.spec_locks.specs.Locks.{LockState, Owns, Rights, one_if_thread, rights_of}
 use Rattle.spec_locks.specs.Purposes.{Releases, purpose_of, rules_of}
 use Rattle.spec_locks.specs.Runs.{HasRight, MayBegin, no_rights, purpose_at}
 use Rattle.lot_steps.specs.declared.places.Place.TheVariants.{Idle}
@@ -226,8 +226,8 @@ may_release w s strict b = (
 
 -- an owner has a right
 owner_has : (s : LockState) (t : ℕ) (x : Want) → Owns s t x → rights_of s t ≡ no_rights → ⊥
-owner_has s t Exclusive owns none = let a : is_thread t s.exclusive ≡ 1 = ap (is_thread t) owns ∙ one_thread t in let b : is_thread t s.exclusive ≡ 0 = ap (λ (r : Rights). r.exclusive) none in omega arith
-owner_has s t Upgradable owns none = let a : is_thread t s.upgradable ≡ 1 = ap (is_thread t) owns ∙ one_thread t in let b : is_thread t s.upgradable ≡ 0 = ap (λ (r : Rights). r.upgradable) none in omega arith
+owner_has s t Exclusive owns none = let a : one_if_thread t s.exclusive ≡ 1 = ap (one_if_thread t) owns ∙ one_thread t in let b : one_if_thread t s.exclusive ≡ 0 = ap (λ (r : Rights). r.exclusive) none in omega arith
+owner_has s t Upgradable owns none = let a : one_if_thread t s.upgradable ≡ 1 = ap (one_if_thread t) owns ∙ one_thread t in let b : one_if_thread t s.upgradable ≡ 0 = ap (λ (r : Rights). r.upgradable) none in omega arith
 owner_has s t Shared owns none = let a : 1 ≤ slice_index s.shared t = owns in let b : slice_index s.shared t ≡ 0 = ap (λ (r : Rights). r.shared) none in omega arith
 owner_has s t Wait owns none = owns
 owner_has s t CallOnce owns none = owns

@@ -25,7 +25,7 @@ use Rattle.steps_base.specs.Acts.{outcome_of}
 use Rattle.lot_steps.specs.declared.places.Place.{Place}
 use Rattle.lot_steps.specs.declared.places.Place.TheVariants.{Idle}
 use Rattle.lot_steps.specs.Steps.{act_of, first_place, next_act, next_place}
-use Rattle.lot_machine.specs.Machine.{State, after, can_begin, go_of, held, is_possible, is_there, kind_at, place_at, places_told, queue_at, queues_without_first, reply_to, section_at, shares_in_hand, sharers, state_after_act, state_after_begin, state_after_go, state_after_take, state_after_taking, successor_from, successor_or, want_of_successor, wants_more_in_hand, word_at}
+use Rattle.lot_machine.specs.Machine.{State, after, can_begin, go_of, held, is_possible, is_there, kind_at, place_at, places_told, queue_at, queues_without_first, reply_to, section_at, shares_in_hand, sharers_in_hand, state_after_act, state_after_begin, state_after_go, state_after_take, state_after_taking, successor_from, successor_or, want_of_successor, wants_more_in_hand, word_at}
 use Rattle.lot_machine.specs.Fits.{SameSize}
 use Rattle.lot_machine.proofs.Acted.{acted_keeps}
 use Rattle.lot_machine.proofs.Shape.{after_shaped, after_size}
@@ -175,7 +175,7 @@ module _ (k : Kind) (w : State) (p : Place) (v : ℕ) (f : Passes k w p v) where
     none_held zero = ap held f.alone.place ∙ nobody_held
     none_held (suc u) = ap held (f.others (suc u) (λ h. omega arith))
 
-    no_sharers : (ps : List Place) → ((u : ℕ) → held (get_or ps u Idle) ≡ None) → sharers 0 ps ≡ 0
+    no_sharers : (ps : List Place) → ((u : ℕ) → held (get_or ps u Idle) ≡ None) → sharers_in_hand 0 ps ≡ 0
     no_sharers [] h = refl
     no_sharers (x ∷ ps) h = ap (λ o. length (cond (shares_in_hand 0 o) (x ∷ filter (λ (y : Place). shares_in_hand 0 (held y)) ps) (filter (λ (y : Place). shares_in_hand 0 (held y)) ps))) (h 0) ∙ no_sharers ps (λ u. h (suc u))
 
@@ -199,7 +199,7 @@ module _ (k : Kind) (w : State) (p : Place) (v : ℕ) (f : Passes k w p v) where
         places = ap (λ q. places_told (TakenBy 0) (threads_of (lock_picked None recursive q)) w.places) empty
 
         heard : reply_to w 0 (act.Take 0 (picking recursive)) ≡ Picked 0 None true
-        heard = λ i. Picked ((ap (sharers 0) places ∙ no_sharers w.places none_held) i)
+        heard = λ i. Picked ((ap (sharers_in_hand 0) places ∙ no_sharers w.places none_held) i)
             ((ap (λ ps. want_of_successor (successor_from 0 0 ps)) places ∙ ap want_of_successor (no_successor 0 w.places none_held)) i)
             ((ap (λ q. length (without_lock_picked None recursive 0 q) == 0) empty) i)
 

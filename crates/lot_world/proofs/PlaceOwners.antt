@@ -37,7 +37,7 @@ use Rattle.steps_rwlock_fair.specs.declared.places.RwLockCallPlace.TheVariants.{
 use Rattle.steps_rwlock_fair.specs.FairProfiles.{call_profile}
 use Rattle.lot_steps.specs.declared.places.Place.{Place}
 use Rattle.lot_steps.specs.declared.places.Place.TheVariants.{Idle, Mutex, RwLock, Once, Condvar, Semaphore}
-use Rattle.lot_steps.specs.Steps.{act_of, lock_of, profile}
+use Rattle.lot_steps.specs.Steps.{act_of, called_lock, profile}
 use Rattle.steps_mutex.specs.MutexProfiles.{mutex_profile}
 use Rattle.lot_world.specs.Waits.{MayStandAt}
 
@@ -73,7 +73,7 @@ runs_closure (act.Closure state) = true
 runs_closure a = false
 
 -- at the one lock
-pub place_own : (p : Place) → MayStandAt p → lock_of p ≡ Some 0 → lock_for ((profile p).purpose 0) ≡ 0
+pub place_own : (p : Place) → MayStandAt p → called_lock p ≡ Some 0 → lock_for ((profile p).purpose 0) ≡ 0
 place_own Idle stands of = absurd cc
 place_own (Mutex l at) stands of = mutex_own 0 at
 place_own (RwLock l a c) stands of = call_own 0 a c

@@ -11,7 +11,7 @@ use Rattle.lot_steps.specs.Steps.{act_of, next_act}
 use Rattle.lot_machine.specs.Machine.{State, after, after_steps, alone_after, go_of, go_outcome, is_possible, place_at, reply_to, solo, state_after_act, step_outcome}
 use Rattle.lot_world.specs.Turns.{begin_of}
 use Rattle.lot_world.specs.Drains.{AllPossible}
-use Rattle.lot_world.specs.Schedules.{Progress, alone, alone_by, call_alone, one_more}
+use Rattle.lot_world.specs.Schedules.{Progress, run_alone, alone_by, call_alone, one_more}
 
 -- ---------------------------------------------------------------- possible steps
 
@@ -76,30 +76,30 @@ goes_within w n m d e le h = record { come = h.come; few = let a = h.few in omeg
 -- ---------------------------------------------------------------- a thread alone
 
 -- it comes to where the machine's own run of a thread alone does
-pub alone_state : (n : ℕ) (d : Progress) (t : ℕ) (last : Outcome) → (alone n d t).state ≡ (solo n d.state t last).state
-unfolding alone solo
+pub alone_state : (n : ℕ) (d : Progress) (t : ℕ) (last : Outcome) → (run_alone n d t).state ≡ (solo n d.state t last).state
+unfolding run_alone solo
 alone_state zero d t last = refl
 alone_state (suc n) d t last = by_outcome (step_outcome d.state (go_of t)) (alone_state n (one_more d (go_of t)) t outcome.Step)
   where
-    by_outcome : (o : Outcome) → (alone n (one_more d (go_of t)) t).state ≡ (solo n (after d.state (go_of t)) t outcome.Step).state
-        → (alone_by o d (one_more d (go_of t)) (alone n (one_more d (go_of t)) t)).state
+    by_outcome : (o : Outcome) → (run_alone n (one_more d (go_of t)) t).state ≡ (solo n (after d.state (go_of t)) t outcome.Step).state
+        → (alone_by o d (one_more d (go_of t)) (run_alone n (one_more d (go_of t)) t)).state
         ≡ (alone_after o d.state (after d.state (go_of t)) last (solo n (after d.state (go_of t)) t outcome.Step)).state
     by_outcome outcome.NotNow more = refl
     by_outcome outcome.Step more = more
     by_outcome o more = refl
 
-pub alone_goes : (w : State) (n : ℕ) (d : Progress) (t : ℕ) → HasCome w d → HasGone w n d (alone n d t)
-unfolding alone
+pub alone_goes : (w : State) (n : ℕ) (d : Progress) (t : ℕ) → HasCome w d → HasGone w n d (run_alone n d t)
+unfolding run_alone
 alone_goes w zero d t h = stays w zero d h
 alone_goes w (suc n) d t h = by_outcome (step_outcome d.state (go_of t)) refl (alone_goes w n (one_more d (go_of t)) t)
   where
     by_outcome : (o : Outcome) → step_outcome d.state (go_of t) ≡ o
-        → (HasCome w (one_more d (go_of t)) → HasGone w n (one_more d (go_of t)) (alone n (one_more d (go_of t)) t))
-        → HasGone w (suc n) d (alone_by o d (one_more d (go_of t)) (alone n (one_more d (go_of t)) t))
+        → (HasCome w (one_more d (go_of t)) → HasGone w n (one_more d (go_of t)) (run_alone n (one_more d (go_of t)) t))
+        → HasGone w (suc n) d (alone_by o d (one_more d (go_of t)) (run_alone n (one_more d (go_of t)) t))
     by_outcome outcome.NotNow e more = stays w (suc n) d h
     by_outcome outcome.Step e more =
         let one = goes_one w d (go_of t) h (λ f. let g : outcome.Step ≡ outcome.NotNow = sym e ∙ f in cc) in
-        goes_within w (1 + n) (suc n) d (alone n (one_more d (go_of t)) t) (omega arith) (goes_then w 1 n d (one_more d (go_of t)) (alone n (one_more d (go_of t)) t) one (more one.come))
+        goes_within w (1 + n) (suc n) d (run_alone n (one_more d (go_of t)) t) (omega arith) (goes_then w 1 n d (one_more d (go_of t)) (run_alone n (one_more d (go_of t)) t) one (more one.come))
     by_outcome outcome.Sleep e more = goes_within w 1 (suc n) d (one_more d (go_of t)) (omega arith) (goes_one w d (go_of t) h (λ f. let g : outcome.Sleep ≡ outcome.NotNow = sym e ∙ f in cc))
     by_outcome (outcome.Closure state) e more = goes_within w 1 (suc n) d (one_more d (go_of t)) (omega arith) (goes_one w d (go_of t) h (λ f. let g : outcome.Closure state ≡ outcome.NotNow = sym e ∙ f in cc))
     by_outcome (outcome.End answer) e more = goes_within w 1 (suc n) d (one_more d (go_of t)) (omega arith) (goes_one w d (go_of t) h (λ f. let g : outcome.End answer ≡ outcome.NotNow = sym e ∙ f in cc))

@@ -7,12 +7,12 @@ use Rattle.core_base.specs.Lines.{first_of, times}
 use Rattle.steps_base.specs.declared.acts.Act.TheVariants as act
 use Rattle.spec_locks.proofs.HandLimits.{sum_cons}
 use Rattle.spec_locks.specs.Picks.{queued_of}
-use Rattle.spec_locks.specs.Locks.{LockState, Pending, Rights, Rules, count, is_pending, is_thread, one_if_some, readers, rights_of}
+use Rattle.spec_locks.specs.Locks.{LockState, Pending, Rights, Rules, count, one_if_pending, one_if_thread, one_if_some, readers, rights_of}
 use Rattle.spec_locks.specs.Runs.{no_rights}
 use Rattle.spec_locks.specs.Sites.{Line, Main, Second, has_readers, is_full}
 use Rattle.lot_steps.specs.declared.places.Place.{Place}
 use Rattle.lot_steps.specs.declared.places.Place.TheVariants.{Idle, Mutex, RwLock, Once, Condvar, Semaphore}
-use Rattle.lot_steps.specs.Steps.{act_of, calls, is_lock, lock_of, profile}
+use Rattle.lot_steps.specs.Steps.{act_of, calls, is_lock, called_lock, profile}
 use Rattle.lot_machine.specs.Machine.{State, place_at, queue_at}
 use Rattle.lot_machine.specs.Fits.{PlaceFits}
 use Rattle.lot_laws.specs.Refinement.{call_state, lock_state}
@@ -28,7 +28,7 @@ use Rattle.lot_world.specs.Quiet.{HasOneLock, IsDraining, IsQuiet, QuietIsOver}
 
 -- a thread is in no call, or in one of the lock
 abbrev pub OnlyHere : Place → Type 0
-OnlyHere p = (p ≡ Idle) ⊎ ((lock_of p ≡ Some 0) × MayStandAt p)
+OnlyHere p = (p ≡ Idle) ⊎ ((called_lock p ≡ Some 0) × MayStandAt p)
 
 number_of : (l n : ℕ) → n ≡ 1 → l < n → l ≡ 0
 number_of l n e lt = omega arith
@@ -51,7 +51,7 @@ only_here w lock (Condvar l at) there fits = absurd (
     subst Drains f lock.sort)
 
 -- its call's beginning
-pub began : (p : Place) (rights : ℕ → Rights) → lock_of p ≡ Some 0 → MayStandAt p
+pub began : (p : Place) (rights : ℕ → Rights) → called_lock p ≡ Some 0 → MayStandAt p
     → HasFew (call_state p rights).purpose ((call_state p rights).former 0) (rights 0) → BeganWithFew 0 p rights
 began Idle rights of stands few = absurd cc
 began (Mutex l at) rights of stands few = subst (λ j. HasFew (Some ((profile (Mutex l at)).purpose j)) ((profile (Mutex l at)).former j rights 0) (rights 0)) (let e : l ≡ 0 = cc in e) few
@@ -60,7 +60,7 @@ began (Once l at) rights of stands few = absurd stands
 began (Semaphore l at) rights of stands few = absurd stands
 began (Condvar l at) rights of stands few = absurd stands
 
-calls_here : (p : Place) → lock_of p ≡ Some 0 → calls p 0 ≡ true
+calls_here : (p : Place) → called_lock p ≡ Some 0 → calls p 0 ≡ true
 calls_here p of = ap (is_lock 0) of
 
 pub zero_sum : (xs : List ℕ) → ((t : ℕ) → slice_index xs t ≡ 0) → sum xs ≡ 0
@@ -90,7 +90,7 @@ module _ (w : State) (draining : IsDraining w) (quiet : IsQuiet w) where
 
   -- a thread in no call, or asleep, with what its place says
   record Sleeps (t : ℕ) : Type 0 where
-    pub of : lock_of (place_at w t) ≡ Some 0
+    pub of : called_lock (place_at w t) ≡ Some 0
     pub stands : MayStandAt (place_at w t)
     pub asleep : act_of (place_at w t) ≡ act.Sleep
 
@@ -150,11 +150,11 @@ module _ (w : State) (draining : IsDraining w) (quiet : IsQuiet w) where
 
   no_exclusive : (o : Option ℕ) → s.exclusive ≡ o → s.exclusive ≡ None
   no_exclusive None e = e
-  no_exclusive (Some t) e = absurd (let z : is_thread t s.exclusive ≡ 0 = ap (λ (r : Rights). r.exclusive) (own_none t) in let o : is_thread t (Some t) ≡ 1 = grind (arith, nat_tests) in let f : is_thread t s.exclusive ≡ is_thread t (Some t) = ap (is_thread t) e in omega arith)
+  no_exclusive (Some t) e = absurd (let z : one_if_thread t s.exclusive ≡ 0 = ap (λ (r : Rights). r.exclusive) (own_none t) in let o : one_if_thread t (Some t) ≡ 1 = grind (arith, nat_tests) in let f : one_if_thread t s.exclusive ≡ one_if_thread t (Some t) = ap (one_if_thread t) e in omega arith)
 
   no_upgradable : (o : Option ℕ) → s.upgradable ≡ o → s.upgradable ≡ None
   no_upgradable None e = e
-  no_upgradable (Some t) e = absurd (let z : is_thread t s.upgradable ≡ 0 = ap (λ (r : Rights). r.upgradable) (own_none t) in let o : is_thread t (Some t) ≡ 1 = grind (arith, nat_tests) in let f : is_thread t s.upgradable ≡ is_thread t (Some t) = ap (is_thread t) e in omega arith)
+  no_upgradable (Some t) e = absurd (let z : one_if_thread t s.upgradable ≡ 0 = ap (λ (r : Rights). r.upgradable) (own_none t) in let o : one_if_thread t (Some t) ≡ 1 = grind (arith, nat_tests) in let f : one_if_thread t s.upgradable ≡ one_if_thread t (Some t) = ap (one_if_thread t) e in omega arith)
 
   no_readers : readers s ≡ 0
   no_readers = zero_sum s.shared (λ t. ap (λ (r : Rights). r.shared) (own_none t))
@@ -169,7 +169,7 @@ module _ (w : State) (draining : IsDraining w) (quiet : IsQuiet w) where
   somebody_aside : (o : Option Pending) → s.pending ≡ o → s.pending ≢ None → s.aside ≢ None
   somebody_aside None e some away = some e
   somebody_aside (Some p) e some away = elim (owns p.thread) [
-    | inl none ↦ let z : is_pending p.thread s.pending ≡ 0 = ap (λ (r : Rights). r.pending) none in let o : is_pending p.thread (Some p) ≡ 1 = grind (arith, nat_tests) in let f : is_pending p.thread s.pending ≡ is_pending p.thread (Some p) = ap (is_pending p.thread) e in absurd (omega arith)
+    | inl none ↦ let z : one_if_pending p.thread s.pending ≡ 0 = ap (λ (r : Rights). r.pending) none in let o : one_if_pending p.thread (Some p) ≡ 1 = grind (arith, nat_tests) in let f : one_if_pending p.thread s.pending ≡ one_if_pending p.thread (Some p) = ap (one_if_pending p.thread) e in absurd (omega arith)
     | inr more ↦ let one = stands_aside p.thread more.1 more.2 in
         let none : queue_at w (key_of 0 Second) ≡ [] = none_first (queue_at w (key_of 0 Second)) away in
         let z : times p.thread (queue_at w (key_of 0 Second)) ≡ times p.thread [] = ap (times p.thread) none in

@@ -10,7 +10,7 @@ use Rattle.spec_locks.specs.declared.outcomes.Outcome.{Outcome}
 use Rattle.spec_locks.specs.declared.outcomes.Outcome.TheVariants as outcome
 use Rattle.steps_base.specs.declared.acts.Act.TheVariants as act
 use Rattle.std.specs.Prelude.{slice_index}
-use Rattle.spec_locks.specs.Locks.{LockState, Owns, is_thread, Rights, rights_of, standing, with_right}
+use Rattle.spec_locks.specs.Locks.{LockState, Owns, one_if_thread, Rights, rights_of, standing, with_right}
 use Rattle.spec_locks.specs.Purposes.{MayWait, Purpose, Releases}
 use Rattle.spec_locks.specs.Runs.{AnswerHolds, Agrees, CallState, GoesOn, HasRight, IsStep, LocksState, MayBegin, Stays, going_on, new_call, no_rights, purpose_at, rights_in, unless_ended, woken}
 use Rattle.lot_steps.specs.declared.places.Place.{Place}
@@ -21,7 +21,7 @@ use Rattle.lot_steps.specs.Steps.{first_place}
 use Rattle.lot_machine.specs.Machine.{State, after, go_of, is_possible, kind_at, place_at, section_at, state_after_begin, step_outcome}
 use Rattle.lot_machine.specs.Fits.{SameSize}
 use Rattle.lot_machine.proofs.Shape.{after_size}
-use Rattle.lot_laws.specs.Promises.{IsHandedOver, IsKept}
+use Rattle.lot_laws.specs.Promises.{IsHandedOverIn, IsKept}
 use Rattle.lot_laws.specs.Refinement.{call_at, call_state, lock_state, locks_of, sleeps}
 use Rattle.lot_laws.proofs.machine.KindsStay.{after_kinds}
 use Rattle.lot_laws.proofs.calls.LockSteps.{after_step}
@@ -110,7 +110,7 @@ gives_step t x fair w h = record { ordered_now = ordered w t h.ordered_now; eith
 never_asleep : (w : State) (t : ℕ) (x : Want) (fair : Bool) → IsOrdered w → (call_at w t).purpose ≡ Some (Releases 0 x fair) → act_of (place_at w t) ≡ act.Sleep → ⊥
 never_asleep w t x fair h calling asleep =
     let kept : IsKept w = world_kept w h.world in
-    let handed : IsHandedOver w t = kept.handing t (asleep, nowhere) in
+    let handed : IsHandedOverIn w t = kept.handing t (asleep, nowhere) in
     subst (λ p. MayWait p handed.lock) calling handed.waited.0
   where
     nowhere : (l : ℕ) → standing t (lock_state w l) ≡ 0
@@ -122,16 +122,16 @@ never_asleep w t x fair h calling asleep =
 
 -- ---------------------------------------------------------------- it begins
 
-pub one_thread : (t : ℕ) → is_thread t (Some t) ≡ 1
+pub one_thread : (t : ℕ) → one_if_thread t (Some t) ≡ 1
 one_thread t = grind (arith, nat_tests)
 
 -- an owner that has few owns that and no more
 pub only_right : (s : LockState) (t : ℕ) (x : Want) → Owns s t x → IsFew (rights_of s t) → rights_of s t ≡ with_right x no_rights
 only_right s t Exclusive owns few =
-    let one : is_thread t s.exclusive ≡ 1 = ap (is_thread t) owns ∙ one_thread t in
+    let one : one_if_thread t s.exclusive ≡ 1 = ap (one_if_thread t) owns ∙ one_thread t in
     rights_are (rights_of s t) (with_right Exclusive no_rights) one (omega arith) (omega arith) (omega arith)
 only_right s t Upgradable owns few =
-    let one : is_thread t s.upgradable ≡ 1 = ap (is_thread t) owns ∙ one_thread t in
+    let one : one_if_thread t s.upgradable ≡ 1 = ap (one_if_thread t) owns ∙ one_thread t in
     rights_are (rights_of s t) (with_right Upgradable no_rights) (omega arith) (omega arith) one (omega arith)
 only_right s t Shared owns few =
     let some : 1 ≤ slice_index s.shared t = owns in

@@ -28,7 +28,7 @@ use Rattle.steps_rwlock.specs.declared.purposes.RwLockPurpose.{RwLockPurpose}
 use Rattle.steps_rwlock.specs.declared.purposes.RwLockPurpose.TheVariants as purpose
 use Rattle.steps_rwlock.specs.RwLockSteps.{act_at, decided, wanted}
 use Rattle.steps_rwlock.specs.RwLockCalls.{StandsAt}
-use Rattle.steps_rwlock.specs.RwLockDeeds.{role_at, again_of}
+use Rattle.steps_rwlock.specs.RwLockDeeds.{role_at, retried_want}
 use Rattle.steps_rwlock.specs.RwLockProfiles.{stands_at}
 use Rattle.steps_rwlock.specs.RwLockProfiles as rows
 use Rattle.steps_rwlock_fair.specs.FairCalls.{IsOfBump}
@@ -115,8 +115,8 @@ sleepers_rest (Mutex l (mutex.Unlock to)) stands h = absurd (unlock_wakes l to h
 sleepers_rest (Mutex l mutex.UnlockFair) stands h = absurd cc
 sleepers_rest (Mutex l mutex.Bump) stands h = absurd cc
 sleepers_rest (Mutex l (mutex.HandOff bumps to)) stands h = absurd (hand_off_wakes l to h)
-sleepers_rest (RwLock l a (Plain p)) stands h = rwlock_rests l a p.purpose p.retries p.at h (again_of p)
-sleepers_rest (RwLock l a (Bump p)) stands h = rwlock_rests l a p.purpose p.retries p.at h (again_of p)
+sleepers_rest (RwLock l a (Plain p)) stands h = rwlock_rests l a p.purpose p.retries p.at h (retried_want p)
+sleepers_rest (RwLock l a (Bump p)) stands h = rwlock_rests l a p.purpose p.retries p.at h (retried_want p)
 sleepers_rest (RwLock l a (Handed x how b to)) stands h = handed_rests l a x how b to h
 sleepers_rest (RwLock l a (Glance x)) stands h = absurd cc
 sleepers_rest (RwLock l a (HandOver x b to)) stands h = absurd (handing_wakes l a x to h)

@@ -1,13 +1,13 @@
 -- A world that may be drained has all that a drain keeps: each call began with what it needs and no more, and nobody is forgotten.
 use Rattle.std.proofs.Common.{ℕ, Bool, true, false, Option, Some, None, ◌≡◌, ◌≤◌, inl, inr, refl, sym, ◌∙◌, ap, subst, arith}
 use Rattle.core_base.specs.declared.wants.Want.{Want}
-use Rattle.spec_locks.specs.Locks.{LockState, Rights, is_pending, rights_of, with_right}
+use Rattle.spec_locks.specs.Locks.{LockState, Rights, one_if_pending, rights_of, with_right}
 use Rattle.spec_locks.specs.Purposes.{Purpose, Releases}
 use Rattle.spec_locks.specs.Runs.{CallState, no_rights}
 use Rattle.spec_locks.specs.Sites.{Claim, Has, Pends, Runs, Ran, Holds, IsSite, is_full}
 use Rattle.lot_steps.specs.declared.places.Place.{Place}
 use Rattle.lot_steps.specs.declared.places.Place.TheVariants.{Idle, Mutex, RwLock, Once, Condvar, Semaphore}
-use Rattle.lot_steps.specs.Steps.{is_lock, lock_of, profile}
+use Rattle.lot_steps.specs.Steps.{is_lock, called_lock, profile}
 use Rattle.lot_machine.specs.Machine.{State, filled_at, place_at}
 use Rattle.lot_laws.specs.Refinement.{call_at, call_state, lock_state}
 use Rattle.lot_laws.specs.SitesOf.{IsWorld, rules_in, site_of}
@@ -36,7 +36,7 @@ same_purpose p q e = cc
 
 -- by the place
 begun_at : (p : Place) (rights : ℕ → Rights) → OnlyHere p → IsFew (rights 0)
-    → (lock_of p ≡ Some 0 → IsJust (profile p).role.claims (rights 0))
+    → (called_lock p ≡ Some 0 → IsJust (profile p).role.claims (rights 0))
     → HasNoneBefore (call_state p rights) → PendsInCall (call_state p rights).purpose (rights 0)
     → Begun (call_state p rights) (rights 0)
 begun_at Idle rights only few just had none =
@@ -74,7 +74,7 @@ begun_at (Condvar l at) rights (inr there) few just had none = absurd there.1
 just_that : (s : LockState) (t : ℕ) (c : Claim) → Holds s t c → IsFew (rights_of s t) → IsJust (Some c) (rights_of s t)
 just_that s t (Has x) owns few = only_right s t x owns few
 just_that s t (Pends falls_back) holds few =
-    let one : is_pending t s.pending ≡ 1 = ap (is_pending t) holds ∙ one_pending (record { thread = t; falls_back = falls_back }) in
+    let one : one_if_pending t s.pending ≡ 1 = ap (one_if_pending t) holds ∙ one_pending (record { thread = t; falls_back = falls_back }) in
     let all : number (rights_of s t) ≤ 1 = few in
     rights_are (rights_of s t) (record no_rights { pending = 1 }) (omega arith) one (omega arith) (omega arith)
 just_that s t Runs holds few = tt
@@ -87,7 +87,7 @@ module _ (w : State) (world : IsWorld w) (h : IsDrainable w) where
   abbrev rights : (t l : ℕ) → Rights
   rights t l = rights_of (lock_state w l) t
 
-  just : (t : ℕ) → lock_of (place_at w t) ≡ Some 0 → IsJust (profile (place_at w t)).role.claims (rights t 0)
+  just : (t : ℕ) → called_lock (place_at w t) ≡ Some 0 → IsJust (profile (place_at w t)).role.claims (rights t 0)
   just t of = by_claim (profile (place_at w t)).role.claims refl
     where
       here : role_on (place_at w t) 0 ≡ (profile (place_at w t)).role

@@ -8,7 +8,7 @@ use Rattle.lot_machine.specs.Machine.{State, after, go_of, place_at, section_at}
 use Rattle.lot_laws.specs.Refinement.{lock_state}
 use Rattle.lot_world.proofs.Potential.{potential_most}
 use Rattle.lot_world.specs.Course.{left_in}
-use Rattle.lot_world.specs.Quiet.{IsDraining, IsOver}
+use Rattle.lot_world.specs.Quiet.{IsDraining, IsAllOver}
 use Rattle.lot_world.specs.Entry as before
 use Rattle.lot_world.specs.Full.{IsStrict}
 use Rattle.lot_world.specs.Turns.{NobodyInside, after_alone, after_release, awake, begin_of, weight}
@@ -72,7 +72,7 @@ turned w d s ready e h = elim (turn_is d.state s ready.draining.lock.sort e) [
 pub record IsEnded (w : State) (n : ℕ) (d e : Progress) : Type 0 where
   pub gone : HasGone w n d e
   pub ready : IsReady e.state
-  pub over : IsOver e.state
+  pub over : IsAllOver e.state
 
 ended_now : (w : State) (n : ℕ) (d : Progress) → IsReady d.state → next_turn d.state ≡ None → HasCome w d → IsEnded w n d d
 ended_now w n d ready e h = record { gone = stays w n d h; ready = ready; over = quiet_is_over d.state ready.draining (quiet d.state ready.strict (none_is d.state e)) }
@@ -111,15 +111,15 @@ record IsOut (w : State) (n : ℕ) (d e : Progress) (v : State) : Type 0 where
   pub gone : HasGone w n d e
   pub led : e.state ≡ v
 
-second_out : (n : ℕ) (w : State) (d : Progress) → IsDraining d.state → IsStrict d.state → HasCome w d → IsOut w n d (out_of_second n d) (before.out_of_second n d.state)
+second_out : (n : ℕ) (w : State) (d : Progress) → IsDraining d.state → IsStrict d.state → HasCome w d → IsOut w n d (out_of_second n d) (before.state_out_of_second n d.state)
 unfolding out_of_second
 second_out zero w d draining strict h = record { gone = stays w zero d h; led = refl }
 second_out (suc n) w d draining strict h = by_inside (section_at d.state 1) refl
     (λ t come. second_out n w (one_more d (go_of t)) (draining_goes_on d.state t draining strict) (strict_goes_on d.state t strict) come)
   where
     by_inside : (o : Option ℕ) → section_at d.state 1 ≡ o
-        → ((t : ℕ) → HasCome w (one_more d (go_of t)) → IsOut w n (one_more d (go_of t)) (out_of_second n (one_more d (go_of t))) (before.out_of_second n (after d.state (go_of t))))
-        → IsOut w (suc n) d (where_inside o d (λ t. out_of_second n (one_more d (go_of t)))) (before.state_where_inside o d.state (λ t. before.out_of_second n (after d.state (go_of t))))
+        → ((t : ℕ) → HasCome w (one_more d (go_of t)) → IsOut w n (one_more d (go_of t)) (out_of_second n (one_more d (go_of t))) (before.state_out_of_second n (after d.state (go_of t))))
+        → IsOut w (suc n) d (where_inside o d (λ t. out_of_second n (one_more d (go_of t)))) (before.state_where_inside o d.state (λ t. before.state_out_of_second n (after d.state (go_of t))))
     by_inside None e more = record { gone = stays w (suc n) d h; led = refl }
     by_inside (Some t) e more =
         let one = goes_one w d (go_of t) h (go_possible d.state t (possible d.state t strict e)) in

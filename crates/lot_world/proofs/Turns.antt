@@ -36,7 +36,7 @@ use Rattle.lot_world.specs.Drained.{Drains}
 use Rattle.lot_world.specs.Few.{AllHaveFew, HasFew, IsOfOneLock, number}
 use Rattle.lot_world.specs.Potential.{OnlyWaited, one_if}
 use Rattle.lot_world.proofs.Few.{calls_left, few_go_on, rights_left}
-use Rattle.lot_world.specs.Waits.{MayStandAt, waits}
+use Rattle.lot_world.specs.Waits.{MayStandAt, waits_or_idle}
 use Rattle.lot_world.proofs.Waits.{nothing_befalls_waiting, sleepers_wait, waiters_go_on_waiting}
 use Rattle.lot_world.proofs.PlaceOwners.{no_closure, place_own}
 use Rattle.lot_world.specs.Quiet.{AtRest, HasOneLock}
@@ -119,8 +119,8 @@ module _ (w : State) (t : ℕ) (h : IsOrdered w) where
   ordered = record { world = world_after w (go_of t) h.world; lock = same_lock; few = few_then }
 
   -- the others
-  pub others_wait : (u : ℕ) → u ≢ t → waits (place_at v u) ≡ waits (place_at w u)
-  others_wait u ne = others_keep_it waits nothing_befalls_waiting w (go_of t) u ne
+  pub others_wait : (u : ℕ) → u ≢ t → waits_or_idle (place_at v u) ≡ waits_or_idle (place_at w u)
+  others_wait u ne = others_keep_it waits_or_idle nothing_befalls_waiting w (go_of t) u ne
 
   same_purpose : (u : ℕ) → u ≢ t → ((locks_of v).calls u).purpose ≡ ((locks_of w).calls u).purpose
   same_purpose u ne = elim stepped.1 [
@@ -272,7 +272,7 @@ module _ (w0 : State) (t : ℕ) where
   -- the others only wait where they did, are in a call where they were, and own as they did where they are in none
   pub record Beside (v : State) : Type 0 where
     pub ordered_now : IsOrdered v
-    pub waiting : (u : ℕ) → u ≢ t → waits (place_at v u) ≡ waits (place_at w0 u)
+    pub waiting : (u : ℕ) → u ≢ t → waits_or_idle (place_at v u) ≡ waits_or_idle (place_at w0 u)
     pub idle : (u : ℕ) → u ≢ t → is_idle (place_at v u) ≡ is_idle (place_at w0 u)
     pub own : (u : ℕ) → u ≢ t → is_idle (place_at w0 u) ≡ true → rights_of (lock_state v 0) u ≡ rights_of (lock_state w0 0) u
 
@@ -287,16 +287,16 @@ module _ (w0 : State) (t : ℕ) where
   -- and where the thread only waits, they stand where they stood
   pub record Leaves (v : State) : Type 0 where
     pub ordered_now : IsOrdered v
-    pub waiting : waits (place_at v t) ≡ true
+    pub waiting : waits_or_idle (place_at v t) ≡ true
     pub others : (u : ℕ) → u ≢ t → place_at v u ≡ place_at w0 u
 
-  waits_on : (v : State) → IsOrdered v → waits (place_at v t) ≡ true → waits (place_at (after v (go_of t)) t) ≡ true
+  waits_on : (v : State) → IsOrdered v → waits_or_idle (place_at v t) ≡ true → waits_or_idle (place_at (after v (go_of t)) t) ≡ true
   waits_on v h w = either (is_possible v (go_of t)) refl
     where
-      goes : t < length v.places → waits (place_at (state_after_go v t) t) ≡ true
-      goes lt = subst (λ p. waits p ≡ true) (sym (gone_place v t (single_of (place_at v t) (here v h t)) lt)) (waiters_go_on_waiting (place_at v t) (go_reply v t) (never_late v t (act_of (place_at v t))) w)
+      goes : t < length v.places → waits_or_idle (place_at (state_after_go v t) t) ≡ true
+      goes lt = subst (λ p. waits_or_idle p ≡ true) (sym (gone_place v t (single_of (place_at v t) (here v h t)) lt)) (waiters_go_on_waiting (place_at v t) (go_reply v t) (never_late v t (act_of (place_at v t))) w)
 
-      either : (b : Bool) → is_possible v (go_of t) ≡ b → waits (place_at (if b then state_after_go v t else v) t) ≡ true
+      either : (b : Bool) → is_possible v (go_of t) ≡ b → waits_or_idle (place_at (if b then state_after_go v t else v) t) ≡ true
       either true e = goes (ltb-true t (length v.places) (both (nat_lt t (length v.places)) _ e).0)
       either false e = w
 
@@ -362,7 +362,7 @@ module _ (w : State) (t : ℕ) (h : IsOrdered w) (outside : NobodyInside w) (up 
         where
           either : (b : Bool) → is_idle (place_at led t) ≡ b → weight led t ≤ 1
           either true e = subst (λ p. weight_of p (rights_of (lock_state led 0) t) ≤ 1) (sym (idle_is (place_at led t) e)) (owned _)
-          either false e = slept (is_idle (place_at led t)) (waits (place_at led t)) e (sleepers_wait (place_at led t) (stands_of (place_at led t) (here led beside.ordered_now t)) asleep) _
+          either false e = slept (is_idle (place_at led t)) (waits_or_idle (place_at led t)) e (sleepers_wait (place_at led t) (stands_of (place_at led t) (here led beside.ordered_now t)) asleep) _
 
   others : (u : ℕ) → u ≢ t → weight led u ≡ weight w u
   others u ne = either (is_idle (place_at w u)) refl
@@ -384,7 +384,7 @@ module _ (w : State) (t : ℕ) (h : IsOrdered w) (outside : NobodyInside w) (up 
       by_rest (inl idle) = ap is_up idle
       by_rest (inr asleep) = bits (is_idle (place_at led t)) (sleeps (act_of (place_at led t))) (ap sleeps asleep)
 
-  by_waiting : (b : Bool) → waits (place_at w t) ≡ b → OnlyWaited t (weight w) (weight led) (awake w) (awake led) ⊎ (weight led t + 1 ≤ weight w t)
+  by_waiting : (b : Bool) → waits_or_idle (place_at w t) ≡ b → OnlyWaited t (weight w) (weight led) (awake w) (awake led) ⊎ (weight led t + 1 ≤ weight w t)
   by_waiting true e = inl (
     up,
     down,
@@ -399,5 +399,5 @@ module _ (w : State) (t : ℕ) (h : IsOrdered w) (outside : NobodyInside w) (up 
 pub each_turn_falls : EachTurnFalls
 each_turn_falls w t h outside up = (
   (beside w t h outside up).ordered_now,
-  record { there = there w t h outside up; others = others w t h outside up; goes = by_waiting w t h outside up (waits (place_at w t)) refl },
+  record { there = there w t h outside up; others = others w t h outside up; goes = by_waiting w t h outside up (waits_or_idle (place_at w t)) refl },
 )

@@ -38,7 +38,7 @@ use Rattle.steps_rwlock.specs.declared.places.RwLockPlace.{RwLockPlace}
 use Rattle.steps_rwlock.specs.declared.purposes.RwLockPurpose.{RwLockPurpose}
 use Rattle.steps_rwlock.specs.declared.purposes.RwLockPurpose.TheVariants as purpose
 use Rattle.steps_rwlock.specs.RwLockCalls.{StandsAt}
-use Rattle.steps_rwlock.specs.RwLockSteps.{act_at, came_in_for, counted, decided, decided_act, exchanged_next, looked, looked_by, missed, next_at, park_next, patience_at, rwlock_next}
+use Rattle.steps_rwlock.specs.RwLockSteps.{act_at, came_in_for, after_count, decided, decided_act, exchanged_next, looked, looked_by, missed, next_at, park_next, patience_at, rwlock_next}
 use Rattle.steps_rwlock_fair.specs.declared.places.RwLockCallPlace.{RwLockCallPlace}
 use Rattle.steps_rwlock_fair.specs.declared.places.RwLockCallPlace.TheVariants.{Plain, Glance, HandOver, Bump, Handed}
 use Rattle.steps_rwlock_fair.specs.declared.handed.HandedAt.{HandedAt}
@@ -56,7 +56,7 @@ use Rattle.steps_condvar.specs.declared.places.CondvarPlace.{CondvarPlace}
 use Rattle.steps_condvar.specs.CondvarSteps.{condvar_next}
 use Rattle.lot_steps.specs.Steps.{act_of, condvar_goes, mutex_goes, next_place, once_goes, rwlock_goes}
 use Rattle.lot_machine.proofs.Acted.{Befalls, tells}
-use Rattle.lot_world.specs.Waits.{NothingBefallsWaiting, SleepersWait, WaitersGoOnWaiting, WaitersOnlyWait, waits, waits_aside, waits_entering, waits_for, waits_rwlock, waits_upgrading}
+use Rattle.lot_world.specs.Waits.{NothingBefallsWaiting, SleepersWait, WaitersGoOnWaiting, WaitersOnlyWait, waits_or_idle, waits_aside, waits_entering, waits_for, waits_rwlock, waits_upgrading}
 
 -- whichever of two it is
 either_is : {A : Type 0} (P : A → Type 0) (b : Bool) (x y : A) → P x → P y → P (if b then x else y)
@@ -133,7 +133,7 @@ module _ (a : Admission) (q : RwLockPurpose) (b : Bool) (was : RwLockAt)
   looked_waits : (seen : ℕ) → NextWaits (looked a p seen)
   looked_waits seen = looked_waits_by seen (decided a p seen)
 
-  counted_waits : (seen : ℕ) → NextWaits (counted p seen)
+  counted_waits : (seen : ℕ) → NextWaits (after_count p seen)
   counted_waits seen = either_is NextWaits (count_in seen == 0) _ _ tt (waiting (at.Count seen) refl)
 
   missed_waits : (how : Patience) → NextWaits (missed p how)
@@ -244,7 +244,7 @@ abbrev CallWaits : Next RwLockCallPlace → Type 0
 CallWaits (At c) = waits_rwlock c ≡ true
 CallWaits (End answer) = Unit {0}
 
-goes_waits : (l : ℕ) (a : Admission) (n : Next RwLockCallPlace) → CallWaits n → waits (rwlock_goes l a n) ≡ true
+goes_waits : (l : ℕ) (a : Admission) (n : Next RwLockCallPlace) → CallWaits n → waits_or_idle (rwlock_goes l a n) ≡ true
 goes_waits l a (At c) h = h
 goes_waits l a (End answer) h = refl
 
@@ -299,23 +299,23 @@ bump_waits (purpose.Release access.Upgradable) (End answer) h = refl
 bump_waits (purpose.Release access.Exclusive) (End answer) h = refl
 bump_waits q (End answer) h = tt
 
-mutex_waits : (l : ℕ) (e : Entry) (retries : Bool) (n : Next LockAt) → waits (mutex_goes l (steps.in_lock e retries n)) ≡ true
+mutex_waits : (l : ℕ) (e : Entry) (retries : Bool) (n : Next LockAt) → waits_or_idle (mutex_goes l (steps.in_lock e retries n)) ≡ true
 mutex_waits l e retries (At to) = refl
 mutex_waits l e retries (End answer) = refl
 
-try_waits : (l : ℕ) (r : Reply) → waits (mutex_goes l (steps.try_next r)) ≡ true
-try_waits l (Value seen) = either_is (λ (n : Next MutexPlace). waits (mutex_goes l n) ≡ true) (steps.is_locked seen) _ _ refl refl
+try_waits : (l : ℕ) (r : Reply) → waits_or_idle (mutex_goes l (steps.try_next r)) ≡ true
+try_waits l (Value seen) = either_is (λ (n : Next MutexPlace). waits_or_idle (mutex_goes l n) ≡ true) (steps.is_locked seen) _ _ refl refl
 try_waits l r = refl
 
-once_waits : (l : ℕ) (n : Next OncePlace) → waits (once_goes l n) ≡ true
+once_waits : (l : ℕ) (n : Next OncePlace) → waits_or_idle (once_goes l n) ≡ true
 once_waits l (At to) = refl
 once_waits l (End answer) = refl
 
-semaphore_waits : (l : ℕ) (n : Next SemaphorePlace) → waits (semaphore_goes l n) ≡ true
+semaphore_waits : (l : ℕ) (n : Next SemaphorePlace) → waits_or_idle (semaphore_goes l n) ≡ true
 semaphore_waits l (At to) = refl
 semaphore_waits l (End answer) = refl
 
-condvar_waits : (l : ℕ) (n : Next CondvarPlace) → waits (condvar_goes l n) ≡ true
+condvar_waits : (l : ℕ) (n : Next CondvarPlace) → waits_or_idle (condvar_goes l n) ≡ true
 condvar_waits l (At to) = refl
 condvar_waits l (End answer) = refl
 
@@ -565,7 +565,7 @@ abbrev CallBusy : Next RwLockCallPlace → Type 0
 CallBusy (At c) = waits_rwlock c ≡ false
 CallBusy (End answer) = ⊥
 
-goes_busy : (l : ℕ) (a : Admission) (n : Next RwLockCallPlace) → CallBusy n → waits (rwlock_goes l a n) ≡ false
+goes_busy : (l : ℕ) (a : Admission) (n : Next RwLockCallPlace) → CallBusy n → waits_or_idle (rwlock_goes l a n) ≡ false
 goes_busy l a (At c) h = h
 goes_busy l a (End answer) h = absurd h
 
@@ -606,7 +606,7 @@ call_busy a (Glance x) r w h = glance_busy a x r h
 call_busy a (HandOver x b to) r w h = hand_over_busy a x b to r h
 call_busy a (Handed x how b to) r w h = absurd cc
 
-unlock_busy : (l : ℕ) (to : UnlockAt) (r : Reply) → Befalls r → waits (mutex_goes l (steps.in_unlock (steps.next_unlock to r))) ≡ false
+unlock_busy : (l : ℕ) (to : UnlockAt) (r : Reply) → Befalls r → waits_or_idle (mutex_goes l (steps.in_unlock (steps.next_unlock to r))) ≡ false
 unlock_busy l unlock.Subtract (Value seen) h = absurd h
 unlock_busy l unlock.Subtract r h = refl
 unlock_busy l unlock.Enter Done h = absurd h
@@ -619,7 +619,7 @@ unlock_busy l (unlock.Leave any) Done h = absurd h
 unlock_busy l (unlock.Leave any) r h = refl
 
 hand_off_busy : (l : ℕ) (bumps : Bool) (to : HandOffAt) (r : Reply) → Befalls r
-    → waits (mutex_goes l (steps.in_hand_off bumps (steps.next_hand_off to r))) ≡ false
+    → waits_or_idle (mutex_goes l (steps.in_hand_off bumps (steps.next_hand_off to r))) ≡ false
 hand_off_busy l bumps hand_off.Enter Done h = absurd h
 hand_off_busy l bumps hand_off.Enter r h = refl
 hand_off_busy l bumps hand_off.Take (Took any none_left) h = absurd h
@@ -645,7 +645,7 @@ nothing_befalls_waiting (Mutex l mutex.Bump) r h = refl
 nothing_befalls_waiting (Mutex l (mutex.HandOff bumps to)) r h = hand_off_busy l bumps to r h
 nothing_befalls_waiting (RwLock l a c) r h = either (waits_rwlock c) refl
   where
-    either : (b : Bool) → waits_rwlock c ≡ b → waits (next_place (RwLock l a c) r) ≡ waits_rwlock c
+    either : (b : Bool) → waits_rwlock c ≡ b → waits_or_idle (next_place (RwLock l a c) r) ≡ waits_rwlock c
     either true e = waiters_go_on_waiting (RwLock l a c) r (never_late r h) e ∙ sym e
     either false e = goes_busy l a (call_next a c r) (call_busy a c r e h) ∙ sym e
 nothing_befalls_waiting (Once l to) r h = once_waits l (once_next to r)

@@ -5,7 +5,7 @@ use Rattle.spec_locks.specs.Locks.{Rights, with_right}
 use Rattle.spec_locks.specs.Runs.{no_rights}
 use Rattle.spec_locks.specs.Sites.{Claim, Has, Pends, Runs, Ran}
 use Rattle.lot_steps.specs.declared.places.Place.{Place}
-use Rattle.lot_steps.specs.Steps.{lock_of, profile}
+use Rattle.lot_steps.specs.Steps.{called_lock, profile}
 use Rattle.lot_world.specs.Few.{HadNone, IsFew, PendsInCall}
 use Rattle.lot_world.specs.Owned.{ReleasesOne}
 use Rattle.lot_world.specs.Sleepers.{BeganWithFew}
@@ -22,7 +22,7 @@ IsJust (Some Ran) r = Unit {0}
 -- so its call began with what it needs and no more
 abbrev pub PlacesBegan : Type 0
 PlacesBegan =
-    (p : Place) (rights : ℕ → Rights) → MayStandAt p → lock_of p ≡ Some 0 → IsFew (rights 0)
+    (p : Place) (rights : ℕ → Rights) → MayStandAt p → called_lock p ≡ Some 0 → IsFew (rights 0)
     → IsJust (profile p).role.claims (rights 0)
     → HadNone ((profile p).purpose 0) (profile p).released ((profile p).former 0 rights 0)
     → PendsInCall (Some ((profile p).purpose 0)) (rights 0)

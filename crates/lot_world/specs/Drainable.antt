@@ -123,12 +123,12 @@ may_pend (place.Condvar l at) = true
 may_pend (place.Semaphore l at) = true
 
 -- how many rights that is
-abbrev pub gained : Gain → Rights → ℕ
-gained Nothing r = 0
-gained Pending r = r.pending
-gained (Right access.Exclusive) r = r.exclusive
-gained (Right access.Upgradable) r = r.upgradable
-gained (Right access.Shared) r = r.shared
+abbrev pub rights_gained : Gain → Rights → ℕ
+rights_gained Nothing r = 0
+rights_gained Pending r = r.pending
+rights_gained (Right access.Exclusive) r = r.exclusive
+rights_gained (Right access.Upgradable) r = r.upgradable
+rights_gained (Right access.Shared) r = r.shared
 
 -- ---------------------------------------------------------------- the test
 
@@ -136,8 +136,8 @@ abbrev pub one_if : Bool → ℕ
 one_if true = 1
 one_if false = 0
 
-abbrev pub counted : HeldRights → Rights
-counted h = record {
+abbrev pub rights_held : HeldRights → Rights
+rights_held h = record {
   exclusive = one_if h.exclusive;
   pending = one_if h.pending;
   upgradable = one_if h.upgradable;
@@ -147,7 +147,7 @@ counted h = record {
 -- a thread has what its call has got, and nothing else
 abbrev pub has_only : Option Gain → Rights → Bool
 has_only None r = true
-has_only (Some gain) r = number r == gained gain r
+has_only (Some gain) r = number r == rights_gained gain r
 
 abbrev pub holds_few : Place → Rights → Bool
 holds_few p r =

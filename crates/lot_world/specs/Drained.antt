@@ -1,7 +1,7 @@
 -- The end of a drain, told of one lock and of each thread's part in it: no word, no place and no
 -- loop.
 use Rattle.std.specs.Prelude.{ℕ, true, false, Some, None, ◌≡◌, ◌≢◌, ◌≤◌, ◌<◌, ◌+◌, [], length, slice_index}
-use Rattle.spec_locks.specs.Locks.{LockState, Rules, Sort, Mutex, Normal, Recursive, Semaphore, Once, Condvar, is_thread, readers}
+use Rattle.spec_locks.specs.Locks.{LockState, Rules, Sort, Mutex, Normal, Recursive, Semaphore, Once, Condvar, one_if_thread, readers}
 use Rattle.spec_locks.specs.Sites.{Role, Site, IsSite, is_full, after_deed, Needed, Deed}
 
 -- a thread that is in no call, or sleeps: it is to wake nobody, has nobody in hand, and wasn't woken
@@ -56,12 +56,12 @@ EachDeedKeepsNow =
 -- ---------------------------------------------------------------- waiters left out of a full lock
 
 -- how many rights that count a thread has
-abbrev pub counted : LockState → ℕ → ℕ
-counted s t = slice_index s.shared t + is_thread t s.upgradable
+abbrev pub counting_rights : LockState → ℕ → ℕ
+counting_rights s t = slice_index s.shared t + one_if_thread t s.upgradable
 
 -- each thread has one that counts at most, and only threads that are there have any
 pub record OneEach (s : LockState) : Type 0 where
-  pub one : (t : ℕ) → counted s t ≤ 1
+  pub one : (t : ℕ) → counting_rights s t ≤ 1
   pub there : (u : ℕ) → s.upgradable ≡ Some u → u < length s.shared
 
 -- where a lock may be shared by as many as there are, none of them is left out of a full one
@@ -69,4 +69,4 @@ abbrev pub NobodyIsLeftOut : Type 0
 NobodyIsLeftOut =
     (r : Rules) (s : LockState) (t : ℕ) → length s.shared ≤ r.limit → OneEach s
     → is_full r s ≡ true → t < length s.shared
-    → counted s t ≡ 1
+    → counting_rights s t ≡ 1

@@ -9,7 +9,7 @@ use Rattle.lot_machine.specs.Machine.{State, after, after_steps, filled_at, step
 use Rattle.lot_laws.specs.Refinement.{call_at, lock_state}
 pub use Rattle.lot_world.specs.Drained.{Drains}
 pub use Rattle.lot_world.specs.Few.{HadNone, HasNoneBefore, InACall, IsFew, PendsInCall, number}
-pub use Rattle.lot_world.specs.Quiet.{HasOneLock, IsOver}
+pub use Rattle.lot_world.specs.Quiet.{HasOneLock, IsAllOver}
 
 -- One mutex or reader-writer lock, whose readers were never as many as its limit. Each thread has
 -- one right at most, and none where its call is to get one.
@@ -26,7 +26,7 @@ pub record IsDrainable (w : State) : Type 0 where
 
 -- nobody is in a call or queued, no owner is left, and the word is 0
 pub record IsDrained (w : State) : Type 0 where
-  pub over : IsOver w
+  pub over : IsAllOver w
   pub word : word_at w 0 ≡ 0
 
 -- each of the steps is possible where the steps before it have led

@@ -10,16 +10,16 @@ state_where_inside None w go = w
 state_where_inside (Some t) w go = go t
 
 -- steps of whoever is inside the section of the second queue, while somebody is
-abbrev pub out_of_second : ℕ → State → State
-out_of_second zero w = w
-out_of_second (suc n) w = state_where_inside (section_at w 1) w (λ t. out_of_second n (after w (go_of t)))
+abbrev pub state_out_of_second : ℕ → State → State
+state_out_of_second zero w = w
+state_out_of_second (suc n) w = state_where_inside (section_at w 1) w (λ t. state_out_of_second n (after w (go_of t)))
 
 -- then whoever is inside the other one goes on alone until it rests
 abbrev pub state_out_of_main : State → State
 state_out_of_main w = state_where_inside (section_at w 0) w (after_alone w)
 
 abbrev pub entry : State → State
-entry w = state_out_of_main (out_of_second 3 w)
+entry w = state_out_of_main (state_out_of_second 3 w)
 
 -- nobody is inside then
 abbrev pub EntryLeaves : Type 0

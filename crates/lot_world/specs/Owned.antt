@@ -6,7 +6,7 @@ use Rattle.spec_locks.specs.Locks.{Rights, with_right}
 use Rattle.spec_locks.specs.Purposes.{Releases}
 use Rattle.spec_locks.specs.Runs.{no_rights}
 use Rattle.lot_steps.specs.declared.places.Place.{Place}
-use Rattle.lot_steps.specs.Steps.{lock_of, profile}
+use Rattle.lot_steps.specs.Steps.{called_lock, profile}
 use Rattle.lot_world.specs.Few.{IsFew}
 use Rattle.lot_world.specs.Sleepers.{BeganWithFew}
 use Rattle.lot_world.specs.Waits.{MayStandAt}
@@ -19,13 +19,13 @@ ReleasesOne p rights =
 
 abbrev pub PlacesOwnFew : Type 0
 PlacesOwnFew =
-    (p : Place) (rights : ℕ → Rights) → MayStandAt p → lock_of p ≡ Some 0 → BeganWithFew 0 p rights
+    (p : Place) (rights : ℕ → Rights) → MayStandAt p → called_lock p ≡ Some 0 → BeganWithFew 0 p rights
     → ReleasesOne p rights
     → IsFew (rights 0)
 
 -- a thread in the main line owns nothing, asleep or not
 abbrev pub QueuedOwnNothing : Type 0
 QueuedOwnNothing =
-    (p : Place) (rights : ℕ → Rights) → MayStandAt p → lock_of p ≡ Some 0
+    (p : Place) (rights : ℕ → Rights) → MayStandAt p → called_lock p ≡ Some 0
     → (profile p).stands ≡ Some Main → BeganWithFew 0 p rights
     → rights 0 ≡ no_rights

@@ -35,11 +35,11 @@ pub record IsQuiet (w : State) : Type 0 where
   pub idle : (t : ℕ) → place_at w t ≡ Idle → rights_of (lock_state w 0) t ≡ no_rights
 
 -- nobody is in a call or queued, and no owner is left
-pub record IsOver (w : State) : Type 0 where
+pub record IsAllOver (w : State) : Type 0 where
   pub idle : (t : ℕ) → place_at w t ≡ Idle
   pub queues : (m : Line) → queue_at w (key_of 0 m) ≡ []
   pub owners : (t : ℕ) → rights_of (lock_state w 0) t ≡ no_rights
 
 -- then it is over
 abbrev pub QuietIsOver : Type 0
-QuietIsOver = (w : State) → IsDraining w → IsQuiet w → IsOver w
+QuietIsOver = (w : State) → IsDraining w → IsQuiet w → IsAllOver w

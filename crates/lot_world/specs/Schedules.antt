@@ -36,14 +36,14 @@ alone_by outcome.Step d next more = more
 alone_by rests d next more = next
 
 -- at most n steps of a thread alone, until it rests or none is possible
-unfoldable pub alone : ℕ → Progress → ℕ → Progress
-alone zero d t = d
-alone (suc n) d t = alone_by (step_outcome d.state (go_of t)) d (one_more d (go_of t))
-    (alone n (one_more d (go_of t)) t)
+unfoldable pub run_alone : ℕ → Progress → ℕ → Progress
+run_alone zero d t = d
+run_alone (suc n) d t = alone_by (step_outcome d.state (go_of t)) d (one_more d (go_of t))
+    (run_alone n (one_more d (go_of t)) t)
 
 -- a thread goes on until it rests
 abbrev pub go_alone : Progress → ℕ → Progress
-go_alone d t = alone 64 d t
+go_alone d t = run_alone 64 d t
 
 -- a thread begins a call, and goes on until it rests
 abbrev pub call_alone : Progress → ℕ → Call → Progress
@@ -117,8 +117,8 @@ most_turns threads = 2 * ((threads + 1) * (threads + 1))
 
 -- ---------------------------------------------------------------- the word
 
-abbrev pub entry_of : Kind → Call
-entry_of kind =
+abbrev pub entry_call : Kind → Call
+entry_call kind =
     if is_rwlock kind
     then call.RwLock 0 (rwlock_call.Enter access.Exclusive patience.Patient)
     else call.Mutex 0 mutex_call.Lock
@@ -131,7 +131,7 @@ fair_release_of kind =
 -- where a bit is left in the word of a lock that nobody owns, the first thread takes the lock and
 -- hands it to nobody
 abbrev pub passed_through : Progress → Kind → Progress
-passed_through d kind = call_alone (call_alone d 0 (entry_of kind)) 0 (fair_release_of kind)
+passed_through d kind = call_alone (call_alone d 0 (entry_call kind)) 0 (fair_release_of kind)
 
 abbrev pub clear : Progress → Progress
 clear d = if word_at d.state 0 == 0 then d else passed_through d (kind_at d.state 0)

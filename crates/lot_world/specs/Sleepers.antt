@@ -6,7 +6,7 @@ use Rattle.spec_locks.specs.Locks.{Rights}
 use Rattle.spec_locks.specs.Runs.{no_rights}
 use Rattle.steps_base.specs.Profiles.{Profile, hand}
 use Rattle.lot_steps.specs.declared.places.Place.{Place}
-use Rattle.lot_steps.specs.Steps.{act_of, lock_of, profile}
+use Rattle.lot_steps.specs.Steps.{act_of, called_lock, profile}
 use Rattle.lot_world.specs.Drained.{IsResting}
 use Rattle.lot_world.specs.Few.{HasFew}
 use Rattle.lot_world.specs.Waits.{MayStandAt}
@@ -25,7 +25,7 @@ BeganWithFew l p rights =
 -- a thread in the main line owns nothing
 abbrev pub SleepersOwnNothing : Type 0
 SleepersOwnNothing =
-    (l : ℕ) (p : Place) (rights : ℕ → Rights) → MayStandAt p → lock_of p ≡ Some l
+    (l : ℕ) (p : Place) (rights : ℕ → Rights) → MayStandAt p → called_lock p ≡ Some l
     → (profile p).stands ≡ Some Main → act_of p ≡ act.Sleep → BeganWithFew l p rights
     → rights l ≡ no_rights
 
@@ -35,7 +35,7 @@ without_pending r = record r { pending = 0 }
 
 abbrev pub PendingOwnNothing : Type 0
 PendingOwnNothing =
-    (l : ℕ) (p : Place) (rights : ℕ → Rights) → MayStandAt p → lock_of p ≡ Some l
+    (l : ℕ) (p : Place) (rights : ℕ → Rights) → MayStandAt p → called_lock p ≡ Some l
     → (profile p).stands ≡ Some Second → act_of p ≡ act.Sleep → BeganWithFew l p rights
     → without_pending (rights l) ≡ no_rights
 

@@ -15,13 +15,13 @@ use Rattle.lot_laws.specs.Refinement.{lock_state, locks_of, sleeps}
 use Rattle.lot_laws.specs.SitesOf.{IsWorld}
 use Rattle.lot_world.specs.Few.{AllHaveFew, number}
 use Rattle.lot_world.specs.Potential.{GoesAlone, one_if}
-use Rattle.lot_world.specs.Waits.{waits}
+use Rattle.lot_world.specs.Waits.{waits_or_idle}
 use Rattle.lot_world.specs.Quiet.{HasOneLock}
 
 -- a thread between its calls has its right to give up, one that only waits may get one, and any
 -- other call may wake others first
 abbrev pub weight_of : Place → Rights → ℕ
-weight_of p r = if is_idle p then one_if (not (number r == 0)) else if waits p then 1 else 2
+weight_of p r = if is_idle p then one_if (not (number r == 0)) else if waits_or_idle p then 1 else 2
 
 abbrev pub weight : State → ℕ → ℕ
 weight w t = weight_of (place_at w t) (rights_of (lock_state w 0) t)

@@ -81,13 +81,13 @@ waits_rwlock (Handed x how bumps to) = true
 
 -- a thread in no call counts too: a call that ends is over; and calls of other sorts of lock do, of
 -- which nothing is said
-abbrev pub waits : Place → Bool
-waits Idle = true
-waits (Mutex l at) = waits_mutex at
-waits (RwLock l a c) = waits_rwlock c
-waits (Once l at) = true
-waits (Semaphore l at) = true
-waits (Condvar l at) = true
+abbrev pub waits_or_idle : Place → Bool
+waits_or_idle Idle = true
+waits_or_idle (Mutex l at) = waits_mutex at
+waits_or_idle (RwLock l a c) = waits_rwlock c
+waits_or_idle (Once l at) = true
+waits_or_idle (Semaphore l at) = true
+waits_or_idle (Condvar l at) = true
 
 -- a place of a lock that has owners, where a call may stand
 abbrev pub MayStandAt : Place → Type 0
@@ -101,14 +101,14 @@ MayStandAt (Condvar l at) = ⊥
 -- a call that only waits tells nobody anything, and goes on to wait; whatever befalls a thread
 -- changes nothing of that; and a thread that sleeps only waits
 abbrev pub WaitersOnlyWait : Type 0
-WaitersOnlyWait = (p : Place) → MayStandAt p → waits p ≡ true → tells (act_of p) ≡ false
+WaitersOnlyWait = (p : Place) → MayStandAt p → waits_or_idle p ≡ true → tells (act_of p) ≡ false
 
 abbrev pub WaitersGoOnWaiting : Type 0
 WaitersGoOnWaiting =
-    (p : Place) (r : Reply) → IsNotLate r → waits p ≡ true → waits (next_place p r) ≡ true
+    (p : Place) (r : Reply) → IsNotLate r → waits_or_idle p ≡ true → waits_or_idle (next_place p r) ≡ true
 
 abbrev pub NothingBefallsWaiting : Type 0
-NothingBefallsWaiting = (p : Place) (r : Reply) → Befalls r → waits (next_place p r) ≡ waits p
+NothingBefallsWaiting = (p : Place) (r : Reply) → Befalls r → waits_or_idle (next_place p r) ≡ waits_or_idle p
 
 abbrev pub SleepersWait : Type 0
-SleepersWait = (p : Place) → MayStandAt p → act_of p ≡ act.Sleep → waits p ≡ true
+SleepersWait = (p : Place) → MayStandAt p → act_of p ≡ act.Sleep → waits_or_idle p ≡ true

@@ -3,7 +3,7 @@ ghost use Rattle.std.specs.Prelude.{◌≡◌, ◌<◌, ◌≤◌, length};
 ghost use Rattle.lot_laws.specs.Refinement.{lock_state};
 ghost use Rattle.spec_locks.specs.Locks.{rights_of};
 ghost use Rattle.lot_world.specs.Drains.{number};
-ghost use Rattle.lot_world.specs.Drainable.{is_drainable, has_owners, is_below, are_below, all_hold_few, holds_few, one_if, counted, gained};
+ghost use Rattle.lot_world.specs.Drainable.{is_drainable, has_owners, is_below, are_below, all_hold_few, holds_few, one_if, rights_held, rights_gained};
 
 use crate::gains::{Gain, gain_of, may_pend};
 use core_base::Queues;
@@ -80,7 +80,7 @@ fn all_hold_few<Q: Queues + Drop>(machine: &Machine<Q>) -> bool
 /// Which rights a thread has.
 fn held<Q: Queues + Drop>(machine: &Machine<Q>, thread: usize) -> HeldRights
     requires { 0 < length machine.now.locks }
-    ensures { counted result ≡ rights_of (lock_state machine.now 0) thread }
+    ensures { rights_held result ≡ rights_of (lock_state machine.now 0) thread }
 {
     let owners = machine.sole_owners(LOCK);
     let pending = owners.pending.map(|pending| pending.thread);
@@ -95,7 +95,7 @@ fn held<Q: Queues + Drop>(machine: &Machine<Q>, thread: usize) -> HeldRights
 /// Whether a thread at this place has one right at most, and none where its call is to get one. It
 /// is pending only where its call may be.
 fn holds_few(place: Place, held: HeldRights) -> bool
-    ensures { result ≡ holds_few place (counted held) }
+    ensures { result ≡ holds_few place (rights_held held) }
 {
     if held.shared > 1 || number(held) > 1 {
         return false;
@@ -112,14 +112,14 @@ fn holds_few(place: Place, held: HeldRights) -> bool
 /// How many rights these are.
 fn number(held: HeldRights) -> usize
     requires { held.shared ≤ 1 }
-    ensures { result ≡ number (counted held) }
+    ensures { result ≡ number (rights_held held) }
 {
     one_if(held.exclusive) + one_if(held.pending) + one_if(held.upgradable) + held.shared
 }
 
 /// How many of them are what a call has got.
 fn gained(gain: Gain, held: HeldRights) -> usize
-    ensures { result ≡ gained gain (counted held) }
+    ensures { result ≡ rights_gained gain (rights_held held) }
 {
     match gain {
         Gain::Nothing => 0,

@@ -2,7 +2,7 @@
 ghost use Rattle.std.specs.Prelude.{◌≡◌, ◌<◌, ◌^◌, IfOk, IfErr, length};
 ghost use Rattle.lot_machine.specs.Machine.{go_of, kind_at, step_outcome};
 ghost use Rattle.lot_machine.specs.Fits.{IsWellFormed};
-ghost use Rattle.lot_world.specs.Schedules.{one_more, alone_by, begin_of, go_alone, call_alone, out_of_second, out_of_main, is_up, first_up, releases, first_begin, first_release, next_turn, turn_taken, turns, most_turns, entry_of, fair_release_of, clear, schedule_of};
+ghost use Rattle.lot_world.specs.Schedules.{one_more, alone_by, begin_of, go_alone, call_alone, out_of_second, out_of_main, is_up, first_up, releases, first_begin, first_release, next_turn, turn_taken, turns, most_turns, entry_call, fair_release_of, clear, schedule_of};
 
 use core_base::{Fault, Queues, main_key, second_key};
 use lot_machine::Machine;
@@ -302,7 +302,7 @@ fn most_turns(threads: usize) -> u128
 
 /// The call that takes a lock of this kind for one thread alone.
 fn entry_of(kind: Kind) -> Call
-    ensures { result ≡ entry_of kind }
+    ensures { result ≡ entry_call kind }
 {
     match kind {
         Kind::RwLock { .. } | Kind::Recursive { .. } => Call::RwLock {

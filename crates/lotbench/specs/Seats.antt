@@ -5,5 +5,5 @@ use Rattle.atomic_table.specs.declared.shared.Seat.{Seat}
 use Rattle.lotbench.specs.declared.least.LeastLock.{LeastLock}
 
 -- a seat of the lock's table
-abbrev pub IsSeatOf : LeastLock → Seat (Unit {0}) (Unit {0}) → Type 0
-IsSeatOf lock seat = seat.table_id ≡ (arc_value lock.words).shared.table_id
+abbrev pub IsSeatOfLeast : LeastLock → Seat (Unit {0}) (Unit {0}) → Type 0
+IsSeatOfLeast lock seat = seat.table_id ≡ (arc_value lock.words).shared.table_id

@@ -48,11 +48,11 @@ pub(crate) struct LeastLock {
 }
 
 impl LeastLock {
-    ghost use Rattle.lotbench.specs.Seats.{IsSeatOf};
+    ghost use Rattle.lotbench.specs.Seats.{IsSeatOfLeast};
 
     /// A lock over the first word of a new table, and who steps on it.
     pub(crate) fn new(alloc: Global) -> Result<(LeastLock, Seat<(), ()>), AllocError>
-        ensures { IfOk result (λ made. IsSeatOf made.0 made.1) }
+        ensures { IfOk result (λ made. IsSeatOfLeast made.0 made.1) }
     {
         let (words, seat) = Table::of_words(alloc, &[0, 0], &())?;
         let Ok(words) = Arc::new(alloc, words) else {
@@ -63,8 +63,8 @@ impl LeastLock {
 
     #[inline]
     pub(crate) fn load(&self, seat: &mut Seat<(), ()>) -> u64
-        requires { IsSeatOf self.now seat.old }
-        ensures { IsSeatOf self.now seat.new }
+        requires { IsSeatOfLeast self.now seat.old }
+        ensures { IsSeatOfLeast self.now seat.new }
     {
         self.words.shared.load::<AnyStep>(seat, self.at)
     }
@@ -72,8 +72,8 @@ impl LeastLock {
     // Whether the word was 0, and is 1 now.
     #[inline]
     pub(crate) fn take(&self, seat: &mut Seat<(), ()>) -> bool
-        requires { IsSeatOf self.now seat.old }
-        ensures { IsSeatOf self.now seat.new }
+        requires { IsSeatOfLeast self.now seat.old }
+        ensures { IsSeatOfLeast self.now seat.new }
     {
         self.words
             .shared
@@ -84,8 +84,8 @@ impl LeastLock {
     // Whether the word was 1, and is 0 now.
     #[inline]
     pub(crate) fn give(&self, seat: &mut Seat<(), ()>) -> bool
-        requires { IsSeatOf self.now seat.old }
-        ensures { IsSeatOf self.now seat.new }
+        requires { IsSeatOfLeast self.now seat.old }
+        ensures { IsSeatOfLeast self.now seat.new }
     {
         self.words.shared.fetch_sub::<AnyStep>(seat, self.at, 1) == 1
     }
@@ -93,8 +93,8 @@ impl LeastLock {
     // Splits off the part that an owner has apart from its thread.
     #[inline]
     pub(crate) fn split(&self, seat: &mut Seat<(), ()>) -> Seat<(), ()>
-        requires { IsSeatOf self.now seat.old }
-        ensures { IsSeatOf self.now seat.new × IsSeatOf self.now result × (result.me.1 ≡ []) }
+        requires { IsSeatOfLeast self.now seat.old }
+        ensures { IsSeatOfLeast self.now seat.new × IsSeatOfLeast self.now result × (result.me.1 ≡ []) }
     {
         self.words.shared.split_seat::<Same>(seat)
     }
@@ -103,9 +103,9 @@ impl LeastLock {
     // The table is found once.
     #[inline]
     pub(crate) fn enter(&self, seat: &mut Seat<(), ()>) -> Option<Seat<(), ()>>
-        requires { IsSeatOf self.now seat.old }
-        ensures seat { IsSeatOf self.now seat.new }
-        ensures owner { IfSome result (λ owner. IsSeatOf self.now owner × (owner.me.1 ≡ [])) }
+        requires { IsSeatOfLeast self.now seat.old }
+        ensures seat { IsSeatOfLeast self.now seat.new }
+        ensures owner { IfSome result (λ owner. IsSeatOfLeast self.now owner × (owner.me.1 ≡ [])) }
     {
         let words: &Words = &self.words;
         if words
@@ -121,8 +121,8 @@ impl LeastLock {
     // Gives it up, and joins that. Whether the word was 1.
     #[inline]
     pub(crate) fn leave(&self, seat: &mut Seat<(), ()>, owner: Seat<(), ()>) -> bool
-        requires { IsSeatOf self.now seat.old × IsSeatOf self.now owner × (owner.me.1 ≡ []) }
-        ensures { IsSeatOf self.now seat.new }
+        requires { IsSeatOfLeast self.now seat.old × IsSeatOfLeast self.now owner × (owner.me.1 ≡ []) }
+        ensures { IsSeatOfLeast self.now seat.new }
     {
         let words: &Words = &self.words;
         let last = words.shared.fetch_sub::<AnyStep>(seat, self.at, 1);

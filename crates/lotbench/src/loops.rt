@@ -1,6 +1,6 @@
 //! The loops over a lock, each a function of its own, which is inlined nowhere.
 ghost use Rattle.std.specs.Prelude.{◌≡◌, []};
-ghost use Rattle.lotbench.specs.Seats.{IsSeatOf};
+ghost use Rattle.lotbench.specs.Seats.{IsSeatOfLeast};
 
 use crate::least::LeastLock;
 use atomic_table::Seat;
@@ -22,8 +22,8 @@ fn wait<R: Wait>(rt: &R, lock: &LeastLock) {
 // As a `Once` is called that is done. It may wait, as each of these may.
 #[inline]
 fn look<R: Wait>(rt: &R, lock: &LeastLock, seat: &mut Seat<(), ()>)
-    requires { IsSeatOf lock.now seat.old }
-    ensures { IsSeatOf lock.now seat.new }
+    requires { IsSeatOfLeast lock.now seat.old }
+    ensures { IsSeatOfLeast lock.now seat.new }
 {
     if lock.load(seat) != 0 {
         wait(rt, lock);
@@ -33,8 +33,8 @@ fn look<R: Wait>(rt: &R, lock: &LeastLock, seat: &mut Seat<(), ()>)
 // As a lock is taken.
 #[inline]
 fn take<R: Wait>(rt: &R, lock: &LeastLock, seat: &mut Seat<(), ()>)
-    requires { IsSeatOf lock.now seat.old }
-    ensures { IsSeatOf lock.now seat.new }
+    requires { IsSeatOfLeast lock.now seat.old }
+    ensures { IsSeatOfLeast lock.now seat.new }
 {
     if !lock.take(seat) {
         wait(rt, lock);
@@ -44,8 +44,8 @@ fn take<R: Wait>(rt: &R, lock: &LeastLock, seat: &mut Seat<(), ()>)
 // And given up.
 #[inline]
 fn give<R: Wait>(rt: &R, lock: &LeastLock, seat: &mut Seat<(), ()>)
-    requires { IsSeatOf lock.now seat.old }
-    ensures { IsSeatOf lock.now seat.new }
+    requires { IsSeatOfLeast lock.now seat.old }
+    ensures { IsSeatOfLeast lock.now seat.new }
 {
     if !lock.give(seat) {
         wait(rt, lock);
@@ -55,8 +55,8 @@ fn give<R: Wait>(rt: &R, lock: &LeastLock, seat: &mut Seat<(), ()>)
 #[cold]
 #[inline(never)]
 fn enter_behind<R: Wait>(rt: &R, lock: &LeastLock, seat: &mut Seat<(), ()>) -> Seat<(), ()>
-    requires { IsSeatOf lock.now seat.old }
-    ensures { IsSeatOf lock.now seat.new × IsSeatOf lock.now result × (result.me.1 ≡ []) }
+    requires { IsSeatOfLeast lock.now seat.old }
+    ensures { IsSeatOfLeast lock.now seat.new × IsSeatOfLeast lock.now result × (result.me.1 ≡ []) }
 {
     wait(rt, lock);
     lock.split(seat)
@@ -65,8 +65,8 @@ fn enter_behind<R: Wait>(rt: &R, lock: &LeastLock, seat: &mut Seat<(), ()>) -> S
 // As a lock is taken by who owns it apart from its thread.
 #[inline]
 fn enter<R: Wait>(rt: &R, lock: &LeastLock, seat: &mut Seat<(), ()>) -> Seat<(), ()>
-    requires { IsSeatOf lock.now seat.old }
-    ensures { IsSeatOf lock.now seat.new × IsSeatOf lock.now result × (result.me.1 ≡ []) }
+    requires { IsSeatOfLeast lock.now seat.old }
+    ensures { IsSeatOfLeast lock.now seat.new × IsSeatOfLeast lock.now result × (result.me.1 ≡ []) }
 {
     match lock.enter(seat) {
         Some(owner) => owner,
@@ -77,8 +77,8 @@ fn enter<R: Wait>(rt: &R, lock: &LeastLock, seat: &mut Seat<(), ()>) -> Seat<(),
 // And given up.
 #[inline]
 fn leave<R: Wait>(rt: &R, lock: &LeastLock, seat: &mut Seat<(), ()>, owner: Seat<(), ()>)
-    requires { IsSeatOf lock.now seat.old × IsSeatOf lock.now owner × (owner.me.1 ≡ []) }
-    ensures { IsSeatOf lock.now seat.new }
+    requires { IsSeatOfLeast lock.now seat.old × IsSeatOfLeast lock.now owner × (owner.me.1 ≡ []) }
+    ensures { IsSeatOfLeast lock.now seat.new }
 {
     if !lock.leave(seat, owner) {
         wait(rt, lock);
@@ -110,7 +110,7 @@ impl Told {
 /// Looks at the word.
 #[inline(never)]
 pub(crate) fn look_often<R: Wait>(rt: &R, lock: &LeastLock, seat: &mut Seat<(), ()>, times: u64)
-    requires { IsSeatOf lock.now seat.old }
+    requires { IsSeatOfLeast lock.now seat.old }
 {
     for _ in 0..times {
         look(rt, lock, seat);
@@ -120,7 +120,7 @@ pub(crate) fn look_often<R: Wait>(rt: &R, lock: &LeastLock, seat: &mut Seat<(), 
 /// Takes the lock and gives it up, with nothing that says who owns it.
 #[inline(never)]
 pub(crate) fn take_often<R: Wait>(rt: &R, lock: &LeastLock, seat: &mut Seat<(), ()>, times: u64)
-    requires { IsSeatOf lock.now seat.old }
+    requires { IsSeatOfLeast lock.now seat.old }
 {
     for _ in 0..times {
         take(rt, lock, seat);
@@ -131,7 +131,7 @@ pub(crate) fn take_often<R: Wait>(rt: &R, lock: &LeastLock, seat: &mut Seat<(), 
 /// The same, and what the guard has apart from its thread is split off and joined.
 #[inline(never)]
 pub(crate) fn hold_often<R: Wait>(rt: &R, lock: &LeastLock, seat: &mut Seat<(), ()>, times: u64)
-    requires { IsSeatOf lock.now seat.old }
+    requires { IsSeatOfLeast lock.now seat.old }
 {
     for _ in 0..times {
         let owner = enter(rt, lock, seat);
@@ -148,7 +148,7 @@ pub(crate) fn hold_told<R: Wait>(
     told: &mut Told,
     times: u64,
 )
-    requires { IsSeatOf lock.now seat.old }
+    requires { IsSeatOfLeast lock.now seat.old }
 {
     for _ in 0..times {
         told.forget();

@@ -1,6 +1,6 @@
 //! Plans, as the arguments ask for them.
 ghost use Rattle.std.specs.Prelude.{◌≡◌, ◌≤◌};
-ghost use Rattle.lotbench.specs.Modes.{IsModeNamed, name_of};
+ghost use Rattle.lotbench.specs.Modes.{IsModeNamed, mode_name};
 ghost use Rattle.lotbench.specs.declared.plans.TheConstants.{MOST_THREADS, MOST_OPERATIONS};
 
 /// The most threads.
@@ -133,7 +133,7 @@ impl Mode {
     }
 
     pub fn name(self) -> &'static str
-        ensures { result.now ≡ name_of self }
+        ensures { result.now ≡ mode_name self }
     {
         match self {
             Mode::RawMutex => "raw_mutex",

@@ -4,7 +4,7 @@ use std::fmt::Debug;
 use std::process::Abort;
 use std::test::Fail;
 
-fn same<T: PartialEq + Debug + Drop>(rt: &impl Abort, found: T, wanted: T) {
+fn check_eq<T: PartialEq + Debug + Drop>(rt: &impl Abort, found: T, wanted: T) {
     assert_eq!(rt; found, wanted);
 }
 
@@ -12,8 +12,8 @@ fn same<T: PartialEq + Debug + Drop>(rt: &impl Abort, found: T, wanted: T) {
 fn three_lines(rt: HostRuntime) -> Result<(), Fail> {
     let mut text = Vec::<u8>::new(rt.alloc());
     let status = live(&rt, rt.alloc(), &mut text);
-    same(&rt, status, DONE);
-    same(
+    check_eq(&rt, status, DONE);
+    check_eq(
         &rt,
         text.as_slice(),
         b"readers met\nread 7\ncount 6000\n".as_slice(),
@@ -25,7 +25,7 @@ fn three_lines(rt: HostRuntime) -> Result<(), Fail> {
 fn a_full_device(rt: HostRuntime) -> Result<(), Fail> {
     let mut none = [0u8; 3];
     let mut left = none.as_mut_slice();
-    same(&rt, live(&rt, rt.alloc(), &mut left), BROKEN);
-    same(&rt, none.as_slice(), b"rea".as_slice());
+    check_eq(&rt, live(&rt, rt.alloc(), &mut left), BROKEN);
+    check_eq(&rt, none.as_slice(), b"rea".as_slice());
     Ok(())
 }

@@ -5,7 +5,7 @@ use Rattle.core_words.proofs.Trades.{is_itself}
 use Rattle.core_words.specs.Codes.{exclusive}
 use Rattle.core_words.specs.Indices.{mutex_of_count, word_index}
 use Rattle.core_words.specs.Plays.{left_over, piece, stepping, takes_in}
-use Rattle.core_words.specs.Steps.{CodesWith, after_step, has, listed, says_instead, without}
+use Rattle.core_words.specs.Steps.{CodesWith, after_step, has, one_more_step, says_instead, without}
 use Rattle.core_words.specs.Views.{owning, owning_with, view}
 use Rattle.core_words.specs.declared.owners.Owner.TheVariants.{Exclusive}
 use Rattle.core_words.specs.declared.owners.Ownership.{Ownership}
@@ -34,9 +34,9 @@ module _ (m n said next : ℕ) (behind : n ≡ m + 1) (other : said ≢ next) wh
 
   module _ (v w u : View) (joined : w ≡ takes_in v (piece (x said))) (stepped : u ≡ after_step Count (word_index n Count) (Store next) said w) where
     -- after the store the thread says the new count
-    said_behind : u ≡ view (listed v (word_index n Count) (Store next) said) (x next ∷ v.owns) v.drawn v.saw
+    said_behind : u ≡ view (one_more_step v (word_index n Count) (Store next) said) (x next ∷ v.owns) v.drawn v.saw
     said_behind = stepped ∙ (ap (λ (y : View). after_step Count (word_index n Count) (Store next) said y) joined
-        ∙ ap (λ os. view (listed v (word_index n Count) (Store next) said) os v.drawn v.saw) (says v.owns))
+        ∙ ap (λ os. view (one_more_step v (word_index n Count) (Store next) said) os v.drawn v.saw) (says v.owns))
 
     pub says_next : has (x next) u.owns ≡ true
     says_next = subst (λ (y : View). has (x next) y.owns ≡ true) (sym said_behind) (has_first (x next) v.owns)
@@ -44,16 +44,16 @@ module _ (m n said next : ℕ) (behind : n ≡ m + 1) (other : said ≢ next) wh
     -- and without that it owns what it did
     pub splits_next : left_over (x next) u ≡ stepping v (word_index n Count) (Store next) said
     splits_next = ap (λ (y : View). left_over (x next) y) said_behind
-        ∙ ap (λ os. view (listed v (word_index n Count) (Store next) said) os v.drawn v.saw) (without_first (x next) v.owns)
+        ∙ ap (λ os. view (one_more_step v (word_index n Count) (Store next) said) os v.drawn v.saw) (without_first (x next) v.owns)
 
 -- after a look at the count the thread says what it said
 module _ (m n said : ℕ) (v w u : View) (joined : w ≡ takes_in v (piece (owning_with (word_index m Mutex) said))) (stepped : u ≡ after_step Count (word_index n Count) Load said w) where
   abbrev kept : Ownership
   kept = owning_with (word_index m Mutex) said
 
-  heard_behind : u ≡ view (listed v (word_index n Count) Load said) (kept ∷ v.owns) v.drawn v.saw
+  heard_behind : u ≡ view (one_more_step v (word_index n Count) Load said) (kept ∷ v.owns) v.drawn v.saw
   heard_behind = stepped ∙ (ap (λ (y : View). after_step Count (word_index n Count) Load said y) joined
-      ∙ ap (λ b. view (listed v (word_index n Count) Load said) (cond b (kept ∷ v.owns) (owning_with (mutex_of_count (word_index n Count)) said ∷ without (owning_with (mutex_of_count (word_index n Count)) said) (kept ∷ v.owns))) v.drawn v.saw)
+      ∙ ap (λ b. view (one_more_step v (word_index n Count) Load said) (cond b (kept ∷ v.owns) (owning_with (mutex_of_count (word_index n Count)) said ∷ without (owning_with (mutex_of_count (word_index n Count)) said) (kept ∷ v.owns))) v.drawn v.saw)
       (eq-eqb said said refl))
 
   pub says_still : has kept u.owns ≡ true
@@ -61,7 +61,7 @@ module _ (m n said : ℕ) (v w u : View) (joined : w ≡ takes_in v (piece (owni
 
   pub splits_still : left_over kept u ≡ stepping v (word_index n Count) Load said
   splits_still = ap (λ (y : View). left_over kept y) heard_behind
-      ∙ ap (λ os. view (listed v (word_index n Count) Load said) os v.drawn v.saw) (without_first kept v.owns)
+      ∙ ap (λ os. view (one_more_step v (word_index n Count) Load said) os v.drawn v.saw) (without_first kept v.owns)
 
 -- nobody owns a mutex twice
 pub owned_once : (i said n : ℕ) (rest owns : List Ownership) → owns ≡ owning_with i said ∷ owning i Exclusive ∷ rest → CodesWith Mutex i n owns → ⊥

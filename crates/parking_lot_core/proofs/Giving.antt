@@ -10,7 +10,7 @@ use Rattle.core_words.specs.Steps.{has}
 use Rattle.core_words.specs.Views.{shown}
 use Rattle.core_words.specs.declared.views.View.{View}
 use Rattle.core_words.specs.declared.words.Word.{Word}
-use Rattle.parking_lot_core.specs.Giving.{owner_at, HasEach, less_each}
+use Rattle.parking_lot_core.specs.Giving.{owner_given_at, HasEach, less_each}
 
 -- without all of these
 abbrev pub less : List ℕ → List ℕ → List ℕ
@@ -54,14 +54,14 @@ module _ (word : Word) (left : ℕ) (wants asked : List Want) (same : asked ≡ 
   next = drop_more wants k Exclusive lt ∙ ap (λ (l : List Want). slice_index_or l k Exclusive ∷ drop (k + 1) wants) (sym same)
 
   -- the next right is there
-  pub has_next : HasEach word left (drop k wants) v.owns → has (named_by word (owner_at word left asked k)) v.owns ≡ true
+  pub has_next : HasEach word left (drop k wants) v.owns → has (named_by word (owner_given_at word left asked k)) v.owns ≡ true
   has_next h = (subst (λ (l : List Want). HasEach word left l v.owns) next h).0
 
   -- and without it, those behind it
-  pub has_rest : (new : View) → new ≡ left_over (named_by word (owner_at word left asked k)) v → HasEach word left (drop k wants) v.owns → HasEach word left (drop (k + 1) wants) new.owns
+  pub has_rest : (new : View) → new ≡ left_over (named_by word (owner_given_at word left asked k)) v → HasEach word left (drop k wants) v.owns → HasEach word left (drop (k + 1) wants) new.owns
   has_rest new e h = subst (λ (w : View). HasEach word left (drop (k + 1) wants) w.owns) (sym e) (subst (λ (l : List Want). HasEach word left l v.owns) next h).1
 
-  pub same_rest : (new : View) → new ≡ left_over (named_by word (owner_at word left asked k)) v → less_each word left (drop (k + 1) wants) new ≡ less_each word left (drop k wants) v
+  pub same_rest : (new : View) → new ≡ left_over (named_by word (owner_given_at word left asked k)) v → less_each word left (drop (k + 1) wants) new ≡ less_each word left (drop k wants) v
   same_rest new e = ap (less_each word left (drop (k + 1) wants)) e ∙ sym (ap (λ (l : List Want). less_each word left l v) next)
 
 -- none is left behind the last

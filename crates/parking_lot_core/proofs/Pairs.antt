@@ -10,12 +10,12 @@ use Rattle.core_queues.specs.Places.{AreTwo, IsSameBucket, KeepApart}
 use Rattle.core_queues.specs.declared.queueing.Queueing.{Queueing}
 use Rattle.core_queues.proofs.Halves.{first_of_both, line_both}
 use Rattle.parking_lot_core.specs.Keys.{IsKeyOf}
-use Rattle.parking_lot_core.specs.Pairs.{AreApartAt, AreBuckets, IsAlone}
+use Rattle.parking_lot_core.specs.Pairs.{AreApartAt, AreBuckets, HasOneBucket}
 
 pub for_some : {A : Type 0} (P : A → Type 0) (a : A) → P a → (x : A) → Some a ≡ Some x → P x
 for_some P a h x e = let same : a ≡ x = cc in subst P same h
 
-pub alone_still : (keys : Keys) (one one' : Queueing) → IsSameBucket one one' → IsAlone keys one → IsAlone keys one'
+pub alone_still : (keys : Keys) (one one' : Queueing) → IsSameBucket one one' → HasOneBucket keys one → HasOneBucket keys one'
 alone_still keys one one' same alone key is = rw (same.1, same.2) (alone key is)
 
 pub two_still : (keys : Keys) (one other one' other' : Queueing) → IsSameBucket one one' → IsSameBucket other other' → AreBuckets keys one other → AreBuckets keys one' other'

@@ -12,7 +12,7 @@ IsPair mutex count = (mutex.kind ≡ Mutex) × (count.kind ≡ Count)
     × (count.number ≡ mutex.number + 1)
 
 -- the mutex of this number is owned, and its count word names a thread with the number of guards
-abbrev pub IsKept : LotWords → ℕ → Kept → ℕ → Type 0
-IsKept lot number kept guards = IsCountedOf lot number kept.said kept.counted
+abbrev pub IsKeptCount : LotWords → ℕ → Kept → ℕ → Type 0
+IsKeptCount lot number kept guards = IsCountedOf lot number kept.said kept.counted
     × (guards < 4294967296)
     × ((thread : ℕ) × (kept.said ≡ (thread + 1) * 4294967296 + guards))

@@ -12,8 +12,8 @@ use Rattle.core_words.specs.declared.views.View.{View}
 use Rattle.core_words.specs.declared.words.Word.{Word}
 
 -- how the one at a place owns the word, which is left at this value
-abbrev pub owner_at : Word → ℕ → List Want → ℕ → Owner
-owner_at word left wanted place =
+abbrev pub owner_given_at : Word → ℕ → List Want → ℕ → Owner
+owner_given_at word left wanted place =
     owner_given word.kind left (slice_index_or wanted place wants.Exclusive)
 
 -- the ownership has a right for each of them

@@ -21,8 +21,8 @@ IsBegun queueing = (queueing.taken.items ≡ []) × (queueing.rightless.items �
     × (queueing.wants.items ≡ [])
 
 -- each key of a section has one bucket
-abbrev pub IsAlone : Keys → Queueing → Type 0
-IsAlone keys one = (key : ℕ) → IsKeyOf keys key → bucket_of one.bits key ≡ one.number
+abbrev pub HasOneBucket : Keys → Queueing → Type 0
+HasOneBucket keys one = (key : ℕ) → IsKeyOf keys key → bucket_of one.bits key ≡ one.number
 
 -- each key has one of two buckets, and keys that differ have different ones
 pub record AreSplit (bits : ℕ) (keys : Keys) (one other : ℕ) : Type 0 where

@@ -11,15 +11,15 @@ use Rattle.parking_lot_core.specs.declared.sections.Section.{Section}
 use Rattle.parking_lot_core.specs.declared.tokens.Did.TheVariants.{Nothing}
 
 -- those in the first bucket
-abbrev pub first_in : Section → List Waiter
-first_in section = (mutex_guard_value section.first).queues.waiters
+abbrev pub in_first_bucket : Section → List Waiter
+in_first_bucket section = (mutex_guard_value section.first).queues.waiters
 
 -- those in the second, if there is one
 abbrev pub others_in : Section → Option (List Waiter)
 others_in section = waiters_of section.other
 
 abbrev pub waiting_in : Section → List Waiter
-waiting_in section = both (first_in section) (others_in section)
+waiting_in section = both (in_first_bucket section) (others_in section)
 
 abbrev pub taken_in : Section → List ℕ
 taken_in section = (mutex_guard_value section.first).taken.items

@@ -2,7 +2,7 @@
 use Rattle.std.specs.Prelude.{ℕ, ◌≡◌, Some}
 use Rattle.core_words.specs.RightsOf.{IsRightOf, IsFor}
 use Rattle.core_words.specs.declared.words.Word.{Word}
-use Rattle.core_base.specs.Lines.{key_of}
+use Rattle.core_base.specs.Lines.{queued_under}
 use Rattle.core_base.specs.declared.wants.Want.{Want}
 use Rattle.core_base.specs.declared.keys.Keys.TheVariants.{One}
 use Rattle.parking_lot_core.specs.Sections.{IsUntouched, waiting_in}
@@ -22,7 +22,7 @@ IsLate _ _ Woken = ⊥
 IsLate _ _ (Handed _) = ⊥
 IsLate lot thread (Late section key) =
     (section.lot.now ≡ lot) × (section.keys ≡ One key) × IsUntouched section
-    × (key_of thread (waiting_in section) ≡ Some key) × (section.thread ≡ thread)
+    × (queued_under thread (waiting_in section) ≡ Some key) × (section.thread ≡ thread)
 
 abbrev pub WasLate : Slept → Type 0
 WasLate Woken = ⊥

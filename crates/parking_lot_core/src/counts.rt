@@ -29,9 +29,9 @@ pub struct Kept {
 }
 
 impl Shared<LotWords> for Kept {
-    ghost use Rattle.parking_lot_core.specs.Counts.{IsKept};
+    ghost use Rattle.parking_lot_core.specs.Counts.{IsKeptCount};
 
-    ghost fits = { IsKept };
+    ghost fits = { IsKeptCount };
 
     // The thread that is named, by one more than its number.
     ghost tag = { λ kept. kept.said / 4294967296 };

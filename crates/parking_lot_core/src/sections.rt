@@ -2,7 +2,7 @@
 ghost use Rattle.std.specs.Prelude.{◌≡◌, ◌≢◌, ◌<◌, ◌≤◌, ◌+◌, ◌++◌, ◌∷◌, ◌==◌, not, [], Some, Contains, MatchOption, length, slice_index, take, true};
 ghost use Rattle.std.specs.List.{filter};
 ghost use Rattle.std.specs.Sync.Mutex.{mutex_guard_value};
-ghost use Rattle.core_base.specs.Lines.{waiter, line, lines, without, without_first, without_key, first_of, threads_of, key_of};
+ghost use Rattle.core_base.specs.Lines.{waiter, line, lines, without, without_first, without_key, first_of, threads_of, queued_under};
 ghost use Rattle.core_base.specs.Picks.{lock_picked, without_lock_picked};
 ghost use Rattle.core_base.specs.Requeues.{taken_by, moved_by, requeued};
 ghost use Rattle.core_queues.specs.Wants.{wants_of, taken_in_line};
@@ -10,7 +10,7 @@ ghost use Rattle.core_queues.specs.Chains.{bucket_of};
 ghost use Rattle.core_queues.specs.Buckets.{HasNone};
 ghost use Rattle.parking_lot_core.specs.Keys.{IsKeyOf, first_key};
 ghost use Rattle.std.specs.Option.{ForNone, ForSome};
-ghost use Rattle.parking_lot_core.specs.Pairs.{AreApartAt, AreBuckets, IsAlone, IsBegun};
+ghost use Rattle.parking_lot_core.specs.Pairs.{AreApartAt, AreBuckets, HasOneBucket, IsBegun};
 ghost use Rattle.parking_lot_core.specs.declared.tokens.Did.TheVariants.{Nothing, TakeFirst, TakeAll, TakePicked};
 
 use crate::enter::never;
@@ -41,7 +41,7 @@ pub struct Section<'a> {
     pub(crate) moved: usize,
     ghost seated: { ((mutex_guard_value first).seats ≡ lot.now.records.count)
         × ((mutex_guard_value first).bits < 64) },
-    ghost alone: { ForNone other (IsAlone keys (mutex_guard_value first)) },
+    ghost alone: { ForNone other (HasOneBucket keys (mutex_guard_value first)) },
     ghost two: { ForSome other (λ guard.
         AreBuckets keys (mutex_guard_value first) (mutex_guard_value guard)) },
     ghost fresh: { did ≡ Nothing → IsBegun (mutex_guard_value first)
@@ -67,7 +67,7 @@ impl<'a> Section<'a> {
     ghost use Rattle.parking_lot_core.specs.Sections.{others_in, IsUntouched};
     ghost use Rattle.parking_lot_core.specs.Sections.{waiting_in, taken_in, wants_in, rightless_in, moved_in, StaysIn, TookAs, MayNote};
     ghost use Rattle.parking_lot_core.specs.Tokens.{out_of, view_of};
-    ghost use Rattle.parking_lot_core.specs.Giving.{owner_at, HasEach, less_each};
+    ghost use Rattle.parking_lot_core.specs.Giving.{owner_given_at, HasEach, less_each};
     ghost use Rattle.core_words.specs.Lots.{IsWordOf};
     ghost use Rattle.core_words.specs.Plays.{left_over};
     ghost use Rattle.core_words.specs.Rights.{named_by};
@@ -258,7 +258,7 @@ impl<'a> Section<'a> {
 
     /// The key under which a thread stands.
     pub fn key_of(&self, thread: usize) -> Option<Key>
-        ensures { result ≡ key_of thread (waiting_in self.now) }
+        ensures { result ≡ queued_under thread (waiting_in self.now) }
     {
         match &self.other {
             Some(other) => self.first.key_beside(other, thread),
@@ -347,12 +347,12 @@ impl<'a> Section<'a> {
     )
         requires own { IsTokenOf self.old.lot.now token.old × IsWordOf self.old.lot.now.words word }
         requires place { place < length (taken_in self.old) }
-        requires named { has (named_by word (owner_at word left (wants_in self.old) place))
+        requires named { has (named_by word (owner_given_at word left (wants_in self.old) place))
             (view_of token.old).owns ≡ true }
         ensures own { IsSameThread self.old.lot.now token.old token.new
             × (last_of token.new ≡ last_of token.old) }
         ensures left { view_of token.new
-            ≡ left_over (named_by word (owner_at word left (wants_in self.old) place))
+            ≡ left_over (named_by word (owner_given_at word left (wants_in self.old) place))
             (view_of token.old) }
         ensures rightless { rightless_in self.new ≡ filter
             (λ x. not (x == slice_index (taken_in self.old) place)) (rightless_in self.old) }

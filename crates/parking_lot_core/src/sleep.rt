@@ -34,7 +34,7 @@ impl ParkingLot {
     ghost use Rattle.parking_lot_core.specs.Sleeps.{IsWoken, IsLate, IsSlept, WasLate};
 
     // Waits a while, or until the thread may have been told something.
-    fn linger(&self, thread: usize)
+    fn spin(&self, thread: usize)
         requires { thread < self.now.records.count }
     {
         for _ in 0..POLLS {
@@ -48,7 +48,7 @@ impl ParkingLot {
     // Looks whether the thread was told something. It looks at the right only once there is a note.
     // A thread that gives a right writes the note after it, and a note that came later would wake
     // the next sleep.
-    fn look<'a, R: Wait>(
+    fn take_note<'a, R: Wait>(
         &'a self,
         rt: &R,
         thread: usize,
@@ -112,9 +112,9 @@ impl ParkingLot {
         ensures late { WasLate result → IsUp C.tells limit.entry }
     {
         let mut limit = limit;
-        self.linger(token.number);
+        self.spin(token.number);
         for _ in rt.forever() {
-            if let Some(told) = self.look(rt, token.number, word, want) {
+            if let Some(told) = self.take_note(rt, token.number, word, want) {
                 return told;
             }
             match limit {

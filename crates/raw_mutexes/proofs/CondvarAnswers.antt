@@ -4,7 +4,7 @@ use Rattle.core_base.specs.declared.ops.Op.TheVariants.{Load}
 use Rattle.spec_locks.specs.declared.outcomes.Answer.{Answer}
 use Rattle.spec_locks.specs.declared.outcomes.Answer.TheVariants.{No, Number, TimedOut, TwoMutexes, Yes}
 use Rattle.steps_condvar.specs.CondvarSteps.{waited}
-use Rattle.lock_raw.specs.Answers.{GivesBack, GivesBackTimed, IsLate, timed_answer, waiting_answer}
+use Rattle.lock_raw.specs.Answers.{GivesBack, GivesBackTimed, LateByClock, timed_answer, waiting_answer}
 use Rattle.core_words.specs.declared.owners.Ownership.{Ownership}
 use Rattle.core_words.specs.declared.views.WordStep.{WordStep}
 use Rattle.parking_lot_core.specs.declared.tokens.Token.{Token}
@@ -12,7 +12,7 @@ use Rattle.run_base.specs.CondvarFitting.{IsWaitOver, LateIf}
 use Rattle.run_base.specs.Paths.{condvar_at, step}
 use Rattle.run_base.specs.Stages.{Stage}
 use Rattle.run_base.specs.Telling.{steps_of}
-use Rattle.run_locks.specs.CondvarCalls.{AnswersWait, HasGoneOn, HasLooked, HasMoved, LookedElse, SawNobody, TellsMoved, ended, given_back}
+use Rattle.run_locks.specs.CondvarCalls.{AnswersWait, HasGoneOn, HasLooked, WaitersMoved, LookedElse, SawNoneToMove, TellsMoved, timed_given_back, given_back}
 
 module _ {G : Type 0} (guard : G) where
   pub waits_so : (answer : Answer) → AnswersWait false answer → waiting_answer (given_back answer guard) ≡ answer
@@ -23,29 +23,29 @@ module _ {G : Type 0} (guard : G) where
   gives_back holds answer (inl other) h = subst (λ (a : Answer). GivesBack (given_back a guard) holds) (sym other) (refl, h)
   gives_back holds answer (inr told) h = subst (λ (a : Answer). GivesBack (given_back a guard) holds) (sym told.1) h
 
-  pub ends_so : (answer : Answer) → AnswersWait true answer → timed_answer (ended answer guard) ≡ answer
-  ends_so answer (inl other) = subst (λ (a : Answer). timed_answer (ended a guard) ≡ a) (sym other) refl
+  pub ends_so : (answer : Answer) → AnswersWait true answer → timed_answer (timed_given_back answer guard) ≡ answer
+  ends_so answer (inl other) = subst (λ (a : Answer). timed_answer (timed_given_back a guard) ≡ a) (sym other) refl
   ends_so answer (inr told) = by_time told.0 told.1
     where
-      by_time : (late : Bool) → answer ≡ waited true late → timed_answer (ended answer guard) ≡ answer
-      by_time true e = subst (λ (a : Answer). timed_answer (ended a guard) ≡ a) (sym e) refl
-      by_time false e = subst (λ (a : Answer). timed_answer (ended a guard) ≡ a) (sym e) refl
+      by_time : (late : Bool) → answer ≡ waited true late → timed_answer (timed_given_back answer guard) ≡ answer
+      by_time true e = subst (λ (a : Answer). timed_answer (timed_given_back a guard) ≡ a) (sym e) refl
+      by_time false e = subst (λ (a : Answer). timed_answer (timed_given_back a guard) ≡ a) (sym e) refl
 
-  pub ends_with : (holds : G → Type 0) (answer : Answer) → AnswersWait true answer → holds guard → GivesBackTimed (ended answer guard) holds
-  ends_with holds answer (inl other) h = subst (λ (a : Answer). GivesBackTimed (ended a guard) holds) (sym other) (refl, h)
+  pub ends_with : (holds : G → Type 0) (answer : Answer) → AnswersWait true answer → holds guard → GivesBackTimed (timed_given_back answer guard) holds
+  ends_with holds answer (inl other) h = subst (λ (a : Answer). GivesBackTimed (timed_given_back a guard) holds) (sym other) (refl, h)
   ends_with holds answer (inr told) h = by_time told.0 told.1
     where
-      by_time : (late : Bool) → answer ≡ waited true late → GivesBackTimed (ended answer guard) holds
-      by_time true e = subst (λ (a : Answer). GivesBackTimed (ended a guard) holds) (sym e) h
-      by_time false e = subst (λ (a : Answer). GivesBackTimed (ended a guard) holds) (sym e) h
+      by_time : (late : Bool) → answer ≡ waited true late → GivesBackTimed (timed_given_back answer guard) holds
+      by_time true e = subst (λ (a : Answer). GivesBackTimed (timed_given_back a guard) holds) (sym e) h
+      by_time false e = subst (λ (a : Answer). GivesBackTimed (timed_given_back a guard) holds) (sym e) h
 
-  pub ends_late : (passed : Type 0) (answer : Answer) → AnswersWait true answer → (answer ≡ TimedOut → passed) → IsLate (ended answer guard) passed
-  ends_late passed answer (inl other) late = subst (λ (a : Answer). IsLate (ended a guard) passed) (sym other) tt
+  pub ends_late : (passed : Type 0) (answer : Answer) → AnswersWait true answer → (answer ≡ TimedOut → passed) → LateByClock (timed_given_back answer guard) passed
+  ends_late passed answer (inl other) late = subst (λ (a : Answer). LateByClock (timed_given_back a guard) passed) (sym other) tt
   ends_late passed answer (inr told) late = by_time told.0 told.1
     where
-      by_time : (b : Bool) → answer ≡ waited true b → IsLate (ended answer guard) passed
-      by_time true e = subst (λ (a : Answer). IsLate (ended a guard) passed) (sym e) (λ yes. late e)
-      by_time false e = subst (λ (a : Answer). IsLate (ended a guard) passed) (sym e) (λ yes. absurd (let no : false ≡ true = yes in cc))
+      by_time : (b : Bool) → answer ≡ waited true b → LateByClock (timed_given_back answer guard) passed
+      by_time true e = subst (λ (a : Answer). LateByClock (timed_given_back a guard) passed) (sym e) (λ yes. late e)
+      by_time false e = subst (λ (a : Answer). LateByClock (timed_given_back a guard) passed) (sym e) (λ yes. absurd (let no : false ≡ true = yes in cc))
 
 -- a thread that tells that its time was up says so of its clock
 pub late_of : (up : Type 0) (timed late : Bool) (answer : Answer) → answer ≡ waited timed late → LateIf up timed late → answer ≡ TimedOut → up
@@ -68,16 +68,16 @@ module _ (up : Type 0) (m : ℕ) (timed : Bool) (base : List Ownership) (answer 
 
 -- tells what a notification moved, from its first look on
 module _ (words c first : ℕ) (before old new : Token) (looked : HasLooked words c first before old) where
-  saw_else : LookedElse c first (steps_of old) new → SawNobody c before new
+  saw_else : LookedElse c first (steps_of old) new → SawNoneToMove c before new
   saw_else other = inr (first, subst (λ (steps : List WordStep). LookedElse c first steps new) looked.0 other)
 
   went_on : (m : ℕ) → first ≡ m + 1 → HasGoneOn (steps_of old) new → HasGoneOn (steps_of before ++ step (condvar_at c) Load (m + 1)) new
   went_on m shown = subst (λ (steps : List WordStep). HasGoneOn steps new) (looked.0 ∙ ap (λ (n : ℕ). steps_of before ++ step (condvar_at c) Load n) shown)
 
-  pub moved_all : (answer : Answer) (number : ℕ) → answer ≡ Number number → TellsMoved c true first answer old new → HasMoved c true number before new
+  pub moved_all : (answer : Answer) (number : ℕ) → answer ≡ Number number → TellsMoved c true first answer old new → WaitersMoved c true number before new
   moved_all answer number is (inl none) = let zero : number ≡ 0 = cc in inl (zero, saw_else none.1)
   moved_all answer number is (inr moved) = let same : number ≡ moved.2 = cc in inr (moved.0, moved.1, moved.2, same, moved.5, went_on moved.0 moved.3 moved.6)
 
-  pub moved_one : (answer : Answer) → answer ≡ Yes → TellsMoved c false first answer old new → HasMoved c false 1 before new
+  pub moved_one : (answer : Answer) → answer ≡ Yes → TellsMoved c false first answer old new → WaitersMoved c false 1 before new
   moved_one answer is (inl none) = absurd (let no : Yes ≡ No = sym is ∙ none.0 in cc)
   moved_one answer is (inr moved) = inr (moved.0, moved.1, moved.2, refl, moved.5, went_on moved.0 moved.3 moved.6)

@@ -3,7 +3,7 @@ use Rattle.std.specs.Prelude.{◌≡◌, ℕ, List, ◌∷◌, ◌++◌}
 use Rattle.spec_locks.specs.declared.calls.MutexCall.{MutexCall}
 use Rattle.spec_locks.specs.declared.calls.MutexCall.TheVariants.{Unlock, UnlockFair, Bump}
 use Rattle.run_base.specs.Calls.{IsUnfinished, first_op}
-use Rattle.run_base.specs.MutexFitting.{held}
+use Rattle.run_base.specs.MutexFitting.{mutex_ownership}
 use Rattle.run_base.specs.Paths.{mutex_at, step}
 use Rattle.run_base.specs.Telling.{owns_of, steps_of}
 use Rattle.core_words.specs.declared.owners.Ownership.{Ownership}
@@ -13,8 +13,8 @@ use Rattle.parking_lot_core.specs.declared.tokens.Token.{Token}
 -- the ownership between, of a thread that owned these beside the guard that it spends: one that is to hand
 -- the mutex over has it still
 abbrev pub owns_between : ℕ → MutexCall → List Ownership → List Ownership
-owns_between n UnlockFair owns = held n ∷ owns
-owns_between n Bump owns = held n ∷ owns
+owns_between n UnlockFair owns = mutex_ownership n ∷ owns
+owns_between n Bump owns = mutex_ownership n ∷ owns
 owns_between n _ owns = owns
 
 -- the call has more to do behind the value that its first step saw; an owner that has more to do

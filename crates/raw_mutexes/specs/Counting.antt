@@ -27,7 +27,7 @@ IsCountOf-prop lot mutex count = Prim.hlevel props
 -- a share of the place that a mutex has among the lot's holders
 abbrev pub IsShareOf : ParkingLot → Word → RawShare → Type 0
 IsShareOf lot mutex share =
-    rows.IsShareOf lot.holders.table.shared.table_id lot.words mutex.number share.share
+    rows.IsShareOfPlace lot.holders.table.shared.table_id lot.words mutex.number share.share
 
 pub IsShareOf-prop : (lot : ParkingLot) (mutex : Word) (share : RawShare)
     → IsProp (IsShareOf lot mutex share)
@@ -42,14 +42,14 @@ abbrev pub count_at : ℕ → ℕ
 count_at number = word_index (number + 1) Count
 
 -- the looks at the word of this index that saw these
-abbrev pub looks : ℕ → List ℕ → List WordStep
-looks at seen = map (λ (n : ℕ). record { at = at; op = Load; seen = n }) seen
+abbrev pub load_steps : ℕ → List ℕ → List WordStep
+load_steps at seen = map (λ (n : ℕ). record { at = at; op = Load; seen = n }) seen
 
 -- between two states of a thread it looked at the count of a mutex of this number, once or more, and
 -- saw this at last
 abbrev pub SawCount : ℕ → ℕ → Token → Token → Type 0
 SawCount number seen old new = (before : List ℕ)
-    × (steps_of new ≡ steps_of old ++ looks (count_at number) (before ++ seen ∷ []))
+    × (steps_of new ≡ steps_of old ++ load_steps (count_at number) (before ++ seen ∷ []))
 
 -- between them it stored a count, by one step: the one that was there, and the one that it left
 abbrev pub StoredCount : ℕ → ℕ → ℕ → Token → Token → Type 0

@@ -5,7 +5,7 @@ ghost use Rattle.lock_raw.specs.Counts.{Names, times_in};
 ghost use Rattle.core_base.specs.declared.faults.Fault.TheVariants.{LockCountFull};
 ghost use Rattle.run_base.specs.Telling.{steps_of};
 ghost use Rattle.parking_lot_core.specs.Tokens.{IsTokenOf};
-ghost use Rattle.raw_mutexes.specs.Counting.{DrewPair, FoundFew, IsCountOf, IsCountOf-prop, IsShareOf, IsShareOf-prop, SawCount, StoredCount, count_at, looks, thread_of};
+ghost use Rattle.raw_mutexes.specs.Counting.{DrewPair, FoundFew, IsCountOf, IsCountOf-prop, IsShareOf, IsShareOf-prop, SawCount, StoredCount, count_at, load_steps, thread_of};
 ghost use Rattle.raw_mutexes.specs.MutexGuards.{IsGuardOf, StaysAs};
 
 use crate::guards::RawGuard;
@@ -48,7 +48,7 @@ impl RawMutex {
             × IsCountOf (lot_of self.now) (word_of self.now) count }
         ensures own { IsTokenOf (lot_of self.now) token.new × StaysAs token.old token.new }
         ensures stepped { steps_of token.new ≡ steps_of token.old
-            ++ looks (count_at (word_of self.now).number) (result ∷ []) }
+            ++ load_steps (count_at (word_of self.now).number) (result ∷ []) }
     {
         count_may_step();
         self.lot.load(token, count)

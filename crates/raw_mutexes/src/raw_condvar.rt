@@ -10,7 +10,7 @@ ghost use Rattle.parking_lot_core.specs.Tokens.{IsTokenOf};
 ghost use Rattle.parking_lot_core.specs.declared.tokens.Token.{Token};
 ghost use Rattle.run_base.specs.Drawing.{Drew};
 ghost use Rattle.run_base.specs.Telling.{steps_of};
-ghost use Rattle.run_locks.specs.CondvarCalls.{AnswersWait, HasLooked, HasMoved, Notifies, TellsMoved, WaitsBy};
+ghost use Rattle.run_locks.specs.CondvarCalls.{AnswersWait, HasLooked, WaitersMoved, NotifiesBy, TellsMoved, WaitsBy};
 ghost use Rattle.run_locks.specs.CondvarCalls as answers;
 ghost use Rattle.raw_mutexes.specs.MutexGuards.{IsGuardOf, StaysAs};
 ghost use Rattle.raw_mutexes.specs.Words as mutexes;
@@ -115,7 +115,7 @@ impl RawCondvar {
         ensures path { (before : Token)
             → HasLooked (lot_of self.now).words.count
             (word_of self.now).number seen before token.old
-            → Notifies (word_of self.now).number all result (steps_of before) (steps_of token.new) }
+            → NotifiesBy (word_of self.now).number all result (steps_of before) (steps_of token.new) }
         ensures record { TellsMoved (word_of self.now).number all seen result token.old token.new }
     {
         notify_slow(rt, &self.lot, token, self.word, all, seen)
@@ -133,12 +133,12 @@ impl lock_raw::RawCondvar for RawCondvar {
         WaitsBy condvar.word.number mutex.word.number timed answer (steps_of old) (steps_of new) };
 
     ghost notified = { λ condvar all answer old new.
-        Notifies condvar.word.number all answer (steps_of old) (steps_of new) };
+        NotifiesBy condvar.word.number all answer (steps_of old) (steps_of new) };
 
     ghost looked = { λ condvar seen old new. HasLooked
         (arc_value condvar.lot).words.count condvar.word.number seen old new };
 
-    ghost moved = { λ condvar all number old new. HasMoved condvar.word.number all number old new };
+    ghost moved = { λ condvar all number old new. WaitersMoved condvar.word.number all number old new };
 
     fn new(lot: &Arc<ParkingLot>, token: &mut Token) -> Result<RawCondvar, Fault> {
         let Ok(lot) = Arc::try_clone(lot) else {

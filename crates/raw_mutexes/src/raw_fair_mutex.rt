@@ -2,7 +2,7 @@
 ghost use Rattle.std.specs.Prelude.{◌≡◌};
 ghost use Rattle.std.specs.Arc.{arc_value};
 ghost use Rattle.parking_lot_core.specs.Tokens.{IsTokenOf, last_of};
-ghost use Rattle.run_base.specs.Calls.{fairly, HasWalked, Sees, Releases};
+ghost use Rattle.run_base.specs.Calls.{fairly, HasWalkedMutex, SawWhetherLocked, TookIfSeen};
 ghost use Rattle.core_words.specs.declared.words.WordKind.TheVariants.{Mutex};
 ghost use Rattle.run_base.specs.Drawing.{Drew, FoundFull};
 ghost use Rattle.run_base.specs.Stages.{TookNobodyAt};
@@ -81,16 +81,16 @@ impl lock_raw::RawMutex for RawFairMutex {
 
     ghost found_full = { λ lot old new. FoundFull lot old new };
 
-    ghost walked = { λ mutex call answer old new. HasWalked mutex.word.number
+    ghost walked = { λ mutex call answer old new. HasWalkedMutex mutex.word.number
         (fairly call) answer old new };
 
     ghost released = { λ mutex call old new.
-        Releases mutex.word.number (fairly call) (steps_of old) (steps_of new) (last_of new) };
+        TookIfSeen mutex.word.number (fairly call) (steps_of old) (steps_of new) (last_of new) };
 
     ghost begun = { λ mutex call seen old new. HasBegun mutex.word.number
         (fairly call) seen old new };
 
-    ghost looked = { λ mutex locked old new. Sees mutex.word.number locked (steps_of old)
+    ghost looked = { λ mutex locked old new. SawWhetherLocked mutex.word.number locked (steps_of old)
         (steps_of new) };
 
     fn new(lot: &Arc<ParkingLot>, token: &mut Token) -> Result<RawFairMutex, Fault> {

@@ -14,10 +14,10 @@ ghost use Rattle.parking_lot_core.specs.declared.tokens.Token.{Token};
 ghost use Rattle.run_locks.specs.MutexCourses.{locked_and_parked};
 ghost use Rattle.raw_mutexes.specs.Begun.{HasBegun};
 ghost use Rattle.core_words.specs.declared.views.WordStep.{WordStep};
-ghost use Rattle.run_base.specs.Calls.{MeetAt, purpose_in, IsUnfinished, HasWalked, Sees, Releases, WalksBehind};
+ghost use Rattle.run_base.specs.Calls.{MeetAt, purpose_in, IsUnfinished, HasWalkedMutex, SawWhetherLocked, TookIfSeen, WalksBehind};
 ghost use Rattle.run_base.specs.Drawing.{Drew, FoundFull};
 ghost use Rattle.raw_mutexes.specs.MutexGuards.{IsGuardOf, IsGuardOf-prop, IsOpenGuardOf, IsOpenGuardOf-prop, permit_in, StaysAs, StaysAs-on};
-ghost use Rattle.run_base.specs.MutexFitting.{IsMutexOver, held, releases};
+ghost use Rattle.run_base.specs.MutexFitting.{IsMutexOver, mutex_ownership, to_release};
 ghost use Rattle.run_base.specs.Stages.{TookNobodyAt};
 ghost use Rattle.run_base.specs.Stages.{stage_of};
 ghost use Rattle.run_base.specs.Telling.{owns_of, steps_of};
@@ -58,11 +58,11 @@ impl RawMutex {
     pub(crate) fn split(&self, lot: &ParkingLot, token: &mut Token) -> RawGuard
         requires lot { lot.now ≡ lot_of self.now }
         requires own { IsTokenOf (lot_of self.now) token.old }
-        requires held { has (held (word_of self.now).number) (view_of token.old).owns ≡ true }
+        requires held { has (mutex_ownership (word_of self.now).number) (view_of token.old).owns ≡ true }
         ensures own { IsSameThread (lot_of self.now) token.old token.new
             × (last_of token.new ≡ last_of token.old) }
         ensures left { view_of token.new
-            ≡ left_over (held (word_of self.now).number) (view_of token.old) }
+            ≡ left_over (mutex_ownership (word_of self.now).number) (view_of token.old) }
         ensures guard { IsGuardOf (lot_of self.now) (word_of self.now) result }
     {
         let (opened, permit) = lot.split_open(token, self.word);
@@ -77,7 +77,7 @@ impl RawMutex {
         ensures own { IsSameThread (lot_of self.now) token.old token.new
             × (last_of token.new ≡ last_of token.old) }
         ensures joined { view_of token.new
-            ≡ takes_in (view_of token.old) (piece (held (word_of self.now).number)) }
+            ≡ takes_in (view_of token.old) (piece (mutex_ownership (word_of self.now).number)) }
     {
         let RawGuard { opened, permit } = guard;
         lot.join_open(token, self.word, opened, permit);
@@ -97,8 +97,8 @@ impl RawMutex {
             × IsGuardOf (lot_of self.now) (word_of self.now) guard }
         ensures token { IsTokenOf (lot_of self.now) token.new }
         ensures over { IfNone result (StaysAs token.old token.new
-            × HasWalked (word_of self.now).number UnlockFair ok token.old token.new
-            × Releases (word_of self.now).number UnlockFair (steps_of token.old)
+            × HasWalkedMutex (word_of self.now).number UnlockFair ok token.old token.new
+            × TookIfSeen (word_of self.now).number UnlockFair (steps_of token.old)
             (steps_of token.new) (last_of token.new)) }
         ensures begun { IfSome result
             (λ seen. HasBegun (word_of self.now).number UnlockFair seen token.old token.new) }
@@ -120,8 +120,8 @@ impl RawMutex {
         ensures over { (before : Token)
             → HasBegun (word_of self.now).number UnlockFair seen before token.old
             → StaysAs before token.new
-            × HasWalked (word_of self.now).number UnlockFair ok before token.new
-            × Releases (word_of self.now).number UnlockFair (steps_of before) (steps_of token.new)
+            × HasWalkedMutex (word_of self.now).number UnlockFair ok before token.new
+            × TookIfSeen (word_of self.now).number UnlockFair (steps_of before) (steps_of token.new)
             (last_of token.new) }
     {
         self.go_on(rt, token, MutexCall::UnlockFair, seen);
@@ -157,7 +157,7 @@ impl RawMutex {
         ensures over { (before : Token)
             → HasBegun (word_of self.now).number Bump seen before token.old
             → StaysAs before token.new
-            × HasWalked (word_of self.now).number Bump ok before token.new }
+            × HasWalkedMutex (word_of self.now).number Bump ok before token.new }
     {
         self.go_on(rt, token, MutexCall::Bump, seen);
         self.split(&self.lot, token)
@@ -172,7 +172,7 @@ impl RawMutex {
         ensures path { WalksBehind
             (word_of self.now).number Unlock locked_and_parked token.old token.new ok }
         ensures rest { (more : List WordStep) × (steps_of token.new ≡ steps_of token.old ++ more) }
-        ensures over { IsMutexOver ⊥ (word_of self.now).number (owns_of token.old) releases ok
+        ensures over { IsMutexOver ⊥ (word_of self.now).number (owns_of token.old) to_release ok
             (stage_of token.new None) }
     {
         unlock_slow(rt, &self.lot, token, self.word);
@@ -188,7 +188,7 @@ impl RawMutex {
         requires { IsTokenOf (lot_of self.now) token.old }
         ensures token { IsTokenOf (lot_of self.now) token.new × StaysAs token.old token.new }
         ensures guard { IfSome result (IsGuardOf (lot_of self.now) (word_of self.now)) }
-        ensures path { HasWalked (word_of self.now).number LockTimed
+        ensures path { HasWalkedMutex (word_of self.now).number LockTimed
             (answer_by result) token.old token.new }
         ensures left { IfNone result
             (TookNobodyAt (word_of self.now).number (last_of token.new)) }
@@ -218,7 +218,7 @@ impl RawMutex {
         ensures over { (before : Token)
             → HasBegun (word_of self.now).number LockTimed seen before token.old
             → StaysAs before token.new
-            × HasWalked (word_of self.now).number LockTimed (answer_by result) before token.new }
+            × HasWalkedMutex (word_of self.now).number LockTimed (answer_by result) before token.new }
         ensures left { IfNone result
             (TookNobodyAt (word_of self.now).number (last_of token.new)) }
         ensures late { IfNone result (IsUp C.tells limit.entry) }
@@ -268,14 +268,14 @@ impl lock_raw::RawMutex for RawMutex {
 
     ghost found_full = { λ lot old new. FoundFull lot old new };
 
-    ghost walked = { λ mutex call answer old new. HasWalked mutex.word.number call answer old new };
+    ghost walked = { λ mutex call answer old new. HasWalkedMutex mutex.word.number call answer old new };
 
     ghost released = { λ mutex call old new.
-        Releases mutex.word.number call (steps_of old) (steps_of new) (last_of new) };
+        TookIfSeen mutex.word.number call (steps_of old) (steps_of new) (last_of new) };
 
     ghost begun = { λ mutex call seen old new. HasBegun mutex.word.number call seen old new };
 
-    ghost looked = { λ mutex locked old new. Sees mutex.word.number locked (steps_of old)
+    ghost looked = { λ mutex locked old new. SawWhetherLocked mutex.word.number locked (steps_of old)
         (steps_of new) };
 
     fn new(lot: &Arc<ParkingLot>, token: &mut Token) -> Result<RawMutex, Fault> {

@@ -15,13 +15,13 @@ use Rattle.parking_lot_core.specs.Tokens.{view_of, last_of}
 use Rattle.parking_lot_core.specs.declared.tokens.Token.{Token}
 use Rattle.raw_rwlocks.specs.RwLockHalves.{HasReleased}
 use Rattle.raw_rwlocks.specs.declared.rwlock_rights.LotRwLock.{LotRwLock}
-use Rattle.run_locks.specs.Halves.{HasEnded}
+use Rattle.run_locks.specs.Halves.{HasEndedRwLock}
 
 module _ (lock : LotRwLock) (x : Access) (old joined : Token) (same : joined.number ≡ old.number) (view : view_of joined ≡ takes_in (view_of old) (piece (owning (rwlock_at lock.word.number) (owner_for (wanted x))))) where
   pub begins_releasing : BeginsWith lock.word.number (Release x) (view_of old).owns (view_of joined).owns
   begins_releasing = (owner_for (wanted x), (view_of old).owns, refl, (λ settled. refl), ap (λ (v : View). v.owns) view)
 
-  pub released : (new : Token) (answer : Answer) → HasEnded ⊥ lock.word lock.settings.admission (Release x) answer joined new → HasReleased lock x old new
+  pub released : (new : Token) (answer : Answer) → HasEndedRwLock ⊥ lock.word lock.settings.admission (Release x) answer joined new → HasReleased lock x old new
   released new answer ended = let over = ended.2 (view_of old).owns begins_releasing in (
     (ended.0 ∙ same, over.1),
     subst (λ (a : Answer). Walks (at_rwlock lock.word.number) (rwlock_begin lock.word.number lock.settings.admission (Release x)) (view_of old).steps (view_of new).steps a) over.0

@@ -21,8 +21,8 @@ use Rattle.parking_lot_core.specs.Tokens.{view_of}
 use Rattle.parking_lot_core.specs.declared.tokens.Token.{Token}
 use Rattle.raw_rwlocks.specs.RwLockUsers.{admission_in, lot_in, word_in}
 use Rattle.raw_rwlocks.specs.declared.rwlock_rights.LotRwLock.{LotRwLock}
-use Rattle.run_locks.specs.Halves.{HasBegun}
-use Rattle.run_locks.specs.RwLockRefusals.{GaveUp, SawFull}
+use Rattle.run_locks.specs.Halves.{HasBegunRwLock}
+use Rattle.run_locks.specs.RwLockRefusals.{LeftGivingUp, SawReadersFull}
 use Rattle.run_locks.specs.declared.rwlock_calls.Rest.{Rest}
 
 -- a call that enters gave this: the right, nothing where it gave up, or that the lock is full
@@ -36,21 +36,21 @@ HasEntered up lock x how entered old new = StaysBeside (word_in lock).number old
     (entry_answer how entered) old new
     × IfOk entered (λ right. IfNone right (MayGiveUp up how))
     × IfErr entered (λ fault. IsCounted x)
-    × IfErr entered (λ fault. SawFull (word_in lock).number (admission_in lock) x old new)
+    × IfErr entered (λ fault. SawReadersFull (word_in lock).number (admission_in lock) x old new)
     × IfOk entered
-    (λ right. IfNone right (GaveUp (word_in lock).number (admission_in lock) (Enter x how) new))
+    (λ right. IfNone right (LeftGivingUp (word_in lock).number (admission_in lock) (Enter x how) new))
 
 -- a release has joined the right that it spends, and has begun
 abbrev pub HasBegunRelease : LotRwLock → Access → Rest → Token → Token → Type 0
 HasBegunRelease lock x rest old new = (joined : Token) × (joined.number ≡ old.number)
     × (view_of joined ≡ takes_in (view_of old)
     (piece (owning (rwlock_at (word_in lock).number) (owner_for (wanted x)))))
-    × HasBegun (word_in lock) (admission_in lock) (Release x) rest joined new
+    × HasBegunRwLock (word_in lock) (admission_in lock) (Release x) rest joined new
 
 -- a call of the world's language has begun, of those that go by halves
 abbrev pub HasBegunCall : LotRwLock → RwLockCall → Rest → Token → Token → Type 0
 HasBegunCall lock (calls.Enter x how) rest old new =
-    HasBegun (word_in lock) (admission_in lock) (Enter x how) rest old new
+    HasBegunRwLock (word_in lock) (admission_in lock) (Enter x how) rest old new
 HasBegunCall lock (calls.Release x) rest old new = HasBegunRelease lock x rest old new
 HasBegunCall lock (calls.ReleaseFair x) rest old new = ⊥
 HasBegunCall lock (calls.Downgrade d) rest old new = ⊥

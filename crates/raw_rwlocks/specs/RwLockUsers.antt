@@ -17,8 +17,8 @@ word_in lock = lock.word
 abbrev pub admission_in : LotRwLock → Admission
 admission_in lock = lock.settings.admission
 
-abbrev pub lock_in : {recursive : ℕ} → RawRwLock recursive → LotRwLock
-lock_in lock = lock.lock
+abbrev pub lot_lock_in : {recursive : ℕ} → RawRwLock recursive → LotRwLock
+lot_lock_in lock = lock.lock
 
 abbrev pub lot_of : {recursive : ℕ} → RawRwLock recursive → ParkingLot
 lot_of lock = lot_in lock.lock

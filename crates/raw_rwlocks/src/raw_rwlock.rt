@@ -3,7 +3,7 @@ ghost use Rattle.std.specs.Prelude.{◌≡◌, ◌⊎◌, ◌≤◌, ◌+◌, �
 ghost use Rattle.std.specs.Arc.{arc_value};
 ghost use Rattle.parking_lot_core.specs.Tokens.{IsTokenOf};
 ghost use Rattle.run_base.specs.RwLockCalls.{HasWalkedCall, SeesBy, StaysSettled, StaysSettled-on, WakesByCall, is_held, is_held_alone};
-ghost use Rattle.run_locks.specs.RwLockRefusals.{GaveUpCall, SawFull};
+ghost use Rattle.run_locks.specs.RwLockRefusals.{GaveUpCall, SawReadersFull};
 ghost use Rattle.lock_raw.specs.Answers.{IsRefusal};
 ghost use Rattle.lock_values.specs.Places.{place_of as place_at};
 ghost use Rattle.core_words.specs.Rights.{piece_of};
@@ -55,7 +55,7 @@ impl<const RECURSIVE: bool> RawRwLock<RECURSIVE> {
 
 impl<const RECURSIVE: bool> lock_raw::RawRwLock for RawRwLock<RECURSIVE> {
     ghost use Rattle.raw_rwlocks.specs.RwLockHalves.{HasBegunCall};
-    ghost use Rattle.raw_rwlocks.specs.RwLockUsers.{admission_of, lock_in, lot_of as lot_at, word_of as word_at};
+    ghost use Rattle.raw_rwlocks.specs.RwLockUsers.{admission_of, lot_lock_in, lot_of as lot_at, word_of as word_at};
 
     type Lot = ParkingLot;
 
@@ -103,14 +103,14 @@ impl<const RECURSIVE: bool> lock_raw::RawRwLock for RawRwLock<RECURSIVE> {
     ghost woke = { λ lock call old new. WakesByCall (word_at lock).number
         (admission_of lock) call old new };
 
-    ghost begun = { λ lock call rest old new. HasBegunCall (lock_in lock) call rest old new };
+    ghost begun = { λ lock call rest old new. HasBegunCall (lot_lock_in lock) call rest old new };
 
     ghost looked = { λ lock held old new. SeesBy is_held (word_at lock).number held old new };
 
     ghost looked_for_writer = { λ lock alone old new. SeesBy is_held_alone
         (word_at lock).number alone old new };
 
-    ghost saw_full = { λ lock access old new. SawFull (word_at lock).number
+    ghost saw_full = { λ lock access old new. SawReadersFull (word_at lock).number
         (admission_of lock) access old new };
 
     ghost gave_up = { λ lock call new. GaveUpCall (word_at lock).number

@@ -15,7 +15,7 @@ impl<const RECURSIVE: bool> RawRwLock<RECURSIVE> {
     ghost use Rattle.steps_rwlock.specs.declared.purposes.RwLockPurpose.TheVariants.{Enter, Upgrade};
     ghost use Rattle.parking_lot_core.specs.Tokens.{IsTokenOf};
     ghost use Rattle.run_base.specs.RwLockCalls.{HasWalkedRwLock, StaysSettled};
-    ghost use Rattle.run_locks.specs.RwLockRefusals.{GaveUp, SawFull};
+    ghost use Rattle.run_locks.specs.RwLockRefusals.{LeftGivingUp, SawReadersFull};
     ghost use Rattle.raw_rwlocks.specs.RwLockGuards.{IsExclusiveOf, IsSharedOf, IsUpgradableOf};
     ghost use Rattle.raw_rwlocks.specs.RwLockUsers.{admission_of, lot_of, word_of};
 
@@ -35,10 +35,10 @@ impl<const RECURSIVE: bool> RawRwLock<RECURSIVE> {
             (Enter access.Shared Timed)
             (counted_answer result) token.old token.new }
         ensures full { IfErr result
-            (λ _. SawFull (word_of self.now).number
+            (λ _. SawReadersFull (word_of self.now).number
             (admission_of self.now) access.Shared token.old token.new) }
         ensures left { IfOk result (λ entered. IfNone entered
-            (GaveUp (word_of self.now).number (admission_of self.now) (Enter access.Shared Timed) token.new)) }
+            (LeftGivingUp (word_of self.now).number (admission_of self.now) (Enter access.Shared Timed) token.new)) }
         ensures late { IfOk result (λ entered. IfNone entered (IsUp C.tells limit.entry)) }
     {
         match self
@@ -67,10 +67,10 @@ impl<const RECURSIVE: bool> RawRwLock<RECURSIVE> {
             (Enter access.Upgradable Timed)
             (counted_answer result) token.old token.new }
         ensures full { IfErr result
-            (λ _. SawFull (word_of self.now).number
+            (λ _. SawReadersFull (word_of self.now).number
             (admission_of self.now) access.Upgradable token.old token.new) }
         ensures left { IfOk result (λ entered. IfNone entered
-            (GaveUp (word_of self.now).number (admission_of self.now) (Enter access.Upgradable Timed) token.new)) }
+            (LeftGivingUp (word_of self.now).number (admission_of self.now) (Enter access.Upgradable Timed) token.new)) }
         ensures late { IfOk result (λ entered. IfNone entered (IsUp C.tells limit.entry)) }
     {
         match self
@@ -97,7 +97,7 @@ impl<const RECURSIVE: bool> RawRwLock<RECURSIVE> {
             (Enter access.Exclusive Timed)
             (answer_by result) token.old token.new }
         ensures left { IfNone result
-            (GaveUp (word_of self.now).number (admission_of self.now) (Enter access.Exclusive Timed) token.new) }
+            (LeftGivingUp (word_of self.now).number (admission_of self.now) (Enter access.Exclusive Timed) token.new) }
         ensures late { IfNone result (IsUp C.tells limit.entry) }
     {
         match self
@@ -127,7 +127,7 @@ impl<const RECURSIVE: bool> RawRwLock<RECURSIVE> {
             (Upgrade Timed)
             (upgrade_answer result) token.old token.new }
         ensures left { IfErr result
-            (λ _. GaveUp (word_of self.now).number (admission_of self.now)
+            (λ _. LeftGivingUp (word_of self.now).number (admission_of self.now)
             (Upgrade Timed) token.new) }
         ensures late { IfErr result (λ _. IsUp C.tells limit.entry) }
     {

@@ -23,10 +23,10 @@ ghost use Rattle.parking_lot_core.specs.Tokens.{IsTokenOf, IsSameThread, view_of
 ghost use Rattle.run_base.specs.Paths.{rwlock_at, step};
 ghost use Rattle.run_base.specs.RwLockCalls.{Exclude, HasWalkedCall, HasWalkedRwLock, IsRwLockRight, ReleasesFairly, StaysBeside, WakesBy, entry_answer, turn_answer};
 ghost use Rattle.run_base.specs.RwLockFitting.{IsCounted, MayGiveUp};
-ghost use Rattle.run_locks.specs.RwLockRefusals.{GaveUp, SawFull};
+ghost use Rattle.run_locks.specs.RwLockRefusals.{LeftGivingUp, SawReadersFull};
 ghost use Rattle.run_base.specs.Telling.{owns_of, steps_of};
 ghost use Rattle.parking_lot_core.specs.declared.tokens.Token.{Token};
-ghost use Rattle.run_locks.specs.Halves.{HasBegun, HasEnded};
+ghost use Rattle.run_locks.specs.Halves.{HasBegunRwLock, HasEndedRwLock};
 
 use core_base::{main_key, second_key};
 use core_words::LotWords;
@@ -165,11 +165,11 @@ impl LotRwLock {
     ) -> Result<Option<Held>, Fault>
         requires lot { lot.now ≡ lot_in self.now }
         requires own { IsTokenOf (lot_in self.now) token.old }
-        requires ended { (before : Token) × HasEnded (IsUp C.tells _limit.now) (word_in self.now)
+        requires ended { (before : Token) × HasEndedRwLock (IsUp C.tells _limit.now) (word_in self.now)
             (admission_in self.now) (Enter access _patience) answer before token.old }
         ensures own { IsTokenOf (lot_in self.now) token.new }
         ensures entered { (before : Token)
-            → HasEnded (IsUp C.tells _limit.now) (word_in self.now) (admission_in self.now)
+            → HasEndedRwLock (IsUp C.tells _limit.now) (word_in self.now) (admission_in self.now)
             (Enter access _patience) answer before token.old
             → HasEntered (IsUp C.tells _limit.now) self.now access _patience result
             before token.new }
@@ -196,7 +196,7 @@ impl LotRwLock {
         ensures over { MatchResult result
             (λ entered. HasEntered (IsUp C.tells limit.now) self.now access patience entered
             token.old token.new)
-            (λ rest. HasBegun (word_in self.now) (admission_in self.now) (Enter access patience)
+            (λ rest. HasBegunRwLock (word_in self.now) (admission_in self.now) (Enter access patience)
             rest token.old token.new) }
     {
         let lot: &ParkingLot = &self.lot;
@@ -219,11 +219,11 @@ impl LotRwLock {
         rest: Rest,
     ) -> Result<Option<Held>, Fault>
         requires own { IsTokenOf (lot_in self.now) token.old }
-        requires begun { (before : Token) × HasBegun (word_in self.now) (admission_in self.now)
+        requires begun { (before : Token) × HasBegunRwLock (word_in self.now) (admission_in self.now)
             (Enter access patience) rest before token.old }
         ensures own { IsTokenOf (lot_in self.now) token.new }
         ensures entered { (before : Token)
-            → HasBegun (word_in self.now) (admission_in self.now) (Enter access patience) rest
+            → HasBegunRwLock (word_in self.now) (admission_in self.now) (Enter access patience) rest
             before token.old
             → HasEntered (IsUp C.tells limit.now) self.now access patience result
             before token.new }
@@ -272,10 +272,10 @@ impl LotRwLock {
             (λ entered. IfNone entered (MayGiveUp (IsUp C.tells limit.now) patience)) }
         ensures counted { IfErr result (λ fault. IsCounted access) }
         ensures full { IfErr result
-            (λ fault. SawFull (word_in self.now).number
+            (λ fault. SawReadersFull (word_in self.now).number
             (admission_in self.now) access token.old token.new) }
         ensures left { IfOk result (λ entered. IfNone entered
-            (GaveUp (word_in self.now).number (admission_in self.now) (Enter access patience) token.new)) }
+            (LeftGivingUp (word_in self.now).number (admission_in self.now) (Enter access patience) token.new)) }
     {
         match self.enter_fast(token, limit, access, patience) {
             Ok(entered) => entered,
@@ -438,7 +438,7 @@ impl LotRwLock {
             (reading_answer result) token.old token.new }
         ensures counted { IfErr result (λ fault. IsCounted access) }
         ensures full { IfErr result
-            (λ fault. SawFull (word_in self.now).number
+            (λ fault. SawReadersFull (word_in self.now).number
             (admission_in self.now) access token.old token.new) }
     {
         let lot: &ParkingLot = &self.lot;
@@ -511,7 +511,7 @@ impl LotRwLock {
             (turn_answer patience result) token.old token.new }
         ensures late { IfErr result (λ right. MayGiveUp (IsUp C.tells limit.now) patience) }
         ensures left { IfErr result
-            (λ right. GaveUp (word_in self.now).number (admission_in self.now)
+            (λ right. LeftGivingUp (word_in self.now).number (admission_in self.now)
             (Upgrade patience) token.new) }
     {
         let lot: &ParkingLot = &self.lot;

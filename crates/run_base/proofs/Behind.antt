@@ -25,15 +25,15 @@ use Rattle.core_words.specs.declared.views.WordStep.{WordStep}
 use Rattle.core_words.specs.declared.words.Word.{Word}
 use Rattle.core_words.specs.declared.words.WordKind as kinds
 use Rattle.parking_lot_core.specs.declared.tokens.SectionRecord.{SectionRecord}
-use Rattle.run_base.specs.Calls.{beginning, first_op, purpose_in, saw_waiter, IsUnfinished, Releases, TookIfParked}
+use Rattle.run_base.specs.Calls.{beginning, first_op, purpose_in, saw_waiter, IsUnfinished, TookIfSeen, TookIfParked}
 use Rattle.run_base.specs.Fitting.{of_mutex, call_purpose, AreWordsFor, Fits, IsOver, IsStopped}
 use Rattle.run_base.specs.declared.driver.Stop.TheVariants.{Paused}
 use Rattle.run_base.proofs.Ending.{never_paused}
 use Rattle.spec_locks.specs.declared.outcomes.OnceState.{OnceState}
-use Rattle.run_base.specs.MutexFitting.{enters, IsMutexOver, Outside, TookAt, held, beside}
+use Rattle.run_base.specs.MutexFitting.{to_enter, IsMutexOver, Outside, TookAt, mutex_ownership, beside}
 use Rattle.run_base.specs.Paths.{mutex_at, mutexes, at_mutex, step, Walks}
 use Rattle.run_base.specs.Stages.{Stage, stage}
-use Rattle.run_base.specs.Words.{alone, kind_in, at_in}
+use Rattle.run_base.specs.Words.{single_word, kind_in, at_in}
 use Rattle.run_base.proofs.Paths.{goes_on, ends_at_once}
 use Rattle.run_base.proofs.Turning.{words_on}
 
@@ -113,7 +113,7 @@ module _ (n : ℕ) where
       by_bit false e = ap (λ (b : Bool). mutex_does n (if b then next.TheVariants.End No else next.TheVariants.End Yes)) e
 
   -- a release that saw a waiter took it
-  pub releases_behind : (c : MutexCall) (seen : ℕ) (old mid new : List WordStep) (last : Option SectionRecord) → saw_waiter c seen ≡ true → mid ≡ old ++ step (mutex_at n) (first_op c) seen → (more : List WordStep) × (new ≡ mid ++ more) → TookAt n last → Releases n c old new last
+  pub releases_behind : (c : MutexCall) (seen : ℕ) (old mid new : List WordStep) (last : Option SectionRecord) → saw_waiter c seen ≡ true → mid ≡ old ++ step (mutex_at n) (first_op c) seen → (more : List WordStep) × (new ≡ mid ++ more) → TookAt n last → TookIfSeen n c old new last
   releases_behind c seen old mid new last waits saw rest took = (seen, rest.0, rest.1 ∙ ap (λ (l : List WordStep). l ++ rest.0) saw, subst (λ (b : Bool). TookIfParked n b rest.0 last) (sym waits) took)
 
   pub fits_behind : (up : Type 0) (c : MutexCall) (seen : ℕ) (owns : List Ownership) (last : Option SectionRecord) (steps : List WordStep) → IsUnfinished n c seen owns → Fits up owns (next_place (beginning n c) (Value seen)) (stage owns None last steps)
@@ -129,17 +129,17 @@ module _ (n : ℕ) where
   path_behind c seen old mid new answer rest saw = goes_on (at_mutex n) (beginning n c) n (first_op c) seen old mid new answer (begins_with c) saw rest
 
   -- an untimed call has the mutex at its end
-  pub has_entered : (up : Type 0) (e : Entry) (base : List Ownership) (answer : Answer) (st : Stage) → is_timed e ≡ false → IsMutexOver up n base (enters e) answer st → (answer ≡ entered e) × Outside (held n ∷ beside n e base) st
+  pub has_entered : (up : Type 0) (e : Entry) (base : List Ownership) (answer : Answer) (st : Stage) → is_timed e ≡ false → IsMutexOver up n base (to_enter e) answer st → (answer ≡ entered e) × Outside (mutex_ownership n ∷ beside n e base) st
   has_entered up e base answer st untimed (inl h) = (h.0, (h.1.0, h.1.1))
   has_entered up e base answer st untimed (inr h) = let timed = h.1.0 in absurd cc
 
 module _ (word : Word) (is : word.kind ≡ kinds.TheVariants.Mutex) where
-  alone_kinds : kind_in (alone word) ≡ mutexes
+  alone_kinds : kind_in (single_word word) ≡ mutexes
   alone_kinds = ap {B = ℕ → kinds.WordKind} (λ (kind : kinds.WordKind) (lock : ℕ). kind) is
 
-  pub alone_at : at_in (alone word) ≡ at_mutex word.number
+  pub alone_at : at_in (single_word word) ≡ at_mutex word.number
   alone_at = ap {B = ℕ → ℕ} (λ (kind : kinds.WordKind) (lock : ℕ). word_index word.number kind) is
 
   -- the word of a mutex serves its call
-  pub words_behind : (c : MutexCall) (seen : ℕ) → word.number < 9223372036854775808 → AreWordsFor (next_place (beginning word.number c) (Value seen)) (kind_in (alone word)) (at_in (alone word))
-  words_behind c seen small = words_on (beginning word.number c) (Value seen) (kind_in (alone word)) (at_in (alone word)) (small, alone_kinds, alone_at)
+  pub words_behind : (c : MutexCall) (seen : ℕ) → word.number < 9223372036854775808 → AreWordsFor (next_place (beginning word.number c) (Value seen)) (kind_in (single_word word)) (at_in (single_word word))
+  words_behind c seen small = words_on (beginning word.number c) (Value seen) (kind_in (single_word word)) (at_in (single_word word)) (small, alone_kinds, alone_at)

@@ -53,17 +53,17 @@ use Rattle.core_words.specs.declared.words.WordKind.TheVariants as kind
 use Rattle.core_words.proofs.MutexSteps.{each_code, mutex_steps}
 use Rattle.core_words.proofs.TiedSteps.{condvar_steps}
 use Rattle.core_words.proofs.Trades.{owned_some}
-use Rattle.run_base.specs.CondvarFitting.{Between, FitsCondvar, FitsNotify, FitsWait, HasMoved, IsNotifyOver, LateIf, OwnsIt, SawElse, TellsNumber, apart, move_did}
-use Rattle.run_base.specs.Fitting.{AreWordsBeside, Fits, Looks, Reached, ReachedBy, call_purpose, answer_of, of_mutex, of_notify, of_wait, sleeper_at}
-use Rattle.run_base.specs.MutexFitting.{FitsMutex, Outside, Within, enters, held, releases}
+use Rattle.run_base.specs.CondvarFitting.{InBothSections, FitsCondvarCall, FitsNotify, FitsWait, HasMovedInSection, IsNotifyOver, LateIf, OwnsIt, SawElse, TellsNumber, apart, move_did}
+use Rattle.run_base.specs.Fitting.{AreWordsBeside, Fits, LooksLeadOn, Reached, ReachedBy, call_purpose, answer_of, of_mutex, of_notify, of_wait, sleeper_at}
+use Rattle.run_base.specs.MutexFitting.{FitsMutex, Outside, Within, to_enter, mutex_ownership, to_release}
 use Rattle.run_base.specs.Paths.{at_mutex, condvar_at, mutex_at, mutexes, step}
-use Rattle.run_base.specs.Stages.{ActNeeds, Awoke, Became, HasKey, Inside, IsLeft, IsFresh, MayLeave, Stage, Stepped, entered_now, having_taken, listed, moving, note_of, stage, took_as}
+use Rattle.run_base.specs.Stages.{ActNeeds, Awoke, Became, HasKey, SectionView, IsLeft, IsFresh, MayLeave, Stage, Stepped, entered_now, having_taken, listed, with_moved, note_of, stage, took_as}
 use Rattle.run_base.specs.declared.sleepers.Sleeper.{Sleeper}
 
 -- tells what is known of a mutex's places
 abbrev pub MutexPlacesLead : Type 0 → Type 0
 MutexPlacesLead up = (n : ℕ) (base : List Ownership) (at : MutexPlace) (st : Stage) → FitsMutex up n base at st →
-    ActNeeds mutexes (at_mutex n) st (mutex_act n at) × Looks up base (Mutex n at) st
+    ActNeeds mutexes (at_mutex n) st (mutex_act n at) × LooksLeadOn up base (Mutex n at) st
     × ((reply : Reply) (new : Stage) → Became up mutexes (at_mutex n) (sleeper_at (Mutex n at)) st (mutex_act n at) reply new → Reached up base (Mutex n at) reply new)
 
 -- acts that step on the word of one lock alone
@@ -178,14 +178,14 @@ module _ (up : Type 0) (c m : ℕ) (kinds : ℕ → WordKind) (at : ℕ → ℕ)
     inside_of : (s : Stage) → new ≡ s → new.inside ≡ s.inside
     inside_of s e = ap (λ (x : Stage). x.inside) e
 
-    abbrev Has : List Ownership → Option Inside → Stage → Type 0
+    abbrev Has : List Ownership → Option SectionView → Stage → Type 0
     Has owns inside s = (s.owns ≡ owns) × (s.inside ≡ inside)
 
-    stays : (owns : List Ownership) (inside : Option Inside) (s : Stage) → new ≡ s → s.owns ≡ st.owns → s.inside ≡ st.inside → Has owns inside st → Has owns inside new
+    stays : (owns : List Ownership) (inside : Option SectionView) (s : Stage) → new ≡ s → s.owns ≡ st.owns → s.inside ≡ st.inside → Has owns inside st → Has owns inside new
     stays owns inside s e o i f = (owns_of s e ∙ o ∙ f.0, inside_of s e ∙ i ∙ f.1)
 
     -- a step on the word of the condition variable changes no owner
-    shows_on : (op : Op) (seen : ℕ) (owns : List Ownership) (inside : Option Inside) → Stepped (kinds c) (at c) op seen st new → Has owns inside st → Has owns inside new
+    shows_on : (op : Op) (seen : ℕ) (owns : List Ownership) (inside : Option SectionView) → Stepped (kinds c) (at c) op seen st new → Has owns inside st → Has owns inside new
     shows_on op seen owns inside b f = let e = subst (λ (k : WordKind). Stepped k (at c) op seen st new) words.1 b in stays owns inside _ e.1 refl refl f
 
     -- a look that saw another mutex than this shown, or none
@@ -194,7 +194,7 @@ module _ (up : Type 0) (c m : ℕ) (kinds : ℕ → WordKind) (at : ℕ → ℕ)
         (st.steps, seen, other, ap (λ (s : Stage). s.steps) e.1 ∙ ap (λ (n : ℕ). st.steps ++ step n Load seen) words.2)
 
     -- the owner of a mutex finds it locked
-    found_locked : (seen : ℕ) (owns : List Ownership) → CodesWith kind.Mutex (mutex_at m) seen owns → has (held m) owns ≡ true → seen % 2 ≡ 1
+    found_locked : (seen : ℕ) (owns : List Ownership) → CodesWith kind.Mutex (mutex_at m) seen owns → has (mutex_ownership m) owns ≡ true → seen % 2 ≡ 1
     found_locked seen owns code mine = let some : 0 < owned (mutex_at m) exclusive owns = owned_some (mutex_at m) Exclusive owns mine exclusive (omega arith) in omega (arith, code.1.2, code.2 exclusive, some)
 
     module _ (timed : Bool) (law : MutexPlacesLead up) where
@@ -205,11 +205,11 @@ module _ (up : Type 0) (c m : ℕ) (kinds : ℕ → WordKind) (at : ℕ → ℕ)
       Comes n = ReachedBy up base (of_wait c m timed) (condvar_goes c (in_wait m timed n)) (answer_of (condvar_does c (in_wait m timed n))) new
 
       leaves_mutex : OwnsIt m base × Outside base st → MayStep kind.Mutex (mutex_at m) (Sub 1) st.owns
-      leaves_mutex f = (mutex_steps (mutex_at m) st.owns).leave (subst (λ (o : List Ownership). has (held m) o ≡ true) (sym f.1.0) f.0)
+      leaves_mutex f = (mutex_steps (mutex_at m) st.owns).leave (subst (λ (o : List Ownership). has (mutex_ownership m) o ≡ true) (sym f.1.0) f.0)
 
       wait_needs : (w : WaitAt) → FitsWait up c m timed base w st → ActNeeds kinds at st (wait_act c m w)
       wait_needs wait.Enter f = (tt, f.1.1)
-      wait_needs wait.Show f = may_here (Exchange 0 (m + 1)) st.owns ((condvar_steps (condvar_at c) st.owns).show m (λ e. words.0 (omega (arith, e))) (subst (λ (o : List Ownership). has (held m) o ≡ true) (sym f.1.0) f.0))
+      wait_needs wait.Show f = may_here (Exchange 0 (m + 1)) st.owns ((condvar_steps (condvar_at c) st.owns).show m (λ e. words.0 (omega (arith, e))) (subst (λ (o : List Ownership). has (mutex_ownership m) o ≡ true) (sym f.1.0) f.0))
       wait_needs wait.Stand f = subst (HasKey (2 * c)) (sym f.1.1) refl
       wait_needs wait.Leave f = subst (MayLeave Normal) (sym f.1.1) refl
       wait_needs wait.Refuse f = subst (MayLeave Normal) (sym f.1.1) refl
@@ -232,7 +232,7 @@ module _ (up : Type 0) (c m : ℕ) (kinds : ℕ → WordKind) (at : ℕ → ℕ)
 
       -- a release goes on, or the thread sleeps
       abbrev ReleaseComes : Next UnlockAt → Type 0
-      ReleaseComes n = ReachedBy up (apart m base) (of_mutex m releases) (mutex_goes m (in_unlock n)) (answer_of (mutex_does m (in_unlock n))) new → Comes (At (released stands.Listed (in_unlock n)))
+      ReleaseComes n = ReachedBy up (apart m base) (of_mutex m to_release) (mutex_goes m (in_unlock n)) (answer_of (mutex_does m (in_unlock n))) new → Comes (At (released stands.Listed (in_unlock n)))
 
       release_comes : (n : Next UnlockAt) → ReleaseComes n
       release_comes (At unlock.Subtract) h = absurd h.0
@@ -244,12 +244,12 @@ module _ (up : Type 0) (c m : ℕ) (kinds : ℕ → WordKind) (at : ℕ → ℕ)
 
       -- it locks its mutex again, or has it
       abbrev RelockComes : Bool → Bool → Next LockAt → Type 0
-      RelockComes timed_out retries n = ReachedBy up (apart m base) (of_mutex m (enters entry.Lock)) (mutex_goes m (in_lock entry.Lock retries n)) (answer_of (mutex_does m (in_lock entry.Lock retries n))) new
+      RelockComes timed_out retries n = ReachedBy up (apart m base) (of_mutex m (to_enter entry.Lock)) (mutex_goes m (in_lock entry.Lock retries n)) (answer_of (mutex_does m (in_lock entry.Lock retries n))) new
           → Comes (relocked timed timed_out (in_lock entry.Lock retries n))
 
       relock_comes : (timed_out retries : Bool) (n : Next LockAt) → LateIf up timed timed_out → RelockComes timed_out retries n
       relock_comes timed_out retries (At l) late h = let none = no_end m l in
-          let there = subst (λ (o : Option Answer). ReachedBy up (apart m base) (of_mutex m (enters entry.Lock)) (Mutex m (Lock entry.Lock retries l)) o new) none h in
+          let there = subst (λ (o : Option Answer). ReachedBy up (apart m base) (of_mutex m (to_enter entry.Lock)) (Mutex m (Lock entry.Lock retries l)) o new) none h in
           subst (λ (o : Option Answer). ReachedBy up base (of_wait c m timed) (Condvar c (Wait m timed (wait.Lock timed_out (Lock entry.Lock retries l)))) o new) (sym none) ((late, there.0), refl)
       relock_comes timed_out retries (End answer) late (inl h) = inr (timed_out, refl, late, h.1)
       relock_comes timed_out retries (End answer) late (inr h) = absurd (false≢true h.1.0)
@@ -268,8 +268,8 @@ module _ (up : Type 0) (c m : ℕ) (kinds : ℕ → WordKind) (at : ℕ → ℕ)
           s : Stepped kind.Mutex (mutex_at m) (Sub 1) seen st new
           s = stepped_there (Sub 1) seen st new b
 
-          mine : has (held m) st.owns ≡ true
-          mine = subst (λ (o : List Ownership). has (held m) o ≡ true) (sym f.1.0) f.0
+          mine : has (mutex_ownership m) st.owns ≡ true
+          mine = subst (λ (o : List Ownership). has (mutex_ownership m) o ≡ true) (sym f.1.0) f.0
 
           left : new.owns ≡ apart m st.owns
           left = owns_of _ s.1 ∙ each_code (λ n. n % 2 ≡ 1 → owns_after_step kind.Mutex (mutex_at m) (Sub 1) n st.owns ≡ apart m st.owns)
@@ -287,9 +287,9 @@ module _ (up : Type 0) (c m : ℕ) (kinds : ℕ → WordKind) (at : ℕ → ℕ)
       asleep_on : (s : Stands) → Outside (apart m base) st → (retries : Bool) → (new.owns ≡ st.owns) × (new.inside ≡ None) → FitsWait up c m timed base (wait.Lock false (first_lock retries)) new
       asleep_on s f retries b = (tt, (b.0 ∙ f.0, b.1))
 
-      handed_over : Outside (apart m base) st → (owner : Owner) → owner ≡ Exclusive → new ≡ stage (owning (at m) owner ∷ st.owns) st.inside st.last st.steps → Outside (held m ∷ apart m base) new
+      handed_over : Outside (apart m base) st → (owner : Owner) → owner ≡ Exclusive → new ≡ stage (owning (at m) owner ∷ st.owns) st.inside st.last st.steps → Outside (mutex_ownership m ∷ apart m base) new
       handed_over f owner is e = (
-        owns_of _ e ∙ ap (λ (o : Owner). owning (at m) o ∷ st.owns) is ∙ ap (λ (n : ℕ). owning n Exclusive ∷ st.owns) words.4 ∙ ap (λ (o : List Ownership). held m ∷ o) f.0,
+        owns_of _ e ∙ ap (λ (o : Owner). owning (at m) o ∷ st.owns) is ∙ ap (λ (n : ℕ). owning n Exclusive ∷ st.owns) words.4 ∙ ap (λ (o : List Ownership). mutex_ownership m ∷ o) f.0,
         inside_of _ e ∙ f.1,
       )
 
@@ -359,7 +359,7 @@ module _ (up : Type 0) (c m : ℕ) (kinds : ℕ → WordKind) (at : ℕ → ℕ)
       wait_leads w f reply b = absurd b
 
       -- where it looks at its mutex once more, it has what it had
-      wait_looks : (w : WaitAt) → FitsWait up c m timed base w st → Looks up base (place w) st
+      wait_looks : (w : WaitAt) → FitsWait up c m timed base w st → LooksLeadOn up base (place w) st
       wait_looks (wait.Lock timed_out (Lock entry.Lock retries (lock.Decide expected))) f q is = by_mark _ is
         where
           by_mark : (b : Bool) → in_condvar c (condvar_steps_of.in_lock m timed timed_out (if b then Some (Lock entry.Lock retries lock.Load) else None)) ≡ Some q → Fits up base q st × (call_purpose q ≡ of_wait c m timed)
@@ -380,7 +380,7 @@ module _ (up : Type 0) (c m : ℕ) (kinds : ℕ → WordKind) (at : ℕ → ℕ)
       apart_keys e = words.0 (omega (arith, e))
 
       -- a step on the word of the mutex that changes no owner
-      marks_on : (op : Op) (seen : ℕ) → ((n : ℕ) → n < 4 → owns_after_step kind.Mutex (mutex_at m) op n st.owns ≡ st.owns) → Stepped (kinds m) (at m) op seen st new → Between c m base st → (seen < 4) × Between c m base new
+      marks_on : (op : Op) (seen : ℕ) → ((n : ℕ) → n < 4 → owns_after_step kind.Mutex (mutex_at m) op n st.owns ≡ st.owns) → Stepped (kinds m) (at m) op seen st new → InBothSections c m base st → (seen < 4) × InBothSections c m base new
       marks_on op seen same b f = let s = stepped_there op seen st new b in (s.0.1.0, (owns_of _ s.1 ∙ same seen s.0.1.0 ∙ f.0, inside_of _ s.1 ∙ f.1))
 
       loads : (n : ℕ) → n < 4 → owns_after_step kind.Mutex (mutex_at m) Load n st.owns ≡ st.owns
@@ -400,14 +400,14 @@ module _ (up : Type 0) (c m : ℕ) (kinds : ℕ → WordKind) (at : ℕ → ℕ)
       sets_bit = each_code (λ n. owns_after_step kind.Mutex (mutex_at m) (Or 2) n st.owns ≡ st.owns) refl refl refl refl
 
       -- by the word of the mutex it goes on
-      marked : (seen : ℕ) → seen < 4 → Between c m base new → Notes (At (marks seen))
-      marked = each_code (λ n. Between c m base new → Notes (At (marks n))) (λ f. by_all all f) (λ f. ((inl refl, f), refl)) (λ f. by_all all f) (λ f. ((inr refl, f), refl))
+      marked : (seen : ℕ) → seen < 4 → InBothSections c m base new → Notes (At (marks seen))
+      marked = each_code (λ n. InBothSections c m base new → Notes (At (marks n))) (λ f. by_all all f) (λ f. ((inl refl, f), refl)) (λ f. by_all all f) (λ f. ((inr refl, f), refl))
         where
-          by_all : (a : Bool) → Between c m base new → ReachedBy up base (of_notify c m a) (Condvar c (Notify a m (notify.Move false))) (answer_of (move_act a false c m)) new
+          by_all : (a : Bool) → InBothSections c m base new → ReachedBy up base (of_notify c m a) (Condvar c (Notify a m (notify.Move false))) (answer_of (move_act a false c m)) new
           by_all true f = (f, refl)
           by_all false f = (f, refl)
 
-      move_needs : (a locked : Bool) → Between c m base st → ActNeeds kinds at st (move_act a locked c m)
+      move_needs : (a locked : Bool) → InBothSections c m base st → ActNeeds kinds at st (move_act a locked c m)
       move_needs true locked f = (subst (HasKey (2 * c)) (sym f.1) (inl refl), subst (HasKey (2 * m)) (sym f.1) (inr refl), apart_keys, subst IsFresh (sym f.1) refl)
       move_needs false true f = (subst (HasKey (2 * c)) (sym f.1) (inl refl), subst (HasKey (2 * m)) (sym f.1) (inr refl), apart_keys, subst IsFresh (sym f.1) refl)
       move_needs false false f = (subst (HasKey (2 * c)) (sym f.1) (inl refl), subst IsFresh (sym f.1) refl)
@@ -432,29 +432,29 @@ module _ (up : Type 0) (c m : ℕ) (kinds : ℕ → WordKind) (at : ℕ → ℕ)
       -- it has moved waiters, and took one of them or none
       moved_so : (a : Bool) (number : ℕ) (locked : Bool) (waiters : List Waiter) (moved : ℕ) → new.owns ≡ base
           → new.inside ≡ Some (record (having_taken (Two (2 * c) (2 * m)) (move_did a locked c m) waiters (threads_of waiters)) { moved = moved })
-          → TellsNumber a number (length (threads_of waiters) + moved) → HasMoved c m a number base new
+          → TellsNumber a number (length (threads_of waiters) + moved) → HasMovedInSection c m a number base new
       moved_so a number locked waiters moved o i t = (o, locked, waiters, moved, i, t)
 
       listed_number : (first : Option Waiter) → length (threads_of (listed first)) ≡ length (listed first)
       listed_number None = refl
       listed_number (Some w) = refl
 
-      keeps_moved : (number : ℕ) → HasMoved c m all number base st → new.owns ≡ st.owns → new.inside ≡ st.inside → HasMoved c m all number base new
+      keeps_moved : (number : ℕ) → HasMovedInSection c m all number base st → new.owns ≡ st.owns → new.inside ≡ st.inside → HasMovedInSection c m all number base new
       keeps_moved number f o i = (o ∙ f.0, f.1, f.2, f.3, i ∙ f.4, f.5)
 
       -- where all were moved, or the first
-      after_all : (locked : Bool) (number : ℕ) → HasMoved c m true number base new → (b : Bool) → ReachedBy up base (of_notify c m true) (Condvar c (Notify true m (if b then notify.MarkMoved number else notify.Leave (not locked) number))) (answer_of (notify_act true c m (if b then notify.MarkMoved number else notify.Leave (not locked) number))) new
+      after_all : (locked : Bool) (number : ℕ) → HasMovedInSection c m true number base new → (b : Bool) → ReachedBy up base (of_notify c m true) (Condvar c (Notify true m (if b then notify.MarkMoved number else notify.Leave (not locked) number))) (answer_of (notify_act true c m (if b then notify.MarkMoved number else notify.Leave (not locked) number))) new
       after_all locked number h true = (h, refl)
       after_all locked number h false = (inr h, refl)
 
-      after_one : (any : Bool) → HasMoved c m false 1 base new → (b : Bool) → ReachedBy up base (of_notify c m false) (Condvar c (Notify false m (if b then notify.Clear any else notify.Leave any 1))) (answer_of (notify_act false c m (if b then notify.Clear any else notify.Leave any 1))) new
+      after_one : (any : Bool) → HasMovedInSection c m false 1 base new → (b : Bool) → ReachedBy up base (of_notify c m false) (Condvar c (Notify false m (if b then notify.Clear any else notify.Leave any 1))) (answer_of (notify_act false c m (if b then notify.Clear any else notify.Leave any 1))) new
       after_one any h true = ((refl, h), refl)
       after_one any h false = (inr h, refl)
 
-      requeues : (a locked : Bool) (from to : ℕ) (how : Requeue) (number : ℕ) (left : Bool) → did.Requeue from to how ≡ move_did a locked c m → Between c m base st
-          → Became up kinds at (sleeper_at (Condvar c (Notify a m (notify.Move locked)))) st (act.TheVariants.Requeue from to how) (Requeued number left) new → (t : ℕ) → TellsNumber a t number → HasMoved c m a t base new
+      requeues : (a locked : Bool) (from to : ℕ) (how : Requeue) (number : ℕ) (left : Bool) → did.Requeue from to how ≡ move_did a locked c m → InBothSections c m base st
+          → Became up kinds at (sleeper_at (Condvar c (Notify a m (notify.Move locked)))) st (act.TheVariants.Requeue from to how) (Requeued number left) new → (t : ℕ) → TellsNumber a t number → HasMovedInSection c m a t base new
       requeues a locked from to how number left same f b t tells = moved_so a t locked (listed b.0) b.1 (owns_of _ b.3 ∙ f.0)
-          (inside_of _ b.3 ∙ ap (λ (i : Option Inside). moving b.1 (took_as (did.Requeue from to how) (listed b.0) i)) f.1 ∙ ap (λ (d : Did). Some (record (having_taken (Two (2 * c) (2 * m)) d (listed b.0) (threads_of (listed b.0))) { moved = b.1 })) same)
+          (inside_of _ b.3 ∙ ap (λ (i : Option SectionView). with_moved b.1 (took_as (did.Requeue from to how) (listed b.0) i)) f.1 ∙ ap (λ (d : Did). Some (record (having_taken (Two (2 * c) (2 * m)) d (listed b.0) (threads_of (listed b.0))) { moved = b.1 })) same)
           (by_kind a tells)
         where
           sum : number ≡ length (threads_of (listed b.0)) + b.1
@@ -464,7 +464,7 @@ module _ (up : Type 0) (c m : ℕ) (kinds : ℕ → WordKind) (at : ℕ → ℕ)
           by_kind true e = e ∙ sum
           by_kind false e = e
 
-      move_leads : (a locked : Bool) → Between c m base st → (reply : Reply) → Became up kinds at (sleeper_at (Condvar c (Notify a m (notify.Move locked)))) st (move_act a locked c m) reply new → Reached up base (Condvar c (Notify a m (notify.Move locked))) reply new
+      move_leads : (a locked : Bool) → InBothSections c m base st → (reply : Reply) → Became up kinds at (sleeper_at (Condvar c (Notify a m (notify.Move locked)))) st (move_act a locked c m) reply new → Reached up base (Condvar c (Notify a m (notify.Move locked))) reply new
       move_leads true true f (Requeued number left) b = after_all true number (requeues true true _ _ _ number left refl f b number refl) (not true && nat_lt 1 number)
       move_leads true false f (Requeued number left) b = after_all false number (requeues true false _ _ _ number left refl f b number refl) (not false && nat_lt 1 number)
       move_leads false true f (Requeued number left) b = after_one false (requeues false true _ _ _ number left refl f b 1 refl) left
@@ -475,11 +475,11 @@ module _ (up : Type 0) (c m : ℕ) (kinds : ℕ → WordKind) (at : ℕ → ℕ)
       move_leads false false f reply b = absurd b.0
 
       leave_leads : (a any : Bool) (number : ℕ) → FitsNotify c m a base (notify.Leave any number) st → (new.owns ≡ st.owns) × (new.inside ≡ None) × IsLeft st.inside new.last × (new.steps ≡ st.steps) → IsNotifyOver c m a base (notified a number) new
-      leave_leads a any number (inl f) b = ((b.0 ∙ f.1.0, b.1), inl (ap (notified a) f.0, subst (λ (i : Option Inside). IsLeft i new.last) f.1.1 b.2, subst (SawElse c m) (sym b.3) f.2))
-      leave_leads true any number (inr f) b = ((b.0 ∙ f.0, b.1), inr (f.1, number, refl, subst (λ (i : Option Inside). IsLeft i new.last) f.4 b.2 ∙ ap (λ (k : ℕ). Some (record { key = 2 * c; did = move_did true f.1 c m; number = k })) (sym f.5)))
-      leave_leads false any number (inr f) b = ((b.0 ∙ f.0, b.1), inr (f.1, length (threads_of f.2) + f.3, ap (notified false) f.5, subst (λ (i : Option Inside). IsLeft i new.last) f.4 b.2))
+      leave_leads a any number (inl f) b = ((b.0 ∙ f.1.0, b.1), inl (ap (notified a) f.0, subst (λ (i : Option SectionView). IsLeft i new.last) f.1.1 b.2, subst (SawElse c m) (sym b.3) f.2))
+      leave_leads true any number (inr f) b = ((b.0 ∙ f.0, b.1), inr (f.1, number, refl, subst (λ (i : Option SectionView). IsLeft i new.last) f.4 b.2 ∙ ap (λ (k : ℕ). Some (record { key = 2 * c; did = move_did true f.1 c m; number = k })) (sym f.5)))
+      leave_leads false any number (inr f) b = ((b.0 ∙ f.0, b.1), inr (f.1, length (threads_of f.2) + f.3, ap (notified false) f.5, subst (λ (i : Option SectionView). IsLeft i new.last) f.4 b.2))
 
-      again : (b e : Bool) → (b ≡ true → SawElse c m new.steps) → Between c m base new → ReachedBy up base (of_notify c m all) (Condvar c (Notify all m (if b then notify.Leave false 0 else if e then notify.Hide else notify.Mark))) (answer_of (notify_act all c m (if b then notify.Leave false 0 else if e then notify.Hide else notify.Mark))) new
+      again : (b e : Bool) → (b ≡ true → SawElse c m new.steps) → InBothSections c m base new → ReachedBy up base (of_notify c m all) (Condvar c (Notify all m (if b then notify.Leave false 0 else if e then notify.Hide else notify.Mark))) (answer_of (notify_act all c m (if b then notify.Leave false 0 else if e then notify.Hide else notify.Mark))) new
       again true e saw f = (inl (refl, f, saw refl), refl)
       again false true saw f = (f, refl)
       again false false saw f = (f, refl)
@@ -495,7 +495,7 @@ module _ (up : Type 0) (c m : ℕ) (kinds : ℕ → WordKind) (at : ℕ → ℕ)
       notify_leads notify.Mark f (Value seen) b = let k = marks_on Load seen loads b f in marked seen k.0 k.1
       notify_leads (notify.Set expected) f (Value seen) b = by_bit (seen == expected)
         where
-          k : (seen < 4) × Between c m base new
+          k : (seen < 4) × InBothSections c m base new
           k = marks_on (Exchange expected 3) seen (sets expected f.0) b f.1
 
           all_moves : (a : Bool) → ReachedBy up base (of_notify c m a) (Condvar c (Notify a m (notify.Move true))) (answer_of (move_act a true c m)) new
@@ -507,14 +507,14 @@ module _ (up : Type 0) (c m : ℕ) (kinds : ℕ → WordKind) (at : ℕ → ℕ)
           by_bit false = marked seen k.0 k.1
       notify_leads (notify.Move locked) f reply b = move_leads all locked f reply b
       notify_leads (notify.Clear any) f (Value seen) b = let e = subst (λ (k : WordKind). Stepped k (at c) (Store 0) seen st new) words.1 b in
-          (inr (subst (λ (a : Bool). HasMoved c m all 1 base new) f.0 (keeps_moved 1 f.1 (owns_of _ e.1) (inside_of _ e.1))), refl)
+          (inr (subst (λ (a : Bool). HasMovedInSection c m all 1 base new) f.0 (keeps_moved 1 f.1 (owns_of _ e.1) (inside_of _ e.1))), refl)
       notify_leads (notify.MarkMoved number) f (Value seen) b = let s = stepped_there (Or 2) seen st new b in (inr (keeps_moved number f (owns_of _ s.1 ∙ sets_bit seen s.0.1.0) (inside_of _ s.1)), refl)
       notify_leads (notify.Leave any number) f Done b = leave_leads all any number f b
       notify_leads n f reply b = absurd b
 
 -- each place of a condition variable's call leads on
-pub condvar_place_leads : (up : Type 0) → MutexPlacesLead up → (l : ℕ) (kinds : ℕ → WordKind) (at : ℕ → ℕ) (base : List Ownership) (p : CondvarPlace) (st : Stage) → AreWordsBeside l (mutex_beside p) kinds at → FitsCondvar up l base p st →
-    ActNeeds kinds at st (condvar_act l p) × Looks up base (Condvar l p) st
+pub condvar_place_leads : (up : Type 0) → MutexPlacesLead up → (l : ℕ) (kinds : ℕ → WordKind) (at : ℕ → ℕ) (base : List Ownership) (p : CondvarPlace) (st : Stage) → AreWordsBeside l (mutex_beside p) kinds at → FitsCondvarCall up l base p st →
+    ActNeeds kinds at st (condvar_act l p) × LooksLeadOn up base (Condvar l p) st
     × ((reply : Reply) (new : Stage) → Became up kinds at (sleeper_at (Condvar l p)) st (condvar_act l p) reply new → Reached up base (Condvar l p) reply new)
 condvar_place_leads up law l kinds at base (Wait m timed w) st words f = (wait_needs up l m kinds at words base st st timed law w f, wait_looks up l m kinds at words base st st timed law w f, λ reply new. wait_leads up l m kinds at words base st new timed law w f reply)
 condvar_place_leads up law l kinds at base (Look all) st words f = absurd f

@@ -37,11 +37,11 @@ use Rattle.core_words.specs.declared.words.WordKind.{WordKind}
 use Rattle.core_words.specs.declared.words.WordKind as kinds
 use Rattle.core_words.proofs.MutexSteps.{mutex_steps, each_code}
 use Rattle.parking_lot_core.specs.declared.tokens.Did.TheVariants.{TakeFirst}
-use Rattle.run_base.specs.Fitting.{AreWordsFor, Fits, PlacesLead, Looks, Reached, call_purpose, sleeper_at}
-use Rattle.run_base.specs.MutexFitting.{FitsLock, FitsUnlock, FitsMutex, Within, Outside, beside, held}
+use Rattle.run_base.specs.Fitting.{AreWordsFor, Fits, PlacesLead, LooksLeadOn, Reached, call_purpose, sleeper_at}
+use Rattle.run_base.specs.MutexFitting.{FitsLock, FitsUnlock, FitsMutex, Within, Outside, beside, mutex_ownership}
 use Rattle.run_base.specs.Paths.{GoesFrom, mutex_at, mutexes, at_mutex, rwlocks, at_rwlock, onces, at_once, semaphores, at_semaphore}
 use Rattle.run_base.specs.declared.sleepers.Sleeper.{Sleeper}
-use Rattle.run_base.specs.Stages.{Stage, Inside, ActNeeds, Became, HasKey, IsFresh, MayLeave, IsLeft, took_as, listed, entered_now, stage, stepped}
+use Rattle.run_base.specs.Stages.{Stage, SectionView, ActNeeds, Became, HasKey, IsFresh, MayLeave, IsLeft, took_as, listed, entered_now, stage, stepped}
 use Rattle.run_base.proofs.HandingOver.{hand_off_needs, hand_off_leads}
 use Rattle.run_base.proofs.CondvarLeading.{condvar_place_leads}
 use Rattle.run_base.proofs.Leaving.{has_done}
@@ -116,7 +116,7 @@ module _ (up : Type 0) (n : ℕ) (base : List Ownership) (st : Stage) where
     inside_of s e = ap (λ (x : Stage). x.inside) e
 
     -- it is where it was, after a step on the word that changes no owner
-    stays : (owns : List Ownership) (inside : Option Inside) (s : Stage) → new ≡ s → s.owns ≡ st.owns → s.inside ≡ st.inside → (st.owns ≡ owns) × (st.inside ≡ inside) → (new.owns ≡ owns) × (new.inside ≡ inside)
+    stays : (owns : List Ownership) (inside : Option SectionView) (s : Stage) → new ≡ s → s.owns ≡ st.owns → s.inside ≡ st.inside → (st.owns ≡ owns) × (st.inside ≡ inside) → (new.owns ≡ owns) × (new.inside ≡ inside)
     stays owns inside s e o i f = (owns_of s e ∙ o ∙ f.0, inside_of s e ∙ i ∙ f.1)
 
     module _ (e : Entry) (retries : Bool) where
@@ -133,8 +133,8 @@ module _ (up : Type 0) (n : ℕ) (base : List Ownership) (st : Stage) where
       outside_still : Outside rest st → (s : Stage) → new ≡ s → s.owns ≡ st.owns → s.inside ≡ st.inside → Outside rest new
       outside_still f s x o i = stays rest None s x o i f
 
-      has_it : Outside rest st → (s : Stage) → new ≡ s → s.owns ≡ held n ∷ st.owns → s.inside ≡ st.inside → Outside (held n ∷ rest) new
-      has_it f s x o i = (owns_of s x ∙ o ∙ ap (λ (o : List Ownership). held n ∷ o) f.0, inside_of s x ∙ i ∙ f.1)
+      has_it : Outside rest st → (s : Stage) → new ≡ s → s.owns ≡ mutex_ownership n ∷ st.owns → s.inside ≡ st.inside → Outside (mutex_ownership n ∷ rest) new
+      has_it f s x o i = (owns_of s x ∙ o ∙ ap (λ (o : List Ownership). mutex_ownership n ∷ o) f.0, inside_of s x ∙ i ∙ f.1)
 
       from_first : Outside rest st → (seen : ℕ) → seen < 4 → Saw lock.TheVariants.First (Exchange 0 1) seen
       from_first f = each_code (Saw lock.TheVariants.First (Exchange 0 1))
@@ -196,7 +196,7 @@ module _ (up : Type 0) (n : ℕ) (base : List Ownership) (st : Stage) where
       lock_leads lock.TheVariants.Remove f (Removed true) b = ((f.0, stays rest _ _ b refl refl f.1), refl)
       lock_leads lock.TheVariants.Remove f (Removed false) b = ((f.0, stays rest _ _ b refl refl f.1), refl)
       lock_leads lock.TheVariants.Clear f (Value seen) b = ((f.0, stays rest _ _ b.1 (clear_quiet seen b.0.1.0) refl f.1), refl)
-      lock_leads lock.TheVariants.GiveUp f Done b = inr (refl, f.0, (b.0 ∙ f.1.0, b.1), subst (λ (i : Option Inside). IsLeft i new.last) f.1.1 b.2)
+      lock_leads lock.TheVariants.GiveUp f Done b = inr (refl, f.0, (b.0 ∙ f.1.0, b.1), subst (λ (i : Option SectionView). IsLeft i new.last) f.1.1 b.2)
       lock_leads lock.TheVariants.Accept f Done b = inl (refl, (owns_of _ b ∙ f.0, inside_of _ b ∙ f.1))
       lock_leads (lock.TheVariants.Taken by) f reply b = absurd f
       lock_leads (lock.TheVariants.Handed by) f reply b = absurd f
@@ -220,7 +220,7 @@ module _ (up : Type 0) (n : ℕ) (base : List Ownership) (st : Stage) where
     leads at f = absurd f
 
   -- where it looks at the word once more, it has what it had
-  looks : (at : MutexPlace) → FitsMutex up n base at st → Looks up base (Mutex n at) st
+  looks : (at : MutexPlace) → FitsMutex up n base at st → LooksLeadOn up base (Mutex n at) st
   looks (at_mutex_place.Lock e retries (lock.TheVariants.Decide expected)) f q is = by_mark _ is
     where
       by_mark : (b : Bool) → in_mutex n (if b then Some (at_mutex_place.Lock e retries lock.TheVariants.Load) else None) ≡ Some q → Fits up base q st × (call_purpose q ≡ call_purpose (Mutex n (at_mutex_place.Lock e retries (lock.TheVariants.Decide expected))))
@@ -230,7 +230,7 @@ module _ (up : Type 0) (n : ℕ) (base : List Ownership) (st : Stage) where
 
 -- the words of a call of a mutex are that one alone
 mutex_place_leads : (up : Type 0) (n : ℕ) (base : List Ownership) (at : MutexPlace) (st : Stage) → FitsMutex up n base at st →
-    ActNeeds mutexes (at_mutex n) st (mutex_act n at) × Looks up base (Mutex n at) st
+    ActNeeds mutexes (at_mutex n) st (mutex_act n at) × LooksLeadOn up base (Mutex n at) st
     × ((reply : Reply) (new : Stage) → Became up mutexes (at_mutex n) (sleeper_at (Mutex n at)) st (mutex_act n at) reply new → Reached up base (Mutex n at) reply new)
 mutex_place_leads up n base at st f = (needs up n base st at f, looks up n base st at f, λ reply new. leads up n base st new at f reply)
 
@@ -240,19 +240,19 @@ both_words kinds at kinds2 at2 a b = ap (λ (k : ℕ → WordKind). (k, at)) a �
 pub places_lead : (up : Type 0) → PlacesLead up
 places_lead up kinds at base Idle st words f = absurd f
 places_lead up kinds at base (RwLock n a c) st words f =
-    subst (λ (k : (ℕ → WordKind) × (ℕ → ℕ)). ActNeeds k.0 k.1 st (call_act n a c) × Looks up base (RwLock n a c) st
+    subst (λ (k : (ℕ → WordKind) × (ℕ → ℕ)). ActNeeds k.0 k.1 st (call_act n a c) × LooksLeadOn up base (RwLock n a c) st
     × ((reply : Reply) (new : Stage) → Became up k.0 k.1 (sleeper_at (RwLock n a c)) st (call_act n a c) reply new → Reached up base (RwLock n a c) reply new))
     (sym (both_words kinds at rwlocks (at_rwlock n) words.1 words.2)) (rwlock_place_leads up n a base c st f)
 places_lead up kinds at base (Once n p) st words f =
-    subst (λ (k : (ℕ → WordKind) × (ℕ → ℕ)). ActNeeds k.0 k.1 st (once_act n p) × Looks up base (Once n p) st
+    subst (λ (k : (ℕ → WordKind) × (ℕ → ℕ)). ActNeeds k.0 k.1 st (once_act n p) × LooksLeadOn up base (Once n p) st
     × ((reply : Reply) (new : Stage) → Became up k.0 k.1 (sleeper_at (Once n p)) st (once_act n p) reply new → Reached up base (Once n p) reply new))
     (sym (both_words kinds at onces (at_once n) words.1 words.2)) (once_place_leads up n base p st f)
 places_lead up kinds at base (Mutex n p) st words f =
-    subst (λ (k : (ℕ → WordKind) × (ℕ → ℕ)). ActNeeds k.0 k.1 st (mutex_act n p) × Looks up base (Mutex n p) st
+    subst (λ (k : (ℕ → WordKind) × (ℕ → ℕ)). ActNeeds k.0 k.1 st (mutex_act n p) × LooksLeadOn up base (Mutex n p) st
     × ((reply : Reply) (new : Stage) → Became up k.0 k.1 (sleeper_at (Mutex n p)) st (mutex_act n p) reply new → Reached up base (Mutex n p) reply new))
     (sym (both_words kinds at mutexes (at_mutex n) words.1 words.2)) (mutex_place_leads up n base p st f)
 places_lead up kinds at base (Semaphore n p) st words f =
-    subst (λ (k : (ℕ → WordKind) × (ℕ → ℕ)). ActNeeds k.0 k.1 st (semaphore_act n p) × Looks up base (Semaphore n p) st
+    subst (λ (k : (ℕ → WordKind) × (ℕ → ℕ)). ActNeeds k.0 k.1 st (semaphore_act n p) × LooksLeadOn up base (Semaphore n p) st
     × ((reply : Reply) (new : Stage) → Became up k.0 k.1 (sleeper_at (Semaphore n p)) st (semaphore_act n p) reply new → Reached up base (Semaphore n p) reply new))
     (sym (both_words kinds at (semaphores words.1.0) (at_semaphore n) words.1.1 words.2)) (semaphore_place_leads up words.1.0 n base p st f)
 places_lead up kinds at base (Condvar n p) st words f = condvar_place_leads up (mutex_place_leads up) n kinds at base p st words.1 f

@@ -33,11 +33,11 @@ use Rattle.core_words.specs.declared.owners.Ownership.{Ownership}
 use Rattle.core_words.specs.declared.words.WordKind as kinds
 use Rattle.core_words.proofs.OnceSteps.{each_once_code, once_steps}
 use Rattle.parking_lot_core.specs.declared.tokens.Did.TheVariants.{TakeAll}
-use Rattle.run_base.specs.Fitting.{Fits, Looks, Reached, ReachedBy, call_purpose, answer_of, of_once, sleeper_at}
+use Rattle.run_base.specs.Fitting.{Fits, LooksLeadOn, Reached, ReachedBy, call_purpose, answer_of, of_once, sleeper_at}
 use Rattle.run_base.specs.OnceFitting.{FitsLook, FitsOnce, FitsRun, OwnsBehind, StandsOutside, StandsWithin, goes_on, knowing}
 use Rattle.run_base.specs.Paths.{once_at, onces, at_once, step}
 use Rattle.core_words.specs.declared.views.WordStep.{WordStep}
-use Rattle.run_base.specs.Stages.{Stage, Inside, ActNeeds, Became, HasKey, IsFresh, IsLeft, MayLeave, entered_now, stage, stepped, took_as}
+use Rattle.run_base.specs.Stages.{Stage, SectionView, ActNeeds, Became, HasKey, IsFresh, IsLeft, MayLeave, entered_now, stage, stepped, took_as}
 use Rattle.run_base.proofs.Leaving.{has_done}
 
 module _ (l : ℕ) (base : List Ownership) (st : Stage) where
@@ -236,7 +236,7 @@ module _ (l : ℕ) (base : List Ownership) (st : Stage) where
     give_up_leads r give_up.Remove f (Removed true) b = ((f.0, subst (StandsWithin l base) (sym b) f.1), refl)
     give_up_leads r give_up.Remove f (Removed false) b = ((f.0, subst (StandsWithin l base) (sym b) f.1), refl)
     give_up_leads r give_up.Clear f (Value seen) b = ((f.0, clears f.1 seen b.0.1.0 b.1), refl)
-    give_up_leads r give_up.Leave f Done b = (b.1, (refl, f.0, (f.1.0.0, b.0 ∙ f.1.0.1), subst (λ (i : Option Inside). IsLeft i new.last) f.1.1 b.2))
+    give_up_leads r give_up.Leave f Done b = (b.1, (refl, f.0, (f.1.0.0, b.0 ∙ f.1.0.1), subst (λ (i : Option SectionView). IsLeft i new.last) f.1.1 b.2))
     give_up_leads r at f reply b = absurd b
 
     leads : (at : OncePlace) → FitsOnce up l base at st → (reply : Reply) → Became up onces (at_once l) (sleeper_at (Once l at)) st (once_act l at) reply new → Reached up base (Once l at) reply new
@@ -245,7 +245,7 @@ module _ (l : ℕ) (base : List Ownership) (st : Stage) where
     leads (GiveUp r at) f = give_up_leads r at f
 
   -- where it looks at the word once more, it has what it had
-  looks : (up : Type 0) (at : OncePlace) → FitsOnce up l base at st → Looks up base (Once l at) st
+  looks : (up : Type 0) (at : OncePlace) → FitsOnce up l base at st → LooksLeadOn up base (Once l at) st
   looks up (Look c r (look.Decide seen)) f q is = by_mark _ is
     where
       by_mark : (b : Bool) → in_once l (if b then Some (Look c r look.Load) else None) ≡ Some q → Fits up base q st × (call_purpose q ≡ of_once l c)
@@ -255,6 +255,6 @@ module _ (l : ℕ) (base : List Ownership) (st : Stage) where
 
 -- the words of a call of a `Once` are that one alone
 pub once_place_leads : (up : Type 0) (l : ℕ) (base : List Ownership) (at : OncePlace) (st : Stage) → FitsOnce up l base at st →
-    ActNeeds onces (at_once l) st (once_act l at) × Looks up base (Once l at) st
+    ActNeeds onces (at_once l) st (once_act l at) × LooksLeadOn up base (Once l at) st
     × ((reply : Reply) (new : Stage) → Became up onces (at_once l) (sleeper_at (Once l at)) st (once_act l at) reply new → Reached up base (Once l at) reply new)
 once_place_leads up l base at st f = (needs l base st up at f, looks l base st up at f, λ reply new. leads l base st up new at f reply)

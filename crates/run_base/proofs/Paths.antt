@@ -9,7 +9,7 @@ use Rattle.steps_base.specs.declared.acts.Act as act
 use Rattle.steps_base.specs.declared.acts.Reply.{Reply}
 use Rattle.spec_locks.specs.declared.outcomes.Answer.{Answer}
 use Rattle.lot_steps.specs.declared.places.Place.{Place}
-use Rattle.run_base.specs.Paths.{Brings, Path, GoesFrom, Rests, here, on, looks, Walks, step, word}
+use Rattle.run_base.specs.Paths.{Brings, Path, GoesFrom, WalksAfterReply, here, on, looks, Walks, step, word}
 
 -- a path so far, of the steps that were added to a list
 abbrev pub Comes : (ℕ → ℕ) → Place → List WordStep → List WordStep → Place → Type 0
@@ -62,6 +62,6 @@ pub goes_on : (at : ℕ → ℕ) (p : Place) (l : ℕ) (op : Op) (seen : ℕ) (o
 goes_on at p l op seen old mid new answer is e rest = walks_on at p (next_place p (Value seen)) old mid new answer (comes_on at p p (next_place p (Value seen)) old old mid (Value seen) (step (at l) op seen) (comes_here at p old) e (word p l op seen is) refl) rest
 
 -- a step, and what is left of the call behind it
-pub rests : (at : ℕ → ℕ) (p : Place) (l : ℕ) (op : Op) (seen : ℕ) (old mid new : List WordStep) (answer : Answer) → act_of p ≡ act.TheVariants.Word l op → mid ≡ old ++ step (at l) op seen → Rests at p (Value seen) mid new answer → Walks at p old new answer
+pub rests : (at : ℕ → ℕ) (p : Place) (l : ℕ) (op : Op) (seen : ℕ) (old mid new : List WordStep) (answer : Answer) → act_of p ≡ act.TheVariants.Word l op → mid ≡ old ++ step (at l) op seen → WalksAfterReply at p (Value seen) mid new answer → Walks at p old new answer
 rests at p l op seen old mid new answer is e (inl ended) = ends_at_once at p l op seen old new answer is (ended.0 ∙ e) ended.1
 rests at p l op seen old mid new answer is e (inr rest) = goes_on at p l op seen old mid new answer is e rest

@@ -44,7 +44,7 @@ use Rattle.core_words.proofs.RwLockOwning.{downgraded, downgraded_to_upgradable,
 use Rattle.lot_steps.specs.Steps.{act_of}
 use Rattle.run_base.specs.Paths.{rwlock_at}
 use Rattle.run_base.specs.RwLockCalls.{AnswersCall, BeginsWith, first_op, rwlock_begin}
-use Rattle.run_base.specs.RwLockFitting.{Answers, FitsRwLock, HasGivenWay, HasSeen, HasStood, IsWithin, IsBeside, OwnsBeside, OwnsRight}
+use Rattle.run_base.specs.RwLockFitting.{Answers, FitsRwLock, HasGivenWay, SeenInRange, HasStood, IsWithin, IsBeside, OwnsBeside, OwnsRight}
 use Rattle.run_base.specs.Stages.{Stage, Stepped}
 use Rattle.run_base.proofs.RwLockLeads.{Comes, Kept, leads_at}
 use Rattle.run_base.proofs.RwLockNeeds.{has_right}
@@ -136,7 +136,7 @@ module _ (up : Type 0) (l : ℕ) (a : Admission) (base : List Ownership) (st new
 
   module _ (room : a.limit < 2 ^ 60 - 1) where
     -- a call that enters, or tries to upgrade, begins at a place that fits
-    fits_first : (c : RwLockPurpose) → HasGivenWay (rwlock_first c).at → HasSeen (rwlock_first c).at → HasStood l (rwlock_first c).at st.steps → (rwlock_role (rwlock_first c)).inside ≡ None → ((rwlock_profile a (rwlock_first c)).late ≡ true → up) → BeginsWith l c base st.owns → FitsRwLock up l base a (rwlock_first c) st
+    fits_first : (c : RwLockPurpose) → HasGivenWay (rwlock_first c).at → SeenInRange (rwlock_first c).at → HasStood l (rwlock_first c).at st.steps → (rwlock_role (rwlock_first c)).inside ≡ None → ((rwlock_profile a (rwlock_first c)).late ≡ true → up) → BeginsWith l c base st.owns → FitsRwLock up l base a (rwlock_first c) st
     fits_first c begun seen stood inside late owns = record {
       stands = (rwlock_calls_open a c).stands;
       room = room;

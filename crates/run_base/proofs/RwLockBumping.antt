@@ -37,7 +37,7 @@ use Rattle.steps_rwlock_fair.specs.declared.places.RwLockCallPlace.{RwLockCallPl
 use Rattle.steps_rwlock_fair.specs.FairProfiles.{in_call}
 use Rattle.steps_rwlock_fair.specs.FairSteps.{call_act, call_next, given, unless_given}
 use Rattle.core_words.specs.declared.owners.Ownership.{Ownership}
-use Rattle.run_base.specs.Fitting.{Fits, Looks, Reached, ReachedBy, call_purpose, answer_of, of_rwlock, sleeper_at}
+use Rattle.run_base.specs.Fitting.{Fits, LooksLeadOn, Reached, ReachedBy, call_purpose, answer_of, of_rwlock, sleeper_at}
 use Rattle.run_base.specs.Paths.{rwlock_at, rwlocks, at_rwlock}
 use Rattle.run_base.specs.RwLockFitting.{IsBeside, FitsCall, FitsRwLock, HasGivenWay}
 use Rattle.run_base.specs.Stages.{Stage, ActNeeds, Became}
@@ -54,7 +54,7 @@ module _ (up : Type 0) (l : ℕ) (a : Admission) (base : List Ownership) where
       by_place to begun = f
 
   abbrev Leads : RwLockCallPlace → Stage → Type 0
-  Leads c st = ActNeeds rwlocks (at_rwlock l) st (call_act l a c) × Looks up base (RwLock l a c) st
+  Leads c st = ActNeeds rwlocks (at_rwlock l) st (call_act l a c) × LooksLeadOn up base (RwLock l a c) st
       × ((reply : Reply) (new : Stage) → Became up rwlocks (at_rwlock l) (sleeper_at (RwLock l a c)) st (call_act l a c) reply new → Reached up base (RwLock l a c) reply new)
 
   abbrev Goes : Stage → RwLockPurpose → Next RwLockPlace → Type 0
@@ -70,7 +70,7 @@ module _ (up : Type 0) (l : ℕ) (a : Admission) (base : List Ownership) where
   enters_on new room none beside = (tt, enters_fit up l a base room true new new access.Shared beside none)
 
   module _ (p : RwLockPlace) (st : Stage) (of : IsOfBump p.purpose p.retries) (f : FitsRwLock up l base a p st) where
-    looks_on : Looks up base (RwLock l a (Bump p)) st
+    looks_on : LooksLeadOn up base (RwLock l a (Bump p)) st
     looks_on r is = by_place (rwlock_looking a p) refl is
       where
         there : (p2 : RwLockPlace) → rwlock_looking a p ≡ Some p2 → Fits up base (RwLock l a (Bump p2)) st × (call_purpose (RwLock l a (Bump p2)) ≡ call_purpose (RwLock l a (Bump p)))
@@ -126,7 +126,7 @@ module _ (up : Type 0) (l : ℕ) (a : Admission) (base : List Ownership) where
     giving_on = (may_begin l (purpose.Release access.Shared) base st.owns right, (λ r is. absurd cc), giving_leads)
 
   -- each place of it
-  pub bump_leads : (p : RwLockPlace) (st : Stage) → FitsCall up l base a (Bump p) st → ActNeeds rwlocks (at_rwlock l) st (rwlock_act l a p) × Looks up base (RwLock l a (Bump p)) st
+  pub bump_leads : (p : RwLockPlace) (st : Stage) → FitsCall up l base a (Bump p) st → ActNeeds rwlocks (at_rwlock l) st (rwlock_act l a p) × LooksLeadOn up base (RwLock l a (Bump p)) st
       × ((reply : Reply) (new : Stage) → Became up rwlocks (at_rwlock l) (sleeper_at (RwLock l a (Bump p))) st (rwlock_act l a p) reply new → Reached up base (RwLock l a (Bump p)) reply new)
   bump_leads p st f = by_place p.at refl f.1
     where

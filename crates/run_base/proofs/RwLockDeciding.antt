@@ -8,11 +8,11 @@ use Rattle.spec_locks.specs.declared.calls.Patience.TheVariants.{Patient, Timed,
 use Rattle.spec_locks.specs.declared.outcomes.Answer.{Answer}
 use Rattle.spec_locks.specs.declared.outcomes.Answer.TheVariants.{No, ReadersFull}
 use Rattle.spec_locks.specs.Codes.{count_in, has_aside, has_parked, is_blocked}
-use Rattle.steps_rwlock.specs.RwLockSteps.{is_counted, waits, decision_blocked, decision, plus}
+use Rattle.steps_rwlock.specs.RwLockSteps.{is_counted, park_or_mark, decision_blocked, decision, plus}
 use Rattle.steps_rwlock.specs.declared.enter.Decision.TheVariants as decisions
 use Rattle.steps_rwlock.specs.declared.places.Admission.{Admission}
 
-takes_no : (b : Bool) → waits b ≡ decisions.Take → ⊥
+takes_no : (b : Bool) → park_or_mark b ≡ decisions.Take → ⊥
 takes_no true e = cc
 takes_no false e = cc
 
@@ -21,7 +21,7 @@ blocked_takes_no Try v e = cc
 blocked_takes_no Patient v e = takes_no (has_parked v) e
 blocked_takes_no Timed v e = takes_no (has_parked v) e
 
-marks_unset : (b : Bool) → waits b ≡ decisions.Mark → b ≡ false
+marks_unset : (b : Bool) → park_or_mark b ≡ decisions.Mark → b ≡ false
 marks_unset true e = absurd cc
 marks_unset false e = refl
 
@@ -30,7 +30,7 @@ blocked_unset Try v e = absurd cc
 blocked_unset Patient v e = marks_unset (has_parked v) e
 blocked_unset Timed v e = marks_unset (has_parked v) e
 
-refuses_no : (b : Bool) (answer : Answer) → waits b ≡ decisions.Refuse answer → ⊥
+refuses_no : (b : Bool) (answer : Answer) → park_or_mark b ≡ decisions.Refuse answer → ⊥
 refuses_no true answer e = cc
 refuses_no false answer e = cc
 

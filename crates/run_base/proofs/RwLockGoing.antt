@@ -28,7 +28,7 @@ use Rattle.core_words.specs.declared.owners.Ownership.{Ownership}
 use Rattle.run_base.specs.Fitting.{answer_of}
 use Rattle.run_base.specs.Paths.{closure_of}
 use Rattle.core_words.specs.declared.views.WordStep.{WordStep}
-use Rattle.run_base.specs.RwLockFitting.{FitsRwLock, HasGivenWay, HasSeen, HasStood, IsWithin, OwnsBeside}
+use Rattle.run_base.specs.RwLockFitting.{FitsRwLock, HasGivenWay, SeenInRange, HasStood, IsWithin, OwnsBeside}
 use Rattle.run_base.specs.Stages.{Stage}
 
 -- an act that neither ends its call nor runs a closure
@@ -82,13 +82,13 @@ module _ (l : ℕ) (a : Admission) where
   goes_on p stands = goes_at p.purpose p.retries p.at stands.decided
 
   -- where a thread looks once more
-  pub looks_from : (q : RwLockPurpose) (again : Bool) (to : RwLockAt) (p : RwLockPlace) → rwlock_looking a (of q again to) ≡ Some p → (q ≡ p.purpose) × (again ≡ p.retries) × HasGivenWay p.at × HasSeen p.at × ((steps : List WordStep) → HasStood l p.at steps)
+  pub looks_from : (q : RwLockPurpose) (again : Bool) (to : RwLockAt) (p : RwLockPlace) → rwlock_looking a (of q again to) ≡ Some p → (q ≡ p.purpose) × (again ≡ p.retries) × HasGivenWay p.at × SeenInRange p.at × ((steps : List WordStep) → HasStood l p.at steps)
   looks_from q again (at.Decide seen) p e = by_test (is_mark (decided_for a q seen) && not (has_aside seen)) e
     where
-      by_test : (b : Bool) → gone_to (of q again (at.Decide seen)) (if b then Some at.Load else None) ≡ Some p → (q ≡ p.purpose) × (again ≡ p.retries) × HasGivenWay p.at × HasSeen p.at × ((steps : List WordStep) → HasStood l p.at steps)
-      by_test true e = let there : of q again at.Load ≡ p = cc in subst (λ (r : RwLockPlace). (q ≡ r.purpose) × (again ≡ r.retries) × HasGivenWay r.at × HasSeen r.at × ((steps : List WordStep) → HasStood l r.at steps)) there (refl, refl, tt, tt, λ steps. tt)
+      by_test : (b : Bool) → gone_to (of q again (at.Decide seen)) (if b then Some at.Load else None) ≡ Some p → (q ≡ p.purpose) × (again ≡ p.retries) × HasGivenWay p.at × SeenInRange p.at × ((steps : List WordStep) → HasStood l p.at steps)
+      by_test true e = let there : of q again at.Load ≡ p = cc in subst (λ (r : RwLockPlace). (q ≡ r.purpose) × (again ≡ r.retries) × HasGivenWay r.at × SeenInRange r.at × ((steps : List WordStep) → HasStood l r.at steps)) there (refl, refl, tt, tt, λ steps. tt)
       by_test false e = absurd cc
-  looks_from q again (at.Count seen) p e = let there : of q again at.Look ≡ p = cc in subst (λ (r : RwLockPlace). (q ≡ r.purpose) × (again ≡ r.retries) × HasGivenWay r.at × HasSeen r.at × ((steps : List WordStep) → HasStood l r.at steps)) there (refl, refl, tt, tt, λ steps. tt)
+  looks_from q again (at.Count seen) p e = let there : of q again at.Look ≡ p = cc in subst (λ (r : RwLockPlace). (q ≡ r.purpose) × (again ≡ r.retries) × HasGivenWay r.at × SeenInRange r.at × ((steps : List WordStep) → HasStood l r.at steps)) there (refl, refl, tt, tt, λ steps. tt)
   looks_from q again to p e = absurd cc
 
 module _ (up : Type 0) (l : ℕ) (a : Admission) (base : List Ownership) (p : RwLockPlace) (st : Stage) (f : FitsRwLock up l base a p st) where

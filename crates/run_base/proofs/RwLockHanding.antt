@@ -29,7 +29,7 @@ use Rattle.steps_rwlock.specs.RwLockBegins.{rwlock_first}
 use Rattle.steps_rwlock.specs.declared.places.Admission.{Admission}
 use Rattle.steps_rwlock.specs.declared.purposes.RwLockPurpose.TheVariants as purpose
 use Rattle.steps_rwlock_fair.specs.FairSteps.{any_taken, has_room, hand_over_act, hand_over_next, looked, parked_as, released, tokens, with_taken}
-use Rattle.steps_rwlock_fair.specs.FairSteps.{note_of as note_by, without as without_right}
+use Rattle.steps_rwlock_fair.specs.FairSteps.{note_by, word_without as without_right}
 use Rattle.steps_rwlock_fair.specs.declared.hand_over.HandOverAt.{HandOverAt}
 use Rattle.steps_rwlock_fair.specs.declared.hand_over.HandOverAt.TheVariants as handing
 use Rattle.steps_rwlock_fair.specs.declared.hand_over.Taken.{Taken}
@@ -46,9 +46,9 @@ use Rattle.core_words.specs.declared.words.WordKind.TheVariants as kinds
 use Rattle.parking_lot_core.specs.declared.tokens.Did.TheVariants as did
 use Rattle.run_base.specs.Fitting.{Reached, ReachedBy, answer_of, handing_aim, sleeper_at}
 use Rattle.run_base.specs.Paths.{at_rwlock, closure_of, rwlock_at, rwlocks, step}
-use Rattle.run_base.specs.RwLockFitting.{AreTaken, FitsHandOver, FitsRwLock, GaveFairly, HandsOver, HasInHand, HasPicked, IsBeside, IsUpgradableWord, OwnsRight, still_rightless}
+use Rattle.run_base.specs.RwLockFitting.{AreTaken, FitsHandOver, FitsRwLock, GaveFairly, IsHandingPlace, HasPickedThese, HasPicked, IsBeside, IsUpgradableWord, OwnsRight, still_rightless}
 use Rattle.run_base.specs.Takes.{more_in, sharers_in, successor_in}
-use Rattle.run_base.specs.Stages.{ActNeeds, Became, HandsEach, HasDone, HasKey, Inside, IsFresh, IsLeft, IsUngiven, MayLeave, Stage, Stepped, all_given, entered_now, handed, owns_when_handed, stage, stepped, took_as, wanted_in}
+use Rattle.run_base.specs.Stages.{ActNeeds, Became, HandsEach, HasDone, HasKey, SectionView, IsFresh, IsLeft, IsUngiven, MayLeave, Stage, Stepped, all_given, entered_now, stage_handed, owns_when_handed, stage, stepped, took_as, wanted_in}
 use Rattle.run_base.proofs.Leaving.{has_done}
 use Rattle.run_base.proofs.RwLockHands.{exchange_hands, exchange_leaves, exchange_needs, free_word, given_word, may_give_up, nobody_taken, owns_given_up, sees_own, store_hands, store_leaves, store_needs}
 use Rattle.run_base.proofs.RwLockKeeping.{look_upgradable, missed_same}
@@ -96,16 +96,16 @@ module _ (l : ℕ) (a : Admission) (base : List Ownership) (st : Stage) (room : 
 
   -- the step that hands over what it took
   hands_each : (op : Op) (waiters : List Waiter) → HasPicked l a waiters (threads_of waiters) st.inside → HandsEach kinds.RwLock (rwlock_at l) op st.owns (wants_of waiters) → IsUngiven st.inside × HandsEach kinds.RwLock (rwlock_at l) op st.owns (wanted_in st.inside)
-  hands_each op waiters picked h = (subst IsUngiven (sym picked) refl, subst (λ (i : Option Inside). HandsEach kinds.RwLock (rwlock_at l) op st.owns (wanted_in i)) (sym picked) h)
+  hands_each op waiters picked h = (subst IsUngiven (sym picked) refl, subst (λ (i : Option SectionView). HandsEach kinds.RwLock (rwlock_at l) op st.owns (wanted_in i)) (sym picked) h)
 
-  exchanges_needs : (k : Taken) (seen : ℕ) → OwnsRight l wants.Upgradable base st.owns → HasInHand l a k st.inside → IsUpgradableWord seen → (b : Bool) → has_room a.limit k seen ≡ b
+  exchanges_needs : (k : Taken) (seen : ℕ) → OwnsRight l wants.Upgradable base st.owns → HasPickedThese l a k st.inside → IsUpgradableWord seen → (b : Bool) → has_room a.limit k seen ≡ b
       → Can (if b then act.HandOver l (Exchange seen (with_taken access.Upgradable k seen)) else act.Word l (Exchange seen (parked_as k.none_left (without_right access.Upgradable seen))))
   exchanges_needs k seen right hand own true fits = let mine = has_right l owners.Upgradable base st.owns right in
       let each = hands_each (Exchange seen (with_taken access.Upgradable k seen)) hand.0 hand.2 (exchange_needs (rwlock_at l) st.owns mine seen own a.limit room (wants_of hand.0) k hand.1 fits) in
       ((exchange_hands (rwlock_at l) st.owns mine seen own a.limit room (wants_of hand.0) k hand.1 fits).may, each.0, each.1)
   exchanges_needs k seen right hand own false full = may_give_up (rwlock_at l) st.owns (has_right l owners.Upgradable base st.owns right) seen own (parked_as k.none_left (without_right access.Upgradable seen)) (given_word seen own k.none_left)
 
-  pub hand_over_needs : (x : Access) (to : HandOverAt) → HandsOver x to → FitsHandOver l base a x to st → Can (hand_over_act l a x to)
+  pub hand_over_needs : (x : Access) (to : HandOverAt) → IsHandingPlace x to → FitsHandOver l base a x to st → Can (hand_over_act l a x to)
   hand_over_needs access.Upgradable handing.Load h f = (rwlock_steps (rwlock_at l) st.owns).load
   hand_over_needs access.Upgradable (handing.Free seen) h f = may_give_up (rwlock_at l) st.owns (has_right l owners.Upgradable base st.owns f.0) seen f.2 (without_right access.Upgradable seen) (free_word seen f.2)
   hand_over_needs access.Upgradable handing.Enter h f = (tt, f.1)
@@ -134,7 +134,7 @@ module _ (up : Type 0) (l : ℕ) (a : Admission) (base : List Ownership) (room :
   abbrev Reach : Access → Next RwLockCallPlace → Type 0
   Reach x n = ReachedBy up base (handing_aim l a x bumps) (rwlock_goes l a n) (answer_of (rwlock_does l a n)) new
 
-  goes : (x : Access) (to : HandOverAt) → HandsOver x to → FitsHandOver l base a x to new → Reach x (At (HandOver x bumps to))
+  goes : (x : Access) (to : HandOverAt) → IsHandingPlace x to → FitsHandOver l base a x to new → Reach x (At (HandOver x bumps to))
   goes x to h f = subst (λ (o : Option Answer). ReachedBy up base (handing_aim l a x bumps) (RwLock l a (HandOver x bumps to)) o new) (sym (hand_over_goes_on l a x to).0) ((h, room, f), refl)
 
   -- it has given its right up
@@ -161,20 +161,20 @@ module _ (up : Type 0) (l : ℕ) (a : Admission) (base : List Ownership) (room :
 
   -- a thread that it took
   took_these : (x : Access) (n : ℕ) (y : Option Want) (none_left : Bool) (waiters : List Waiter) → AreTaken (wants_of waiters) (record { sharers = n; successor = y; none_left = none_left }) → st.inside ≡ entered_now (One (2 * l)) → new.inside ≡ took_as (did.TakePicked (2 * l) None a.recursive) waiters st.inside
-      → HasInHand l a (record { sharers = n; successor = y; none_left = none_left }) new.inside
+      → HasPickedThese l a (record { sharers = n; successor = y; none_left = none_left }) new.inside
   took_these x n y none_left waiters taken was e = (waiters, taken, e ∙ ap (took_as (did.TakePicked (2 * l) None a.recursive) waiters) was)
 
   -- after the section
-  left_section : (x : Access) (any given : Bool) → HandsOver x (handing.Leave any given) → FitsHandOver l base a x (handing.Leave any given) st → new.owns ≡ st.owns → new.inside ≡ None → IsLeft st.inside new.last → Reach x (released x bumps)
+  left_section : (x : Access) (any given : Bool) → IsHandingPlace x (handing.Leave any given) → FitsHandOver l base a x (handing.Leave any given) st → new.owns ≡ st.owns → new.inside ≡ None → IsLeft st.inside new.last → Reach x (released x bumps)
   left_section x any given h f same none left = gave_up x none (subst (IsBeside l base) (sym same) f.0) (by_access x h (has_done _ _ _ f.1.2 left))
     where
-      by_access : (x : Access) → HandsOver x (handing.Leave any given) → HasDone (2 * l) (did.TakePicked (2 * l) None a.recursive) new.last → GaveFairly l a x new.last new.steps
+      by_access : (x : Access) → IsHandingPlace x (handing.Leave any given) → HasDone (2 * l) (did.TakePicked (2 * l) None a.recursive) new.last → GaveFairly l a x new.last new.steps
       by_access access.Upgradable h took = inr took
       by_access access.Exclusive h took = took
       by_access access.Shared h took = absurd h
 
   -- those whom it took own what they wanted, and it owns its right no longer
-  handed_over : (x : Access) (k : Taken) (given : Bool) → HandsOver x (handing.Leave (any_taken k) given) → (waiters : List Waiter) → AreTaken (wants_of waiters) k → IsBeside l base new.owns → HasPicked l a waiters (still_rightless given waiters) new.inside → Reach x (At (HandOver x bumps (handing.Leave (any_taken k) given)))
+  handed_over : (x : Access) (k : Taken) (given : Bool) → IsHandingPlace x (handing.Leave (any_taken k) given) → (waiters : List Waiter) → AreTaken (wants_of waiters) k → IsBeside l base new.owns → HasPicked l a waiters (still_rightless given waiters) new.inside → Reach x (At (HandOver x bumps (handing.Leave (any_taken k) given)))
   handed_over x k given h waiters taken beside picked = goes x (handing.Leave (any_taken k) given) h (beside, (waiters, (λ none. none_waits waiters (nobody_taken (wants_of waiters) k taken none)), picked))
 
   taken_by : (waiters : List Waiter) (n : ℕ) (y : Option Want) (none_left : Bool) → n ≡ sharers_in (wants_of waiters) → y ≡ successor_in (wants_of waiters) → more_in (wants_of waiters) ≤ 1 → length waiters < 2 ^ 60 → AreTaken (wants_of waiters) (record { sharers = n; successor = y; none_left = none_left })
@@ -182,7 +182,7 @@ module _ (up : Type 0) (l : ℕ) (a : Admission) (base : List Ownership) (room :
 
   -- ---------------------------------------------------------------- an exclusive owner
 
-  exclusive_leads : (to : HandOverAt) → HandsOver access.Exclusive to → FitsHandOver l base a access.Exclusive to st → (reply : Reply) → Became up rwlocks (at_rwlock l) (sleeper_at (RwLock l a (HandOver access.Exclusive bumps to))) st (hand_over_act l a access.Exclusive to) reply new → Reach access.Exclusive (hand_over_next a access.Exclusive bumps to reply)
+  exclusive_leads : (to : HandOverAt) → IsHandingPlace access.Exclusive to → FitsHandOver l base a access.Exclusive to st → (reply : Reply) → Became up rwlocks (at_rwlock l) (sleeper_at (RwLock l a (HandOver access.Exclusive bumps to))) st (hand_over_act l a access.Exclusive to) reply new → Reach access.Exclusive (hand_over_next a access.Exclusive bumps to reply)
   exclusive_leads handing.Enter h f Done b = goes access.Exclusive handing.Take tt (keeps_right wants.Exclusive (owns_of _ b) f.0, inside_of _ b)
   exclusive_leads handing.Take h f (Picked n y none_left) b = goes access.Exclusive (handing.Store (record { sharers = n; successor = y; none_left = none_left })) tt (
     keeps_right wants.Exclusive b.1 f.0,
@@ -190,7 +190,7 @@ module _ (up : Type 0) (l : ℕ) (a : Admission) (base : List Ownership) (room :
   )
   exclusive_leads (handing.Store k) h f (Value seen) b = let mine = has_right l owners.Exclusive base st.owns f.0 in
       let waiters = f.1.0 in let op = Store (parked_as k.none_left (tokens k)) in
-      let owns : new.owns ≡ without (owning (rwlock_at l) owners.Exclusive) st.owns = owns_of _ b.1 ∙ ap (λ (i : Option Inside). owns_when_handed kinds.RwLock (rwlock_at l) (Store (parked_as k.none_left (tokens k))) seen (wanted_in i) st.owns) f.1.2 ∙ store_leaves (rwlock_at l) st.owns mine (wants_of f.1.0) k f.1.1 seen b.0 in
+      let owns : new.owns ≡ without (owning (rwlock_at l) owners.Exclusive) st.owns = owns_of _ b.1 ∙ ap (λ (i : Option SectionView). owns_when_handed kinds.RwLock (rwlock_at l) (Store (parked_as k.none_left (tokens k))) seen (wanted_in i) st.owns) f.1.2 ∙ store_leaves (rwlock_at l) st.owns mine (wants_of f.1.0) k f.1.1 seen b.0 in
       handed_over access.Exclusive k true tt f.1.0 f.1.1 (subst (IsBeside l base) (sym owns) (left_beside l owners.Exclusive base st.owns f.0)) (inside_of _ b.1 ∙ ap all_given f.1.2)
   exclusive_leads (handing.Leave any given) h f Done b = left_section access.Exclusive any given h f b.0 b.1 b.2
   exclusive_leads handing.Take h f reply b = absurd b.0
@@ -250,7 +250,7 @@ module _ (up : Type 0) (l : ℕ) (a : Admission) (base : List Ownership) (room :
         (subst (λ (t : Bool). Reach access.Upgradable (At (HandOver access.Upgradable bumps (handing.Leave (any_taken k) t)))) (sym (ap (has_room a.limit k) same ∙ e))
         (handed_over access.Upgradable k given (may_leave given) f.1.0 f.1.1 beside picked))
       where
-        may_leave : (given : Bool) → HandsOver access.Upgradable (handing.Leave (any_taken k) given)
+        may_leave : (given : Bool) → IsHandingPlace access.Upgradable (handing.Leave (any_taken k) given)
         may_leave given = tt
 
     abbrev op : Op
@@ -259,16 +259,16 @@ module _ (up : Type 0) (l : ℕ) (a : Admission) (base : List Ownership) (room :
     abbrev after_hand : Stage
     after_hand = stage (owns_when_handed kinds.RwLock (rwlock_at l) op expected (wanted_in st.inside) st.owns) (all_given st.inside) None (st.steps ++ step (rwlock_at l) op expected)
 
-    hands : (seen : ℕ) → has_room a.limit k expected ≡ true → CodesWith kinds.RwLock (rwlock_at l) seen st.owns → new ≡ handed kinds.RwLock (rwlock_at l) (Exchange expected (with_taken access.Upgradable k expected)) seen st → Goes seen (seen == expected)
+    hands : (seen : ℕ) → has_room a.limit k expected ≡ true → CodesWith kinds.RwLock (rwlock_at l) seen st.owns → new ≡ stage_handed kinds.RwLock (rwlock_at l) (Exchange expected (with_taken access.Upgradable k expected)) seen st → Goes seen (seen == expected)
     hands seen fits code e = dite (ℕ_discrete seen expected)
         (λ same. won same (subst (λ (s : ℕ). CodesWith kinds.RwLock (rwlock_at l) s st.owns) same code)
-        (e ∙ ap (λ (s : ℕ). handed kinds.RwLock (rwlock_at l) op s st) same ∙ ap (λ (t : Bool). if t then after_hand else stepped kinds.RwLock (rwlock_at l) op expected st) (eq-eqb expected expected refl)))
+        (e ∙ ap (λ (s : ℕ). stage_handed kinds.RwLock (rwlock_at l) op s st) same ∙ ap (λ (t : Bool). if t then after_hand else stepped kinds.RwLock (rwlock_at l) op expected st) (eq-eqb expected expected refl)))
         (λ ne. subst (Goes seen) (sym (ne_eqb seen expected ne)) (missed (with_taken access.Upgradable k expected) seen ne
         (code, e ∙ ap (λ (t : Bool). if t then stage (owns_when_handed kinds.RwLock (rwlock_at l) op seen (wanted_in st.inside) st.owns) (all_given st.inside) None (st.steps ++ step (rwlock_at l) op seen) else stepped kinds.RwLock (rwlock_at l) op seen st) (ne_eqb seen expected ne))))
       where
         won : seen ≡ expected → CodesWith kinds.RwLock (rwlock_at l) expected st.owns → new ≡ after_hand → Goes seen (seen == expected)
         won same code e = let mine = has_right l owners.Upgradable base st.owns f.0 in
-            let owns : new.owns ≡ without (owning (rwlock_at l) owners.Upgradable) st.owns = owns_of _ e ∙ ap (λ (i : Option Inside). owns_when_handed kinds.RwLock (rwlock_at l) op expected (wanted_in i) st.owns) f.1.2 ∙ exchange_leaves (rwlock_at l) st.owns mine expected f.2 a.limit room (wants_of f.1.0) k f.1.1 fits code in
+            let owns : new.owns ≡ without (owning (rwlock_at l) owners.Upgradable) st.owns = owns_of _ e ∙ ap (λ (i : Option SectionView). owns_when_handed kinds.RwLock (rwlock_at l) op expected (wanted_in i) st.owns) f.1.2 ∙ exchange_leaves (rwlock_at l) st.owns mine expected f.2 a.limit room (wants_of f.1.0) k f.1.1 fits code in
             there seen true same fits (subst (IsBeside l base) (sym owns) (left_beside l owners.Upgradable base st.owns f.0)) (inside_of _ e ∙ ap all_given f.1.2)
 
     gives : (seen : ℕ) → has_room a.limit k expected ≡ false → Step (Exchange expected (parked_as k.none_left (without_right access.Upgradable expected))) seen → Goes seen (seen == expected)
@@ -289,7 +289,7 @@ module _ (up : Type 0) (l : ℕ) (a : Admission) (base : List Ownership) (room :
     by_room true fits reply b = absurd b
     by_room false full reply b = absurd b
 
-  upgradable_leads : (to : HandOverAt) → HandsOver access.Upgradable to → FitsHandOver l base a access.Upgradable to st → (reply : Reply) → Became up rwlocks (at_rwlock l) (sleeper_at (RwLock l a (HandOver access.Upgradable bumps to))) st (hand_over_act l a access.Upgradable to) reply new → Reach access.Upgradable (hand_over_next a access.Upgradable bumps to reply)
+  upgradable_leads : (to : HandOverAt) → IsHandingPlace access.Upgradable to → FitsHandOver l base a access.Upgradable to st → (reply : Reply) → Became up rwlocks (at_rwlock l) (sleeper_at (RwLock l a (HandOver access.Upgradable bumps to))) st (hand_over_act l a access.Upgradable to) reply new → Reach access.Upgradable (hand_over_next a access.Upgradable bumps to reply)
   upgradable_leads handing.Load h f (Value seen) b = looked_comes seen (looks Load seen refl b f.0) (inside_of _ b.1 ∙ f.1) (saw Load seen b f.0)
   upgradable_leads (handing.Free expected) h f (Value seen) b = frees expected seen f b
   upgradable_leads handing.Enter h f Done b = goes access.Upgradable handing.Take tt (keeps_right wants.Upgradable (owns_of _ b) f.0, inside_of _ b)
@@ -304,7 +304,7 @@ module _ (up : Type 0) (l : ℕ) (a : Admission) (base : List Ownership) (room :
   upgradable_leads (handing.Store k) h f reply b = absurd h
   upgradable_leads to h f reply b = absurd b
 
-  pub hand_over_leads : (x : Access) (to : HandOverAt) → HandsOver x to → FitsHandOver l base a x to st → (reply : Reply) → Became up rwlocks (at_rwlock l) (sleeper_at (RwLock l a (HandOver x bumps to))) st (hand_over_act l a x to) reply new → Reached up base (RwLock l a (HandOver x bumps to)) reply new
+  pub hand_over_leads : (x : Access) (to : HandOverAt) → IsHandingPlace x to → FitsHandOver l base a x to st → (reply : Reply) → Became up rwlocks (at_rwlock l) (sleeper_at (RwLock l a (HandOver x bumps to))) st (hand_over_act l a x to) reply new → Reached up base (RwLock l a (HandOver x bumps to)) reply new
   hand_over_leads access.Upgradable to h f reply b = upgradable_leads to h f reply b
   hand_over_leads access.Exclusive to h f reply b = exclusive_leads to h f reply b
   hand_over_leads access.Shared to h f reply b = absurd h

@@ -14,7 +14,7 @@ use Rattle.steps_base.specs.Acts.{is_there}
 use Rattle.spec_locks.specs.declared.calls.Access.TheVariants as access
 use Rattle.steps_rwlock.specs.RwLockSteps.{plus}
 use Rattle.steps_rwlock_fair.specs.FairSteps.{any_taken, has_room, parked_as, tokens, with_taken}
-use Rattle.steps_rwlock_fair.specs.FairSteps.{without as without_right}
+use Rattle.steps_rwlock_fair.specs.FairSteps.{word_without as without_right}
 use Rattle.steps_rwlock_fair.specs.declared.hand_over.Taken.{Taken}
 use Rattle.core_words.specs.Codes.{exclusive, upgradable}
 use Rattle.core_words.specs.Rights.{owner_given, owners_given}

@@ -38,7 +38,7 @@ use Rattle.steps_rwlock_fair.specs.declared.places.RwLockCallPlace.TheVariants.{
 use Rattle.steps_rwlock_fair.specs.FairProfiles.{in_call}
 use Rattle.steps_rwlock_fair.specs.FairSteps.{call_act, call_next, given, plain_next, unless_given}
 use Rattle.core_words.specs.declared.owners.Ownership.{Ownership}
-use Rattle.run_base.specs.Fitting.{Fits, Looks, Reached, ReachedBy, call_purpose, answer_of, of_rwlock, sleeper_at}
+use Rattle.run_base.specs.Fitting.{Fits, LooksLeadOn, Reached, ReachedBy, call_purpose, answer_of, of_rwlock, sleeper_at}
 use Rattle.run_base.specs.Paths.{rwlocks, at_rwlock, closure_of}
 use Rattle.run_base.specs.RwLockFitting.{FitsCall, FitsRwLock}
 use Rattle.run_base.specs.Stages.{Stage, ActNeeds, Became}
@@ -48,7 +48,7 @@ use Rattle.run_base.proofs.RwLockNeeds.{rwlock_needs}
 -- ---------------------------------------------------------------- plain calls
 
 module _ (up : Type 0) (l : ℕ) (a : Admission) (base : List Ownership) (p : RwLockPlace) (st : Stage) (f : FitsRwLock up l base a p st) where
-  pub rwlock_looks : Looks up base (RwLock l a (Plain p)) st
+  pub rwlock_looks : LooksLeadOn up base (RwLock l a (Plain p)) st
   rwlock_looks r is = by_place (rwlock_looking a p) refl is
     where
       by_place : (o : Option RwLockPlace) → rwlock_looking a p ≡ o → in_rwlock l a (in_call false o) ≡ Some r → Fits up base r st × (call_purpose r ≡ of_rwlock l a p.purpose)
@@ -96,7 +96,7 @@ module _ (up : Type 0) (l : ℕ) (a : Admission) (base : List Ownership) (how : 
 
 -- each place of a reader-writer call leads on
 pub rwlock_place_leads : (up : Type 0) (l : ℕ) (a : Admission) (base : List Ownership) (c : RwLockCallPlace) (st : Stage) → FitsCall up l base a c st →
-    ActNeeds rwlocks (at_rwlock l) st (call_act l a c) × Looks up base (RwLock l a c) st
+    ActNeeds rwlocks (at_rwlock l) st (call_act l a c) × LooksLeadOn up base (RwLock l a c) st
     × ((reply : Reply) (new : Stage) → Became up rwlocks (at_rwlock l) (sleeper_at (RwLock l a c)) st (call_act l a c) reply new → Reached up base (RwLock l a c) reply new)
 rwlock_place_leads up l a base (Plain p) st f = (rwlock_needs up l a base p.purpose p.retries st p.at f, rwlock_looks up l a base p st f, λ reply new. rwlock_leads up l a base p st f reply new)
 rwlock_place_leads up l a base (Bump p) st f = bump_leads up l a base p st f

@@ -34,7 +34,7 @@ use Rattle.lot_steps.specs.declared.places.Place.TheVariants as place
 use Rattle.steps_rwlock.specs.RwLockCalls.{StandsAt, MayBeTold, HasDeadline}
 use Rattle.steps_rwlock.specs.RwLockDeeds.{claimed, pends, rwlock_role, kept_claim, falls_back}
 use Rattle.steps_rwlock.specs.RwLockProfiles.{enters_late, is_late, is_timed, late_at, rwlock_profile}
-use Rattle.steps_rwlock.specs.RwLockSteps.{is_counted, wanted, access_of, patience_of, decided_for, decided_act, plus, word_taken, exchange, rollback_op, unparked, start_of, want_at, ends_with, first_next, entered, stays, looked_by, looked, missed, came_in, exchanged_next, counted, wakes, rolled_back, took, clears, act_at, next_at, park_act, wake_act, park_next, wake_next}
+use Rattle.steps_rwlock.specs.RwLockSteps.{is_counted, wanted, access_of, patience_of, decided_for, decided_act, plus, word_taken, exchange, rollback_op, unparked, start_of, want_at, ends_with, first_next, entered, stays, looked_by, looked, missed, came_in, exchanged_next, after_count, wakes, rolled_back, took, clears, act_at, next_at, park_act, wake_act, park_next, wake_next}
 use Rattle.steps_rwlock.specs.declared.enter.Decision.{Decision}
 use Rattle.steps_rwlock.specs.declared.enter.Decision.TheVariants as decisions
 use Rattle.steps_rwlock.specs.declared.park.ParkAt.{ParkAt}
@@ -53,9 +53,9 @@ use Rattle.core_words.specs.declared.words.WordKind.TheVariants as kinds
 use Rattle.core_words.proofs.RwLockOwning.{fits}
 use Rattle.run_base.specs.Fitting.{sleeper_at}
 use Rattle.run_base.specs.Paths.{rwlock_at, rwlocks, at_rwlock, step}
-use Rattle.run_base.specs.RwLockFitting.{Answers, FellBack, FitsRwLock, HasGivenWay, HasSeen, HasStood, IsBeside, IsCounted, IsRwLockOver, IsWithin, MayGiveUp, OwnsBeside, OwnsRight, LookedInLine, LookedLast, TookWoken, did_wake, woken_line}
+use Rattle.run_base.specs.RwLockFitting.{Answers, FellBack, FitsRwLock, HasGivenWay, SeenInRange, HasStood, IsBeside, IsCounted, IsRwLockOver, IsWithin, MayGiveUp, OwnsBeside, OwnsRight, LookedInLine, LookedLast, TookWoken, did_wake, woken_line}
 use Rattle.run_base.specs.declared.sleepers.Sleeper.{Sleeper}
-use Rattle.run_base.specs.Stages.{Stage, Inside, Became, HasDone, IsLeft, Stepped, TookNobodyAt, entered_now, listed, stage, took_as}
+use Rattle.run_base.specs.Stages.{Stage, SectionView, Became, HasDone, IsLeft, Stepped, TookNobodyAt, entered_now, listed, stage, took_as}
 use Rattle.run_base.proofs.RwLockDeciding.{marks, marks_aside, marks_clear, refuses, takes_shared, takes_upgradable, takes_exclusive, upgrades}
 use Rattle.run_base.proofs.RwLockKeeping as keeping
 use Rattle.run_base.proofs.Leaving.{has_done}
@@ -85,7 +85,7 @@ unhanded l a p = record (sleeper_at (place.RwLock l a (calls.Plain p))) { takes_
 -- tells what a place keeps, beside that its call may stand there
 pub record Kept (up : Type 0) (l : ℕ) (base : List Ownership) (a : Admission) (p : RwLockPlace) (st : Stage) : Type 0 where
   pub begun : HasGivenWay p.at
-  pub seen : HasSeen p.at
+  pub seen : SeenInRange p.at
   pub owns : OwnsBeside l (rwlock_role p).claims base st.owns
   pub within : IsWithin l a p.purpose (rwlock_role p).inside (rwlock_role p).carries st.inside
   pub stood : HasStood l p.at st.steps
@@ -149,7 +149,7 @@ module _ (up : Type 0) (l : ℕ) (a : Admission) (base : List Ownership) (q : Rw
     claims_now op seen c b = subst (OwnsBeside l c base) (sym (owns_now op seen b))
 
     -- at a place outside all sections, where nothing is late
-    rests : (to : RwLockAt) (r : Bool) (c : Option Claim) → HasGivenWay to → HasSeen to → HasStood l to new.steps → (rwlock_role (record { purpose = q; retries = r; at = to })).claims ≡ c → (rwlock_role (record { purpose = q; retries = r; at = to })).inside ≡ None → enters_late is_late to ≡ false
+    rests : (to : RwLockAt) (r : Bool) (c : Option Claim) → HasGivenWay to → SeenInRange to → HasStood l to new.steps → (rwlock_role (record { purpose = q; retries = r; at = to })).claims ≡ c → (rwlock_role (record { purpose = q; retries = r; at = to })).inside ≡ None → enters_late is_late to ≡ false
         → OwnsBeside l c base new.owns → new.inside ≡ None → Reach (At (record { purpose = q; retries = r; at = to }))
     rests to r c begun seen stood claims outside quiet owns none = (
       record {
@@ -414,7 +414,7 @@ module _ (up : Type 0) (l : ℕ) (a : Admission) (base : List Ownership) (q : Rw
         by_purpose (purpose.Release access.Exclusive) stands = absurd stands
         by_purpose (purpose.Downgrade d) stands = absurd stands
 
-    counted_comes : (to : RwLockAt) (op : Op) (seen : ℕ) → StandsAt q again at.Look → OwnsBeside l (pends q) base st.owns → st.inside ≡ None → apply op seen / 4 ≡ seen / 4 → is_look op seen ≡ true → Step op seen → Reach (counted (of to) seen)
+    counted_comes : (to : RwLockAt) (op : Op) (seen : ℕ) → StandsAt q again at.Look → OwnsBeside l (pends q) base st.owns → st.inside ≡ None → apply op seen / 4 ≡ seen / 4 → is_look op seen ≡ true → Step op seen → Reach (after_count (of to) seen)
     counted_comes to op seen stands owns outside same look b = dite (ℕ_discrete (seen / 16) 0)
         (λ none. rw (eq-eqb (seen / 16) 0 none) (inside_now op seen b ∙ outside, pending_ends stands (claims_now op seen (Some (Has wants.Exclusive)) b (keeping.look_alone l base st.owns seen b.0 op (falls_back q) same look none owns))))
         (λ some. rw (ne_eqb (seen / 16) 0 some) (rests (at.Count seen) again (pends q) tt (small op seen b) tt refl refl refl
@@ -471,7 +471,7 @@ module _ (up : Type 0) (l : ℕ) (a : Admission) (base : List Ownership) (q : Rw
     -- ---------------------------------------------------------------- in and out of queues
 
     -- at a place inside the section of a line, where nobody is carried
-    inside_of : (to : RwLockAt) (r : Bool) (m : Line) (c : Option Claim) → HasGivenWay to → HasSeen to → HasStood l to new.steps → (rwlock_role (record { purpose = q; retries = r; at = to })).claims ≡ c → (rwlock_role (record { purpose = q; retries = r; at = to })).inside ≡ Some m → (rwlock_role (record { purpose = q; retries = r; at = to })).carries ≡ false
+    inside_of : (to : RwLockAt) (r : Bool) (m : Line) (c : Option Claim) → HasGivenWay to → SeenInRange to → HasStood l to new.steps → (rwlock_role (record { purpose = q; retries = r; at = to })).claims ≡ c → (rwlock_role (record { purpose = q; retries = r; at = to })).inside ≡ Some m → (rwlock_role (record { purpose = q; retries = r; at = to })).carries ≡ false
         → (late_at is_late q to ≡ true → up) → OwnsBeside l c base new.owns → new.inside ≡ entered_now (One (key_of l m)) → Reach (At (record { purpose = q; retries = r; at = to }))
     inside_of to r m c begun seen stood claims inside carries late owns within = (
       record {
@@ -530,7 +530,7 @@ module _ (up : Type 0) (l : ℕ) (a : Admission) (base : List Ownership) (q : Rw
         owns = kept_owns None same f.owns
 
         took_nobody : TookNobodyAt l new.last × LookedInLine l new.steps
-        took_nobody = (subst (λ (i : Option Inside). IsLeft i new.last) f.within left, subst (LookedInLine l) (sym steps) f.stood)
+        took_nobody = (subst (λ (i : Option SectionView). IsLeft i new.last) f.within left, subst (LookedInLine l) (sym steps) f.stood)
 
         may : (how : Patience) → HasDeadline how → up → MayGiveUp up how
         may Timed d u = u

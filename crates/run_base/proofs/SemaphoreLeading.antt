@@ -37,11 +37,11 @@ use Rattle.core_words.specs.declared.views.WordStep.{WordStep}
 use Rattle.core_words.specs.declared.words.WordKind as kinds
 use Rattle.core_words.proofs.SemaphoreSteps.{semaphore_steps, semaphore_trades}
 use Rattle.parking_lot_core.specs.declared.tokens.Did.TheVariants.{TakeFirst}
-use Rattle.run_base.specs.Fitting.{CallPurpose, Fits, Looks, Reached, ReachedBy, call_purpose, answer_of, of_semaphore, sleeper_at}
+use Rattle.run_base.specs.Fitting.{CallPurpose, Fits, LooksLeadOn, Reached, ReachedBy, call_purpose, answer_of, of_semaphore, sleeper_at}
 use Rattle.run_base.specs.MutexFitting.{Outside, Within}
-use Rattle.run_base.specs.SemaphoreFitting.{AcquireAnswer, acquires, tries_once, FitsAcquire, FitsRelease, FitsSemaphore, FitsTry, permit}
+use Rattle.run_base.specs.SemaphoreFitting.{AcquireAnswer, to_acquire, to_try, FitsAcquire, FitsRelease, FitsSemaphore, FitsTry, permit}
 use Rattle.run_base.specs.Paths.{at_semaphore, semaphore_at, semaphores, step}
-use Rattle.run_base.specs.Stages.{Stage, Inside, ActNeeds, Became, HasKey, IsFresh, IsLeft, MayLeave, entered_now, listed, stage, stepped, took_as}
+use Rattle.run_base.specs.Stages.{Stage, SectionView, ActNeeds, Became, HasKey, IsFresh, IsLeft, MayLeave, entered_now, listed, stage, stepped, took_as}
 use Rattle.run_base.proofs.Leaving.{has_done}
 
 -- a value by which a permit is free is that of one permit at least
@@ -152,7 +152,7 @@ module _ (permits l : ℕ) (base : List Ownership) (st : Stage) where
     steps_of s e = ap (λ (x : Stage). x.steps) e
 
     -- it is where it was, after a step on the word that changes no owner
-    stays : (inside : Option Inside) (s : Stage) → new ≡ s → s.owns ≡ st.owns → s.inside ≡ st.inside → (st.owns ≡ base) × (st.inside ≡ inside) → (new.owns ≡ base) × (new.inside ≡ inside)
+    stays : (inside : Option SectionView) (s : Stage) → new ≡ s → s.owns ≡ st.owns → s.inside ≡ st.inside → (st.owns ≡ base) × (st.inside ≡ inside) → (new.owns ≡ base) × (new.inside ≡ inside)
     stays inside s e o i f = (owns_of s e ∙ o ∙ f.0, inside_of s e ∙ i ∙ f.1)
 
     -- and after one that took a permit
@@ -167,7 +167,7 @@ module _ (permits l : ℕ) (base : List Ownership) (st : Stage) where
       place r at = Semaphore l (Acquire timed r at)
 
       abbrev aim : CallPurpose
-      aim = of_semaphore l (acquires timed)
+      aim = of_semaphore l (to_acquire timed)
 
       goes_on : (r : Bool) (seen : ℕ) → Outside base new → ReachedBy up base aim (place r (acquire.Decide seen)) (answer_of (decided l seen)) new
       goes_on r seen f = subst (λ (o : Option Answer). ReachedBy up base aim (place r (acquire.Decide seen)) o new) (sym (decides_on seen)) (f, refl)
@@ -245,12 +245,12 @@ module _ (permits l : ℕ) (base : List Ownership) (st : Stage) where
         where
           few : (seen : ℕ) → CodesWith (kinds.TheVariants.Semaphore permits) (semaphore_at l) seen st.owns → seen / 2 ≤ 4611686018427387904
           few seen code = let c = code.1.0 in omega arith
-      acquire_leads r acquire.GiveUp f Done b = (f.0, (b.0 ∙ f.1.0, b.1), subst (λ (i : Option Inside). IsLeft i new.last) f.1.1 b.2)
+      acquire_leads r acquire.GiveUp f Done b = (f.0, (b.0 ∙ f.1.0, b.1), subst (λ (i : Option SectionView). IsLeft i new.last) f.1.1 b.2)
       acquire_leads r at f reply b = absurd b
 
     -- a try, by the value that its last step saw
     abbrev TryLands : ℕ → Bool → Type 0
-    TryLands seen b = ReachedBy up base (of_semaphore l tries_once)
+    TryLands seen b = ReachedBy up base (of_semaphore l to_try)
         (semaphore_goes l (in_try (if b then At (tries.Decide seen) else End answers.No)))
         (answer_of (semaphore_does l (in_try (if b then At (tries.Decide seen) else End answers.No)))) new
 
@@ -258,16 +258,16 @@ module _ (permits l : ℕ) (base : List Ownership) (st : Stage) where
     looks_on op seen f saw = by_free (is_free seen) refl
       where
         by_free : (b : Bool) → is_free seen ≡ b → TryLands seen b
-        by_free true e = subst (λ (o : Option Answer). ReachedBy up base (of_semaphore l tries_once) (Semaphore l (Try (tries.Decide seen))) o new) (sym (tries_on seen)) ((e, f), refl)
+        by_free true e = subst (λ (o : Option Answer). ReachedBy up base (of_semaphore l to_try) (Semaphore l (Try (tries.Decide seen))) o new) (sym (tries_on seen)) ((e, f), refl)
         by_free false e = (f, (st.steps, op, seen, e, saw))
 
     abbrev Tried : ℕ → Bool → Type 0
-    Tried seen b = ReachedBy up base (of_semaphore l tries_once)
+    Tried seen b = ReachedBy up base (of_semaphore l to_try)
         (semaphore_goes l (in_try (if b && is_free seen then End answers.Yes else looked seen)))
         (answer_of (semaphore_does l (in_try (if b && is_free seen then End answers.Yes else looked seen)))) new
 
     try_takes : (from : ℕ) → is_free from ≡ true → Outside (permit l ∷ base) new → Tried from (from == from)
-    try_takes from free f = subst (Tried from) (sym (eq-eqb from from refl)) (subst (λ (c : Bool). ReachedBy up base (of_semaphore l tries_once) (semaphore_goes l (in_try (if c then End answers.Yes else looked from))) (answer_of (semaphore_does l (in_try (if c then End answers.Yes else looked from)))) new) (sym free) f)
+    try_takes from free f = subst (Tried from) (sym (eq-eqb from from refl)) (subst (λ (c : Bool). ReachedBy up base (of_semaphore l to_try) (semaphore_goes l (in_try (if c then End answers.Yes else looked from))) (answer_of (semaphore_does l (in_try (if c then End answers.Yes else looked from)))) new) (sym free) f)
 
     try_leads : (at : TryAt) → FitsTry base at st → (reply : Reply) → Became up (semaphores permits) (at_semaphore l) (sleeper_at (Semaphore l (Try at))) st (try_act l at) reply new → Reached up base (Semaphore l (Try at)) reply new
     try_leads tries.Load f (Value seen) b = looks_on Load seen (stays None _ b.1 (loads seen) refl f) (steps_of _ b.1)
@@ -299,17 +299,17 @@ module _ (permits l : ℕ) (base : List Ownership) (st : Stage) where
     leads (Release at) f = release_leads at f
 
   -- where it looks at the word once more, it has what it had
-  looks : (up : Type 0) (at : SemaphorePlace) → FitsSemaphore up l base at st → Looks up base (Semaphore l at) st
+  looks : (up : Type 0) (at : SemaphorePlace) → FitsSemaphore up l base at st → LooksLeadOn up base (Semaphore l at) st
   looks up (Acquire timed r (acquire.Decide seen)) f q is = by_mark (seen == 0) is
     where
-      by_mark : (b : Bool) → in_semaphore l (if b then Some (Acquire timed r acquire.Load) else None) ≡ Some q → Fits up base q st × (call_purpose q ≡ of_semaphore l (acquires timed))
-      by_mark true is = let there : Semaphore l (Acquire timed r acquire.Load) ≡ q = cc in subst (λ p. Fits up base p st × (call_purpose p ≡ of_semaphore l (acquires timed))) there (f, refl)
+      by_mark : (b : Bool) → in_semaphore l (if b then Some (Acquire timed r acquire.Load) else None) ≡ Some q → Fits up base q st × (call_purpose q ≡ of_semaphore l (to_acquire timed))
+      by_mark true is = let there : Semaphore l (Acquire timed r acquire.Load) ≡ q = cc in subst (λ p. Fits up base p st × (call_purpose p ≡ of_semaphore l (to_acquire timed))) there (f, refl)
       by_mark false is = absurd cc
   looks up at f q is = absurd cc
 
 -- the words of a call of a semaphore are that one alone
 pub semaphore_place_leads : (up : Type 0) (permits l : ℕ) (base : List Ownership) (at : SemaphorePlace) (st : Stage) → FitsSemaphore up l base at st →
-    ActNeeds (semaphores permits) (at_semaphore l) st (semaphore_act l at) × Looks up base (Semaphore l at) st
+    ActNeeds (semaphores permits) (at_semaphore l) st (semaphore_act l at) × LooksLeadOn up base (Semaphore l at) st
     × ((reply : Reply) (new : Stage) → Became up (semaphores permits) (at_semaphore l) (sleeper_at (Semaphore l at)) st (semaphore_act l at) reply new → Reached up base (Semaphore l at) reply new)
 semaphore_place_leads up permits l base at st f = (needs permits l base st up at f, looks permits l base st up at f, λ reply new. leads permits l base st up new at f reply)
 

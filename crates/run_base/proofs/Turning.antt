@@ -39,14 +39,14 @@ use Rattle.parking_lot_core.specs.declared.tokens.SectionRecord.{SectionRecord}
 use Rattle.parking_lot_core.specs.declared.tokens.Token.{Token}
 use Rattle.run_base.specs.Fitting.{AreWordsFor, answer_of, sleeper_at}
 use Rattle.run_base.specs.Paths.{Brings, MayReply, Told, closure_of, step, word, hands, parks, other, is_wordless, is_valueless}
-use Rattle.run_base.specs.Stages.{Stage, Became, Stepped, Adds, stage, stage_of, inside_of}
-use Rattle.run_base.specs.Sleepers.{late_at}
+use Rattle.run_base.specs.Stages.{Stage, Became, Stepped, Adds, stage, stage_of, section_view}
+use Rattle.run_base.specs.Sleepers.{late_key_at}
 
 wordless : (at : ℕ → ℕ) (p : Place) (a : Act) (reply : Reply) (before behind : List WordStep) → act_of p ≡ a → is_wordless a ≡ true → is_valueless reply ≡ true → MayReply p reply → behind ≡ before → Told at p reply before behind
 wordless at p a reply before behind is quiet valueless may e = ([], e ∙ sym (append-nil before), other p reply (ap is_wordless is ∙ quiet) valueless may)
 
 -- the key under which a sleeper may be late is its place's
-is_late_at : (p : Place) → (sleeper_at p).late ≡ late_at p
+is_late_at : (p : Place) → (sleeper_at p).late ≡ late_key_at p
 is_late_at Idle = refl
 is_late_at (Mutex l at) = refl
 is_late_at (RwLock l a c) = refl
@@ -54,7 +54,7 @@ is_late_at (Once l at) = refl
 is_late_at (Condvar l at) = refl
 is_late_at (Semaphore l at) = refl
 
-has_deadline : (p : Place) (key : ℕ) → (sleeper_at p).late ≡ Some key → late_at p ≢ None
+has_deadline : (p : Place) (key : ℕ) → (sleeper_at p).late ≡ Some key → late_key_at p ≢ None
 has_deadline p key late none = let one : Some key ≡ None = sym late ∙ is_late_at p ∙ none in cc
 
 some_closure : {state : OnceState} → Some state ≡ None → ⊥
@@ -137,8 +137,8 @@ pub by_stage : (w : Word) (op : Op) (seen : ℕ) (old : Token) (section : Option
     → Stepped w.kind (word_index w.number w.kind) op seen (stage_of old section) (stage_of new section)
 by_stage w op seen old section new e last code = (
   code,
-  ap (λ (v : View). stage v.owns (inside_of section) (last_of new) v.steps) e
-      ∙ ap (λ (l : Option SectionRecord). stage (owns_after_step w.kind (word_index w.number w.kind) op seen (view_of old).owns) (inside_of section) l ((view_of old).steps ++ step (word_index w.number w.kind) op seen)) last,
+  ap (λ (v : View). stage v.owns (section_view section) (last_of new) v.steps) e
+      ∙ ap (λ (l : Option SectionRecord). stage (owns_after_step w.kind (word_index w.number w.kind) op seen (view_of old).owns) (section_view section) l ((view_of old).steps ++ step (word_index w.number w.kind) op seen)) last,
 )
 
 -- a step that ends no call does what its place says

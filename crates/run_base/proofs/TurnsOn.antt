@@ -19,10 +19,10 @@ use Rattle.parking_lot_core.specs.declared.sections.Section.{Section}
 use Rattle.parking_lot_core.specs.declared.tokens.Token.{Token}
 use Rattle.run_base.specs.Fitting.{CallPurpose, AreWordsFor, Fits, IsOver, ReachedBy, call_purpose, answer_of, sleeper_at}
 use Rattle.run_base.specs.Paths.{closure_of}
-use Rattle.run_base.specs.Stages.{ActNeeds, Adds, Became, IsIn, inside_of, stage_of}
+use Rattle.run_base.specs.Stages.{ActNeeds, Adds, Became, IsSectionOf, section_view, stage_of}
 use Rattle.run_base.specs.Telling.{steps_of}
-use Rattle.run_base.specs.Turns.{HasEnded, HasTurned, IsAt}
-use Rattle.run_base.specs.Words.{at_in, kind_in, word_in}
+use Rattle.run_base.specs.Turns.{HasEnded, HasTurned, IsAtPlace}
+use Rattle.run_base.specs.Words.{at_in, kind_in, word_among}
 use Rattle.run_base.specs.declared.words.Words.{Words}
 use Rattle.run_base.proofs.Ending.{end_of, ended}
 use Rattle.run_base.proofs.Paths.{comes_here, comes_on, comes_to_end, walks_on}
@@ -30,12 +30,12 @@ use Rattle.run_base.proofs.Leading.{places_lead}
 use Rattle.run_base.proofs.Turning.{by_stage, told, words_on}
 
 -- tells what the act of a place needs
-pub needs_by : (up : Type 0) (lot : ParkingLot) (words : Words) (p : Place) (a : Act) (token : Token) (section : Option Section) → IsAt up lot words p token section → act_of p ≡ a → ActNeeds (kind_in words) (at_in words) (stage_of token section) a
+pub needs_by : (up : Type 0) (lot : ParkingLot) (words : Words) (p : Place) (a : Act) (token : Token) (section : Option Section) → IsAtPlace up lot words p token section → act_of p ≡ a → ActNeeds (kind_in words) (at_in words) (stage_of token section) a
 needs_by up lot words p a token section at is = subst (ActNeeds (kind_in words) (at_in words) (stage_of token section)) is (places_lead up (kind_in words) (at_in words) at.4.0 p (stage_of token section) at.3 at.4.1).0
 
 module _ (up : Type 0) (lot : ParkingLot) (words : Words) (p : Place) (old new : Token) (section now : Option Section) where
   -- an act that was done is a turn
-  pub turned_by : (a : Act) (reply : Reply) → act_of p ≡ a → closure_of a ≡ None → IsAt up lot words p old section → IsSameThread lot old new → IsIn lot now → Became up (kind_in words) (at_in words) (sleeper_at p) (stage_of old section) a reply (stage_of new now) → Adds (at_in words) a reply (steps_of old) (steps_of new) → HasTurned up lot words p reply old section new now
+  pub turned_by : (a : Act) (reply : Reply) → act_of p ≡ a → closure_of a ≡ None → IsAtPlace up lot words p old section → IsSameThread lot old new → IsSectionOf lot now → Became up (kind_in words) (at_in words) (sleeper_at p) (stage_of old section) a reply (stage_of new now) → Adds (at_in words) a reply (steps_of old) (steps_of new) → HasTurned up lot words p reply old section new now
   turned_by a reply is none at same inside became adds = (
     same,
     inside,
@@ -45,13 +45,13 @@ module _ (up : Type 0) (lot : ParkingLot) (words : Words) (p : Place) (old new :
   )
 
 -- a step on a word
-pub word_turned : (up : Type 0) (lot : ParkingLot) (words : Words) (p : Place) (old new : Token) (section : Option Section) (lock : ℕ) (op : Op) (seen : ℕ) (w : Word) → w ≡ word_in words lock → act_of p ≡ act.TheVariants.Word lock op → IsAt up lot words p old section → IsSameThread lot old new
+pub word_turned : (up : Type 0) (lot : ParkingLot) (words : Words) (p : Place) (old new : Token) (section : Option Section) (lock : ℕ) (op : Op) (seen : ℕ) (w : Word) → w ≡ word_among words lock → act_of p ≡ act.TheVariants.Word lock op → IsAtPlace up lot words p old section → IsSameThread lot old new
     → view_of new ≡ after_step w.kind (word_index w.number w.kind) op seen (view_of old) → last_of new ≡ None → CodesWith w.kind (word_index w.number w.kind) seen (view_of old).owns → HasTurned up lot words p (Value seen) old section new section
 word_turned up lot words p old new section lock op seen w e is at same stepped last coded =
     let then = subst (λ (w : Word). view_of new ≡ after_step w.kind (word_index w.number w.kind) op seen (view_of old)) e stepped in
     let code = subst (λ (w : Word). CodesWith w.kind (word_index w.number w.kind) seen (view_of old).owns) e coded in
     turned_by up lot words p old new section section (act.TheVariants.Word lock op) (Value seen) is refl at same at.2
-    (by_stage (word_in words lock) op seen old section new then last code) (ap (λ (v : View). v.steps) then)
+    (by_stage (word_among words lock) op seen old section new then last code) (ap (λ (v : View). v.steps) then)
 
 module _ (up : Type 0) (lot : ParkingLot) (words : Words) (p : Place) (reply : Reply) (old new : Token) (section now : Option Section) (turned : HasTurned up lot words p reply old section new now) where
   -- tells what a turn brings that ends no call
@@ -61,7 +61,7 @@ module _ (up : Type 0) (lot : ParkingLot) (words : Words) (p : Place) (reply : R
       = subst (λ (o : Option Answer). ReachedBy up base (call_purpose p) (next_place p reply) o (stage_of new now)) none (turned.3 base fits) in
       subst (λ (r : Place). Fits up base r (stage_of new now) × (call_purpose r ≡ call_purpose p)) is reached
 
-  pub turn_leads : IsAt up lot words p old section → (q : Place) → next_place p reply ≡ q → answer_of (next_act p reply) ≡ None → IsAt up lot words q new now
+  pub turn_leads : IsAtPlace up lot words p old section → (q : Place) → next_place p reply ≡ q → answer_of (next_act p reply) ≡ None → IsAtPlace up lot words q new now
   turn_leads at q is none = (
     turned.0.0,
     at.1,
@@ -85,5 +85,5 @@ module _ (up : Type 0) (lot : ParkingLot) (words : Words) (p : Place) (reply : R
     turned.0,
     comes_to_end (at_in words) p p (steps_of old) (steps_of old) (steps_of new) reply turned.2.0 answer (comes_here (at_in words) p (steps_of old)) turned.2.1 turned.2.2 (end_of (next_act p reply) answer some),
     λ base fits. let over = subst (λ (o : Option Answer). ReachedBy up base (call_purpose p) (next_place p reply) o (stage_of new now)) some (turned.3 base fits) in
-        ended up base (stage_of new now).owns (call_purpose p) answer (inside_of now) (stage_of new now).last (stage_of new now).steps over,
+        ended up base (stage_of new now).owns (call_purpose p) answer (section_view now) (stage_of new now).last (stage_of new now).steps over,
   )

@@ -16,7 +16,7 @@ use Rattle.core_words.specs.declared.words.Word.{Word}
 use Rattle.core_words.specs.declared.words.WordKind as kinds
 use Rattle.parking_lot_core.specs.declared.lot.ParkingLot.{ParkingLot}
 use Rattle.parking_lot_core.specs.declared.tokens.SectionRecord.{SectionRecord}
-use Rattle.run_base.specs.MutexFitting.{Purpose, enters, releases, hands_over, TookAt, held}
+use Rattle.run_base.specs.MutexFitting.{MutexPurpose, to_enter, to_release, to_hand_over, TookAt, mutex_ownership}
 use Rattle.spec_locks.specs.declared.outcomes.Answer.{Answer}
 use Rattle.parking_lot_core.specs.Tokens.{IsTokenOf, view_of}
 use Rattle.parking_lot_core.specs.declared.tokens.Token.{Token}
@@ -41,12 +41,12 @@ first_op call.UnlockFair = Exchange 1 0
 first_op call.Bump = Load
 
 -- its aim after that
-abbrev pub purpose_in : MutexCall → Purpose
-purpose_in call.Lock = enters entry.TheVariants.Lock
-purpose_in call.LockTimed = enters entry.TheVariants.LockTimed
-purpose_in call.UnlockFair = hands_over
-purpose_in call.Bump = enters entry.TheVariants.Bump
-purpose_in _ = releases
+abbrev pub purpose_in : MutexCall → MutexPurpose
+purpose_in call.Lock = to_enter entry.TheVariants.Lock
+purpose_in call.LockTimed = to_enter entry.TheVariants.LockTimed
+purpose_in call.UnlockFair = to_hand_over
+purpose_in call.Bump = to_enter entry.TheVariants.Bump
+purpose_in _ = to_release
 
 -- it goes on behind the value that its first operation saw; who is to hand the mutex over owns it
 abbrev pub IsUnfinished : ℕ → MutexCall → ℕ → List Ownership → Type 0
@@ -54,8 +54,8 @@ IsUnfinished n call.Lock seen owns = 0 < seen
 IsUnfinished n call.LockTimed seen owns = 0 < seen
 IsUnfinished n call.TryLock seen owns = ⊥
 IsUnfinished n call.Unlock seen owns = is_parked seen ≡ true
-IsUnfinished n call.UnlockFair seen owns = (seen ≢ 1) × (has (held n) owns ≡ true)
-IsUnfinished n call.Bump seen owns = (is_parked seen ≡ true) × (has (held n) owns ≡ true)
+IsUnfinished n call.UnlockFair seen owns = (seen ≢ 1) × (has (mutex_ownership n) owns ≡ true)
+IsUnfinished n call.Bump seen owns = (is_parked seen ≡ true) × (has (mutex_ownership n) owns ≡ true)
 
 -- a thread that saw a waiter left the section in which it took the first of the queue; one that saw none took
 -- no further step
@@ -69,14 +69,14 @@ saw_waiter call.UnlockFair seen = not (seen == 1)
 saw_waiter _ seen = is_parked seen
 
 -- a release took a waiter by what its first operation saw
-abbrev pub Releases : ℕ → MutexCall → List WordStep → List WordStep → Option SectionRecord → Type 0
-Releases n c old new last = (seen : ℕ) × (more : List WordStep)
+abbrev pub TookIfSeen : ℕ → MutexCall → List WordStep → List WordStep → Option SectionRecord → Type 0
+TookIfSeen n c old new last = (seen : ℕ) × (more : List WordStep)
     × (new ≡ (old ++ step (mutex_at n) (first_op c) seen) ++ more)
     × TookIfParked n (saw_waiter c seen) more last
 
 -- the word was loaded once, and told that the mutex is locked or not
-abbrev pub Sees : ℕ → Bool → List WordStep → List WordStep → Type 0
-Sees n locked old new = (seen : ℕ) × (new ≡ old ++ step (mutex_at n) Load seen)
+abbrev pub SawWhetherLocked : ℕ → Bool → List WordStep → List WordStep → Type 0
+SawWhetherLocked n locked old new = (seen : ℕ) × (new ≡ old ++ step (mutex_at n) Load seen)
     × (is_locked seen ≡ locked)
 
 -- the call of a fair mutex: its unlock hands over
@@ -85,8 +85,8 @@ fairly call.Unlock = call.UnlockFair
 fairly c = c
 
 -- the steps of a call lead from its beginning to the answer
-abbrev pub HasWalked : ℕ → MutexCall → Answer → Token → Token → Type 0
-HasWalked n c answer old new =
+abbrev pub HasWalkedMutex : ℕ → MutexCall → Answer → Token → Token → Type 0
+HasWalkedMutex n c answer old new =
     Walks (at_mutex n) (beginning n c) (view_of old).steps (view_of new).steps answer
 
 -- and so they do with the first, which was taken before and saw this

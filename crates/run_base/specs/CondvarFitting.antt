@@ -26,21 +26,21 @@ use Rattle.core_words.specs.declared.views.WordStep.{WordStep}
 use Rattle.parking_lot_core.specs.declared.tokens.Did.{Did}
 use Rattle.parking_lot_core.specs.declared.tokens.Did.TheVariants as did
 use Rattle.parking_lot_core.specs.declared.tokens.SectionRecord.{SectionRecord}
-use Rattle.run_base.specs.MutexFitting.{FitsLock, FitsUnlock, Outside, Within, held}
+use Rattle.run_base.specs.MutexFitting.{FitsLock, FitsUnlock, Outside, Within, mutex_ownership}
 use Rattle.run_base.specs.Paths.{condvar_at, step}
 use Rattle.run_base.specs.Stages.{HasLeft, Stage, TookNobodyAt, entered_now, having_taken}
 
 -- a waiting thread owned its mutex as the call began
 abbrev pub OwnsIt : ℕ → List Ownership → Type 0
-OwnsIt m base = has (held m) base ≡ true
+OwnsIt m base = has (mutex_ownership m) base ≡ true
 
 -- its ownership while it waits
 abbrev pub apart : ℕ → List Ownership → List Ownership
-apart m base = without (held m) base
+apart m base = without (mutex_ownership m) base
 
 -- in the sections of the condition variable and of the mutex shown, where it has done nothing
-abbrev pub Between : ℕ → ℕ → List Ownership → Stage → Type 0
-Between c m owns st = (st.owns ≡ owns) × (st.inside ≡ entered_now (Two (2 * c) (2 * m)))
+abbrev pub InBothSections : ℕ → ℕ → List Ownership → Stage → Type 0
+InBothSections c m owns st = (st.owns ≡ owns) × (st.inside ≡ entered_now (Two (2 * c) (2 * m)))
 
 -- the last of these steps looked at the condition variable, and saw another mutex than this shown,
 -- or none
@@ -61,8 +61,8 @@ TellsNumber true number counted = number ≡ counted
 TellsNumber false number counted = number ≡ 1
 
 -- it has moved waiters there, and took one of them or none
-abbrev pub HasMoved : ℕ → ℕ → Bool → ℕ → List Ownership → Stage → Type 0
-HasMoved c m all number owns st =
+abbrev pub HasMovedInSection : ℕ → ℕ → Bool → ℕ → List Ownership → Stage → Type 0
+HasMovedInSection c m all number owns st =
     (st.owns ≡ owns) × (locked : Bool) × (waiters : List Waiter) × (moved : ℕ)
     × (st.inside ≡ Some (record
     (having_taken (Two (2 * c) (2 * m)) (move_did all locked c m) waiters (threads_of waiters)) {
@@ -72,15 +72,15 @@ HasMoved c m all number owns st =
 
 abbrev pub FitsNotify : ℕ → ℕ → Bool → List Ownership → NotifyAt → Stage → Type 0
 FitsNotify c m all base notify.Enter st = Outside base st
-FitsNotify c m all base notify.Again st = Between c m base st
-FitsNotify c m all base notify.Hide st = Between c m base st
-FitsNotify c m all base notify.Mark st = Between c m base st
-FitsNotify c m all base (notify.Set seen) st = ((seen ≡ 1) ⊎ (seen ≡ 3)) × Between c m base st
-FitsNotify c m all base (notify.Move locked) st = Between c m base st
-FitsNotify c m all base (notify.Clear any) st = (all ≡ false) × HasMoved c m all 1 base st
-FitsNotify c m all base (notify.MarkMoved number) st = HasMoved c m all number base st
+FitsNotify c m all base notify.Again st = InBothSections c m base st
+FitsNotify c m all base notify.Hide st = InBothSections c m base st
+FitsNotify c m all base notify.Mark st = InBothSections c m base st
+FitsNotify c m all base (notify.Set seen) st = ((seen ≡ 1) ⊎ (seen ≡ 3)) × InBothSections c m base st
+FitsNotify c m all base (notify.Move locked) st = InBothSections c m base st
+FitsNotify c m all base (notify.Clear any) st = (all ≡ false) × HasMovedInSection c m all 1 base st
+FitsNotify c m all base (notify.MarkMoved number) st = HasMovedInSection c m all number base st
 FitsNotify c m all base (notify.Leave any number) st =
-    ((number ≡ 0) × Between c m base st × SawElse c m st.steps) ⊎ HasMoved c m all number base st
+    ((number ≡ 0) × InBothSections c m base st × SawElse c m st.steps) ⊎ HasMovedInSection c m all number base st
 
 -- the answer of a notification from its second look on, by the section that it left: it saw another mutex
 -- shown, or none, and did nothing; or it moved waiters, and one that notifies all tells the record's number
@@ -103,17 +103,17 @@ module _ (up : Type 0) where
   LateIf timed false = Unit {0}
 
   -- a thread that releases its mutex, from its subtraction on
-  abbrev pub FitsRelease : ℕ → List Ownership → Stands → MutexPlace → Stage → Type 0
-  FitsRelease m base stands.Listed (Unlock unlock.Subtract) st = OwnsIt m base × Outside base st
-  FitsRelease m base stands.Listed (Unlock unlock.Enter) st =
+  abbrev pub FitsMutexRelease : ℕ → List Ownership → Stands → MutexPlace → Stage → Type 0
+  FitsMutexRelease m base stands.Listed (Unlock unlock.Subtract) st = OwnsIt m base × Outside base st
+  FitsMutexRelease m base stands.Listed (Unlock unlock.Enter) st =
       FitsUnlock m (apart m base) unlock.Enter st
-  FitsRelease m base stands.Listed (Unlock unlock.Take) st =
+  FitsMutexRelease m base stands.Listed (Unlock unlock.Take) st =
       FitsUnlock m (apart m base) unlock.Take st
-  FitsRelease m base stands.Listed (Unlock (unlock.Clear any)) st =
+  FitsMutexRelease m base stands.Listed (Unlock (unlock.Clear any)) st =
       FitsUnlock m (apart m base) (unlock.Clear any) st
-  FitsRelease m base stands.Listed (Unlock (unlock.Leave any)) st =
+  FitsMutexRelease m base stands.Listed (Unlock (unlock.Leave any)) st =
       FitsUnlock m (apart m base) (unlock.Leave any) st
-  FitsRelease m base s at st = ⊥
+  FitsMutexRelease m base s at st = ⊥
 
   -- and one that locks it again
   abbrev pub FitsRelock : ℕ → List Ownership → MutexPlace → Stage → Type 0
@@ -133,7 +133,7 @@ module _ (up : Type 0) where
   FitsWait c m timed base wait.Stand st = OwnsIt m base × Within c base st
   FitsWait c m timed base wait.Leave st = OwnsIt m base × Within c base st
   FitsWait c m timed base wait.Refuse st = OwnsIt m base × Within c base st
-  FitsWait c m timed base (wait.Release s at) st = FitsRelease m base s at st
+  FitsWait c m timed base (wait.Release s at) st = FitsMutexRelease m base s at st
   FitsWait c m timed base (wait.Asleep s) st = FitsAsleep m base s st
   FitsWait c m timed base wait.Remove st = LateIf timed true × Within c (apart m base) st
   FitsWait c m timed base wait.Hide st = LateIf timed true × Within c (apart m base) st
@@ -145,10 +145,10 @@ module _ (up : Type 0) where
 
   -- the ownership of a thread in a call of a condition variable, which owned so much as it began. The first
   -- step of a notification is taken before
-  abbrev pub FitsCondvar : ℕ → List Ownership → CondvarPlace → Stage → Type 0
-  FitsCondvar c base (Wait m timed at) st = FitsWait c m timed base at st
-  FitsCondvar c base (Look all) st = ⊥
-  FitsCondvar c base (Notify all m at) st = FitsNotify c m all base at st
+  abbrev pub FitsCondvarCall : ℕ → List Ownership → CondvarPlace → Stage → Type 0
+  FitsCondvarCall c base (Wait m timed at) st = FitsWait c m timed base at st
+  FitsCondvarCall c base (Look all) st = ⊥
+  FitsCondvarCall c base (Notify all m at) st = FitsNotify c m all base at st
 
   -- the answer at the end of a wait is true: another mutex was shown, and it never released its own, or it
   -- has it again
@@ -156,4 +156,4 @@ module _ (up : Type 0) where
   IsWaitOver m timed base answer st =
       ((answer ≡ answers.TwoMutexes) × OwnsIt m base × Outside base st)
       ⊎ ((timed_out : Bool) × (answer ≡ waited timed timed_out) × LateIf timed timed_out
-      × Outside (held m ∷ apart m base) st)
+      × Outside (mutex_ownership m ∷ apart m base) st)

@@ -30,11 +30,11 @@ use Rattle.steps_condvar.specs.CondvarSteps.{mutex_beside}
 use Rattle.steps_condvar.specs.declared.places.CondvarPlace.{CondvarPlace}
 use Rattle.steps_condvar.specs.declared.places.CondvarPlace.TheVariants as condvars
 use Rattle.core_words.specs.declared.words.WordKind.TheVariants as kind
-use Rattle.run_base.specs.Sleepers.{condvar_sleeper, late_at}
-use Rattle.run_base.specs.CondvarFitting.{FitsCondvar, IsNotifyOver, IsWaitOver}
+use Rattle.run_base.specs.Sleepers.{condvar_sleeper, late_key_at}
+use Rattle.run_base.specs.CondvarFitting.{FitsCondvarCall, IsNotifyOver, IsWaitOver}
 use Rattle.spec_locks.specs.declared.calls.Patience.TheVariants.{Patient}
-use Rattle.run_base.specs.MutexFitting.{Purpose, purpose_at, FitsMutex, IsMutexOver}
-use Rattle.run_base.specs.RwLockFitting.{FitsCall, IsFairlyOver, IsRwLockOver, may_be_handed, purpose_in}
+use Rattle.run_base.specs.MutexFitting.{MutexPurpose, mutex_purpose_at, FitsMutex, IsMutexOver}
+use Rattle.run_base.specs.RwLockFitting.{FitsCall, IsFairlyOver, IsRwLockOver, may_be_handed, rwlock_purpose_in}
 use Rattle.run_base.specs.OnceFitting.{FitsOnce, IsLookOver, IsRunOver}
 use Rattle.run_base.specs.SemaphoreFitting.{FitsSemaphore, IsSemaphoreOver}
 use Rattle.run_base.specs.SemaphoreFitting as semaphore
@@ -50,8 +50,8 @@ answer_of _ = None
 
 -- the goal of a call, and its lock
 pub data CallPurpose : Type 0 where
-  nothing : CallPurpose
-  of_mutex : ℕ → Purpose → CallPurpose
+  without_purpose : CallPurpose
+  of_mutex : ℕ → MutexPurpose → CallPurpose
   of_rwlock : ℕ → Admission → RwLockPurpose → CallPurpose
   of_fair : ℕ → Admission → Access → CallPurpose
   of_once : ℕ → OnceCall → CallPurpose
@@ -61,7 +61,7 @@ pub data CallPurpose : Type 0 where
   of_wait : ℕ → ℕ → Bool → CallPurpose
   -- to notify the first or all who wait with this mutex
   of_notify : ℕ → ℕ → Bool → CallPurpose
-  of_semaphore : ℕ → semaphore.Purpose → CallPurpose
+  of_semaphore : ℕ → semaphore.SemaphorePurpose → CallPurpose
 
 -- a thread that hands the lock over releases it fairly, or bumps
 abbrev pub handing_aim : ℕ → Admission → Access → Bool → CallPurpose
@@ -70,7 +70,7 @@ handing_aim l a x false = of_fair l a x
 
 abbrev pub call_aim : ℕ → Admission → RwLockCallPlace → CallPurpose
 call_aim l a (places.HandOver x b to) = handing_aim l a x b
-call_aim l a c = of_rwlock l a (purpose_in c)
+call_aim l a c = of_rwlock l a (rwlock_purpose_in c)
 
 -- a thread that begins a run goes on to its closure, and then ends the run
 abbrev pub run_aim : ℕ → Bool → RunAt → CallPurpose
@@ -87,27 +87,27 @@ once_aim l (GiveUp retries at) = of_once l WaitTimed
 
 abbrev pub condvar_aim : ℕ → CondvarPlace → CallPurpose
 condvar_aim l (condvars.Wait m timed at) = of_wait l m timed
-condvar_aim l (condvars.Look all) = nothing
+condvar_aim l (condvars.Look all) = without_purpose
 condvar_aim l (condvars.Notify all m at) = of_notify l m all
 
 abbrev pub call_purpose : Place → CallPurpose
-call_purpose Idle = nothing
-call_purpose (Mutex l at) = of_mutex l (purpose_at at)
+call_purpose Idle = without_purpose
+call_purpose (Mutex l at) = of_mutex l (mutex_purpose_at at)
 call_purpose (RwLock l a c) = call_aim l a c
 call_purpose (Once l at) = once_aim l at
 call_purpose (Condvar l at) = condvar_aim l at
-call_purpose (Semaphore l at) = of_semaphore l (semaphore.purpose_at at)
+call_purpose (Semaphore l at) = of_semaphore l (semaphore.semaphore_purpose_at at)
 
 -- for what a thread sleeps in a call, the keys under which it may be late, and whether it goes on
 -- where it is handed the lock. Nobody is moved from the queue of a lock
 abbrev pub sleeper_at : Place → Sleeper
 sleeper_at Idle = record
-    { lock = 0; want = Exclusive; late = late_at Idle; moved = None; takes_over = false }
+    { lock = 0; want = Exclusive; late = late_key_at Idle; moved = None; takes_over = false }
 sleeper_at (Mutex l at) =
     record {
       lock = l;
       want = Exclusive;
-      late = late_at (Mutex l at);
+      late = late_key_at (Mutex l at);
       moved = None;
       takes_over = true;
     }
@@ -115,7 +115,7 @@ sleeper_at (RwLock l a c) =
     record {
       lock = l;
       want = unwrap_or (call_wants c) Exclusive;
-      late = late_at (RwLock l a c);
+      late = late_key_at (RwLock l a c);
       moved = None;
       takes_over = may_be_handed c;
     }
@@ -123,7 +123,7 @@ sleeper_at (Once l at) =
     record {
       lock = l;
       want = unwrap_or (once_wants at) Exclusive;
-      late = late_at (Once l at);
+      late = late_key_at (Once l at);
       moved = None;
       takes_over = false;
     }
@@ -132,7 +132,7 @@ sleeper_at (Semaphore l at) =
     record {
       lock = l;
       want = unwrap_or (semaphore_wants at) Exclusive;
-      late = late_at (Semaphore l at);
+      late = late_key_at (Semaphore l at);
       moved = None;
       takes_over = false;
     }
@@ -170,12 +170,12 @@ module _ (up : Type 0) where
   Fits base (Mutex l at) st = FitsMutex up l base at st
   Fits base (RwLock l a c) st = FitsCall up l base a c st
   Fits base (Once l at) st = FitsOnce up l base at st
-  Fits base (Condvar l at) st = FitsCondvar up l base at st
+  Fits base (Condvar l at) st = FitsCondvarCall up l base at st
   Fits base (Semaphore l at) st = FitsSemaphore up l base at st
 
   -- the answer at the end of a call is true
   abbrev pub IsOver : List Ownership → CallPurpose → Answer → Stage → Type 0
-  IsOver base nothing answer st = ⊥
+  IsOver base without_purpose answer st = ⊥
   IsOver base (of_mutex l purpose) answer st = IsMutexOver up l base purpose answer st
   IsOver base (of_rwlock l a purpose) answer st = IsRwLockOver up l base a purpose answer st
   IsOver base (of_fair l a x) answer st = IsFairlyOver l base a x answer st
@@ -201,14 +201,14 @@ module _ (up : Type 0) where
       ReachedBy base (call_purpose p) (next_place p reply) (answer_of (next_act p reply)) st
 
   -- from where it looks at the word once more, it goes on too
-  abbrev pub Looks : List Ownership → Place → Stage → Type 0
-  Looks base p st = (q : Place) → looking p ≡ Some q → Fits base q st × (call_purpose q ≡ call_purpose p)
+  abbrev pub LooksLeadOn : List Ownership → Place → Stage → Type 0
+  LooksLeadOn base p st = (q : Place) → looking p ≡ Some q → Fits base q st × (call_purpose q ≡ call_purpose p)
 
   -- each place's act is one that the thread may take, and each reply leads to a place that fits
   abbrev pub PlacesLead : Type 0
   PlacesLead = (kinds : ℕ → WordKind) (at : ℕ → ℕ) (base : List Ownership) (p : Place) (st : Stage)
       → AreWordsFor p kinds at → Fits base p st →
       ActNeeds kinds at st (act_of p)
-      × Looks base p st
+      × LooksLeadOn base p st
       × ((reply : Reply) (new : Stage) → Became up kinds at (sleeper_at p) st (act_of p) reply new
       → Reached base p reply new)

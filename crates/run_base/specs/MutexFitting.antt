@@ -26,30 +26,30 @@ use Rattle.run_base.specs.Paths.{mutex_at}
 use Rattle.run_base.specs.Stages.{HasDone, Stage, TookNobodyAt, entered_now, having_taken, is_there, listed}
 
 -- the goal of a call of a mutex: to enter, to end a release that has given the lock up, or to hand it over
-pub data Purpose : Type 0 where
-  enters : Entry → Purpose
-  releases : Purpose
-  hands_over : Purpose
+pub data MutexPurpose : Type 0 where
+  to_enter : Entry → MutexPurpose
+  to_release : MutexPurpose
+  to_hand_over : MutexPurpose
 
 -- a bump enters again
-abbrev pub hands_for : Bool → Purpose
-hands_for true = enters entry.TheVariants.Bump
-hands_for false = hands_over
+abbrev pub hands_for : Bool → MutexPurpose
+hands_for true = to_enter entry.TheVariants.Bump
+hands_for false = to_hand_over
 
-abbrev pub purpose_at : MutexPlace → Purpose
-purpose_at (Lock e retries at) = enters e
-purpose_at UnlockFair = hands_over
-purpose_at Bump = enters entry.TheVariants.Bump
-purpose_at (HandOff bumps at) = hands_for bumps
-purpose_at _ = releases
+abbrev pub mutex_purpose_at : MutexPlace → MutexPurpose
+mutex_purpose_at (Lock e retries at) = to_enter e
+mutex_purpose_at UnlockFair = to_hand_over
+mutex_purpose_at Bump = to_enter entry.TheVariants.Bump
+mutex_purpose_at (HandOff bumps at) = hands_for bumps
+mutex_purpose_at _ = to_release
 
 -- a mutex that is owned
-abbrev pub held : ℕ → Ownership
-held n = owning (mutex_at n) Exclusive
+abbrev pub mutex_ownership : ℕ → Ownership
+mutex_ownership n = owning (mutex_at n) Exclusive
 
 -- the ownership of an entering thread beside the mutex: one that bumps had it as the call began
 abbrev pub beside : ℕ → Entry → List Ownership → List Ownership
-beside n entry.TheVariants.Bump base = without (held n) base
+beside n entry.TheVariants.Bump base = without (mutex_ownership n) base
 beside n _ base = base
 
 -- a thread that owns this, outside all sections
@@ -84,13 +84,13 @@ FitsUnlock n base (unlock.TheVariants.Leave any) st = HasTook n any base st
 
 -- an owner that saw a waiter, until its store, and behind that
 abbrev pub FitsHandOff : ℕ → List Ownership → HandOffAt → Stage → Type 0
-FitsHandOff n base hand_off.TheVariants.Enter st = (has (held n) base ≡ true) × Outside base st
-FitsHandOff n base hand_off.TheVariants.Take st = (has (held n) base ≡ true) × Within n base st
+FitsHandOff n base hand_off.TheVariants.Enter st = (has (mutex_ownership n) base ≡ true) × Outside base st
+FitsHandOff n base hand_off.TheVariants.Take st = (has (mutex_ownership n) base ≡ true) × Within n base st
 FitsHandOff n base (hand_off.TheVariants.Store any none_left) st =
-    (has (held n) base ≡ true) × HasTook n any base st
+    (has (mutex_ownership n) base ≡ true) × HasTook n any base st
 FitsHandOff n base (hand_off.TheVariants.Leave any) st =
     (first : Option Waiter) × (any ≡ is_there first)
-    × Took n first [] (without (held n) base) st
+    × Took n first [] (without (mutex_ownership n) base) st
 
 -- `up` says that the time of the call is up
 module _ (up : Type 0) where
@@ -106,7 +106,7 @@ module _ (up : Type 0) where
   FitsLock n e owns lock.TheVariants.Check st = Within n owns st
   FitsLock n e owns (lock.TheVariants.Leave parked) st = Within n owns st
   FitsLock n e owns lock.TheVariants.Asleep st = Outside owns st
-  FitsLock n e owns lock.TheVariants.Accept st = Outside (held n ∷ owns) st
+  FitsLock n e owns lock.TheVariants.Accept st = Outside (mutex_ownership n ∷ owns) st
   FitsLock n e owns lock.TheVariants.Remove st = GaveUp e × Within n owns st
   FitsLock n e owns lock.TheVariants.Clear st = GaveUp e × Within n owns st
   FitsLock n e owns lock.TheVariants.GiveUp st = GaveUp e × Within n owns st
@@ -121,12 +121,12 @@ module _ (up : Type 0) where
   FitsMutex n base _ st = ⊥
 
   -- the answer at its end is true
-  abbrev pub IsMutexOver : ℕ → List Ownership → Purpose → Answer → Stage → Type 0
-  IsMutexOver n base (enters e) answer st =
-      ((answer ≡ entered e) × Outside (held n ∷ beside n e base) st)
+  abbrev pub IsMutexOver : ℕ → List Ownership → MutexPurpose → Answer → Stage → Type 0
+  IsMutexOver n base (to_enter e) answer st =
+      ((answer ≡ entered e) × Outside (mutex_ownership n ∷ beside n e base) st)
       ⊎ ((answer ≡ answers.TheVariants.No) × GaveUp e × Outside (beside n e base) st
       × TookNobodyAt n st.last)
-  IsMutexOver n base releases answer st =
+  IsMutexOver n base to_release answer st =
       (answer ≡ answers.TheVariants.Ok) × Outside base st × TookAt n st.last
-  IsMutexOver n base hands_over answer st = (answer ≡ answers.TheVariants.Ok)
-      × Outside (without (held n) base) st × TookAt n st.last
+  IsMutexOver n base to_hand_over answer st = (answer ≡ answers.TheVariants.Ok)
+      × Outside (without (mutex_ownership n) base) st × TookAt n st.last

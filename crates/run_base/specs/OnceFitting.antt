@@ -22,7 +22,7 @@ use Rattle.core_words.specs.declared.owners.Ownership.{Ownership}
 use Rattle.parking_lot_core.specs.declared.tokens.Did.TheVariants.{TakeAll}
 use Rattle.parking_lot_core.specs.declared.tokens.SectionRecord.{SectionRecord}
 use Rattle.run_base.specs.Paths.{once_at}
-use Rattle.run_base.specs.Stages.{HasDone, Inside, Stage, TookNobodyAt, entered_now, having_taken}
+use Rattle.run_base.specs.Stages.{HasDone, SectionView, Stage, TookNobodyAt, entered_now, having_taken}
 
 -- the ownership of a thread that has found a `Once` done so often, beside the rest
 abbrev pub knowing : ℕ → ℕ → List Ownership → List Ownership
@@ -67,7 +67,7 @@ OwnsRun l base owns = (rest : List Ownership) × OwnsKnowing l base rest
     × (owns ≡ owning (once_at l) Runner ∷ rest)
 
 -- it has taken all that waited; these have no right yet, and get none
-abbrev pub TookEach : ℕ → List Waiter → Option Inside → Type 0
+abbrev pub TookEach : ℕ → List Waiter → Option SectionView → Type 0
 TookEach l waiters inside =
     inside ≡ Some (having_taken (One (2 * l)) (TakeAll (2 * l)) waiters (threads_of waiters))
 

@@ -16,7 +16,7 @@ use Rattle.steps_base.specs.declared.acts.Reply.TheVariants.{Done, Value, Parked
 use Rattle.spec_locks.specs.declared.outcomes.Answer.{Answer}
 use Rattle.spec_locks.specs.declared.outcomes.OnceState.{OnceState}
 use Rattle.lot_steps.specs.declared.places.Place.{Place}
-use Rattle.run_base.specs.Sleepers.{late_at}
+use Rattle.run_base.specs.Sleepers.{late_key_at}
 use Rattle.run_base.specs.declared.driver.Stop.{Stop}
 use Rattle.run_base.specs.declared.driver.Stop.TheVariants.{Ended, Paused}
 
@@ -104,9 +104,9 @@ MayReply p (Picked sharers successor none_left) = Unit {0}
 MayReply p (Requeued number none_left) = Unit {0}
 MayReply p (Removed none_left) = Unit {0}
 MayReply p (TakenBy by) = Unit {0}
-MayReply p (MovedTo key) = late_at p ≢ None
+MayReply p (MovedTo key) = late_key_at p ≢ None
 MayReply p (HandedBy by alone) = Unit {0}
-MayReply p Late = late_at p ≢ None
+MayReply p Late = late_key_at p ≢ None
 MayReply p (Woken note) = Unit {0}
 MayReply p (Closed succeeded) = Unit {0}
 
@@ -156,12 +156,12 @@ abbrev pub Walks : (ℕ → ℕ) → Place → List WordStep → List WordStep �
 Walks at p old new answer = (more : List WordStep) × (new ≡ old ++ more) × Ending at p more answer
 
 -- after a reply that ended its call there are no further steps, and else they go on from where it led
-abbrev pub Rests : (ℕ → ℕ) → Place → Reply → List WordStep → List WordStep → Answer → Type 0
-Rests at p reply old new answer = ((new ≡ old) × (next_act p reply ≡ act.TheVariants.End answer))
+abbrev pub WalksAfterReply : (ℕ → ℕ) → Place → Reply → List WordStep → List WordStep → Answer → Type 0
+WalksAfterReply at p reply old new answer = ((new ≡ old) × (next_act p reply ≡ act.TheVariants.End answer))
     ⊎ Walks at (next_place p reply) old new answer
 
 -- and so do the steps of a run, which ends the call or comes to its closure
-abbrev pub Runs : (ℕ → ℕ) → Place → List WordStep → List WordStep → Stop → Type 0
-Runs at p old new (Ended answer) = Walks at p old new answer
-Runs at p old new (Paused place state) =
+abbrev pub RunsTo : (ℕ → ℕ) → Place → List WordStep → List WordStep → Stop → Type 0
+RunsTo at p old new (Ended answer) = Walks at p old new answer
+RunsTo at p old new (Paused place state) =
     (more : List WordStep) × (new ≡ old ++ more) × Path at p more place

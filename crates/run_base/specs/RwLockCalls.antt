@@ -43,7 +43,7 @@ use Rattle.parking_lot_core.specs.declared.lot.ParkingLot.{ParkingLot}
 use Rattle.parking_lot_core.specs.declared.tokens.SectionRecord.{SectionRecord}
 use Rattle.parking_lot_core.specs.declared.tokens.Token.{Token}
 use Rattle.run_base.specs.Paths.{at_rwlock, rwlock_at, step, Walks}
-use Rattle.run_base.specs.RwLockFitting.{Answers, GaveFairly, IsBeside, IsSettled, OwnsBeside, OwnsRight, TookWoken}
+use Rattle.run_base.specs.RwLockFitting.{Answers, GaveFairly, IsBeside, AwaitsNoReaders, OwnsBeside, OwnsRight, TookWoken}
 use Rattle.run_base.specs.Stages.{Stage}
 
 -- where a call begins
@@ -119,7 +119,7 @@ StaysBeside l old new = (new.number ≡ old.number) × IsBeside l (view_of old).
 
 -- it waits for the last readers of no lock
 abbrev pub WaitsForNobody : List Ownership → Type 0
-WaitsForNobody owns = (l : ℕ) → IsSettled l owns
+WaitsForNobody owns = (l : ℕ) → AwaitsNoReaders l owns
 
 -- it is the same thread, and owns what it did, where it waited for the last readers of no lock
 abbrev pub StaysSettled : Token → Token → Type 0

@@ -54,7 +54,7 @@ use Rattle.parking_lot_core.specs.declared.tokens.Did.TheVariants as did
 use Rattle.parking_lot_core.specs.declared.tokens.SectionRecord.{SectionRecord}
 use Rattle.run_base.specs.Paths.{rwlock_at, step}
 use Rattle.run_base.specs.Takes.{more_in, sharers_in, successor_in}
-use Rattle.run_base.specs.Stages.{HasDone, Inside, Stage, TookNobodyAt, entered_now, having_taken}
+use Rattle.run_base.specs.Stages.{HasDone, SectionView, Stage, TookNobodyAt, entered_now, having_taken}
 
 -- ---------------------------------------------------------------- ownership
 
@@ -70,14 +70,14 @@ IsOwner (Pends falls_back) o = (o ≡ owners.Exclusive) ⊎ (o ≡ waits_as fall
 IsOwner _ o = ⊥
 
 -- none of these waits for the last readers of the lock
-abbrev pub IsSettled : ℕ → List Ownership → Type 0
-IsSettled l owns = (has (owning (rwlock_at l) owners.Pending) owns ≡ false)
+abbrev pub AwaitsNoReaders : ℕ → List Ownership → Type 0
+AwaitsNoReaders l owns = (has (owning (rwlock_at l) owners.Pending) owns ≡ false)
     × (has (owning (rwlock_at l) owners.Upgrading) owns ≡ false)
 
 -- these are the same; who comes to a lock for whose last readers it waits already may find none
 -- left
 abbrev pub IsBeside : ℕ → List Ownership → List Ownership → Type 0
-IsBeside l base owns = IsSettled l base → owns ≡ base
+IsBeside l base owns = AwaitsNoReaders l base → owns ≡ base
 
 -- a claim on the lock is owned beside these
 abbrev pub OwnsBeside : ℕ → Option Claim → List Ownership → List Ownership → Type 0
@@ -101,7 +101,7 @@ abbrev pub did_wake : ℕ → Admission → RwLockPurpose → Line → Did
 did_wake l a q m = did_take (key_of l m) (whom a (start_of q) m)
 
 -- in the section of a line, or in none; where it carries, it has taken some of the line
-abbrev pub IsWithin : ℕ → Admission → RwLockPurpose → Option Line → Bool → Option Inside → Type 0
+abbrev pub IsWithin : ℕ → Admission → RwLockPurpose → Option Line → Bool → Option SectionView → Type 0
 IsWithin l a q None carries inside = inside ≡ None
 IsWithin l a q (Some m) false inside = inside ≡ entered_now (One (key_of l m))
 IsWithin l a q (Some m) true inside = (waiters : List Waiter)
@@ -111,10 +111,10 @@ IsWithin l a q (Some m) true inside = (waiters : List Waiter)
 -- ---------------------------------------------------------------- places and ends
 
 -- a word that was seen has 64 bits
-abbrev pub HasSeen : RwLockAt → Type 0
-HasSeen (at.Decide seen) = seen < 2 ^ 64
-HasSeen (at.Count seen) = seen < 2 ^ 64
-HasSeen to = Unit {0}
+abbrev pub SeenInRange : RwLockAt → Type 0
+SeenInRange (at.Decide seen) = seen < 2 ^ 64
+SeenInRange (at.Count seen) = seen < 2 ^ 64
+SeenInRange to = Unit {0}
 
 -- the step with which a right is given up, or turned into another, was taken before
 abbrev pub HasGivenWay : RwLockAt → Type 0
@@ -204,13 +204,13 @@ pub record AreTaken (ws : List Want) (k : Taken) : Type 0 where
   pub few : length ws < 2 ^ 60
 
 -- in the main section, where it has taken these, of whom these have no right yet
-abbrev pub HasPicked : ℕ → Admission → List Waiter → List ℕ → Option Inside → Type 0
+abbrev pub HasPicked : ℕ → Admission → List Waiter → List ℕ → Option SectionView → Type 0
 HasPicked l a waiters rightless inside =
     inside ≡ Some (having_taken (One (2 * l))
     (did.TakePicked (2 * l) None a.recursive) waiters rightless)
 
-abbrev pub HasInHand : ℕ → Admission → Taken → Option Inside → Type 0
-HasInHand l a k inside =
+abbrev pub HasPickedThese : ℕ → Admission → Taken → Option SectionView → Type 0
+HasPickedThese l a k inside =
     (waiters : List Waiter) × AreTaken (wants_of waiters) k
     × HasPicked l a waiters (threads_of waiters) inside
 
@@ -220,20 +220,20 @@ abbrev pub still_rightless : Bool → List Waiter → List ℕ
 still_rightless true waiters = []
 still_rightless false waiters = threads_of waiters
 
-abbrev pub HasHandedOver : ℕ → Admission → Bool → Bool → Option Inside → Type 0
+abbrev pub HasHandedOver : ℕ → Admission → Bool → Bool → Option SectionView → Type 0
 HasHandedOver l a any handed inside = (waiters : List Waiter) × (any ≡ false → waiters ≡ [])
     × HasPicked l a waiters (still_rightless handed waiters) inside
 
 -- an exclusive owner stores the word, and an upgradable one looks and exchanges it. The first step
 -- of an exclusive owner's release was taken before
-abbrev pub HandsOver : Access → HandOverAt → Type 0
-HandsOver access.Shared to = ⊥
-HandsOver access.Upgradable (handing.Store k) = ⊥
-HandsOver access.Exclusive handing.Load = ⊥
-HandsOver access.Exclusive (handing.Free seen) = ⊥
-HandsOver access.Exclusive (handing.Look k) = ⊥
-HandsOver access.Exclusive (handing.Exchange k seen) = ⊥
-HandsOver x to = Unit {0}
+abbrev pub IsHandingPlace : Access → HandOverAt → Type 0
+IsHandingPlace access.Shared to = ⊥
+IsHandingPlace access.Upgradable (handing.Store k) = ⊥
+IsHandingPlace access.Exclusive handing.Load = ⊥
+IsHandingPlace access.Exclusive (handing.Free seen) = ⊥
+IsHandingPlace access.Exclusive (handing.Look k) = ⊥
+IsHandingPlace access.Exclusive (handing.Exchange k seen) = ⊥
+IsHandingPlace x to = Unit {0}
 
 -- it owns its right until the step that gives that up
 abbrev pub FitsHandOver : ℕ → List Ownership → Admission → Access → HandOverAt → Stage → Type 0
@@ -245,11 +245,11 @@ FitsHandOver l base a x handing.Enter st = OwnsRight l (wanted x) base st.owns �
 FitsHandOver l base a x handing.Take st =
     OwnsRight l (wanted x) base st.owns × (st.inside ≡ entered_now (One (2 * l)))
 FitsHandOver l base a x (handing.Store k) st =
-    OwnsRight l (wanted x) base st.owns × HasInHand l a k st.inside
+    OwnsRight l (wanted x) base st.owns × HasPickedThese l a k st.inside
 FitsHandOver l base a x (handing.Look k) st =
-    OwnsRight l (wanted x) base st.owns × HasInHand l a k st.inside
+    OwnsRight l (wanted x) base st.owns × HasPickedThese l a k st.inside
 FitsHandOver l base a x (handing.Exchange k seen) st =
-    OwnsRight l (wanted x) base st.owns × HasInHand l a k st.inside × IsUpgradableWord seen
+    OwnsRight l (wanted x) base st.owns × HasPickedThese l a k st.inside × IsUpgradableWord seen
 FitsHandOver l base a x (handing.Leave any handed) st =
     IsBeside l base st.owns × HasHandedOver l a any handed st.inside
 
@@ -280,12 +280,12 @@ FitsHanded l base x handed.Accept st = OwnsRight l (wanted x) base st.owns × (s
 FitsHanded l base x to st = ⊥
 
 -- a bump enters again, and a thread that was handed the lock came to enter
-abbrev pub purpose_in : RwLockCallPlace → RwLockPurpose
-purpose_in (places.Plain p) = p.purpose
-purpose_in (places.Bump p) = purpose.Enter (access_of p.purpose) Patient
-purpose_in (places.Glance x) = purpose.Enter x Patient
-purpose_in (places.HandOver x b to) = purpose.Enter x Patient
-purpose_in (places.Handed x how b to) = purpose.Enter x how
+abbrev pub rwlock_purpose_in : RwLockCallPlace → RwLockPurpose
+rwlock_purpose_in (places.Plain p) = p.purpose
+rwlock_purpose_in (places.Bump p) = purpose.Enter (access_of p.purpose) Patient
+rwlock_purpose_in (places.Glance x) = purpose.Enter x Patient
+rwlock_purpose_in (places.HandOver x b to) = purpose.Enter x Patient
+rwlock_purpose_in (places.Handed x how b to) = purpose.Enter x how
 
 -- it sleeps in the main queue, where it may be handed the lock
 abbrev pub awaits_right : RwLockAt → Bool
@@ -305,7 +305,7 @@ module _ (up : Type 0) where
     -- the count has room for an upgrade that gives up
     pub room : a.limit < 2 ^ 60 - 1
     pub begun : HasGivenWay p.at
-    pub seen : HasSeen p.at
+    pub seen : SeenInRange p.at
     pub owns : OwnsBeside l (rwlock_role p).claims base st.owns
     pub within : IsWithin l a p.purpose (rwlock_role p).inside (rwlock_role p).carries st.inside
     pub stood : HasStood l p.at st.steps
@@ -324,7 +324,7 @@ module _ (up : Type 0) where
   FitsCall l base a (places.Bump p) st = IsOfBump p.purpose p.retries × FitsBump l base a p p.at st
   FitsCall l base a (places.Glance x) st = ⊥
   FitsCall l base a (places.HandOver x b to) st =
-      HandsOver x to × (a.limit < 2 ^ 60 - 1) × FitsHandOver l base a x to st
+      IsHandingPlace x to × (a.limit < 2 ^ 60 - 1) × FitsHandOver l base a x to st
   FitsCall l base a (places.Handed x how b to) st = FitsHanded l base x to st
 
   -- the calls that may give up: a try at once, and a timed call once its time is up

@@ -22,15 +22,15 @@ use Rattle.run_base.specs.Stages.{Stage, TookNobodyAt}
 
 -- the goal of a call of a semaphore: to acquire a permit, up to a deadline or without one, to try to, or to
 -- end a release that has given its permit back
-pub data Purpose : Type 0 where
-  acquires : (timed : Bool) → Purpose
-  tries_once : Purpose
-  releases : Purpose
+pub data SemaphorePurpose : Type 0 where
+  to_acquire : (timed : Bool) → SemaphorePurpose
+  to_try : SemaphorePurpose
+  to_release : SemaphorePurpose
 
-abbrev pub purpose_at : SemaphorePlace → Purpose
-purpose_at (Acquire timed retries at) = acquires timed
-purpose_at (Try at) = tries_once
-purpose_at (Release at) = releases
+abbrev pub semaphore_purpose_at : SemaphorePlace → SemaphorePurpose
+semaphore_purpose_at (Acquire timed retries at) = to_acquire timed
+semaphore_purpose_at (Try at) = to_try
+semaphore_purpose_at (Release at) = to_release
 
 -- a permit that is held
 abbrev pub permit : ℕ → Ownership
@@ -91,8 +91,8 @@ module _ (up : Type 0) where
       GaveUp timed × Outside base st × TookNobodyAt l st.last
   AcquireAnswer l timed base answer st = ⊥
 
-  abbrev pub IsSemaphoreOver : ℕ → List Ownership → Purpose → Answer → Stage → Type 0
-  IsSemaphoreOver l base (acquires timed) answer st = AcquireAnswer l timed base answer st
-  IsSemaphoreOver l base tries_once answer st = TryAnswer l base answer st
-  IsSemaphoreOver l base releases answer st =
+  abbrev pub IsSemaphoreOver : ℕ → List Ownership → SemaphorePurpose → Answer → Stage → Type 0
+  IsSemaphoreOver l base (to_acquire timed) answer st = AcquireAnswer l timed base answer st
+  IsSemaphoreOver l base to_try answer st = TryAnswer l base answer st
+  IsSemaphoreOver l base to_release answer st =
       (answer ≡ answers.Ok) × Outside base st × TookAt l st.last

@@ -33,10 +33,10 @@ condvar_sleeper c p = record
 
 -- the key under which a thread that sleeps at a place may be late; none where its call has no
 -- deadline
-abbrev pub late_at : Place → Option ℕ
-late_at Idle = None
-late_at (Mutex l at) = late_key (Mutex l at)
-late_at (RwLock l a c) = late_key (RwLock l a c)
-late_at (Once l at) = late_key (Once l at)
-late_at (Condvar l at) = (condvar_sleeper l at).late
-late_at (Semaphore l at) = late_key (Semaphore l at)
+abbrev pub late_key_at : Place → Option ℕ
+late_key_at Idle = None
+late_key_at (Mutex l at) = late_key (Mutex l at)
+late_key_at (RwLock l a c) = late_key (RwLock l a c)
+late_key_at (Once l at) = late_key (Once l at)
+late_key_at (Condvar l at) = (condvar_sleeper l at).late
+late_key_at (Semaphore l at) = late_key (Semaphore l at)

@@ -48,7 +48,7 @@ use Rattle.run_base.specs.declared.sleepers.Sleeper.{Sleeper}
 
 -- a section that a thread is inside: what it did there, whom it took, what each of them wants,
 -- which of them have no right yet, and how many it moved to another queue
-pub record Inside : Type 0 where
+pub record SectionView : Type 0 where
   pub keys : Keys
   pub did : Did
   pub taken : List ℕ
@@ -58,17 +58,17 @@ pub record Inside : Type 0 where
 
 pub record Stage : Type 0 where
   pub owns : List Ownership
-  pub inside : Option Inside
+  pub inside : Option SectionView
   pub last : Option SectionRecord
   pub steps : List WordStep
 
-abbrev pub stage : List Ownership → Option Inside → Option SectionRecord → List WordStep → Stage
+abbrev pub stage : List Ownership → Option SectionView → Option SectionRecord → List WordStep → Stage
 stage owns inside last steps =
     record { owns = owns; inside = inside; last = last; steps = steps }
 
-abbrev pub inside_of : Option Section → Option Inside
-inside_of None = None
-inside_of (Some section) = Some (record {
+abbrev pub section_view : Option Section → Option SectionView
+section_view None = None
+section_view (Some section) = Some (record {
   keys = section.keys;
   did = section.did;
   taken = taken_in section;
@@ -94,33 +94,33 @@ threads_taken (Some section) = taken_in section
 
 abbrev pub stage_of : Token → Option Section → Stage
 stage_of token section =
-    stage (view_of token).owns (inside_of section) (last_of token) (view_of token).steps
+    stage (view_of token).owns (section_view section) (last_of token) (view_of token).steps
 
 -- the section that a thread is inside, if any, is one of the lot
-abbrev pub IsIn : ParkingLot → Option Section → Type 0
-IsIn lot None = Unit {0}
-IsIn lot (Some section) = section.lot.now ≡ lot
+abbrev pub IsSectionOf : ParkingLot → Option Section → Type 0
+IsSectionOf lot None = Unit {0}
+IsSectionOf lot (Some section) = section.lot.now ≡ lot
 
 -- one in which nothing was done
-abbrev pub entered_now : Keys → Option Inside
+abbrev pub entered_now : Keys → Option SectionView
 entered_now keys = Some (record
     { keys = keys; did = Nothing; taken = []; wants = []; rightless = []; moved = 0 })
 
-abbrev pub first_in : List Waiter → Option Waiter
-first_in [] = None
-first_in (waiter ∷ waiters) = Some waiter
+abbrev pub front_waiter : List Waiter → Option Waiter
+front_waiter [] = None
+front_waiter (waiter ∷ waiters) = Some waiter
 
 -- the waiters that a requeue takes of a line
-abbrev pub taken_of : Requeue → List Waiter → Option Waiter
-taken_of TakeOneMoveRest line = first_in line
-taken_of _ line = None
+abbrev pub taken_waiter : Requeue → List Waiter → Option Waiter
+taken_waiter TakeOneMoveRest line = front_waiter line
+taken_waiter _ line = None
 
 abbrev pub listed : Option Waiter → List Waiter
 listed None = []
 listed (Some waiter) = waiter ∷ []
 
 -- a section of these keys, in which these were taken, of whom these have no right yet
-abbrev pub having_taken : Keys → Did → List Waiter → List ℕ → Inside
+abbrev pub having_taken : Keys → Did → List Waiter → List ℕ → SectionView
 having_taken keys did waiters rightless =
     record {
       keys = keys;
@@ -132,17 +132,17 @@ having_taken keys did waiters rightless =
     }
 
 -- these were taken, and have no right yet
-abbrev pub took_as : Did → List Waiter → Option Inside → Option Inside
+abbrev pub took_as : Did → List Waiter → Option SectionView → Option SectionView
 took_as did waiters None = None
 took_as did waiters (Some inside) = Some (having_taken inside.keys did waiters (threads_of waiters))
 
 -- and so many were moved
-abbrev pub moving : ℕ → Option Inside → Option Inside
-moving number None = None
-moving number (Some inside) = Some (record inside { moved = number })
+abbrev pub with_moved : ℕ → Option SectionView → Option SectionView
+with_moved number None = None
+with_moved number (Some inside) = Some (record inside { moved = number })
 
 -- each of those who were taken was given a right
-abbrev pub all_given : Option Inside → Option Inside
+abbrev pub all_given : Option SectionView → Option SectionView
 all_given None = None
 all_given (Some inside) = Some (record inside { rightless = [] })
 
@@ -155,27 +155,27 @@ note_of wakes.TheVariants.Nobody = Normal
 note_of (wakes.TheVariants.All note) = note
 
 -- inside a section of this key
-abbrev pub HasKey : ℕ → Option Inside → Type 0
+abbrev pub HasKey : ℕ → Option SectionView → Type 0
 HasKey key None = ⊥
 HasKey key (Some inside) = IsKeyOf inside.keys key
 
 -- inside one where nothing was done
-abbrev pub IsFresh : Option Inside → Type 0
+abbrev pub IsFresh : Option SectionView → Type 0
 IsFresh None = ⊥
 IsFresh (Some inside) = inside.did ≡ Nothing
 
 -- inside one where nobody who was taken has a right yet
-abbrev pub IsUngiven : Option Inside → Type 0
+abbrev pub IsUngiven : Option SectionView → Type 0
 IsUngiven None = ⊥
 IsUngiven (Some inside) = inside.rightless ≡ inside.taken
 
 -- the wants of those that it took there
-abbrev pub wanted_in : Option Inside → List Want
+abbrev pub wanted_in : Option SectionView → List Want
 wanted_in None = []
 wanted_in (Some inside) = inside.wants
 
 -- inside one that may be left with the note
-abbrev pub MayLeave : Note → Option Inside → Type 0
+abbrev pub MayLeave : Note → Option SectionView → Type 0
 MayLeave note None = ⊥
 MayLeave note (Some inside) = MayNote note inside.taken inside.rightless
 
@@ -217,8 +217,8 @@ owns_when_handed kind at op seen wants owns =
     without_all at (owners_given kind (apply op seen) wants) (owns_after_step kind at op seen owns)
 
 -- an exchange that finds another value hands nothing over
-abbrev pub handed : WordKind → ℕ → Op → ℕ → Stage → Stage
-handed kind at op seen st = if takes_effect op seen
+abbrev pub stage_handed : WordKind → ℕ → Op → ℕ → Stage → Stage
+stage_handed kind at op seen st = if takes_effect op seen
     then stage (owns_when_handed kind at op seen (wanted_in st.inside) st.owns)
     (all_given st.inside) None (st.steps ++ step at op seen)
     else stepped kind at op seen st
@@ -237,14 +237,14 @@ abbrev pub TookNobodyAt : ℕ → Option SectionRecord → Type 0
 TookNobodyAt lock last = HasLeft (key_of lock Main) Nothing 0 last
 
 -- a section that is left leaves a record of what was done there, which counts those that it took and moved
-abbrev pub IsLeft : Option Inside → Option SectionRecord → Type 0
+abbrev pub IsLeft : Option SectionView → Option SectionRecord → Type 0
 IsLeft None last = ⊥
 IsLeft (Some inside) last =
     HasLeft (first_key inside.keys) inside.did (length inside.taken + inside.moved) last
 
 -- the waiters that a take took, by its reply; among those that were picked one at most wants more than to
 -- share, and a list holds them
-abbrev pub TookBy : ℕ → Whom → Reply → Option Inside → Option Inside → Type 0
+abbrev pub TookBy : ℕ → Whom → Reply → Option SectionView → Option SectionView → Type 0
 TookBy key whom.TheVariants.First (Took any none_left) old new =
     (first : Option Waiter) × (any ≡ is_there first)
     × (new ≡ took_as (TakeFirst key) (listed first) old)
@@ -293,7 +293,7 @@ abbrev pub Became : Type 0 → (ℕ → WordKind) → (ℕ → ℕ) → Sleeper 
 Became up kinds at sleeper st (act.TheVariants.Word lock op) (Value seen) new =
     Stepped (kinds lock) (at lock) op seen st new
 Became up kinds at sleeper st (act.TheVariants.HandOver lock op) (Value seen) new =
-    CodesWith (kinds lock) (at lock) seen st.owns × (new ≡ handed (kinds lock) (at lock) op seen st)
+    CodesWith (kinds lock) (at lock) seen st.owns × (new ≡ stage_handed (kinds lock) (at lock) op seen st)
 Became up kinds at sleeper st (act.TheVariants.Enter keys) Done new =
     new ≡ stage st.owns (entered_now keys) st.last st.steps
 Became up kinds at sleeper st (act.TheVariants.Park lock key check _) (Parked parked) new =
@@ -306,7 +306,7 @@ Became up kinds at sleeper st (act.TheVariants.Requeue from to how)
     (Requeued number none_left) new =
     (first : Option Waiter) × (moved : ℕ) × (number ≡ length (listed first) + moved)
     × (new ≡ stage st.owns
-    (moving moved (took_as (did.TheVariants.Requeue from to how) (listed first) st.inside)) st.last
+    (with_moved moved (took_as (did.TheVariants.Requeue from to how) (listed first) st.inside)) st.last
     st.steps)
 Became up kinds at sleeper st (act.TheVariants.Remove key) (Removed none_left) new = new ≡ st
 Became up kinds at sleeper st (act.TheVariants.Leave keys wakes) Done new =

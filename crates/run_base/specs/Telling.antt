@@ -6,7 +6,7 @@ use Rattle.steps_base.specs.declared.acts.Reply.{Reply}
 use Rattle.steps_base.specs.declared.acts.Reply.TheVariants.{Done, Late, Parked, Took, Picked, Requeued, Removed}
 use Rattle.steps_base.specs.declared.acts.Whom.{Whom}
 use Rattle.steps_base.specs.declared.acts.Whom as whom
-use Rattle.core_base.specs.Lines.{key_of as queued_under, line, lines, waiter, without, without_first, without_key}
+use Rattle.core_base.specs.Lines.{queued_under, line, lines, waiter, without, without_first, without_key}
 use Rattle.core_base.specs.Picks.{lock_picked, without_lock_picked}
 use Rattle.core_base.specs.Requeues.{moved_by, requeued}
 use Rattle.core_base.specs.declared.keys.Keys.TheVariants.{One}
@@ -25,7 +25,7 @@ use Rattle.parking_lot_core.specs.declared.sections.Section.{Section}
 use Rattle.parking_lot_core.specs.declared.tokens.Did.{Did}
 use Rattle.parking_lot_core.specs.declared.tokens.Token.{Token}
 use Rattle.core_queues.specs.Wants.{wants_of}
-use Rattle.run_base.specs.Stages.{HasKey, IsFresh, IsIn, entered_now, first_in, inside_of, is_there, listed, taken_of, took_as, waiting_of}
+use Rattle.run_base.specs.Stages.{HasKey, IsFresh, IsSectionOf, entered_now, front_waiter, section_view, is_there, listed, taken_waiter, took_as, waiting_of}
 use Rattle.run_base.specs.Takes.{sharers_in, successor_in}
 
 -- the ownership of a thread, and the steps that it took
@@ -40,8 +40,8 @@ abbrev pub index_of : Word → ℕ
 index_of word = word_index word.number word.kind
 
 -- the thread may take this step on a word
-abbrev pub MayTake : Word → Op → Token → Type 0
-MayTake word op token = MayStep word.kind (index_of word) op (owns_of token)
+abbrev pub MayTakeStep : Word → Op → Token → Type 0
+MayTakeStep word op token = MayStep word.kind (index_of word) op (owns_of token)
 
 -- the value is one that it may find there
 abbrev pub MayFind : Word → ℕ → Token → Type 0
@@ -60,51 +60,51 @@ abbrev pub is_empty_at : ℕ → Option Section → Bool
 is_empty_at key section = length (line_in key section) == 0
 
 -- these wait, line by line
-abbrev pub AreWaiting : List Waiter → Option Section → Type 0
-AreWaiting waiters section = lines (waiting_of section) ≡ lines waiters
+abbrev pub AreQueued : List Waiter → Option Section → Type 0
+AreQueued waiters section = lines (waiting_of section) ≡ lines waiters
 
 -- the thread stands behind the last of a queue
 abbrev pub StandsLast : ℕ → ℕ → Want → Option Section → Option Section → Type 0
 StandsLast key thread want old new =
-    AreWaiting (without thread (waiting_of old) ++ waiter key thread want ∷ []) new
+    AreQueued (without thread (waiting_of old) ++ waiter key thread want ∷ []) new
 
 -- waiters of this key may be taken in the section
 abbrev pub MayTakeAt : ParkingLot → ℕ → Option Section → Type 0
 MayTakeAt lot key section =
-    IsIn lot section × HasKey key (inside_of section) × IsFresh (inside_of section)
+    IsSectionOf lot section × HasKey key (section_view section) × IsFresh (section_view section)
 
 -- these were taken there
-abbrev pub HasTaken : ParkingLot → Did → List Waiter → Option Section → Option Section → Type 0
-HasTaken lot did waiters old new =
-    IsIn lot new × (inside_of new ≡ took_as did waiters (inside_of old))
+abbrev pub WereTaken : ParkingLot → Did → List Waiter → Option Section → Option Section → Type 0
+WereTaken lot did waiters old new =
+    IsSectionOf lot new × (section_view new ≡ took_as did waiters (section_view old))
 
 -- a take tells of the line under its key, and of what it leaves of it
 abbrev pub TellsTake : ℕ → Whom → Reply → Option Section → Option Section → Type 0
 TellsTake key whom.TheVariants.First (Took any none_left) old new =
-    (any ≡ is_there (first_in (line_in key old)))
-    × AreWaiting (without_first key (waiting_of old)) new × (none_left ≡ is_empty_at key new)
+    (any ≡ is_there (front_waiter (line_in key old)))
+    × AreQueued (without_first key (waiting_of old)) new × (none_left ≡ is_empty_at key new)
 TellsTake key whom.TheVariants.All (Took any none_left) old new =
     (any ≡ not (is_empty_at key old))
-    × AreWaiting (without_key key (waiting_of old)) new × (none_left ≡ is_empty_at key new)
+    × AreQueued (without_key key (waiting_of old)) new × (none_left ≡ is_empty_at key new)
 TellsTake key (whom.TheVariants.Picked start recursive)
     (Picked sharers successor none_left) old new =
     (sharers ≡ sharers_in (wants_of (lock_picked start recursive (line_in key old))))
     × (successor ≡ successor_in (wants_of (lock_picked start recursive (line_in key old))))
-    × AreWaiting (without_lock_picked start recursive key (waiting_of old)) new
+    × AreQueued (without_lock_picked start recursive key (waiting_of old)) new
     × (none_left ≡ is_empty_at key new)
 TellsTake key whom reply old new = ⊥
 
 -- the effect of a requeue
 abbrev pub TellsRequeue : ℕ → ℕ → Requeue → ℕ → Bool → Option Section → Option Section → Type 0
 TellsRequeue from to how number none_left old new =
-    (number ≡ length (listed (taken_of how (line_in from old))) + length
+    (number ≡ length (listed (taken_waiter how (line_in from old))) + length
     (moved_by how (line_in from old)))
-    × AreWaiting (requeued how from to (waiting_of old)) new × (none_left ≡ is_empty_at from new)
+    × AreQueued (requeued how from to (waiting_of old)) new × (none_left ≡ is_empty_at from new)
 
 -- a sleeper that is late stands in the queue still, inside whose section it is: another that takes it
 -- or moves it first makes it no late one
 abbrev pub StandsWhereLate : ℕ → Option Section → Type 0
-StandsWhereLate thread section = (key : ℕ) × (inside_of section ≡ entered_now (One key))
+StandsWhereLate thread section = (key : ℕ) × (section_view section ≡ entered_now (One key))
     × (queued_under thread (waiting_of section) ≡ Some key)
 
 -- an act of this thread tells the truth of the queues, and leaves them as it says
@@ -116,6 +116,6 @@ TellsQueues (act.TheVariants.Take key whom) reply me old new = TellsTake key who
 TellsQueues (act.TheVariants.Requeue from to how) (Requeued number none_left) me old new =
     TellsRequeue from to how number none_left old new
 TellsQueues (act.TheVariants.Remove key) (Removed none_left) me old new =
-    AreWaiting (without me (waiting_of old)) new × (none_left ≡ is_empty_at key new)
+    AreQueued (without me (waiting_of old)) new × (none_left ≡ is_empty_at key new)
 TellsQueues act.TheVariants.Sleep Late me old new = StandsWhereLate me new
 TellsQueues a reply me old new = Unit {0}

@@ -13,35 +13,35 @@ use Rattle.parking_lot_core.specs.declared.sections.Section.{Section}
 use Rattle.parking_lot_core.specs.declared.tokens.Token.{Token}
 use Rattle.run_base.specs.Fitting.{AreWordsFor, Fits, IsOver, Reached, call_purpose}
 use Rattle.run_base.specs.Paths.{Told, Walks}
-use Rattle.run_base.specs.Stages.{IsIn, stage_of}
+use Rattle.run_base.specs.Stages.{IsSectionOf, stage_of}
 use Rattle.run_base.specs.Telling.{steps_of}
 use Rattle.run_base.specs.Words.{AreWordsOf, at_in, kind_in}
 use Rattle.run_base.specs.declared.words.Words.{Words}
 
 -- a thread of the lot is at a place of its call, inside its section if any, with what fits there.
 -- `up` says that its time is up
-abbrev pub IsAt : Type 0 → ParkingLot → Words → Place → Token → Option Section → Type 0
-IsAt up lot words p token section = IsTokenOf lot token × AreWordsOf lot words × IsIn lot section
+abbrev pub IsAtPlace : Type 0 → ParkingLot → Words → Place → Token → Option Section → Type 0
+IsAtPlace up lot words p token section = IsTokenOf lot token × AreWordsOf lot words × IsSectionOf lot section
     × AreWordsFor p (kind_in words) (at_in words)
     × ((base : List Ownership) × Fits up base p (stage_of token section))
 
 -- the act of the place brought this reply, which leads on to what fits
 abbrev pub HasTurned : Type 0 → ParkingLot → Words → Place → Reply → Token → Option Section → Token
     → Option Section → Type 0
-HasTurned up lot words p reply old section new now = IsSameThread lot old new × IsIn lot now
+HasTurned up lot words p reply old section new now = IsSameThread lot old new × IsSectionOf lot now
     × Told (at_in words) p reply (steps_of old) (steps_of new)
     × ((base : List Ownership) → Fits up base p (stage_of old section)
     → Reached up base p reply (stage_of new now))
 
 -- it is at a place whose act is this
-abbrev pub MayDo : Type 0 → ParkingLot → Words → Act → Token → Option Section → Type 0
-MayDo up lot words a token section =
-    (p : Place) × IsAt up lot words p token section × (act_of p ≡ a)
+abbrev pub MayAct : Type 0 → ParkingLot → Words → Act → Token → Option Section → Type 0
+MayAct up lot words a token section =
+    (p : Place) × IsAtPlace up lot words p token section × (act_of p ≡ a)
 
 -- and at each such place the act brought this reply
-abbrev pub HasDone : Type 0 → ParkingLot → Words → Act → Reply → Token → Option Section → Token
+abbrev pub HasActed : Type 0 → ParkingLot → Words → Act → Reply → Token → Option Section → Token
     → Option Section → Type 0
-HasDone up lot words a reply old section new now = (p : Place) → IsAt up lot words p old section
+HasActed up lot words a reply old section new now = (p : Place) → IsAtPlace up lot words p old section
     → act_of p ≡ a
     → HasTurned up lot words p reply old section new now
 

@@ -1,7 +1,7 @@
 //! The acts of a thread in any call, whatever the lock is.
 ghost use Rattle.std.specs.Prelude.{◌≡◌, ◌++◌, ◌∷◌, ◌==◌, ℕ, [], None, Some, length, MatchBool};
 ghost use Rattle.core_base.specs.Clocks.{IsUp};
-ghost use Rattle.core_base.specs.Lines.{key_of as queued_under, waiter, line, lines, without};
+ghost use Rattle.core_base.specs.Lines.{queued_under, waiter, line, lines, without};
 ghost use Rattle.steps_base.specs.declared.acts.Act.TheVariants.{Sleep};
 ghost use Rattle.core_base.specs.declared.keys.Keys.TheVariants.{One};
 ghost use Rattle.core_base.specs.declared.ops.Op.TheVariants.{Load};
@@ -15,9 +15,9 @@ ghost use Rattle.parking_lot_core.specs.Sections.{waiting_in};
 ghost use Rattle.parking_lot_core.specs.Tokens.{IsTokenOf, IsSameThread, view_of, last_of};
 ghost use Rattle.run_base.specs.Fitting.{sleeper_at};
 ghost use Rattle.run_base.specs.Paths.{closure_of, step};
-ghost use Rattle.run_base.specs.Telling.{AreWaiting, HasStepped, MayFind, MayTake, MayTakeAt, StandsLast, TellsQueues, TellsTake, index_of, is_empty_at, owns_of, steps_of};
-ghost use Rattle.run_base.specs.Words.{AreWordsOf, word_in, kind_in, at_in};
-ghost use Rattle.run_base.specs.Stages.{Adds, Awoke, AwokeLate, HandsEach, HasKey, IsFresh, IsUngiven, MayLeave, IsIn, IsLeft, TookBy, handed, note_of, inside_of, stage_of, waiting_of, wanted_in, entered_now, ActNeeds, Became};
+ghost use Rattle.run_base.specs.Telling.{AreQueued, HasStepped, MayFind, MayTakeStep, MayTakeAt, StandsLast, TellsQueues, TellsTake, index_of, is_empty_at, owns_of, steps_of};
+ghost use Rattle.run_base.specs.Words.{AreWordsOf, word_among, kind_in, at_in};
+ghost use Rattle.run_base.specs.Stages.{Adds, Awoke, AwokeLate, HandsEach, HasKey, IsFresh, IsUngiven, MayLeave, IsSectionOf, IsLeft, TookBy, stage_handed, note_of, section_view, stage_of, waiting_of, wanted_in, entered_now, ActNeeds, Became};
 
 use crate::sleepers::{Sleeper, sleeper_at};
 use crate::taking::{requeue, take_all, take_first, take_picked, tell_wants};
@@ -47,10 +47,10 @@ fn park(
     want: Want,
 ) -> bool
     requires own { IsTokenOf lot.now token.old × IsWordOf lot.now.words word
-        × IsIn lot.now section.old }
-    requires needs { MayTake word Load token.old × HasKey key (inside_of section.old) }
+        × IsSectionOf lot.now section.old }
+    requires needs { MayTakeStep word Load token.old × HasKey key (section_view section.old) }
     ensures own { IsSameThread lot.now token.old token.new × (last_of token.new ≡ None) }
-    ensures same { IsIn lot.now section.new × (inside_of section.new ≡ inside_of section.old) }
+    ensures same { IsSectionOf lot.now section.new × (section_view section.new ≡ section_view section.old) }
     ensures stepped { (seen : ℕ) × (result ≡ holds check seen) × MayFind word seen token.old
         × HasStepped word Load seen token.old token.new }
     ensures stands { MatchBool result (StandsLast key token.old.number want section.old section.new)
@@ -76,9 +76,9 @@ pub(crate) fn stand(
     key: Key,
     want: Want,
 )
-    requires { IsTokenOf lot.now token.now × IsIn lot.now section.old
-        × HasKey key (inside_of section.old) }
-    ensures same { IsIn lot.now section.new × (inside_of section.new ≡ inside_of section.old) }
+    requires { IsTokenOf lot.now token.now × IsSectionOf lot.now section.old
+        × HasKey key (section_view section.old) }
+    ensures same { IsSectionOf lot.now section.new × (section_view section.new ≡ section_view section.old) }
     ensures stands { StandsLast key token.now.number want section.old section.new }
 {
     match section {
@@ -98,15 +98,15 @@ fn hand_over<R: Wait>(
     op: Op,
 ) -> u64
     requires own { IsTokenOf lot.now token.old × IsWordOf lot.now.words word
-        × IsIn lot.now section.old }
-    requires may { MayTake word op token.old }
-    requires each { IsUngiven (inside_of section.old)
+        × IsSectionOf lot.now section.old }
+    requires may { MayTakeStep word op token.old }
+    requires each { IsUngiven (section_view section.old)
         × HandsEach word.kind (index_of word) op (owns_of token.old)
-        (wanted_in (inside_of section.old)) }
-    ensures own { IsSameThread lot.now token.old token.new × IsIn lot.now section.new }
+        (wanted_in (section_view section.old)) }
+    ensures own { IsSameThread lot.now token.old token.new × IsSectionOf lot.now section.new }
     ensures coded { MayFind word result token.old }
     ensures handed { stage_of token.new section.new
-        ≡ handed word.kind (index_of word) op result (stage_of token.old section.old) }
+        ≡ stage_handed word.kind (index_of word) op result (stage_of token.old section.old) }
     ensures adds { steps_of token.new ≡ steps_of token.old ++ step (index_of word) op result }
 {
     match section {
@@ -123,9 +123,9 @@ fn hand_over<R: Wait>(
 
 // The thread leaves the queue. Whether none is left there.
 fn remove(_lot: &ParkingLot, section: &mut Option<Section>, key: Key, thread: usize) -> bool
-    requires { IsIn _lot.now section.old × HasKey key (inside_of section.old) }
-    ensures same { IsIn _lot.now section.new × (inside_of section.new ≡ inside_of section.old) }
-    ensures left { AreWaiting (without thread (waiting_of section.old)) section.new
+    requires { IsSectionOf _lot.now section.old × HasKey key (section_view section.old) }
+    ensures same { IsSectionOf _lot.now section.new × (section_view section.new ≡ section_view section.old) }
+    ensures left { AreQueued (without thread (waiting_of section.old)) section.new
         × (result ≡ is_empty_at key section.new) }
 {
     match section {
@@ -145,9 +145,9 @@ pub(crate) fn enter<'a, R: Wait>(
     section: &mut Option<Section<'a>>,
     keys: Keys,
 )
-    requires { IsTokenOf lot.now token.old × AreKeys keys × (inside_of section.old ≡ None) }
+    requires { IsTokenOf lot.now token.old × AreKeys keys × (section_view section.old ≡ None) }
     ensures same { token.new ≡ token.old }
-    ensures entered { IsIn lot.now section.new × (inside_of section.new ≡ entered_now keys) }
+    ensures entered { IsSectionOf lot.now section.new × (section_view section.new ≡ entered_now keys) }
 {
     match section.replace(lot.enter(rt, token, keys)) {
         None => {}
@@ -157,7 +157,7 @@ pub(crate) fn enter<'a, R: Wait>(
 
 /// A thread that is outside all sections has none to leave.
 pub fn end(section: Option<Section>)
-    requires { inside_of section ≡ None }
+    requires { section_view section ≡ None }
 {
     match section {
         None => {}
@@ -172,12 +172,12 @@ pub(crate) fn leave<R: Wait>(
     section: &mut Option<Section>,
     note: Note,
 )
-    requires { IsTokenOf lot.now token.old × IsIn lot.now section.old
-        × MayLeave note (inside_of section.old) }
+    requires { IsTokenOf lot.now token.old × IsSectionOf lot.now section.old
+        × MayLeave note (section_view section.old) }
     ensures own { IsSameThread lot.now token.old token.new
         × (view_of token.new ≡ view_of token.old) }
-    ensures left { (inside_of section.new ≡ None) × IsIn lot.now section.new
-        × IsLeft (inside_of section.old) (last_of token.new) }
+    ensures left { (section_view section.new ≡ None) × IsSectionOf lot.now section.new
+        × IsLeft (section_view section.old) (last_of token.new) }
 {
     match section.take() {
         Some(inside) => inside.leave(rt, token, note),
@@ -188,8 +188,8 @@ pub(crate) fn leave<R: Wait>(
 #[tactic(auto, using(crate::proofs::TakesFew::picked_few, crate::proofs::TakesFew::few_waiters))]
 fn take(lot: &ParkingLot, section: &mut Option<Section>, key: Key, whom: Whom) -> Reply
     requires { MayTakeAt lot.now key section.old }
-    ensures took { IsIn lot.now section.new
-        × TookBy key whom result (inside_of section.old) (inside_of section.new) }
+    ensures took { IsSectionOf lot.now section.new
+        × TookBy key whom result (section_view section.old) (section_view section.new) }
     ensures told { TellsTake key whom result section.old section.new }
 {
     match whom {
@@ -222,11 +222,11 @@ fn awake_late<'a, R: Wait>(
     mut inside: Section<'a>,
     key: Key,
 ) -> Reply
-    requires own { IsTokenOf inside.lot.now token.old × (inside_of section.old ≡ None) }
-    requires late { inside_of (Some inside) ≡ entered_now (One key) }
+    requires own { IsTokenOf inside.lot.now token.old × (section_view section.old ≡ None) }
+    requires late { section_view (Some inside) ≡ entered_now (One key) }
     requires stands { queued_under token.old.number (waiting_in inside) ≡ Some key }
     ensures own { IsSameThread inside.entry.lot.now token.old token.new
-        × IsIn inside.entry.lot.now section.new
+        × IsSectionOf inside.entry.lot.now section.new
         × (steps_of token.new ≡ steps_of token.old) }
     ensures awoke { AwokeLate key sleeper (stage_of token.old section.old) result
         (stage_of token.new section.new) }
@@ -261,8 +261,8 @@ pub(crate) fn sleep<'a, R: Wait, C: Clock>(
     section: &mut Option<Section<'a>>,
 ) -> Reply
     requires own { IsTokenOf lot.now token.old × IsWordOf lot.now.words word
-        × (inside_of section.old ≡ None) }
-    ensures own { IsSameThread lot.now token.old token.new × IsIn lot.now section.new
+        × (section_view section.old ≡ None) }
+    ensures own { IsSameThread lot.now token.old token.new × IsSectionOf lot.now section.new
         × (steps_of token.new ≡ steps_of token.old) }
     ensures awoke { Awoke (IsUp C.tells limit.entry) word.kind (index_of word) sleeper
         (stage_of token.old section.old) result (stage_of token.new section.new) }
@@ -296,11 +296,11 @@ pub(crate) fn perform<'a, R: Wait, C: Clock>(
     act: Act,
 ) -> Reply
     requires own { IsTokenOf lot.now token.old × AreWordsOf lot.now words
-        × IsIn lot.now section.old }
+        × IsSectionOf lot.now section.old }
     requires keys { HasKeys place }
     requires needs { ActNeeds (kind_in words) (at_in words) (stage_of token.old section.old) act }
     requires no_closure { closure_of act ≡ None }
-    ensures own { IsSameThread lot.now token.old token.new × IsIn lot.now section.new }
+    ensures own { IsSameThread lot.now token.old token.new × IsSectionOf lot.now section.new }
     ensures became { Became (IsUp C.tells limit.entry) (kind_in words) (at_in words)
         (sleeper_at place)
         (stage_of token.old section.old) act result (stage_of token.new section.new) }

@@ -11,9 +11,9 @@ ghost use Rattle.parking_lot_core.specs.Tokens.{IsTokenOf, IsSameThread, view_of
 ghost use Rattle.run_base.specs.Calls.{MeetAt, beginning, purpose_in, IsUnfinished, WalksBehind};
 ghost use Rattle.run_base.specs.Fitting.{PlacesLead, AreWordsFor, AreWordsAfter, Fits, IsStopped, Reached, answer_of, call_purpose};
 ghost use Rattle.run_base.specs.MutexFitting.{IsMutexOver};
-ghost use Rattle.run_base.specs.Paths.{closure_of, mutex_at, GoesFrom, Runs, Told};
+ghost use Rattle.run_base.specs.Paths.{closure_of, mutex_at, GoesFrom, RunsTo, Told};
 ghost use Rattle.run_base.specs.Words.{AreWordsOf, kind_in, at_in};
-ghost use Rattle.run_base.specs.Stages.{IsIn, stage_of};
+ghost use Rattle.run_base.specs.Stages.{IsSectionOf, stage_of};
 ghost use Rattle.run_base.specs.Telling.{TellsQueues, owns_of, steps_of};
 
 use crate::acting::{end, perform};
@@ -141,13 +141,13 @@ fn turn<'a, R: Wait, C: Clock>(
     act: Act,
 ) -> Reply
     requires own { IsTokenOf lot.now token.old × AreWordsOf lot.now words
-        × IsIn lot.now section.old }
+        × IsSectionOf lot.now section.old }
     requires words { AreWordsFor place (kind_in words) (at_in words) }
     requires act { act ≡ act_of place }
     requires fits { (base : List Ownership)
         × Fits (IsUp C.tells limit) base place (stage_of token.old section.old) }
     requires no_closure { closure_of (act_of place) ≡ None }
-    ensures own { IsSameThread lot.now token.old token.new × IsIn lot.now section.new }
+    ensures own { IsSameThread lot.now token.old token.new × IsSectionOf lot.now section.new }
     ensures told { Told (at_in words) place result (steps_of token.old) (steps_of token.new) }
     ensures queues { TellsQueues act result token.old.number section.old section.new }
     ensures reached { (base : List Ownership)
@@ -173,12 +173,12 @@ pub fn run_from<'a, R: Wait, C: Clock>(
     inside: Option<Section<'a>>,
     start: Place,
 ) -> Stop
-    requires own { IsTokenOf lot.now token.old × AreWordsOf lot.now words × IsIn lot.now inside }
+    requires own { IsTokenOf lot.now token.old × AreWordsOf lot.now words × IsSectionOf lot.now inside }
     requires words { AreWordsFor start (kind_in words) (at_in words) }
     requires start { (base : List Ownership)
         × Fits (IsUp C.tells limit) base start (stage_of token.old inside) }
     ensures own { IsSameThread lot.now token.old token.new }
-    ensures path { Runs (at_in words) start (steps_of token.old) (steps_of token.new) result }
+    ensures path { RunsTo (at_in words) start (steps_of token.old) (steps_of token.new) result }
     ensures stopped { (base : List Ownership)
         → Fits (IsUp C.tells limit.entry) base start (stage_of token.old inside.entry)
         → IsStopped (IsUp C.tells limit.entry) base (call_purpose start) result
@@ -195,7 +195,7 @@ pub fn run_from<'a, R: Wait, C: Clock>(
             return Stop::Paused { place, state };
         }
         let reply = turn(rt, lot, token, words, limit, &mut section, place, act);
-        act = place.go_on(reply);
+        act = place.advance(reply);
         if let Some(answer) = answer_of(act) {
             end(section);
             return Stop::Ended(answer);
@@ -221,7 +221,7 @@ pub fn run<R: Wait, C: Clock>(
     requires start { (base : List Ownership)
         × Fits (IsUp C.tells limit) base start (stage_of token.old None) }
     ensures own { IsSameThread lot.now token.old token.new }
-    ensures path { Runs (at_in words) start (steps_of token.old) (steps_of token.new) result }
+    ensures path { RunsTo (at_in words) start (steps_of token.old) (steps_of token.new) result }
     ensures stopped { (base : List Ownership)
         → Fits (IsUp C.tells limit.entry) base start (stage_of token.old None)
         → IsStopped (IsUp C.tells limit.entry) base (call_purpose start) result
@@ -239,7 +239,7 @@ fn place_behind(word: Word, call: MutexCall, seen: u64) -> Place
         lock: word.number(),
         at: MutexPlace::first(call, false),
     };
-    first.after(Reply::Value(seen))
+    first.next_place(Reply::Value(seen))
 }
 
 /// The rest of a call whose first step saw this.

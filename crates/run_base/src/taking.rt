@@ -7,8 +7,8 @@ ghost use Rattle.core_base.specs.Requeues.{moved_by, requeued};
 ghost use Rattle.core_queues.specs.Wants.{wants_of};
 ghost use Rattle.parking_lot_core.specs.declared.tokens.Did.TheVariants.{TakeFirst, TakeAll, TakePicked};
 ghost use Rattle.parking_lot_core.specs.declared.tokens.Did.TheVariants as did;
-ghost use Rattle.run_base.specs.Stages.{HasKey, IsFresh, IsIn, first_in, inside_of, is_there, listed, moving, taken_of, threads_taken, took_as, waiting_of, wants_taken};
-ghost use Rattle.run_base.specs.Telling.{AreWaiting, HasTaken, MayTakeAt, is_empty_at, line_in};
+ghost use Rattle.run_base.specs.Stages.{HasKey, IsFresh, IsSectionOf, front_waiter, section_view, is_there, listed, with_moved, taken_waiter, threads_taken, took_as, waiting_of, wants_taken};
+ghost use Rattle.run_base.specs.Telling.{AreQueued, WereTaken, MayTakeAt, is_empty_at, line_in};
 ghost use Rattle.run_base.specs.Takes.{shares, sharers_in, successor_in};
 
 use parking_lot_core::{Key, ParkingLot, Requeue, Section, Want};
@@ -42,10 +42,10 @@ fn successor(wants: &[Want]) -> Option<Want>
 /// Whether it took one, and whether none is left.
 pub(crate) fn take_first(_lot: &ParkingLot, section: &mut Option<Section>, key: Key) -> (bool, bool)
     requires { MayTakeAt _lot.now key section.old }
-    ensures did { HasTaken _lot.now (TakeFirst key) (listed (first_in (line_in key section.old)))
+    ensures did { WereTaken _lot.now (TakeFirst key) (listed (front_waiter (line_in key section.old)))
         section.old section.new }
-    ensures any { result.0 ≡ is_there (first_in (line_in key section.old)) }
-    ensures left { AreWaiting (without_first key (waiting_of section.old)) section.new
+    ensures any { result.0 ≡ is_there (front_waiter (line_in key section.old)) }
+    ensures left { AreQueued (without_first key (waiting_of section.old)) section.new
         × (result.1 ≡ is_empty_at key section.new) }
 {
     match section {
@@ -60,10 +60,10 @@ pub(crate) fn take_first(_lot: &ParkingLot, section: &mut Option<Section>, key: 
 /// Whether it took any, and whether none is left.
 pub(crate) fn take_all(_lot: &ParkingLot, section: &mut Option<Section>, key: Key) -> (bool, bool)
     requires { MayTakeAt _lot.now key section.old }
-    ensures did { HasTaken _lot.now (TakeAll key)
+    ensures did { WereTaken _lot.now (TakeAll key)
         (line_in key section.old) section.old section.new }
     ensures any { result.0 ≡ not (is_empty_at key section.old) }
-    ensures left { AreWaiting (without_key key (waiting_of section.old)) section.new
+    ensures left { AreQueued (without_key key (waiting_of section.old)) section.new
         × (result.1 ≡ is_empty_at key section.new) }
 {
     match section {
@@ -84,11 +84,11 @@ pub(crate) fn take_picked(
     recursive: bool,
 ) -> bool
     requires { MayTakeAt _lot.now key section.old }
-    ensures did { HasTaken _lot.now (TakePicked key start recursive)
+    ensures did { WereTaken _lot.now (TakePicked key start recursive)
         (lock_picked start recursive (line_in key section.old)) section.old section.new }
     ensures wants { wants_taken section.new
         ≡ wants_of (lock_picked start recursive (line_in key section.old)) }
-    ensures left { AreWaiting
+    ensures left { AreQueued
         (without_lock_picked start recursive key (waiting_of section.old)) section.new
         × (result ≡ is_empty_at key section.new) }
 {
@@ -125,14 +125,14 @@ pub(crate) fn requeue(
     to: Key,
     how: Requeue,
 ) -> (usize, bool)
-    requires { MayTakeAt _lot.now from section.old × HasKey to (inside_of section.old)
+    requires { MayTakeAt _lot.now from section.old × HasKey to (section_view section.old)
         × (from ≢ to) }
-    ensures did { IsIn _lot.now section.new × (inside_of section.new
-        ≡ moving (length (moved_by how (line_in from section.old)))
-        (took_as (did.Requeue from to how) (listed (taken_of how (line_in from section.old))) (inside_of section.old))) }
-    ensures number { result.0 ≡ length (listed (taken_of how (line_in from section.old)))
+    ensures did { IsSectionOf _lot.now section.new × (section_view section.new
+        ≡ with_moved (length (moved_by how (line_in from section.old)))
+        (took_as (did.Requeue from to how) (listed (taken_waiter how (line_in from section.old))) (section_view section.old))) }
+    ensures number { result.0 ≡ length (listed (taken_waiter how (line_in from section.old)))
         + length (moved_by how (line_in from section.old)) }
-    ensures left { AreWaiting (requeued how from to (waiting_of section.old)) section.new
+    ensures left { AreQueued (requeued how from to (waiting_of section.old)) section.new
         × (result.1 ≡ is_empty_at from section.new) }
 {
     match section {

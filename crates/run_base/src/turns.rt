@@ -7,7 +7,7 @@ ghost use Rattle.steps_base.specs.declared.acts.Whom.TheVariants as whom;
 ghost use Rattle.std.specs.Prelude.{◌≡◌};
 ghost use Rattle.lot_steps.specs.Steps.{act_of};
 ghost use Rattle.run_base.specs.Telling.{StandsLast, TellsQueues, TellsRequeue, TellsTake};
-ghost use Rattle.run_base.specs.Turns.{HasDone, HasTurned, IsAt, MayDo};
+ghost use Rattle.run_base.specs.Turns.{HasActed, HasTurned, IsAtPlace, MayAct};
 
 pub use crate::acting::end;
 use crate::acting::{enter, leave, note_of, sleep, stand};
@@ -29,9 +29,9 @@ pub fn turn_word<C: Clock>(
     lock: usize,
     op: Op,
 ) -> u64
-    requires { MayDo (IsUp C.tells _limit) lot.now words
+    requires { MayAct (IsUp C.tells _limit) lot.now words
         (acts.Word lock op) token.old _section.now }
-    ensures { HasDone (IsUp C.tells _limit.entry) lot.now words (acts.Word lock op) (Value result)
+    ensures { HasActed (IsUp C.tells _limit.entry) lot.now words (acts.Word lock op) (Value result)
         token.old _section.now token.new _section.now }
 {
     lot.word(token, words.of(lock), op)
@@ -48,8 +48,8 @@ pub fn turn_enter<'a, R: Wait, C: Clock>(
     section: &mut Option<Section<'a>>,
     keys: Keys,
 )
-    requires { MayDo (IsUp C.tells _limit) lot.now _words (acts.Enter keys) token.old section.old }
-    ensures { HasDone (IsUp C.tells _limit.entry) lot.now _words (acts.Enter keys) Done
+    requires { MayAct (IsUp C.tells _limit) lot.now _words (acts.Enter keys) token.old section.old }
+    ensures { HasActed (IsUp C.tells _limit.entry) lot.now _words (acts.Enter keys) Done
         token.old section.old token.new section.new }
 {
     enter(rt, lot, token, section, keys);
@@ -66,9 +66,9 @@ pub fn turn_stand<C: Clock>(
     key: Key,
     want: Want,
 )
-    requires { MayDo (IsUp C.tells _limit) lot.now _words
+    requires { MayAct (IsUp C.tells _limit) lot.now _words
         (acts.Stand key want) token.now section.old }
-    ensures done { HasDone (IsUp C.tells _limit.entry) lot.now _words (acts.Stand key want) Done
+    ensures done { HasActed (IsUp C.tells _limit.entry) lot.now _words (acts.Stand key want) Done
         token.now section.old token.now section.new }
     ensures stands { StandsLast key token.now.number want section.old section.new }
 {
@@ -85,9 +85,9 @@ pub fn turn_take_first<C: Clock>(
     section: &mut Option<Section>,
     key: Key,
 ) -> (bool, bool)
-    requires { MayDo (IsUp C.tells _limit) lot.now _words
+    requires { MayAct (IsUp C.tells _limit) lot.now _words
         (acts.Take key whom.First) _token.now section.old }
-    ensures done { HasDone (IsUp C.tells _limit.entry) lot.now _words (acts.Take key whom.First)
+    ensures done { HasActed (IsUp C.tells _limit.entry) lot.now _words (acts.Take key whom.First)
         (Took result.0 result.1)
         _token.now section.old _token.now section.new }
     ensures told { TellsTake key whom.First (Took result.0 result.1) section.old section.new }
@@ -108,9 +108,9 @@ pub fn turn_requeue<C: Clock>(
     to: Key,
     how: Requeue,
 ) -> (usize, bool)
-    requires { MayDo (IsUp C.tells _limit) lot.now _words
+    requires { MayAct (IsUp C.tells _limit) lot.now _words
         (acts.Requeue from to how) _token.now section.old }
-    ensures done { HasDone (IsUp C.tells _limit.entry) lot.now _words (acts.Requeue from to how)
+    ensures done { HasActed (IsUp C.tells _limit.entry) lot.now _words (acts.Requeue from to how)
         (Requeued result.0 result.1)
         _token.now section.old _token.now section.new }
     ensures told { TellsRequeue from to how result.0 result.1 section.old section.new }
@@ -130,9 +130,9 @@ pub fn turn_leave<R: Wait, C: Clock>(
     _keys: Keys,
     wakes: Wakes,
 )
-    requires { MayDo (IsUp C.tells _limit) lot.now _words
+    requires { MayAct (IsUp C.tells _limit) lot.now _words
         (acts.Leave _keys wakes) token.old section.old }
-    ensures { HasDone (IsUp C.tells _limit.entry) lot.now _words (acts.Leave _keys wakes) Done
+    ensures { HasActed (IsUp C.tells _limit.entry) lot.now _words (acts.Leave _keys wakes) Done
         token.old section.old token.new section.new }
 {
     leave(rt, lot, token, section, note_of(wakes));
@@ -149,7 +149,7 @@ pub fn turn_sleep<'a, R: Wait, C: Clock>(
     section: &mut Option<Section<'a>>,
     place: Place,
 ) -> Reply
-    requires at { IsAt (IsUp C.tells limit) lot.now words place token.old section.old }
+    requires at { IsAtPlace (IsUp C.tells limit) lot.now words place token.old section.old }
     requires act { act_of place ≡ acts.Sleep }
     ensures turned { HasTurned (IsUp C.tells limit.entry) lot.now words place result token.old
         section.old token.new section.new }

@@ -1,6 +1,6 @@
 //! The words on which a call steps.
 ghost use Rattle.std.specs.Prelude.{◌≡◌};
-ghost use Rattle.run_base.specs.Words.{alone, both, word_in};
+ghost use Rattle.run_base.specs.Words.{single_word, word_pair, word_among};
 
 use parking_lot_core::Word;
 
@@ -14,7 +14,7 @@ pub struct Words {
 impl Words {
     /// Those of a call that steps on one word: it stands for any lock's.
     pub fn alone(word: Word) -> Words
-        ensures { result ≡ alone word }
+        ensures { result ≡ single_word word }
     {
         Words {
             one: word,
@@ -25,7 +25,7 @@ impl Words {
     /// Those of a call that steps on two: the second where its own lock's number is asked for, and
     /// else the first.
     pub fn both(word: Word, other: Word) -> Words
-        ensures { result ≡ both word other }
+        ensures { result ≡ word_pair word other }
     {
         Words {
             one: word,
@@ -35,7 +35,7 @@ impl Words {
 
     /// The word of the lock of this number.
     pub(crate) fn of(self, lock: usize) -> Word
-        ensures { result ≡ word_in self lock }
+        ensures { result ≡ word_among self lock }
     {
         match self.other {
             Some(other) if other.number() == lock => other,

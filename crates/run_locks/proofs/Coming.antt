@@ -14,17 +14,17 @@ use Rattle.parking_lot_core.specs.declared.lot.ParkingLot.{ParkingLot}
 use Rattle.parking_lot_core.specs.declared.sections.Section.{Section}
 use Rattle.parking_lot_core.specs.declared.tokens.Token.{Token}
 use Rattle.run_base.specs.Fitting.{answer_of}
-use Rattle.run_base.specs.Turns.{HasDone, HasEnded, HasTurned, IsAt, MayDo}
+use Rattle.run_base.specs.Turns.{HasActed, HasEnded, HasTurned, IsAtPlace, MayAct}
 use Rattle.run_base.specs.declared.words.Words.{Words}
 use Rattle.run_base.proofs.TurnsOn.{turn_ends, turn_leads, turn_then}
 
 -- a call has come from one place to another: what fits there the thread has, and whatever ends the call there ends it from where it began
 pub record HasCome (up : Type 0) (lot : ParkingLot) (words : Words) (p : Place) (old : Token) (section : Option Section) (q : Place) (new : Token) (now : Option Section) : Type 0 where
-  pub at : IsAt up lot words q new now
+  pub at : IsAtPlace up lot words q new now
   pub ends : (answer : Answer) (last : Token) → HasEnded up lot words q answer new now last → HasEnded up lot words p answer old section last
 
 -- it begins where it is
-pub begins : (up : Type 0) (lot : ParkingLot) (words : Words) (p : Place) (token : Token) (section : Option Section) → IsAt up lot words p token section
+pub begins : (up : Type 0) (lot : ParkingLot) (words : Words) (p : Place) (token : Token) (section : Option Section) → IsAtPlace up lot words p token section
     → HasCome up lot words p token section p token section
 begins up lot words p token section at = record { at = at; ends = λ answer last ended. ended }
 
@@ -34,7 +34,7 @@ module _ {up : Type 0} {lot : ParkingLot} {words : Words} {p : Place} {old : Tok
   named e = subst (λ (r : Place). HasCome up lot words p old section r mid there) e came
 
   -- tells what it may do there
-  pub may_do : {a : Act} → act_of q ≡ a → MayDo up lot words a mid there
+  pub may_do : {a : Act} → act_of q ≡ a → MayAct up lot words a mid there
   may_do is = (q, came.at, is)
 
   -- a turn with this reply leads on to a further place
@@ -46,12 +46,12 @@ module _ {up : Type 0} {lot : ParkingLot} {words : Words} {p : Place} {old : Tok
   }
 
   -- and so does an act that was done
-  pub comes : {a : Act} (reply : Reply) (new : Token) (now : Option Section) → HasDone up lot words a reply mid there new now → act_of q ≡ a
+  pub comes : {a : Act} (reply : Reply) (new : Token) (now : Option Section) → HasActed up lot words a reply mid there new now → act_of q ≡ a
       → (r : Place) → (next_place q reply ≡ r) × (answer_of (next_act q reply) ≡ None) → HasCome up lot words p old section r new now
   comes reply new now done is = turns_to reply new now (done q came.at is)
 
   -- or it ends the call
-  pub over : {a : Act} (reply : Reply) (new : Token) (now : Option Section) → HasDone up lot words a reply mid there new now → act_of q ≡ a
+  pub over : {a : Act} (reply : Reply) (new : Token) (now : Option Section) → HasActed up lot words a reply mid there new now → act_of q ≡ a
       → (answer : Answer) → answer_of (next_act q reply) ≡ Some answer → HasEnded up lot words p answer old section new
   over reply new now done is answer some = came.ends answer new (turn_ends up lot words q reply mid new there now (done q came.at is) answer some)
 

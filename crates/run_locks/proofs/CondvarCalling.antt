@@ -27,7 +27,7 @@ use Rattle.run_base.specs.CondvarFitting.{FitsWait, apart}
 use Rattle.run_base.specs.Fitting.{AreWordsBeside, IsStopped, of_notify, of_once, of_run, of_wait}
 use Rattle.run_base.specs.Paths.{condvar_at, mutex_at}
 use Rattle.run_base.specs.Stages.{Stage}
-use Rattle.run_base.specs.Words.{at_in, both, kind_in, word_in}
+use Rattle.run_base.specs.Words.{at_in, word_pair, kind_in, word_among}
 use Rattle.run_base.specs.declared.driver.Stop.TheVariants.{Paused}
 use Rattle.run_base.proofs.SemaphoreLeading.{semaphore_no_closure}
 use Rattle.run_base.proofs.Ending.{no_closure}
@@ -92,16 +92,16 @@ module _ (condvar mutex : Word) (apart : condvar.number ≢ mutex.number) (is_co
   same : (mutex.number == mutex.number) ≡ true
   same = eq-eqb mutex.number mutex.number refl
 
-  here : word_in (both condvar mutex) condvar.number ≡ condvar
+  here : word_among (word_pair condvar mutex) condvar.number ≡ condvar
   here = ap (λ (b : Bool). if b then mutex else condvar) other
 
-  there : word_in (both condvar mutex) mutex.number ≡ mutex
+  there : word_among (word_pair condvar mutex) mutex.number ≡ mutex
   there = ap (λ (b : Bool). if b then mutex else condvar) same
 
   index : Word → ℕ
   index w = word_index w.number w.kind
 
-  pub words_beside : AreWordsBeside condvar.number (Some mutex.number) (kind_in (both condvar mutex)) (at_in (both condvar mutex))
+  pub words_beside : AreWordsBeside condvar.number (Some mutex.number) (kind_in (word_pair condvar mutex)) (at_in (word_pair condvar mutex))
   words_beside = (
     apart,
     ap (λ (w : Word). w.kind) here ∙ is_condvar,
@@ -110,17 +110,17 @@ module _ (condvar mutex : Word) (apart : condvar.number ≢ mutex.number) (is_co
     ap (λ (w : Word). word_index w.number w.kind) there ∙ ap (word_index mutex.number) is_mutex,
   )
 
-  at_each : (lock : ℕ) → at_in (both condvar mutex) lock ≡ at_condvar condvar.number mutex.number lock
+  at_each : (lock : ℕ) → at_in (word_pair condvar mutex) lock ≡ at_condvar condvar.number mutex.number lock
   at_each lock = by_bit (mutex.number == lock)
     where
       by_bit : (b : Bool) → word_index (if b then mutex else condvar).number (if b then mutex else condvar).kind ≡ cond b (mutex_at mutex.number) (condvar_at condvar.number)
       by_bit true = ap (word_index mutex.number) is_mutex
       by_bit false = ap (word_index condvar.number) is_condvar
 
-  pub at_both : at_in (both condvar mutex) ≡ at_condvar condvar.number mutex.number
+  pub at_both : at_in (word_pair condvar mutex) ≡ at_condvar condvar.number mutex.number
   at_both = λ i lock. at_each lock i
 
-pub both_of : (lot : LotWords) (condvar mutex : Word) → IsWordOf lot condvar → IsWordOf lot mutex → (lock : ℕ) → IsWordOf lot (word_in (both condvar mutex) lock)
+pub both_of : (lot : LotWords) (condvar mutex : Word) → IsWordOf lot condvar → IsWordOf lot mutex → (lock : ℕ) → IsWordOf lot (word_among (word_pair condvar mutex) lock)
 both_of lot condvar mutex c m lock = by_bit (mutex.number == lock)
   where
     by_bit : (b : Bool) → IsWordOf lot (if b then mutex else condvar)

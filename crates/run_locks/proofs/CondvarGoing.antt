@@ -22,8 +22,8 @@ use Rattle.parking_lot_core.specs.declared.lot.ParkingLot.{ParkingLot}
 use Rattle.parking_lot_core.specs.declared.sections.Section.{Section}
 use Rattle.parking_lot_core.specs.declared.tokens.Token.{Token}
 use Rattle.run_base.specs.Fitting.{IsStopped, ReachedBy, call_purpose, answer_of}
-use Rattle.run_base.specs.Stages.{Stage, inside_of, stage_of}
-use Rattle.run_base.specs.Turns.{HasTurned, IsAt}
+use Rattle.run_base.specs.Stages.{Stage, section_view, stage_of}
+use Rattle.run_base.specs.Turns.{HasTurned, IsAtPlace}
 use Rattle.run_base.specs.declared.driver.Stop.TheVariants.{Paused}
 use Rattle.run_base.specs.declared.words.Words.{Words}
 use Rattle.run_base.proofs.Ending.{outside}
@@ -47,10 +47,10 @@ pub keyed : (n : ℕ) → n < 2 ^ 63 → 2 * n + 1 < 2 ^ 64
 keyed n small = omega arith
 
 -- a thread that ended a call is outside all sections
-pub turn_outside : (up : Type 0) (lot : ParkingLot) (words : Words) (p : Place) (reply : Reply) (old new : Token) (section now : Option Section) (answer : Answer) → IsAt up lot words p old section → HasTurned up lot words p reply old section new now → answer_of (next_act p reply) ≡ Some answer → inside_of now ≡ None
+pub turn_outside : (up : Type 0) (lot : ParkingLot) (words : Words) (p : Place) (reply : Reply) (old new : Token) (section now : Option Section) (answer : Answer) → IsAtPlace up lot words p old section → HasTurned up lot words p reply old section new now → answer_of (next_act p reply) ≡ Some answer → section_view now ≡ None
 turn_outside up lot words p reply old new section now answer at turned some =
     let over = subst (λ (o : Option Answer). ReachedBy up at.4.0 (call_purpose p) (next_place p reply) o (stage_of new now)) some (turned.3 at.4.0 at.4.1) in
-    outside up at.4.0 (stage_of new now).owns (call_purpose p) answer (inside_of now) (stage_of new now).last (stage_of new now).steps over
+    outside up at.4.0 (stage_of new now).owns (call_purpose p) answer (section_view now) (stage_of new now).last (stage_of new now).steps over
 
 module _ (c m : ℕ) where
   -- the mutex isn't free

@@ -19,7 +19,7 @@ use Rattle.run_base.specs.CondvarFitting.{AnswersBy}
 use Rattle.run_base.specs.Paths.{Walks, condvar_at, mutex_at, step}
 use Rattle.run_base.specs.Telling.{steps_of}
 use Rattle.run_base.proofs.Paths.{ends_at_once, goes_on}
-use Rattle.run_locks.specs.CondvarCalls.{HasNotified, Notifies, TellsMoved, at_condvar, notify_begin, notify_slow}
+use Rattle.run_locks.specs.CondvarCalls.{HasNotified, NotifiesBy, TellsMoved, at_condvar, notify_begin, notify_slow}
 
 -- beside another mutex the word of the condition variable stands at its own place
 own_word : (n m : ℕ) → m ≢ n → at_condvar n m n ≡ condvar_at n
@@ -30,7 +30,7 @@ module _ (n : ℕ) (all : Bool) (seen : ℕ) (answer : Answer) (old mid : List W
   beside m ne = added ∙ ap (λ i. old ++ step i Load seen) (sym (own_word n m ne))
 
   -- it saw that nobody waits
-  pub nobody_waits : seen ≡ 0 → answer ≡ notified all 0 → Notifies n all answer old mid
+  pub nobody_waits : seen ≡ 0 → answer ≡ notified all 0 → NotifiesBy n all answer old mid
   nobody_waits zero told = (
     n + 1,
     ends_at_once (at_condvar n (n + 1)) (notify_begin n all) n Load seen old mid answer refl (beside (n + 1) (λ e. omega arith))
@@ -45,7 +45,7 @@ module _ (n : ℕ) (all : Bool) (seen : ℕ) (answer : Answer) (old mid : List W
       ∙ ap (λ k. Condvar n (Notify all k notify.Enter)) back
 
   -- or that a mutex is shown
-  pub some_wait : (m : ℕ) → m ≢ n → seen ≡ m + 1 → (new : List WordStep) → HasNotified n m all answer mid new → Notifies n all answer old new
+  pub some_wait : (m : ℕ) → m ≢ n → seen ≡ m + 1 → (new : List WordStep) → HasNotified n m all answer mid new → NotifiesBy n all answer old new
   some_wait m ne shown new behind = (
     m,
     goes_on (at_condvar n m) (notify_begin n all) n Load seen old mid new answer refl (beside m ne)

@@ -24,7 +24,7 @@ use Rattle.steps_rwlock.specs.declared.places.RwLockPlace.{RwLockPlace}
 use Rattle.steps_rwlock.specs.declared.purposes.RwLockPurpose.{RwLockPurpose}
 use Rattle.steps_rwlock.specs.declared.purposes.RwLockPurpose.TheVariants as purpose
 use Rattle.steps_rwlock_fair.specs.FairProfiles.{in_call}
-use Rattle.steps_rwlock_fair.specs.FairSteps.{bump_next, call_act, call_next, enters_again, exchange_act, given, handed_by, woken_with, any_taken, freed_next, released, parked_as, with_taken, without, gives_up_at, gives_way, glance_next, hand_over_act, hand_over_next, handed_next, handed_woken, has_room, unless_given}
+use Rattle.steps_rwlock_fair.specs.FairSteps.{bump_next, call_act, call_next, enters_again, exchange_act, given, handed_by, woken_with, any_taken, freed_next, released, parked_as, with_taken, word_without, gives_up_at, gives_way, glance_next, hand_over_act, hand_over_next, handed_next, handed_woken, has_room, unless_given}
 use Rattle.steps_rwlock_fair.specs.declared.hand_over.HandOverAt.{HandOverAt}
 use Rattle.steps_rwlock_fair.specs.declared.hand_over.HandOverAt.TheVariants as handing
 use Rattle.steps_rwlock_fair.specs.declared.hand_over.Taken.{Taken}
@@ -37,7 +37,7 @@ use Rattle.lot_steps.specs.declared.places.Place.{Place}
 use Rattle.lot_steps.specs.declared.places.Place.TheVariants.{RwLock}
 use Rattle.parking_lot_core.specs.declared.tokens.Token.{Token}
 use Rattle.run_base.specs.RwLockCalls.{HasWalkedCall}
-use Rattle.run_locks.specs.RwLockRefusals.{SawFull}
+use Rattle.run_locks.specs.RwLockRefusals.{SawReadersFull}
 use Rattle.run_locks.proofs.RwLockFull.{IsCalling, IsGoing, IsIn, Keeping, Keeps, accepting_act, act_going, entered_ends, gone_at, keeps_at, walked_full}
 
 module _ (a : Admission) (x : Access) where
@@ -165,7 +165,7 @@ module _ (a : Admission) (x : Access) where
   exchanging_act : (l : ℕ) (y : Access) (k : Taken) (seen : ℕ) → IsGoing (exchange_act l a.limit y k seen)
   exchanging_act l y k seen = by_test (has_room a.limit k seen)
     where
-      by_test : (b : Bool) → IsGoing (if b then act.HandOver l (op.Exchange seen (with_taken y k seen)) else act.Word l (op.Exchange seen (parked_as k.none_left (without y seen))))
+      by_test : (b : Bool) → IsGoing (if b then act.HandOver l (op.Exchange seen (with_taken y k seen)) else act.Word l (op.Exchange seen (parked_as k.none_left (word_without y seen))))
       by_test true = tt
       by_test false = tt
 
@@ -205,5 +205,5 @@ module _ (a : Admission) (x : Access) where
       by_place (Some n) f is = let there : RwLock l a (Bump n) ≡ r = cc in subst (IsIn a x Patient IsOfBump) there (refl, gone_on p n f w)
 
 -- so it is of a whole bump
-pub bump_sees_full : (x : Access) (l : ℕ) (a : Admission) (old new : Token) → HasWalkedCall l a (calls.Bump x) ReadersFull old new → SawFull l a x old new
+pub bump_sees_full : (x : Access) (l : ℕ) (a : Admission) (old new : Token) → HasWalkedCall l a (calls.Bump x) ReadersFull old new → SawReadersFull l a x old new
 bump_sees_full x l a old new w = walked_full a x Patient (IsOfBump a x) (bump_keeps a x, bump_going a x, looks_on a x) l (RwLock l a (Glance x)) old new (refl, refl) w

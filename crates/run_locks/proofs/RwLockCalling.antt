@@ -35,7 +35,7 @@ use Rattle.run_base.specs.Paths.{Walks, at_rwlock, rwlock_at, rwlocks, step}
 use Rattle.run_base.specs.RwLockCalls.{AnswersCall, BeginsWith, TookUnlessEnded, Wakes, WakesBy, first_op, rwlock_begin}
 use Rattle.run_base.specs.RwLockFitting.{Answers, IsBeside, IsCounted, IsRwLockOver, LeftBy, MayGiveUp, OwnsRight, TookWoken}
 use Rattle.run_base.specs.Stages.{Stage, Stepped, stage_of}
-use Rattle.run_base.specs.Words.{alone, at_in, kind_in}
+use Rattle.run_base.specs.Words.{single_word, at_in, kind_in}
 use Rattle.run_base.proofs.Ending.{end_of}
 use Rattle.run_base.proofs.Paths.{ends_at_once, goes_on}
 use Rattle.run_base.proofs.RwLockBeginning.{Begun, begins_with, begun, may_begin}
@@ -43,14 +43,14 @@ use Rattle.run_base.proofs.RwLockGoing as leading
 use Rattle.run_base.proofs.Turning.{by_stage, words_on}
 
 module _ (word : Word) (is : word.kind ≡ kinds.RwLock) where
-  pub rwlock_kinds : kind_in (alone word) ≡ rwlocks
+  pub rwlock_kinds : kind_in (single_word word) ≡ rwlocks
   rwlock_kinds = ap {B = ℕ → WordKind} (λ (kind : WordKind) (lock : ℕ). kind) is
 
-  pub rwlock_alone : at_in (alone word) ≡ at_rwlock word.number
+  pub rwlock_alone : at_in (single_word word) ≡ at_rwlock word.number
   rwlock_alone = ap {B = ℕ → ℕ} (λ (kind : WordKind) (lock : ℕ). word_index word.number kind) is
 
-  pub words_after : (a : Admission) (c : RwLockPurpose) (seen : ℕ) → word.number < 9223372036854775808 → AreWordsFor (next_place (rwlock_begin word.number a c) (Value seen)) (kind_in (alone word)) (at_in (alone word))
-  words_after a c seen small = words_on (rwlock_begin word.number a c) (Value seen) (kind_in (alone word)) (at_in (alone word)) (small, rwlock_kinds, rwlock_alone)
+  pub words_after : (a : Admission) (c : RwLockPurpose) (seen : ℕ) → word.number < 9223372036854775808 → AreWordsFor (next_place (rwlock_begin word.number a c) (Value seen)) (kind_in (single_word word)) (at_in (single_word word))
+  words_after a c seen small = words_on (rwlock_begin word.number a c) (Value seen) (kind_in (single_word word)) (at_in (single_word word)) (small, rwlock_kinds, rwlock_alone)
 
   -- a thread that has the right that its call needs takes its first step
   pub may_start : (c : RwLockPurpose) (op : Op) (base owns : List Ownership) → op ≡ first_op c → BeginsWith word.number c base owns → MayStep word.kind (word_index word.number word.kind) op owns

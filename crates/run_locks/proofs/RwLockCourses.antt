@@ -15,7 +15,7 @@ use Rattle.steps_base.specs.declared.acts.Next.{Next}
 use Rattle.steps_base.specs.declared.acts.Next.TheVariants.{At, End}
 use Rattle.steps_base.specs.declared.acts.Reply.TheVariants.{Value}
 use Rattle.steps_rwlock.specs.RwLockBegins.{rwlock_first}
-use Rattle.steps_rwlock.specs.RwLockSteps.{came_in, came_in_for, decided_act, decided_for, decision_blocked, entered, exchanged_next, goes, looked, looked_by, missed, patience_of, rwlock_next, waits, wakes_or_ends, wanted, word_taken}
+use Rattle.steps_rwlock.specs.RwLockSteps.{came_in, came_in_for, decided_act, decided_for, decision_blocked, entered, exchanged_next, goes, looked, looked_by, missed, patience_of, rwlock_next, park_or_mark, wakes_or_ends, wanted, word_taken}
 use Rattle.steps_rwlock.specs.declared.enter.Decision.{Decision}
 use Rattle.steps_rwlock.specs.declared.enter.Decision.TheVariants as decisions
 use Rattle.steps_rwlock.specs.declared.places.Admission.{Admission}
@@ -30,7 +30,7 @@ use Rattle.lot_steps.specs.Steps.{act_of, next_act, next_place, rwlock_does, rwl
 use Rattle.core_words.specs.Steps.{MayStep}
 use Rattle.core_words.specs.declared.owners.Ownership.{Ownership}
 use Rattle.core_words.specs.declared.words.WordKind.TheVariants as kinds
-use Rattle.run_locks.specs.Courses.{course_of, kept_out, leaving}
+use Rattle.run_locks.specs.Courses.{course_of, kept_out, release_course}
 use Rattle.run_locks.specs.declared.rwlock_courses.Course.{Course}
 use Rattle.run_locks.specs.declared.rwlock_courses.Course.TheVariants.{Ends, Takes, GoesOn}
 use Rattle.run_base.specs.Fitting.{Fits, Reached, answer_of, sleeper_at}
@@ -53,7 +53,7 @@ module _ (seen : ℕ) where
   abbrev entry : Patience → Bool → Bool → Decision
   entry how blocked full = if blocked then decision_blocked how seen else if full then decisions.Refuse answers.ReadersFull else decisions.Take
 
-  waits_led : (c : RwLockPurpose) (parked : Bool) → Led (waits parked) c seen GoesOn (looked_by (rwlock_first c) seen (waits parked))
+  waits_led : (c : RwLockPurpose) (parked : Bool) → Led (park_or_mark parked) c seen GoesOn (looked_by (rwlock_first c) seen (park_or_mark parked))
   waits_led c true = (record { purpose = c; retries = false; at = at.Decide seen }, refl)
   waits_led c false = (record { purpose = c; retries = false; at = at.Decide seen }, refl)
 
@@ -80,7 +80,7 @@ module _ (seen : ℕ) where
   upgrades_led d c how true = refl
   upgrades_led d c how false = (record { purpose = c; retries = false; at = at.Look }, refl)
 
-  leaves_led : (d : Decision) (c : RwLockPurpose) (m : Line) (some : Bool) → Led d c seen (leaving some) (wakes_or_ends (rwlock_first c) m some)
+  leaves_led : (d : Decision) (c : RwLockPurpose) (m : Line) (some : Bool) → Led d c seen (release_course some) (wakes_or_ends (rwlock_first c) m some)
   leaves_led d c m true = (record { purpose = c; retries = false; at = at.Wake m waking.Enter }, refl)
   leaves_led d c m false = refl
 

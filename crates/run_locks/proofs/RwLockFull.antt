@@ -23,7 +23,7 @@ use Rattle.steps_base.specs.declared.acts.Reply.{Reply}
 use Rattle.steps_base.specs.declared.acts.Reply.TheVariants as reply
 use Rattle.steps_rwlock.specs.RwLockCalls.{IsDecided, IsNoRefusal}
 use Rattle.steps_rwlock.specs.RwLockProfiles.{gone_to, is_mark, looking_at, rwlock_looking}
-use Rattle.steps_rwlock.specs.RwLockSteps.{access_of, came_in, came_in_for, count_act, counted, decided, decided_act, decided_for, decision, decision_blocked, ends_with, entered, exchanged_next, gave_way_by, goes, is_counted, looked, looked_by, missed, park_act, park_next, patience_of, plus, released, rolled_back, rwlock_act, rwlock_next, stays, waits, wake_act, wake_next, wakes_or_ends, want_at, wanted}
+use Rattle.steps_rwlock.specs.RwLockSteps.{access_of, came_in, came_in_for, count_act, after_count, decided, decided_act, decided_for, decision, decision_blocked, ends_with, entered, exchanged_next, gave_way_by, goes, is_counted, looked, looked_by, missed, park_act, park_next, patience_of, plus, released, rolled_back, rwlock_act, rwlock_next, stays, park_or_mark, wake_act, wake_next, wakes_or_ends, want_at, wanted}
 use Rattle.steps_rwlock.specs.declared.enter.Decision.{Decision}
 use Rattle.steps_rwlock.specs.declared.enter.Decision.TheVariants as decisions
 use Rattle.steps_rwlock.specs.declared.park.ParkAt.{ParkAt}
@@ -50,7 +50,7 @@ use Rattle.parking_lot_core.specs.Tokens.{view_of}
 use Rattle.parking_lot_core.specs.declared.tokens.Token.{Token}
 use Rattle.run_base.specs.Paths.{Brings, Path, at_rwlock, Walks, hands, here, is_valueless, looks, on, other, parks, rwlock_at, step, word}
 use Rattle.run_base.specs.RwLockCalls.{HasWalkedRwLock, rwlock_begin}
-use Rattle.run_locks.specs.RwLockRefusals.{SawFull}
+use Rattle.run_locks.specs.RwLockRefusals.{SawReadersFull}
 
 -- ---------------------------------------------------------------- words
 
@@ -76,7 +76,7 @@ module _ (v : ℕ) (unset : has_parked v ≡ false) where
   still_blocked b want.Wait e = (λ i. writer i || upgradable i) ∙ e
   still_blocked b want.CallOnce e = (λ i. writer i || upgradable i) ∙ e
 
-unset_by : (b : Bool) → waits b ≡ decisions.Mark → b ≡ false
+unset_by : (b : Bool) → park_or_mark b ≡ decisions.Mark → b ≡ false
 unset_by true e = absurd cc
 unset_by false e = refl
 
@@ -89,12 +89,12 @@ waits_still : (how : Patience) (v w : ℕ) → decision_blocked how v ≡ decisi
 waits_still Try v w e = absurd cc
 waits_still Patient v w e = by_bit (has_parked w)
   where
-    by_bit : (b : Bool) → IsNoRefusal (waits b)
+    by_bit : (b : Bool) → IsNoRefusal (park_or_mark b)
     by_bit true = tt
     by_bit false = tt
 waits_still Timed v w e = by_bit (has_parked w)
   where
-    by_bit : (b : Bool) → IsNoRefusal (waits b)
+    by_bit : (b : Bool) → IsNoRefusal (park_or_mark b)
     by_bit true = tt
     by_bit false = tt
 
@@ -193,7 +193,7 @@ module _ (a : Admission) (q : RwLockPurpose) where
   counted_keeps again to seen true = entered_ends (reply.Value seen) (patience_of q)
   counted_keeps again to seen false = (refl, tt)
 
-  count_keeps : (again : Bool) (was seen : ℕ) (b : Bool) → Keeps (reply.Value seen) (if b then stays (of again (at.Count was)) at.Marked else counted (of again (at.Count was)) seen)
+  count_keeps : (again : Bool) (was seen : ℕ) (b : Bool) → Keeps (reply.Value seen) (if b then stays (of again (at.Count was)) at.Marked else after_count (of again (at.Count was)) seen)
   count_keeps again was seen true = (refl, tt)
   count_keeps again was seen false = counted_keeps again (at.Count was) seen (count_in seen == 0)
 
@@ -422,12 +422,12 @@ module _ (a : Admission) (how : Patience) (seen : ℕ) where
   no_wait Try e = cc
   no_wait Patient e = by_bit (has_parked seen) e
     where
-      by_bit : (b : Bool) → waits b ≡ decisions.Refuse ReadersFull → ⊥
+      by_bit : (b : Bool) → park_or_mark b ≡ decisions.Refuse ReadersFull → ⊥
       by_bit true f = cc
       by_bit false f = cc
   no_wait Timed e = by_bit (has_parked seen) e
     where
-      by_bit : (b : Bool) → waits b ≡ decisions.Refuse ReadersFull → ⊥
+      by_bit : (b : Bool) → park_or_mark b ≡ decisions.Refuse ReadersFull → ⊥
       by_bit true f = cc
       by_bit false f = cc
 
@@ -507,7 +507,7 @@ module _ (a : Admission) (x : Access) (how : Patience) (Is : RwLockCallPlace →
     ended_by at p last xs told path w ends = subst (EndsActBy told) ends (place_keeps last told (path_keeps at p last xs path w)).1
 
     -- a thread that finds the lock full by them saw so by its last step
-    pub walked_full : (l : ℕ) (start : Place) (old new : Token) → IsIn start → Walks (at_rwlock l) start (view_of old).steps (view_of new).steps ReadersFull → SawFull l a x old new
+    pub walked_full : (l : ℕ) (start : Place) (old new : Token) → IsIn start → Walks (at_rwlock l) start (view_of old).steps (view_of new).steps ReadersFull → SawReadersFull l a x old new
     walked_full l start old new begins w =
         let told = ended_by (at_rwlock l) start w.2.last w.2.before w.2.reply w.2.path begins w.2.ends in
         let value = told_value a enters w.2.reply told in
@@ -535,5 +535,5 @@ module _ (x : Access) (how : Patience) (a : Admission) where
   begins access.Exclusive l = (refl, (refl, tt))
 
 -- so it is of a whole call that found the lock full
-pub sees_full : (x : Access) (how : Patience) (l : ℕ) (a : Admission) (old new : Token) → HasWalkedRwLock l a (purpose.Enter x how) ReadersFull old new → SawFull l a x old new
+pub sees_full : (x : Access) (how : Patience) (l : ℕ) (a : Admission) (old new : Token) → HasWalkedRwLock l a (purpose.Enter x how) ReadersFull old new → SawReadersFull l a x old new
 sees_full x how l a old new w = walked_full a x how (IsCall a (purpose.Enter x how)) (call_keeps a (purpose.Enter x how), call_going a (purpose.Enter x how), looks_on x how a) l (rwlock_begin l a (purpose.Enter x how)) old new (begins x how a x l) w

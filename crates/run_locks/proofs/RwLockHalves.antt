@@ -5,7 +5,7 @@ use Rattle.steps_base.specs.declared.acts.Reply.TheVariants.{Value}
 use Rattle.core_base.specs.declared.ops.Op.TheVariants.{Exchange}
 use Rattle.spec_locks.specs.declared.outcomes.Answer.{Answer}
 use Rattle.run_base.specs.Fitting.{Fits, IsOver, Reached, call_purpose, of_rwlock}
-use Rattle.run_base.specs.Paths.{Rests, Walks, at_rwlock}
+use Rattle.run_base.specs.Paths.{WalksAfterReply, Walks, at_rwlock}
 use Rattle.run_base.specs.RwLockCalls.{BeginsWith, first_op, rwlock_begin, rwlock_deciding}
 use Rattle.run_base.specs.Stages.{stage_of}
 use Rattle.steps_rwlock.specs.RwLockBegins.{rwlock_first}
@@ -19,7 +19,7 @@ use Rattle.core_words.specs.declared.words.Word.{Word}
 use Rattle.core_words.specs.declared.words.WordKind.TheVariants as kinds
 use Rattle.parking_lot_core.specs.Tokens.{view_of}
 use Rattle.parking_lot_core.specs.declared.tokens.Token.{Token}
-use Rattle.run_locks.specs.Halves.{HasBegun, HasEnded, HasStepped}
+use Rattle.run_locks.specs.Halves.{HasBegunRwLock, HasEndedRwLock, SteppedAndFound}
 use Rattle.run_locks.specs.declared.rwlock_calls.Rest.TheVariants.{GoesOn, Missed}
 use Rattle.run_locks.proofs.RwLockCalling.{rest_fits, rest_over, rest_path, rest_record}
 use Rattle.run_locks.proofs.RwLockCourses.{takes_at, waits_at}
@@ -33,7 +33,7 @@ module _ (up : Type 0) (word : Word) (is : word.kind ≡ kinds.RwLock) (a : Admi
   came = (p : RwLockPlace) × (rwlock_next a (rwlock_first c) (Value seen) ≡ At p)
 
   -- tells what the rest of a call does from where its first step has led it
-  module _ (old mid : Token) (stepped : HasStepped word (first_op c) seen old mid) (goes : came) where
+  module _ (old mid : Token) (stepped : SteppedAndFound word (first_op c) seen old mid) (goes : came) where
     pub fits_behind : (base : List Ownership) → begins old base → Fits up base (next_place (rwlock_begin word.number a c) (Value seen)) (stage_of mid None)
     fits_behind base b = (rest_fits up word is a room c (first_op c) seen old mid refl stepped.1 stepped.2 stepped.3 goes base b).0
 
@@ -41,7 +41,7 @@ module _ (up : Type 0) (word : Word) (is : word.kind ≡ kinds.RwLock) (a : Admi
         → Walks (at_rwlock word.number) (next_place (rwlock_begin word.number a c) (Value seen)) (view_of mid).steps (view_of new).steps answer
         → ((more : List Ownership) → Fits up more (next_place (rwlock_begin word.number a c) (Value seen)) (stage_of mid None)
         → IsOver up more (call_purpose (next_place (rwlock_begin word.number a c) (Value seen))) answer (stage_of new None))
-        → HasEnded up word a c answer old new
+        → HasEndedRwLock up word a c answer old new
     ended_behind answer new same base b walks over = (
       same,
       rest_path up word is a room c (first_op c) seen old mid refl stepped.1 stepped.2 stepped.3 goes answer new walks,
@@ -49,17 +49,17 @@ module _ (up : Type 0) (word : Word) (is : word.kind ≡ kinds.RwLock) (a : Admi
       rest_record up word is a room c (first_op c) seen old mid refl stepped.1 stepped.2 stepped.3 goes answer new base b (over base) walks,
     )
 
-  pub fits_on : (old mid : Token) → HasBegun word a c (GoesOn seen) old mid → (base : List Ownership) → begins old base → Fits up base (next_place (rwlock_begin word.number a c) (Value seen)) (stage_of mid None)
+  pub fits_on : (old mid : Token) → HasBegunRwLock word a c (GoesOn seen) old mid → (base : List Ownership) → begins old base → Fits up base (next_place (rwlock_begin word.number a c) (Value seen)) (stage_of mid None)
   fits_on old mid begun = fits_behind old mid begun.0 (waits_at word.number a c seen begun.1)
 
-  pub ended_on_going : (old mid new : Token) (answer : Answer) → HasBegun word a c (GoesOn seen) old mid → new.number ≡ mid.number → (base : List Ownership) → begins old base
+  pub ended_on_going : (old mid new : Token) (answer : Answer) → HasBegunRwLock word a c (GoesOn seen) old mid → new.number ≡ mid.number → (base : List Ownership) → begins old base
       → Walks (at_rwlock word.number) (next_place (rwlock_begin word.number a c) (Value seen)) (view_of mid).steps (view_of new).steps answer
       → ((more : List Ownership) → Fits up more (next_place (rwlock_begin word.number a c) (Value seen)) (stage_of mid None)
       → IsOver up more (call_purpose (next_place (rwlock_begin word.number a c) (Value seen))) answer (stage_of new None))
-      → HasEnded up word a c answer old new
+      → HasEndedRwLock up word a c answer old new
   ended_on_going old mid new answer begun same = ended_behind old mid begun.0 (waits_at word.number a c seen begun.1) answer new (subst (λ (n : ℕ). new.number ≡ n) begun.0.0 same)
 
-  module _ (found : ℕ) (old last : Token) (begun : HasBegun word a c (Missed seen found) old last) where
+  module _ (found : ℕ) (old last : Token) (begun : HasBegunRwLock word a c (Missed seen found) old last) where
     abbrev mid : Token
     mid = begun.0
 
@@ -68,10 +68,10 @@ module _ (up : Type 0) (word : Word) (is : word.kind ≡ kinds.RwLock) (a : Admi
         word_takes_on word is a c seen begun.2 (Exchange seen (word_taken c seen)) refl found mid last step.1 step.2 step.3 up base (fits_behind old mid begun.1 (takes_at word.number a c seen begun.2) base b)
 
     pub ended_missed : (new : Token) (answer : Answer) → new.number ≡ last.number → (base : List Ownership) → begins old base
-        → Rests (at_rwlock word.number) (rwlock_deciding word.number a c seen) (Value found) (view_of last).steps (view_of new).steps answer
+        → WalksAfterReply (at_rwlock word.number) (rwlock_deciding word.number a c seen) (Value found) (view_of last).steps (view_of new).steps answer
         → ((more : List Ownership) → Reached up more (rwlock_deciding word.number a c seen) (Value found) (stage_of last None)
         → IsOver up more (of_rwlock word.number a c) answer (stage_of new None))
-        → HasEnded up word a c answer old new
+        → HasEndedRwLock up word a c answer old new
     ended_missed new answer same base b rests over = let step = begun.3 in
         ended_behind old mid begun.1 (takes_at word.number a c seen begun.2) answer new
         (subst (λ (n : ℕ). new.number ≡ n) begun.1.0 (subst (λ (n : ℕ). new.number ≡ n) step.0 same)) base b

@@ -21,7 +21,7 @@ use Rattle.parking_lot_core.specs.declared.tokens.Token.{Token}
 use Rattle.run_locks.specs.Courses.{course_of}
 use Rattle.run_locks.specs.declared.rwlock_courses.Course.TheVariants.{Takes}
 use Rattle.run_base.specs.Fitting.{Fits, IsOver, Reached, ReachedBy, call_purpose, answer_of, of_rwlock}
-use Rattle.run_base.specs.Paths.{Rests, Walks, at_rwlock, rwlock_at, step}
+use Rattle.run_base.specs.Paths.{WalksAfterReply, Walks, at_rwlock, rwlock_at, step}
 use Rattle.run_base.specs.RwLockCalls.{rwlock_begin, rwlock_deciding}
 use Rattle.run_base.specs.Stages.{Stepped, stage_of}
 use Rattle.run_base.proofs.Paths.{ends_at_once, rests}
@@ -69,7 +69,7 @@ module _ (word : Word) (is : word.kind ≡ kinds.RwLock) (a : Admission) (c : Rw
         (subst (λ (o : Option Answer). ReachedBy up base (of_rwlock word.number a c) (next_place here (Value found)) o (stage_of new None)) (ap answer_of (takes_all word.number a c seen takes found e)) (word_takes_on up base fits))
 
     module _ (answer : Answer) (last_token : Token) where
-      pub path_missed : Rests (at_rwlock word.number) here (Value found) (view_of new).steps (view_of last_token).steps answer → Walks (at_rwlock word.number) came (view_of old).steps (view_of last_token).steps answer
+      pub path_missed : WalksAfterReply (at_rwlock word.number) here (Value found) (view_of new).steps (view_of last_token).steps answer → Walks (at_rwlock word.number) came (view_of old).steps (view_of last_token).steps answer
       path_missed r = subst (λ (p : Place). Walks (at_rwlock word.number) p (view_of old).steps (view_of last_token).steps answer) (sym same)
           (rests (at_rwlock word.number) here word.number (Exchange seen (word_taken c seen)) found (view_of old).steps (view_of new).steps (view_of last_token).steps answer (takes_by word.number a c seen takes) saw r)
 

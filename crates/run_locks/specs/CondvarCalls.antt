@@ -68,8 +68,8 @@ HasLooked words c seen old new =
     × ShowsBeside words c seen
 
 -- the steps of a notification lead to its answer, beside the mutex that it saw, if any
-abbrev pub Notifies : ℕ → Bool → Answer → List WordStep → List WordStep → Type 0
-Notifies c all answer old new = (m : ℕ) × Walks (at_condvar c m) (notify_begin c all) old new answer
+abbrev pub NotifiesBy : ℕ → Bool → Answer → List WordStep → List WordStep → Type 0
+NotifiesBy c all answer old new = (m : ℕ) × Walks (at_condvar c m) (notify_begin c all) old new answer
 
 -- a thread that had taken these steps has taken more since, or none
 abbrev pub HasGoneOn : List WordStep → Token → Type 0
@@ -107,10 +107,10 @@ abbrev pub given_back : {G : Type 0} → Answer → G → Result G (Fault × G)
 given_back TwoMutexes guard = Err (faults.TwoMutexes, guard)
 given_back answer guard = Ok guard
 
-abbrev pub ended : {G : Type 0} → Answer → G → Result (G × Bool) (Fault × G)
-ended TwoMutexes guard = Err (faults.TwoMutexes, guard)
-ended TimedOut guard = Ok (guard, true)
-ended answer guard = Ok (guard, false)
+abbrev pub timed_given_back : {G : Type 0} → Answer → G → Result (G × Bool) (Fault × G)
+timed_given_back TwoMutexes guard = Err (faults.TwoMutexes, guard)
+timed_given_back TimedOut guard = Ok (guard, true)
+timed_given_back answer guard = Ok (guard, false)
 
 -- the number for one that notifies all, and whether it is some for one that notifies the first
 abbrev pub IsNumber : Bool → ℕ → ℕ → Type 0
@@ -118,14 +118,14 @@ IsNumber true n number = n ≡ number
 IsNumber false n number = n ≡ 1
 
 -- its one look saw that nobody waits, or its second look another value than its first
-abbrev pub SawNobody : ℕ → Token → Token → Type 0
-SawNobody c old new = (steps_of new ≡ steps_of old ++ step (condvar_at c) Load 0)
+abbrev pub SawNoneToMove : ℕ → Token → Token → Type 0
+SawNoneToMove c old new = (steps_of new ≡ steps_of old ++ step (condvar_at c) Load 0)
     ⊎ ((first : ℕ) × LookedElse c first (steps_of old ++ step (condvar_at c) Load first) new)
 
 -- it moved nobody and saw that there is none to move, or left both queues with so many, who went to
 -- the mutex that its first look saw
-abbrev pub HasMoved : ℕ → Bool → ℕ → Token → Token → Type 0
-HasMoved c all n old new = ((n ≡ 0) × SawNobody c old new)
+abbrev pub WaitersMoved : ℕ → Bool → ℕ → Token → Token → Type 0
+WaitersMoved c all n old new = ((n ≡ 0) × SawNoneToMove c old new)
     ⊎ ((m : ℕ) × (locked : Bool) × (number : ℕ) × IsNumber all n number
     × HasLeft (2 * c) (move_did all locked c m) number (last_of new)
     × HasGoneOn (steps_of old ++ step (condvar_at c) Load (m + 1)) new)

@@ -18,29 +18,29 @@ abbrev pub kept_out : Patience → Course
 kept_out Try = Ends answers.No
 kept_out how = GoesOn
 
-abbrev pub writing : Patience → ℕ → Course
-writing how seen = if seen == 0 then Ends (entered how) else kept_out how
+abbrev pub write_course : Patience → ℕ → Course
+write_course how seen = if seen == 0 then Ends (entered how) else kept_out how
 
-abbrev pub reading : Admission → Patience → Bool → ℕ → Course
-reading a how blocked seen =
+abbrev pub read_course : Admission → Patience → Bool → ℕ → Course
+read_course a how blocked seen =
     if blocked then kept_out how else if nat_le a.limit (count_in seen)
     then Ends answers.ReadersFull else Takes
 
-abbrev pub entering : Admission → Access → Patience → ℕ → Course
-entering a access.Exclusive how seen = writing how seen
-entering a x how seen = reading a how (is_blocked a.recursive (wanted x) seen) seen
+abbrev pub entry_course : Admission → Access → Patience → ℕ → Course
+entry_course a access.Exclusive how seen = write_course how seen
+entry_course a x how seen = read_course a how (is_blocked a.recursive (wanted x) seen) seen
 
-abbrev pub upgrading : Patience → ℕ → Course
-upgrading Try seen = if count_in seen == 1 then Takes else Ends answers.No
-upgrading how seen = if count_in seen == 1 then Ends (entered how) else GoesOn
+abbrev pub upgrade_course : Patience → ℕ → Course
+upgrade_course Try seen = if count_in seen == 1 then Takes else Ends answers.No
+upgrade_course how seen = if count_in seen == 1 then Ends (entered how) else GoesOn
 
 -- a thread that gives a right up goes on to wake others, where there may be some
-abbrev pub leaving : Bool → Course
-leaving waited_for = if waited_for then GoesOn else Ends answers.Ok
+abbrev pub release_course : Bool → Course
+release_course waited_for = if waited_for then GoesOn else Ends answers.Ok
 
 abbrev pub course_of : Admission → RwLockPurpose → ℕ → Course
-course_of a (purpose.Enter x how) seen = entering a x how seen
-course_of a (purpose.Upgrade how) seen = upgrading how seen
-course_of a (purpose.Release access.Shared) seen = leaving (has_aside seen && (count_in seen == 1))
-course_of a (purpose.Release x) seen = leaving (has_parked seen)
-course_of a (purpose.Downgrade d) seen = leaving (has_parked seen)
+course_of a (purpose.Enter x how) seen = entry_course a x how seen
+course_of a (purpose.Upgrade how) seen = upgrade_course how seen
+course_of a (purpose.Release access.Shared) seen = release_course (has_aside seen && (count_in seen == 1))
+course_of a (purpose.Release x) seen = release_course (has_parked seen)
+course_of a (purpose.Downgrade d) seen = release_course (has_parked seen)

@@ -20,24 +20,24 @@ use Rattle.run_locks.specs.declared.rwlock_calls.Rest.TheVariants.{GoesOn, Misse
 use Rattle.run_locks.specs.declared.rwlock_courses.Course.TheVariants as courses
 
 -- the thread took one step on the word, which found this
-abbrev pub HasStepped : Word → Op → ℕ → Token → Token → Type 0
-HasStepped word op found old new = (new.number ≡ old.number)
+abbrev pub SteppedAndFound : Word → Op → ℕ → Token → Token → Type 0
+SteppedAndFound word op found old new = (new.number ≡ old.number)
     × (view_of new ≡ after_step word.kind (word_index word.number word.kind) op found (view_of old))
     × (last_of new ≡ None)
     × CodesWith word.kind (word_index word.number word.kind) found (view_of old).owns
 
 -- the thread took what the fast half of a call takes, which is not over by it: its first step, and
 -- where that saw that it may take its right, an exchange by what was seen, which found another value
-abbrev pub HasBegun : Word → Admission → RwLockPurpose → Rest → Token → Token → Type 0
-HasBegun word a q (GoesOn seen) old new =
-    HasStepped word (first_op q) seen old new × (course_of a q seen ≡ courses.GoesOn)
-HasBegun word a q (Missed seen found) old new = (mid : Token)
-    × HasStepped word (first_op q) seen old mid × (course_of a q seen ≡ courses.Takes)
-    × HasStepped word (Exchange seen (word_taken q seen)) found mid new × (found ≢ seen)
+abbrev pub HasBegunRwLock : Word → Admission → RwLockPurpose → Rest → Token → Token → Type 0
+HasBegunRwLock word a q (GoesOn seen) old new =
+    SteppedAndFound word (first_op q) seen old new × (course_of a q seen ≡ courses.GoesOn)
+HasBegunRwLock word a q (Missed seen found) old new = (mid : Token)
+    × SteppedAndFound word (first_op q) seen old mid × (course_of a q seen ≡ courses.Takes)
+    × SteppedAndFound word (Exchange seen (word_taken q seen)) found mid new × (found ≢ seen)
 
 -- a whole call was over with this answer, before its time was up or later
-abbrev pub HasEnded : Type 0 → Word → Admission → RwLockPurpose → Answer → Token → Token → Type 0
-HasEnded up word a q answer old new = (new.number ≡ old.number)
+abbrev pub HasEndedRwLock : Type 0 → Word → Admission → RwLockPurpose → Answer → Token → Token → Type 0
+HasEndedRwLock up word a q answer old new = (new.number ≡ old.number)
     × HasWalkedRwLock word.number a q answer old new
     × ((base : List Ownership) → BeginsWith word.number q base (view_of old).owns
     → AnswersCall up word.number base a q answer (stage_of new None))

@@ -17,17 +17,17 @@ use Rattle.run_base.specs.RwLockFitting.{LeftBy}
 
 -- the last of its steps saw that nobody keeps this right out, and that as many share the lock as
 -- may
-abbrev pub SawFull : ℕ → Admission → Access → Token → Token → Type 0
-SawFull l a x old new = (before : List WordStep) × (op : Op) × (seen : ℕ)
+abbrev pub SawReadersFull : ℕ → Admission → Access → Token → Token → Type 0
+SawReadersFull l a x old new = (before : List WordStep) × (op : Op) × (seen : ℕ)
     × ((view_of new).steps ≡ ((view_of old).steps ++ before) ++ step (rwlock_at l) op seen)
     × (is_blocked a.recursive (wanted x) seen ≡ false) × (a.limit ≤ count_in seen)
 
 -- a call that gave up left this
-abbrev pub GaveUp : ℕ → Admission → RwLockPurpose → Token → Type 0
-GaveUp l a q new = LeftBy l a q (last_of new) (view_of new).steps
+abbrev pub LeftGivingUp : ℕ → Admission → RwLockPurpose → Token → Type 0
+LeftGivingUp l a q new = LeftBy l a q (last_of new) (view_of new).steps
 
 -- so of a call; no other gives up
 abbrev pub GaveUpCall : ℕ → Admission → RwLockCall → Token → Type 0
-GaveUpCall l a (calls.Enter x how) new = GaveUp l a (purpose.Enter x how) new
-GaveUpCall l a (calls.Upgrade how) new = GaveUp l a (purpose.Upgrade how) new
+GaveUpCall l a (calls.Enter x how) new = LeftGivingUp l a (purpose.Enter x how) new
+GaveUpCall l a (calls.Upgrade how) new = LeftGivingUp l a (purpose.Upgrade how) new
 GaveUpCall l a call new = ⊥

@@ -7,8 +7,8 @@ ghost use Rattle.steps_condvar.specs.CondvarSteps.{notified};
 ghost use Rattle.run_base.specs.CondvarFitting.{IsNotifyOver, IsWaitOver, OwnsIt};
 ghost use Rattle.run_base.specs.Stages.{stage_of};
 ghost use Rattle.run_base.specs.Telling.{owns_of, steps_of};
-ghost use Rattle.run_base.specs.Words.{both};
-ghost use Rattle.run_locks.specs.CondvarCalls.{HasLooked, HasNotified, HasWaited, MeetBeside, MeetsCondvar, Notifies, TellsMoved};
+ghost use Rattle.run_base.specs.Words.{word_pair};
+ghost use Rattle.run_locks.specs.CondvarCalls.{HasLooked, HasNotified, HasWaited, MeetBeside, MeetsCondvar, NotifiesBy, TellsMoved};
 
 use crate::condvar_courses::Pair;
 use crate::notify_courses::notify_through;
@@ -20,7 +20,7 @@ use std::sync::Wait;
 
 fn pair_of(condvar: Word, mutex: Word) -> Pair
     ensures { result ≡ record
-        { words = both condvar mutex; condvar = condvar.number; mutex = mutex.number } }
+        { words = word_pair condvar mutex; condvar = condvar.number; mutex = mutex.number } }
 {
     Pair {
         words: Words::both(condvar, mutex),
@@ -85,7 +85,7 @@ pub fn notify_fast(lot: &ParkingLot, token: &mut Token, condvar: Word) -> u64
     ensures own { IsSameThread lot.now token.old token.new }
     ensures looked { HasLooked lot.now.words.count condvar.number result token.old token.new }
     ensures nobody { result ≡ 0 → (all : Bool)
-        → Notifies condvar.number all (notified all 0) (steps_of token.old) (steps_of token.new) }
+        → NotifiesBy condvar.number all (notified all 0) (steps_of token.old) (steps_of token.new) }
 {
     lot.look_shown(token, condvar)
 }
@@ -110,7 +110,7 @@ pub fn notify_slow<R: Wait>(
     ensures own { IsSameThread lot.now token.old token.new }
     ensures path { (before : Token)
         → HasLooked lot.now.words.count condvar.number seen before token.old
-        → Notifies condvar.number all result (steps_of before) (steps_of token.new) }
+        → NotifiesBy condvar.number all result (steps_of before) (steps_of token.new) }
     ensures owns { owns_of token.new ≡ owns_of token.old }
     ensures record { TellsMoved condvar.number all seen result token.old token.new }
 {

@@ -2,7 +2,7 @@
 //! leads off them, to the driver, which goes on through the places one by one.
 ghost use Rattle.std.specs.Prelude.{◌≡◌};
 ghost use Rattle.core_base.specs.Clocks.{IsUp};
-ghost use Rattle.run_base.specs.Turns.{HasEnded, IsAt};
+ghost use Rattle.run_base.specs.Turns.{HasEnded, IsAtPlace};
 ghost use Rattle.run_locks.specs.CondvarCourses.{IsOfCondvar, notify_at, wait_at};
 
 use lot_steps::Place;
@@ -63,7 +63,7 @@ pub(crate) fn rest<'a, R: Wait, C: Clock>(
     section: Option<Section<'a>>,
     place: Place,
 ) -> Answer
-    requires at { IsAt (IsUp C.tells limit) lot.now words place token.old section }
+    requires at { IsAtPlace (IsUp C.tells limit) lot.now words place token.old section }
     requires call { IsOfCondvar place }
     ensures { HasEnded (IsUp C.tells limit.entry) lot.now words place result token.old section.entry
         token.new }

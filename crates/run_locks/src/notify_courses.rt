@@ -2,7 +2,7 @@
 ghost use Rattle.std.specs.Prelude.{◌≡◌, None, false, true};
 ghost use Rattle.steps_condvar.specs.CondvarSteps.{moved_one, notified};
 ghost use Rattle.steps_condvar.specs.declared.notify.NotifyAt.TheVariants as notify;
-ghost use Rattle.run_base.specs.Turns.{HasEnded, IsAt};
+ghost use Rattle.run_base.specs.Turns.{HasEnded, IsAtPlace};
 ghost use Rattle.run_locks.specs.CondvarCourses.{notify_at};
 
 use crate::condvar_courses::{Pair, rest};
@@ -27,7 +27,7 @@ fn leave_both<'a, R: Wait>(
     any: bool,
     number: usize,
 ) -> Answer
-    requires { IsAt ⊥ lot.now pair.words
+    requires { IsAtPlace ⊥ lot.now pair.words
         (notify_at pair.condvar pair.mutex all (notify.Leave any number)) token.old section }
     ensures { HasEnded ⊥ lot.now pair.words
         (notify_at pair.condvar pair.mutex all (notify.Leave any number)) result token.old section.entry token.new }
@@ -72,7 +72,7 @@ fn clear_and_leave<'a, R: Wait>(
     any: bool,
     none_left: bool,
 ) -> Answer
-    requires { IsAt ⊥ lot.now pair.words
+    requires { IsAtPlace ⊥ lot.now pair.words
         (notify_at pair.condvar pair.mutex false (moved_one any none_left)) token.old section }
     ensures { HasEnded ⊥ lot.now pair.words
         (notify_at pair.condvar pair.mutex false (moved_one any none_left)) result token.old section.entry token.new }
@@ -94,7 +94,7 @@ fn move_first<'a, R: Wait>(
     section: Option<Section<'a>>,
     locked: bool,
 ) -> Answer
-    requires { IsAt ⊥ lot.now pair.words
+    requires { IsAtPlace ⊥ lot.now pair.words
         (notify_at pair.condvar pair.mutex false (notify.Move locked)) token.old section }
     ensures { HasEnded ⊥ lot.now pair.words
         (notify_at pair.condvar pair.mutex false (notify.Move locked)) result token.old section.entry token.new }
@@ -120,7 +120,7 @@ fn move_all<'a, R: Wait>(
     section: Option<Section<'a>>,
     locked: bool,
 ) -> Answer
-    requires { IsAt ⊥ lot.now pair.words
+    requires { IsAtPlace ⊥ lot.now pair.words
         (notify_at pair.condvar pair.mutex true (notify.Move locked)) token.old section }
     ensures { HasEnded ⊥ lot.now pair.words
         (notify_at pair.condvar pair.mutex true (notify.Move locked)) result token.old section.entry token.new }
@@ -153,7 +153,7 @@ fn move_some<'a, R: Wait>(
     all: bool,
     locked: bool,
 ) -> Answer
-    requires { IsAt ⊥ lot.now pair.words
+    requires { IsAtPlace ⊥ lot.now pair.words
         (notify_at pair.condvar pair.mutex all (notify.Move locked)) token.old section }
     ensures { HasEnded ⊥ lot.now pair.words
         (notify_at pair.condvar pair.mutex all (notify.Move locked)) result token.old section.entry token.new }
@@ -173,7 +173,7 @@ fn mark_and_move<'a, R: Wait>(
     section: Option<Section<'a>>,
     all: bool,
 ) -> Answer
-    requires { IsAt ⊥ lot.now pair.words
+    requires { IsAtPlace ⊥ lot.now pair.words
         (notify_at pair.condvar pair.mutex all notify.Mark) token.old section }
     ensures { HasEnded ⊥ lot.now pair.words
         (notify_at pair.condvar pair.mutex all notify.Mark) result token.old section.entry token.new }
@@ -192,7 +192,7 @@ fn mark_and_move<'a, R: Wait>(
         return move_some(rt, lot, token, pair, section, all, true);
     }
     let place = pair.notifies(all, NotifyAt::Set(seen));
-    let next = place.after(Reply::Value(found));
+    let next = place.next_place(Reply::Value(found));
     rest(rt, lot, token, words, NO_LIMIT, section, next)
 }
 
@@ -205,7 +205,7 @@ pub(crate) fn notify_through<R: Wait>(
     pair: Pair,
     all: bool,
 ) -> Answer
-    requires { IsAt ⊥ lot.now pair.words
+    requires { IsAtPlace ⊥ lot.now pair.words
         (notify_at pair.condvar pair.mutex all notify.Enter) token.old None }
     ensures { HasEnded ⊥ lot.now pair.words
         (notify_at pair.condvar pair.mutex all notify.Enter) result token.old None token.new }

@@ -9,17 +9,17 @@ ghost use Rattle.core_words.specs.declared.owners.Ownership.{Ownership};
 ghost use Rattle.core_words.specs.declared.words.WordKind.TheVariants.{RwLock};
 ghost use Rattle.parking_lot_core.specs.Tokens.{IsTokenOf, IsSameThread};
 ghost use Rattle.parking_lot_core.specs.declared.tokens.Token.{Token};
-ghost use Rattle.run_locks.specs.Halves.{HasBegun, HasEnded};
+ghost use Rattle.run_locks.specs.Halves.{HasBegunRwLock, HasEndedRwLock};
 ghost use Rattle.run_locks.specs.declared.rwlock_calls.Rest.TheVariants.{GoesOn, Missed};
 ghost use Rattle.run_base.specs.Fitting.{AreWordsFor, Fits, IsOver, Reached, call_purpose, of_rwlock};
-ghost use Rattle.run_base.specs.Paths.{Rests, Walks, at_rwlock};
+ghost use Rattle.run_base.specs.Paths.{WalksAfterReply, Walks, at_rwlock};
 ghost use Rattle.run_base.specs.RwLockCalls.{AnswersCall, BeginsWith, HasWalkedRwLock, MeetsAt, WakesBy, rwlock_begin, rwlock_deciding};
 ghost use Rattle.run_base.specs.Stages.{stage_of};
 ghost use Rattle.run_base.specs.Telling.{owns_of, steps_of};
-ghost use Rattle.run_base.specs.Words.{alone, kind_in, at_in};
+ghost use Rattle.run_base.specs.Words.{single_word, kind_in, at_in};
 
 use crate::rwlock_courses::{Course, Settings, answer_with, course_of, opening};
-use lot_steps::{Place, Reply, advance};
+use lot_steps::{Place, Reply, call_step};
 use parking_lot_core::pauses::{SHORT_PAUSE, pause};
 use parking_lot_core::{Clock, Op, ParkingLot, Token, Word};
 use run_base::driver::{Stop, answer_of, run};
@@ -49,12 +49,12 @@ pub(crate) fn run_out<R: Wait, C: Clock>(
     start: Place,
 ) -> Answer
     requires own { IsTokenOf lot.now token.old × IsWordOf lot.now.words word }
-    requires words { AreWordsFor start (kind_in (alone word)) (at_in (alone word)) }
+    requires words { AreWordsFor start (kind_in (single_word word)) (at_in (single_word word)) }
     requires kind { word.kind ≡ RwLock }
     requires fits { (base : List Ownership)
         × Fits (IsUp C.tells limit) base start (stage_of token.old None) }
     ensures own { IsSameThread lot.now token.old token.new }
-    ensures path { Walks (at_in (alone word)) start (steps_of token.old)
+    ensures path { Walks (at_in (single_word word)) start (steps_of token.old)
         (steps_of token.new) result }
     ensures over { (base : List Ownership)
         → Fits (IsUp C.tells limit.entry) base start (stage_of token.old None)
@@ -76,7 +76,7 @@ fn place_behind(lock: usize, admission: Admission, purpose: RwLockPurpose, seen:
         admission,
         at: RwLockCallPlace::begin(purpose),
     };
-    first.after(Reply::Value(seen))
+    first.next_place(Reply::Value(seen))
 }
 
 // Where a call decides by what its first step saw.
@@ -207,12 +207,12 @@ pub fn call_slow<R: Wait, C: Clock>(
     requires own { MeetsAt lot.now token.old word.now admission.now }
     requires begun { (before : Token) × (base : List Ownership)
         × BeginsWith word.now.number purpose base (owns_of before)
-        × HasBegun word.now admission.now purpose (GoesOn seen) before token.old }
+        × HasBegunRwLock word.now admission.now purpose (GoesOn seen) before token.old }
     ensures own { IsSameThread lot.now token.old token.new }
     ensures over { (before : Token) (base : List Ownership)
         → BeginsWith word.now.number purpose base (owns_of before)
-        → HasBegun word.now admission.now purpose (GoesOn seen) before token.old
-        → HasEnded (IsUp C.tells limit.now) word.now admission.now purpose result before token.new }
+        → HasBegunRwLock word.now admission.now purpose (GoesOn seen) before token.old
+        → HasEndedRwLock (IsUp C.tells limit.now) word.now admission.now purpose result before token.new }
 {
     rest_slow(
         rt,
@@ -246,7 +246,7 @@ fn rest_missed<R: Wait, C: Clock>(
     requires reached { (base : List Ownership) × Reached (IsUp C.tells limit.now) base
         (rwlock_deciding word.now.number admission.now purpose.now expected) (Value found) (stage_of token.old None) }
     ensures own { IsSameThread lot.now token.old token.new }
-    ensures path { Rests (at_rwlock word.now.number)
+    ensures path { WalksAfterReply (at_rwlock word.now.number)
         (rwlock_deciding word.now.number admission.now purpose.now expected) (Value found)
         (steps_of token.old) (steps_of token.new) result }
     ensures over { (base : List Ownership) → Reached (IsUp C.tells limit.now) base
@@ -256,7 +256,7 @@ fn rest_missed<R: Wait, C: Clock>(
         (stage_of token.new None) }
 {
     let place = deciding(word.number(), *admission, *purpose, expected);
-    let (next, act) = advance(place, Reply::Value(found));
+    let (next, act) = call_step(place, Reply::Value(found));
     match answer_of(act) {
         Some(answer) => answer,
         None => {
@@ -282,12 +282,12 @@ pub fn missed<R: Wait, C: Clock>(
     requires own { MeetsAt lot.now token.old word.now admission.now }
     requires begun { (before : Token) × (base : List Ownership)
         × BeginsWith word.now.number purpose base (owns_of before)
-        × HasBegun word.now admission.now purpose (Missed seen found) before token.old }
+        × HasBegunRwLock word.now admission.now purpose (Missed seen found) before token.old }
     ensures own { IsSameThread lot.now token.old token.new }
     ensures over { (before : Token) (base : List Ownership)
         → BeginsWith word.now.number purpose base (owns_of before)
-        → HasBegun word.now admission.now purpose (Missed seen found) before token.old
-        → HasEnded (IsUp C.tells limit.now) word.now admission.now purpose result before token.new }
+        → HasBegunRwLock word.now admission.now purpose (Missed seen found) before token.old
+        → HasEndedRwLock (IsUp C.tells limit.now) word.now admission.now purpose result before token.new }
 {
     rest_missed(
         rt,
@@ -318,9 +318,9 @@ pub fn call_fast<C: Clock>(
         × BeginsWith word.now.number purpose base (owns_of token.old) }
     ensures own { IsSameThread lot.now token.old token.new }
     ensures over { MatchResult result
-        (λ answer. HasEnded (IsUp C.tells _limit.now) word.now settings.now.admission purpose answer
+        (λ answer. HasEndedRwLock (IsUp C.tells _limit.now) word.now settings.now.admission purpose answer
         token.old token.new)
-        (λ rest. HasBegun word.now settings.now.admission purpose rest token.old token.new) }
+        (λ rest. HasBegunRwLock word.now settings.now.admission purpose rest token.old token.new) }
 {
     let seen = lot.word(token, *word, opening(purpose));
     match course_of(*settings, purpose, seen) {

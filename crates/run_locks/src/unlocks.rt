@@ -4,10 +4,10 @@ ghost use Rattle.core_base.specs.Clocks.{IsUp};
 ghost use Rattle.spec_locks.specs.declared.calls.MutexCall.TheVariants.{Unlock};
 ghost use Rattle.spec_locks.specs.declared.outcomes.Answer.TheVariants.{Ok as ok};
 ghost use Rattle.run_base.specs.Calls.{MeetAt, WalksBehind};
-ghost use Rattle.run_base.specs.MutexFitting.{IsMutexOver, releases};
+ghost use Rattle.run_base.specs.MutexFitting.{IsMutexOver, to_release};
 ghost use Rattle.run_base.specs.Stages.{stage_of};
 ghost use Rattle.run_base.specs.Telling.{owns_of, steps_of};
-ghost use Rattle.run_base.specs.Turns.{HasEnded, IsAt};
+ghost use Rattle.run_base.specs.Turns.{HasEnded, IsAtPlace};
 ghost use Rattle.steps_mutex.specs.declared.unlock.UnlockAt.TheVariants as unlock;
 ghost use Rattle.core_words.specs.declared.views.WordStep.{WordStep};
 ghost use Rattle.parking_lot_core.specs.Tokens.{IsSameThread};
@@ -32,7 +32,7 @@ fn leave_and_wake<'a, R: Wait>(
     section: Option<Section<'a>>,
     any: bool,
 )
-    requires { IsAt ⊥ lot.now words (unlocks_at mutex (unlock.Leave any)) token.old section }
+    requires { IsAtPlace ⊥ lot.now words (unlocks_at mutex (unlock.Leave any)) token.old section }
     ensures { HasEnded ⊥ lot.now words
         (unlocks_at mutex (unlock.Leave any)) ok token.old section.entry token.new }
 {
@@ -54,7 +54,7 @@ fn clear_and_wake<'a, R: Wait>(
     any: bool,
     none_left: bool,
 )
-    requires { IsAt ⊥ lot.now words (unlocks_at mutex (taken_on any none_left)) token.old section }
+    requires { IsAtPlace ⊥ lot.now words (unlocks_at mutex (taken_on any none_left)) token.old section }
     ensures { HasEnded ⊥ lot.now words
         (unlocks_at mutex (taken_on any none_left)) ok token.old section.entry token.new }
 {
@@ -68,7 +68,7 @@ fn clear_and_wake<'a, R: Wait>(
 
 // An unlock, from where it has seen a waiter to its end.
 fn unlock_through<R: Wait>(rt: &R, lot: &ParkingLot, token: &mut Token, words: Words, mutex: usize)
-    requires { IsAt ⊥ lot.now words (unlocks_at mutex unlock.Enter) token.old None }
+    requires { IsAtPlace ⊥ lot.now words (unlocks_at mutex unlock.Enter) token.old None }
     ensures { HasEnded ⊥ lot.now words (unlocks_at mutex unlock.Enter) ok token.old None token.new }
 {
     let mut section = None;
@@ -92,7 +92,7 @@ pub fn unlock_slow<R: Wait>(rt: &R, lot: &ParkingLot, token: &mut Token, word: W
     ensures own { IsSameThread lot.now token.old token.new }
     ensures path { WalksBehind word.number Unlock locked_and_parked token.old token.new ok }
     ensures rest { (more : List WordStep) × (steps_of token.new ≡ steps_of token.old ++ more) }
-    ensures over { IsMutexOver ⊥ word.number (owns_of token.old) releases ok
+    ensures over { IsMutexOver ⊥ word.number (owns_of token.old) to_release ok
         (stage_of token.new None) }
 {
     unlock_through(rt, lot, token, Words::alone(word), word.number());

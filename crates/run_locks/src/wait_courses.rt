@@ -4,7 +4,7 @@ ghost use Rattle.core_base.specs.Clocks.{IsUp};
 ghost use Rattle.steps_condvar.specs.CondvarSteps.{is_shown, waited};
 ghost use Rattle.steps_condvar.specs.declared.wait.Stands.TheVariants.{Listed};
 ghost use Rattle.steps_condvar.specs.declared.wait.WaitAt.TheVariants as wait;
-ghost use Rattle.run_base.specs.Turns.{HasEnded, IsAt};
+ghost use Rattle.run_base.specs.Turns.{HasEnded, IsAtPlace};
 ghost use Rattle.steps_mutex.specs.MutexSteps.{is_locked};
 ghost use Rattle.steps_mutex.specs.declared.lock.LockAt.TheVariants as lock;
 ghost use Rattle.steps_mutex.specs.declared.unlock.UnlockAt.TheVariants as unlock;
@@ -55,7 +55,7 @@ fn lock_free<'a, R: Wait, C: Clock>(
     timed: bool,
     seen: u64,
 ) -> Answer
-    requires at { IsAt (IsUp C.tells limit) lot.now pair.words
+    requires at { IsAtPlace (IsUp C.tells limit) lot.now pair.words
         (wait_at pair.condvar pair.mutex timed (locks_at (lock.Decide seen))) token.old section }
     requires free { is_locked seen ≡ false }
     ensures { HasEnded (IsUp C.tells limit.entry) lot.now pair.words
@@ -71,7 +71,7 @@ fn lock_free<'a, R: Wait, C: Clock>(
         return notified_answer(timed);
     }
     let place = pair.waits(timed, locks(LockAt::Decide(seen)));
-    let next = place.after(Reply::Value(found));
+    let next = place.next_place(Reply::Value(found));
     rest(rt, lot, token, pair.words, limit, section, next)
 }
 
@@ -85,7 +85,7 @@ fn lock_seen<'a, R: Wait, C: Clock>(
     section: Option<Section<'a>>,
     timed: bool,
 ) -> Answer
-    requires { IsAt (IsUp C.tells limit) lot.now pair.words
+    requires { IsAtPlace (IsUp C.tells limit) lot.now pair.words
         (wait_at pair.condvar pair.mutex timed (locks_at lock.Load)) token.old section }
     ensures { HasEnded (IsUp C.tells limit.entry) lot.now pair.words
         (wait_at pair.condvar pair.mutex timed (locks_at lock.Load)) result token.old section.entry token.new }
@@ -116,7 +116,7 @@ fn lock_again<'a, R: Wait, C: Clock>(
     section: Option<Section<'a>>,
     timed: bool,
 ) -> Answer
-    requires { IsAt (IsUp C.tells limit) lot.now pair.words
+    requires { IsAtPlace (IsUp C.tells limit) lot.now pair.words
         (wait_at pair.condvar pair.mutex timed (locks_at lock.First)) token.old section }
     ensures { HasEnded (IsUp C.tells limit.entry) lot.now pair.words
         (wait_at pair.condvar pair.mutex timed (locks_at lock.First)) result token.old section.entry token.new }
@@ -143,7 +143,7 @@ fn fall_asleep<'a, R: Wait, C: Clock>(
     section: Option<Section<'a>>,
     timed: bool,
 ) -> Answer
-    requires { IsAt (IsUp C.tells limit) lot.now pair.words
+    requires { IsAtPlace (IsUp C.tells limit) lot.now pair.words
         (wait_at pair.condvar pair.mutex timed (wait.Asleep Listed)) token.old section }
     ensures { HasEnded (IsUp C.tells limit.entry) lot.now pair.words
         (wait_at pair.condvar pair.mutex timed (wait.Asleep Listed)) result token.old section.entry token.new }
@@ -154,7 +154,7 @@ fn fall_asleep<'a, R: Wait, C: Clock>(
     if matches!(reply, Reply::Woken(Note::Normal)) {
         return lock_again(rt, lot, token, pair, limit, section, timed);
     }
-    let next = place.after(reply);
+    let next = place.next_place(reply);
     rest(rt, lot, token, pair.words, limit, section, next)
 }
 
@@ -169,7 +169,7 @@ fn wake_and_sleep<'a, R: Wait, C: Clock>(
     timed: bool,
     any: bool,
 ) -> Answer
-    requires { IsAt (IsUp C.tells limit) lot.now pair.words
+    requires { IsAtPlace (IsUp C.tells limit) lot.now pair.words
         (wait_at pair.condvar pair.mutex timed (releases_at (unlock.Leave any))) token.old section }
     ensures { HasEnded (IsUp C.tells limit.entry) lot.now pair.words
         (wait_at pair.condvar pair.mutex timed (releases_at (unlock.Leave any))) result token.old section.entry token.new }
@@ -193,7 +193,7 @@ fn clear_and_sleep<'a, R: Wait, C: Clock>(
     any: bool,
     none_left: bool,
 ) -> Answer
-    requires { IsAt (IsUp C.tells limit) lot.now pair.words
+    requires { IsAtPlace (IsUp C.tells limit) lot.now pair.words
         (wait_at pair.condvar pair.mutex timed (releases_at (taken_on any none_left))) token.old section }
     ensures { HasEnded (IsUp C.tells limit.entry) lot.now pair.words
         (wait_at pair.condvar pair.mutex timed (releases_at (taken_on any none_left))) result token.old section.entry token.new }
@@ -216,7 +216,7 @@ fn wake_first_and_sleep<'a, R: Wait, C: Clock>(
     section: Option<Section<'a>>,
     timed: bool,
 ) -> Answer
-    requires { IsAt (IsUp C.tells limit) lot.now pair.words
+    requires { IsAtPlace (IsUp C.tells limit) lot.now pair.words
         (wait_at pair.condvar pair.mutex timed (releases_at unlock.Enter)) token.old section }
     ensures { HasEnded (IsUp C.tells limit.entry) lot.now pair.words
         (wait_at pair.condvar pair.mutex timed (releases_at unlock.Enter)) result token.old section.entry token.new }
@@ -239,7 +239,7 @@ fn release<'a, R: Wait, C: Clock>(
     section: Option<Section<'a>>,
     timed: bool,
 ) -> Answer
-    requires { IsAt (IsUp C.tells limit) lot.now pair.words
+    requires { IsAtPlace (IsUp C.tells limit) lot.now pair.words
         (wait_at pair.condvar pair.mutex timed (releases_at unlock.Subtract)) token.old section }
     ensures { HasEnded (IsUp C.tells limit.entry) lot.now pair.words
         (wait_at pair.condvar pair.mutex timed (releases_at unlock.Subtract)) result token.old section.entry token.new }
@@ -269,7 +269,7 @@ pub(crate) fn wait_through<R: Wait, C: Clock>(
     limit: Option<(&C, u64)>,
     timed: bool,
 ) -> Answer
-    requires { IsAt (IsUp C.tells limit) lot.now pair.words
+    requires { IsAtPlace (IsUp C.tells limit) lot.now pair.words
         (wait_at pair.condvar pair.mutex timed wait.Enter) token.old None }
     ensures { HasEnded (IsUp C.tells limit.entry) lot.now pair.words
         (wait_at pair.condvar pair.mutex timed wait.Enter) result token.old None token.new }

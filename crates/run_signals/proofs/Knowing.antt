@@ -23,10 +23,10 @@ use Rattle.run_base.specs.OnceFitting.{LooksAnswer, OwnsBehind, OwnsKnowing, Own
 use Rattle.run_base.specs.Paths.{once_at}
 use Rattle.run_base.specs.Stages.{stage_of}
 use Rattle.run_base.specs.Telling.{owns_of, steps_of}
-use Rattle.run_signals.specs.OnceCalls.{Closes, ComesTo, EndsRun, HasSeen, LookOwns, LooksBy, in_closure, once_begin}
+use Rattle.run_signals.specs.OnceCalls.{EndedAndWoke, StepsLeadTo, EndsRun, HasLookedFirst, LookOwns, LooksBy, in_closure, once_begin}
 use Rattle.run_signals.specs.declared.once_calls.Look.TheVariants.{Ended}
 use Rattle.run_signals.specs.Looks.{Began, CameTo, FoundDone, came_by}
-use Rattle.run_signals.specs.Ran.{HasLooked, HasRun}
+use Rattle.run_signals.specs.Ran.{RanNothing, HasRun}
 use Rattle.run_signals.proofs.OnceCalling.{done_ends, looks_ended}
 
 untimed : (c : OnceCall) → is_timed c ≡ false → when_done c ≡ answers.Ok
@@ -74,18 +74,18 @@ module _ (n : ℕ) where
   -- a call that ran nothing, by how it ended
   pub came : (up : Type 0) (c : OnceCall) (old new : Token) (answer : Answer) → new.number ≡ old.number → LooksBy n c (Ended answer) (steps_of old) (steps_of new)
       → LookOwns up n c (Ended answer) (owns_of old) (owns_of new) (last_of new) → CameTo up n c old new (came_by answer)
-  came up c old new answers.Ok same by over = ((same, answer_stays up c (owns_of old) (owns_of new) answers.Ok (last_of new) over), subst (λ (a : Answer). HasLooked n c a old new) (sym (untimed c over.0)) by, over.1)
-  came up c old new answers.Yes same by over = ((same, answer_stays up c (owns_of old) (owns_of new) answers.Yes (last_of new) over), subst (λ (a : Answer). HasLooked n c a old new) (sym (timed c over.0)) by, over.1)
+  came up c old new answers.Ok same by over = ((same, answer_stays up c (owns_of old) (owns_of new) answers.Ok (last_of new) over), subst (λ (a : Answer). RanNothing n c a old new) (sym (untimed c over.0)) by, over.1)
+  came up c old new answers.Yes same by over = ((same, answer_stays up c (owns_of old) (owns_of new) answers.Yes (last_of new) over), subst (λ (a : Answer). RanNothing n c a old new) (sym (timed c over.0)) by, over.1)
   came up c old new answers.No same by over = ((same, over.2), by, over.0, over.1, over.3)
   came up c old new answers.Poisoned same by over = ((same, over.1), by, over.0)
   came up c old new answer same by over = absurd over
 
   -- a thread that finds it done knows it, and any call ends with that
-  pub found_done : (seen : ℕ) (old new : Token) → is_done seen ≡ true → HasSeen n seen old new → FoundDone n old new
+  pub found_done : (seen : ℕ) (old new : Token) → is_done seen ≡ true → HasLookedFirst n seen old new → FoundDone n old new
   found_done seen old new done saw = let call = Wait true in let over = subst (λ (a : Act). ReachedBy ⊥ (owns_of old) (call_purpose (once_begin n call)) (next_place (once_begin n call) (Value seen)) (answer_of a) (stage_of new None)) (done_ends n call seen done) (saw.2 call) in
       ((saw.0, stays_of true (owns_of old) (owns_of new) over.1.1), over.1.1, λ (c : OnceCall). looks_ended n c seen (steps_of old) (steps_of new) (when_done c) saw.1 (done_ends n c seen done))
 
   -- a call that came to its closure, and ended its run
-  pub has_run_by : (forced s : Bool) (state : OnceState) (old mid new : Token) → Began n (CallOnce forced) state old mid → EndsRun n forced s (steps_of mid) (steps_of new) → Closes n s (steps_of mid) (steps_of new) (last_of new) → HasRun n forced s state old new
+  pub has_run_by : (forced s : Bool) (state : OnceState) (old mid new : Token) → Began n (CallOnce forced) state old mid → EndsRun n forced s (steps_of mid) (steps_of new) → EndedAndWoke n s (steps_of mid) (steps_of new) (last_of new) → HasRun n forced s state old new
   has_run_by forced s state old mid new b ends closes = let call : CallOnce forced ≡ CallOnce b.0 = b.2 in let same : b.0 ≡ forced = cc in
-      (b.1, steps_of mid, b.3, subst (λ (f : Bool). ComesTo n (once_begin n (CallOnce forced)) (steps_of old) (steps_of mid) (in_closure n f b.1)) same b.4, ends, closes)
+      (b.1, steps_of mid, b.3, subst (λ (f : Bool). StepsLeadTo n (once_begin n (CallOnce forced)) (steps_of old) (steps_of mid) (in_closure n f b.1)) same b.4, ends, closes)

@@ -37,14 +37,14 @@ use Rattle.run_base.specs.Fitting.{IsStopped, Reached, ReachedBy, answer_of, of_
 use Rattle.run_base.specs.OnceFitting.{LooksAnswer, OwnsBehind, OwnsRun}
 use Rattle.run_base.specs.Paths.{Brings, Path, Walks, at_once, once_at, onces, step, word}
 use Rattle.run_base.specs.Stages.{Stage, stage}
-use Rattle.run_base.specs.Words.{alone, at_in, kind_in}
+use Rattle.run_base.specs.Words.{single_word, at_in, kind_in}
 use Rattle.run_base.specs.declared.driver.Stop.TheVariants.{Paused}
 use Rattle.core_words.proofs.OnceSteps.{each_once_code}
 use Rattle.run_base.proofs.OnceLeading.{lands}
 use Rattle.run_base.proofs.Paths.{comes_here, comes_then, comes_on, ends_at_once, goes_on}
 use Rattle.run_base.proofs.RwLockLeading.{rwlock_no_closure}
 use Rattle.run_base.proofs.SemaphoreLeading.{semaphore_no_closure}
-use Rattle.run_signals.specs.OnceCalls.{ComesTo, EndsRun, in_closure, once_begin, run_end}
+use Rattle.run_signals.specs.OnceCalls.{StepsLeadTo, EndsRun, in_closure, once_begin, run_end}
 
 -- a look runs no closure
 no_course : (n seen : ℕ) (course : Course) (state : OnceState) → course_act n seen course ≡ act.TheVariants.Closure state → ⊥
@@ -119,10 +119,10 @@ runs_out n succeeded base (Once l (Run forced (run.Leave s2 any))) state st s = 
 runs_out n succeeded base (Once l (GiveUp r at)) state st s = no_give_up l at state s.2
 
 module _ (word : Word) (is : word.kind ≡ kinds.TheVariants.Once) where
-  pub once_kinds : kind_in (alone word) ≡ onces
+  pub once_kinds : kind_in (single_word word) ≡ onces
   once_kinds = ap {B = ℕ → kinds.WordKind} (λ (kind : kinds.WordKind) (lock : ℕ). kind) is
 
-  pub once_alone : at_in (alone word) ≡ at_once word.number
+  pub once_alone : at_in (single_word word) ≡ at_once word.number
   once_alone = ap {B = ℕ → ℕ} (λ (kind : kinds.WordKind) (lock : ℕ). word_index word.number kind) is
 
 module _ (n : ℕ) where
@@ -133,7 +133,7 @@ module _ (n : ℕ) where
   pub looks_on : (c : OnceCall) (seen : ℕ) (old mid new : List WordStep) (answer : Answer) → mid ≡ old ++ step (once_at n) Load seen → Walks (at_once n) (next_place (once_begin n c) (Value seen)) mid new answer → Walks (at_once n) (once_begin n c) old new answer
   looks_on c seen old mid new answer e rest = goes_on (at_once n) (once_begin n c) n Load seen old mid new answer refl e rest
 
-  pub looks_to : (c : OnceCall) (seen : ℕ) (old mid new : List WordStep) (q : Place) → mid ≡ old ++ step (once_at n) Load seen → ComesTo n (next_place (once_begin n c) (Value seen)) mid new q → ComesTo n (once_begin n c) old new q
+  pub looks_to : (c : OnceCall) (seen : ℕ) (old mid new : List WordStep) (q : Place) → mid ≡ old ++ step (once_at n) Load seen → StepsLeadTo n (next_place (once_begin n c) (Value seen)) mid new q → StepsLeadTo n (once_begin n c) old new q
   looks_to c seen old mid new q e rest = comes_then (at_once n) (once_begin n c) (next_place (once_begin n c) (Value seen)) q old mid new
       (comes_on (at_once n) (once_begin n c) (once_begin n c) (next_place (once_begin n c) (Value seen)) old old mid (Value seen) (step (once_at n) Load seen) (comes_here (at_once n) (once_begin n c) old) e (word_tells c seen) refl) rest
     where
@@ -201,5 +201,5 @@ module _ (n : ℕ) where
   begins_by c base steps seen new code x = lands n base (stage base None None steps) ⊥ new ((0, refl), refl) c false seen code (steps, x)
 
 -- a path of the driver, where the places and words are known
-pub comes_by : (at : ℕ → ℕ) (n : ℕ) (p p2 q q2 : Place) (old new : List WordStep) → at ≡ at_once n → p ≡ p2 → q ≡ q2 → (more : List WordStep) × (new ≡ old ++ more) × Path at p more q → ComesTo n p2 old new q2
+pub comes_by : (at : ℕ → ℕ) (n : ℕ) (p p2 q q2 : Place) (old new : List WordStep) → at ≡ at_once n → p ≡ p2 → q ≡ q2 → (more : List WordStep) × (new ≡ old ++ more) × Path at p more q → StepsLeadTo n p2 old new q2
 comes_by at n p p2 q q2 old new is e f c = (c.0, c.1, subst (λ (r : Place). Path (at_once n) p2 c.0 r) f (subst (λ (r : Place). Path (at_once n) r c.0 q) e (subst (λ (w : ℕ → ℕ). Path w p c.0 q) is c.2)))

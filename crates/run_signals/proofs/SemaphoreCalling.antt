@@ -26,16 +26,16 @@ use Rattle.core_words.specs.declared.words.Word.{Word}
 use Rattle.core_words.specs.declared.words.WordKind as kinds
 use Rattle.run_base.specs.Fitting.{AreWordsFor}
 use Rattle.run_base.specs.Paths.{Walks, at_semaphore, semaphore_at, step, word}
-use Rattle.run_base.specs.Words.{alone, at_in, kind_in}
+use Rattle.run_base.specs.Words.{single_word, at_in, kind_in}
 use Rattle.run_base.proofs.Paths.{Comes, comes_here, comes_on, comes_to_end, ends_at_once, walks_on}
-use Rattle.run_signals.specs.SemaphoreCalls.{IsSemaphore, deciding, semaphore_begin, trying, waiting, waking}
+use Rattle.run_signals.specs.SemaphoreCalls.{IsSemaphore, deciding, semaphore_begin, try_place, waiting, waking}
 
 -- its word stands where that of any semaphore of its number does
-pub semaphore_at_alone : (w : Word) → IsSemaphore w → at_in (alone w) ≡ at_semaphore w.number
+pub semaphore_at_alone : (w : Word) → IsSemaphore w → at_in (single_word w) ≡ at_semaphore w.number
 semaphore_at_alone w is = ap {B = ℕ → ℕ} (λ (kind : kinds.WordKind) (lock : ℕ). word_index w.number kind) is.1
 
 -- and serves its calls
-pub semaphore_alone : (w : Word) (at : SemaphorePlace) → IsSemaphore w → w.number < 9223372036854775808 → AreWordsFor (Semaphore w.number at) (kind_in (alone w)) (at_in (alone w))
+pub semaphore_alone : (w : Word) (at : SemaphorePlace) → IsSemaphore w → w.number < 9223372036854775808 → AreWordsFor (Semaphore w.number at) (kind_in (single_word w)) (at_in (single_word w))
 semaphore_alone w at is small = (small, (is.0, ap {B = ℕ → kinds.WordKind} (λ (kind : kinds.WordKind) (lock : ℕ). kind) is.1), semaphore_at_alone w is)
 
 module _ (n permits p : ℕ) (kind : kinds.WordKind) (is : kind ≡ kinds.TheVariants.Semaphore p) (owns rest : List Ownership) (all : owns ≡ holding (semaphore_at n) permits ++ rest) where
@@ -93,36 +93,36 @@ module _ (n : ℕ) (seen found : ℕ) (old mid new : List WordStep) where
   sees_none full e = ends_at_once (at_semaphore n) (semaphore_begin n (calls.Acquire OnlyTry)) n Load seen old mid answers.No refl e
       (ap (λ (b : Bool). semaphore_does n (in_try (if b then At (tries.Decide seen) else End answers.No))) full)
 
-  tries_it : is_free seen ≡ true → mid ≡ old ++ step (semaphore_at n) Load seen → Comes (at_semaphore n) (semaphore_begin n (calls.Acquire OnlyTry)) old mid (trying n seen)
-  tries_it free e = comes_on (at_semaphore n) (semaphore_begin n (calls.Acquire OnlyTry)) (semaphore_begin n (calls.Acquire OnlyTry)) (trying n seen) old old mid (Value seen) (step (semaphore_at n) Load seen) (comes_here (at_semaphore n) (semaphore_begin n (calls.Acquire OnlyTry)) old) e (word (semaphore_begin n (calls.Acquire OnlyTry)) n Load seen refl)
+  tries_it : is_free seen ≡ true → mid ≡ old ++ step (semaphore_at n) Load seen → Comes (at_semaphore n) (semaphore_begin n (calls.Acquire OnlyTry)) old mid (try_place n seen)
+  tries_it free e = comes_on (at_semaphore n) (semaphore_begin n (calls.Acquire OnlyTry)) (semaphore_begin n (calls.Acquire OnlyTry)) (try_place n seen) old old mid (Value seen) (step (semaphore_at n) Load seen) (comes_here (at_semaphore n) (semaphore_begin n (calls.Acquire OnlyTry)) old) e (word (semaphore_begin n (calls.Acquire OnlyTry)) n Load seen refl)
       (sym (ap (λ (b : Bool). semaphore_goes n (in_try (if b then At (tries.Decide seen) else End answers.No))) free))
 
-  try_there : is_free seen ≡ true → act_of (trying n seen) ≡ act.Word n (Exchange seen (seen - 2))
+  try_there : is_free seen ≡ true → act_of (try_place n seen) ≡ act.Word n (Exchange seen (seen - 2))
   try_there free = ap (λ (b : Bool). if b then act.Word n (Exchange seen (seen - 2)) else act.Word n Load) free
 
   -- one that took a permit
   pub tries_well : is_free seen ≡ true → mid ≡ old ++ step (semaphore_at n) Load seen → new ≡ mid ++ step (semaphore_at n) (Exchange seen (seen - 2)) found → found ≡ seen → Walks (at_semaphore n) (semaphore_begin n (calls.Acquire OnlyTry)) old new answers.Yes
-  tries_well free e x same = comes_to_end (at_semaphore n) (semaphore_begin n (calls.Acquire OnlyTry)) (trying n seen) old mid new (Value found) (step (semaphore_at n) (Exchange seen (seen - 2)) found) answers.Yes (tries_it free e) x (word (trying n seen) n (Exchange seen (seen - 2)) found (try_there free)) ends
+  tries_well free e x same = comes_to_end (at_semaphore n) (semaphore_begin n (calls.Acquire OnlyTry)) (try_place n seen) old mid new (Value found) (step (semaphore_at n) (Exchange seen (seen - 2)) found) answers.Yes (tries_it free e) x (word (try_place n seen) n (Exchange seen (seen - 2)) found (try_there free)) ends
     where
-      ends : next_act (trying n seen) (Value found) ≡ act.End answers.Yes
+      ends : next_act (try_place n seen) (Value found) ≡ act.End answers.Yes
       ends = ap (λ (b : Bool). semaphore_does n (in_try (if b && is_free found then End answers.Yes else looked found))) (eq-eqb found seen same)
           ∙ ap (λ (b : Bool). semaphore_does n (in_try (if b then End answers.Yes else looked found))) (ap is_free same ∙ free)
 
   -- one that missed it, and found none free
   pub misses_all : is_free seen ≡ true → is_free found ≡ false → mid ≡ old ++ step (semaphore_at n) Load seen → new ≡ mid ++ step (semaphore_at n) (Exchange seen (seen - 2)) found → found ≢ seen → Walks (at_semaphore n) (semaphore_begin n (calls.Acquire OnlyTry)) old new answers.No
-  misses_all free full e x ne = comes_to_end (at_semaphore n) (semaphore_begin n (calls.Acquire OnlyTry)) (trying n seen) old mid new (Value found) (step (semaphore_at n) (Exchange seen (seen - 2)) found) answers.No (tries_it free e) x (word (trying n seen) n (Exchange seen (seen - 2)) found (try_there free)) ends
+  misses_all free full e x ne = comes_to_end (at_semaphore n) (semaphore_begin n (calls.Acquire OnlyTry)) (try_place n seen) old mid new (Value found) (step (semaphore_at n) (Exchange seen (seen - 2)) found) answers.No (tries_it free e) x (word (try_place n seen) n (Exchange seen (seen - 2)) found (try_there free)) ends
     where
-      ends : next_act (trying n seen) (Value found) ≡ act.End answers.No
+      ends : next_act (try_place n seen) (Value found) ≡ act.End answers.No
       ends = ap (λ (b : Bool). semaphore_does n (in_try (if b && is_free found then End answers.Yes else looked found))) (ne_eqb found seen ne)
           ∙ ap (λ (b : Bool). semaphore_does n (in_try (if b then At (tries.Decide found) else End answers.No))) full
 
   -- or found one, and goes on behind that
-  pub tries_on : (rest : List WordStep) (answer : Answer) → is_free seen ≡ true → is_free found ≡ true → mid ≡ old ++ step (semaphore_at n) Load seen → new ≡ mid ++ step (semaphore_at n) (Exchange seen (seen - 2)) found → found ≢ seen → Walks (at_semaphore n) (trying n found) new rest answer → Walks (at_semaphore n) (semaphore_begin n (calls.Acquire OnlyTry)) old rest answer
-  tries_on rest answer free more e x ne walks = walks_on (at_semaphore n) (semaphore_begin n (calls.Acquire OnlyTry)) (trying n found) old new rest answer
-      (comes_on (at_semaphore n) (semaphore_begin n (calls.Acquire OnlyTry)) (trying n seen) (trying n found) old mid new (Value found) (step (semaphore_at n) (Exchange seen (seen - 2)) found) (tries_it free e) x (word (trying n seen) n (Exchange seen (seen - 2)) found (try_there free)) is)
+  pub tries_on : (rest : List WordStep) (answer : Answer) → is_free seen ≡ true → is_free found ≡ true → mid ≡ old ++ step (semaphore_at n) Load seen → new ≡ mid ++ step (semaphore_at n) (Exchange seen (seen - 2)) found → found ≢ seen → Walks (at_semaphore n) (try_place n found) new rest answer → Walks (at_semaphore n) (semaphore_begin n (calls.Acquire OnlyTry)) old rest answer
+  tries_on rest answer free more e x ne walks = walks_on (at_semaphore n) (semaphore_begin n (calls.Acquire OnlyTry)) (try_place n found) old new rest answer
+      (comes_on (at_semaphore n) (semaphore_begin n (calls.Acquire OnlyTry)) (try_place n seen) (try_place n found) old mid new (Value found) (step (semaphore_at n) (Exchange seen (seen - 2)) found) (tries_it free e) x (word (try_place n seen) n (Exchange seen (seen - 2)) found (try_there free)) is)
       walks
     where
-      is : trying n found ≡ next_place (trying n seen) (Value found)
+      is : try_place n found ≡ next_place (try_place n seen) (Value found)
       is = sym (ap (λ (b : Bool). semaphore_goes n (in_try (if b && is_free found then End answers.Yes else looked found))) (ne_eqb found seen ne)
           ∙ ap (λ (b : Bool). semaphore_goes n (in_try (if b then At (tries.Decide found) else End answers.No))) more)
 

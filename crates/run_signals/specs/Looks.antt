@@ -11,8 +11,8 @@ use Rattle.parking_lot_core.specs.declared.tokens.Token.{Token}
 use Rattle.run_base.specs.OnceFitting.{KnowsIt, OwnsRun}
 use Rattle.run_base.specs.Stages.{TookNobodyAt}
 use Rattle.run_base.specs.Telling.{owns_of, steps_of}
-use Rattle.run_signals.specs.OnceCalls.{ComesTo, in_closure, once_begin}
-use Rattle.run_signals.specs.Ran.{HasLooked, StaysKnowing}
+use Rattle.run_signals.specs.OnceCalls.{StepsLeadTo, in_closure, once_begin}
+use Rattle.run_signals.specs.Ran.{RanNothing, StaysKnowing}
 use Rattle.run_signals.specs.declared.once.Came.{Came}
 use Rattle.run_signals.specs.declared.once.Came.TheVariants.{Done, Poisoned, Late, Runs}
 
@@ -27,18 +27,18 @@ came_by answer = Poisoned
 abbrev pub Began : ℕ → OnceCall → OnceState → Token → Token → Type 0
 Began n c state old new = (forced : Bool) × (poisoned : Bool) × (c ≡ CallOnce forced)
     × (state ≡ state_before poisoned)
-    × ComesTo n (once_begin n c) (steps_of old) (steps_of new) (in_closure n forced poisoned)
+    × StepsLeadTo n (once_begin n c) (steps_of old) (steps_of new) (in_closure n forced poisoned)
 
 -- by what the call came to: its end, or its closure, where it owns the run; `up` says that its time
 -- is up
 abbrev pub CameTo : Type 0 → ℕ → OnceCall → Token → Token → Came → Type 0
 CameTo up n c old new Done =
-    StaysKnowing n old new × HasLooked n c (when_done c) old new
+    StaysKnowing n old new × RanNothing n c (when_done c) old new
     × KnowsIt n (owns_of old) (owns_of new)
 CameTo up n c old new Poisoned =
-    StaysKnowing n old new × HasLooked n c answers.Poisoned old new × (is_forced c ≡ false)
+    StaysKnowing n old new × RanNothing n c answers.Poisoned old new × (is_forced c ≡ false)
 CameTo up n c old new Late =
-    StaysKnowing n old new × HasLooked n c answers.No old new × (is_timed c ≡ true) × up
+    StaysKnowing n old new × RanNothing n c answers.No old new × (is_timed c ≡ true) × up
     × TookNobodyAt n (last_of new)
 CameTo up n c old new (Runs state) =
     (new.number ≡ old.number) × OwnsRun n (owns_of old) (owns_of new) × Began n c state old new
@@ -46,4 +46,4 @@ CameTo up n c old new (Runs state) =
 -- its first step found it done, and was all of any call
 abbrev pub FoundDone : ℕ → Token → Token → Type 0
 FoundDone n old new = StaysKnowing n old new × KnowsIt n (owns_of old) (owns_of new)
-    × ((c : OnceCall) → HasLooked n c (when_done c) old new)
+    × ((c : OnceCall) → RanNothing n c (when_done c) old new)

@@ -43,8 +43,8 @@ abbrev pub run_end : ℕ → Bool → Bool → Place
 run_end n forced succeeded = Once n (Run forced (run.Close succeeded))
 
 -- the steps that were added to a list lead from one place to another
-abbrev pub ComesTo : ℕ → Place → List WordStep → List WordStep → Place → Type 0
-ComesTo n p old new q = (more : List WordStep) × (new ≡ old ++ more) × Path (at_once n) p more q
+abbrev pub StepsLeadTo : ℕ → Place → List WordStep → List WordStep → Place → Type 0
+StepsLeadTo n p old new q = (more : List WordStep) × (new ≡ old ++ more) × Path (at_once n) p more q
 
 -- the steps of a call lead from its beginning to its answer, or to its closure, which is told of
 -- the run before
@@ -52,7 +52,7 @@ abbrev pub LooksBy : ℕ → OnceCall → Look → List WordStep → List WordSt
 LooksBy n c (Ended answer) old new = Walks (at_once n) (once_begin n c) old new answer
 LooksBy n c (Runs state) old new = (forced : Bool) × (poisoned : Bool) × (c ≡ CallOnce forced)
     × (state ≡ state_before poisoned)
-    × ComesTo n (once_begin n c) old new (in_closure n forced poisoned)
+    × StepsLeadTo n (once_begin n c) old new (in_closure n forced poisoned)
 
 -- and its thread owns so much then, and has left this section last; `up` says that its time is up
 abbrev pub LookOwns : Type 0 → ℕ → OnceCall → Look → List Ownership → List Ownership
@@ -66,8 +66,8 @@ WokeIfMarked n true more last = WokeAll n last
 WokeIfMarked n false more last = (more ≡ []) × (last ≡ None)
 
 -- a run ended by one step, and woke whoever waited then
-abbrev pub Closes : ℕ → Bool → List WordStep → List WordStep → Option SectionRecord → Type 0
-Closes n succeeded old new last = (seen : ℕ) × (more : List WordStep)
+abbrev pub EndedAndWoke : ℕ → Bool → List WordStep → List WordStep → Option SectionRecord → Type 0
+EndedAndWoke n succeeded old new last = (seen : ℕ) × (more : List WordStep)
     × (new ≡ (old ++ step (once_at n) (Swap (word_behind succeeded)) seen) ++ more)
     × WokeIfMarked n (is_marked seen) more last
 
@@ -77,7 +77,7 @@ EndsRun n forced succeeded old new =
     Walks (at_once n) (run_end n forced succeeded) old new (ended succeeded)
 
 -- its thread loaded the word once and found this, and each call goes on from there
-abbrev pub HasSeen : ℕ → ℕ → Token → Token → Type 0
-HasSeen n seen old new =
+abbrev pub HasLookedFirst : ℕ → ℕ → Token → Token → Type 0
+HasLookedFirst n seen old new =
     (new.number ≡ old.number) × (steps_of new ≡ steps_of old ++ step (once_at n) Load seen)
     × ((c : OnceCall) → Reached ⊥ (owns_of old) (once_begin n c) (Value seen) (stage_of new None))

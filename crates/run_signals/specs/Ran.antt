@@ -22,7 +22,7 @@ use Rattle.run_base.specs.Drawing.{Drew}
 use Rattle.run_base.specs.OnceFitting.{KnowsIt, OwnsKnowing}
 use Rattle.run_base.specs.Paths.{Walks, at_once, once_at, step}
 use Rattle.run_base.specs.Telling.{owns_of, steps_of}
-use Rattle.run_signals.specs.OnceCalls.{Closes, ComesTo, EndsRun, in_closure, once_begin}
+use Rattle.run_signals.specs.OnceCalls.{EndedAndWoke, StepsLeadTo, EndsRun, in_closure, once_begin}
 use Rattle.run_signals.specs.declared.once.OnceFault.{OnceFault}
 use Rattle.run_signals.specs.declared.once.OnceFault.TheVariants.{Refused, Failed}
 
@@ -60,8 +60,8 @@ abbrev pub Loaded : ℕ → ℕ → Token → Token → Type 0
 Loaded n seen old new = steps_of new ≡ steps_of old ++ step (once_at n) Load seen
 
 -- a call ran nothing, and its steps lead to its answer
-abbrev pub HasLooked : ℕ → OnceCall → Answer → Token → Token → Type 0
-HasLooked n c answer old new =
+abbrev pub RanNothing : ℕ → OnceCall → Answer → Token → Token → Type 0
+RanNothing n c answer old new =
     Walks (at_once n) (once_begin n c) (steps_of old) (steps_of new) answer
 
 -- a call ran its closure, which was told this state: its steps lead there, and from there to its
@@ -69,30 +69,30 @@ HasLooked n c answer old new =
 abbrev pub HasRun : ℕ → Bool → Bool → OnceState → Token → Token → Type 0
 HasRun n forced succeeded state old new =
     (poisoned : Bool) × (mid : List WordStep) × (state ≡ state_before poisoned)
-    × ComesTo n (once_begin n (CallOnce forced)) (steps_of old) mid (in_closure n forced poisoned)
+    × StepsLeadTo n (once_begin n (CallOnce forced)) (steps_of old) mid (in_closure n forced poisoned)
     × EndsRun n forced succeeded mid (steps_of new)
-    × Closes n succeeded mid (steps_of new) (last_of new)
+    × EndedAndWoke n succeeded mid (steps_of new) (last_of new)
 
 -- the answer of a call is true, by what its closure answers in a state: it is Ok where the call began no run
 -- and saw the `Once` done, or where its own closure succeeded
 abbrev pub CalledOnce : {E : Type 0} → ℕ → Bool → (OnceState → Result (Unit {0}) E → Type 0) → Token
     → Token → Result (Unit {0}) (OnceFault E) → Type 0
 CalledOnce n forced ran old new (Ok done) = SawDone n old new
-    × (HasLooked n (CallOnce forced) answers.Ok old new
+    × (RanNothing n (CallOnce forced) answers.Ok old new
     ⊎ ((state : OnceState) × ran state (Ok tt) × HasRun n forced true state old new))
 CalledOnce n forced ran old new (Err (Refused fault)) = (forced ≡ false) × (fault ≡ faults.Poisoned)
-    × HasLooked n (CallOnce forced) answers.Poisoned old new
+    × RanNothing n (CallOnce forced) answers.Poisoned old new
 CalledOnce n forced ran old new (Err (Failed error)) =
     (state : OnceState) × ran state (Err error) × HasRun n forced false state old new
 
 -- the answer of a wait with a deadline
-abbrev pub timed_answer : Result Bool Fault → Answer
-timed_answer (Ok true) = answers.Yes
-timed_answer (Ok false) = answers.No
-timed_answer (Err fault) = answers.Poisoned
+abbrev pub deadline_answer : Result Bool Fault → Answer
+deadline_answer (Ok true) = answers.Yes
+deadline_answer (Ok false) = answers.No
+deadline_answer (Err fault) = answers.Poisoned
 
 -- and of one that waits
 abbrev pub Waited : ℕ → Token → Token → Result (Unit {0}) Fault → Type 0
-Waited n old new (Ok done) = SawDone n old new × HasLooked n (Wait false) answers.Ok old new
+Waited n old new (Ok done) = SawDone n old new × RanNothing n (Wait false) answers.Ok old new
 Waited n old new (Err fault) =
-    (fault ≡ faults.Poisoned) × HasLooked n (Wait false) answers.Poisoned old new
+    (fault ≡ faults.Poisoned) × RanNothing n (Wait false) answers.Poisoned old new

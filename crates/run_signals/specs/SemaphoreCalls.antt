@@ -43,8 +43,8 @@ waiting n timed = Semaphore n (Acquire timed false acquire.Load)
 abbrev pub deciding : ℕ → Bool → ℕ → Place
 deciding n timed seen = Semaphore n (Acquire timed false (acquire.Decide seen))
 
-abbrev pub trying : ℕ → ℕ → Place
-trying n seen = Semaphore n (Try (tries.Decide seen))
+abbrev pub try_place : ℕ → ℕ → Place
+try_place n seen = Semaphore n (Try (tries.Decide seen))
 
 -- where a release goes on that saw that a thread may be parked
 abbrev pub waking : ℕ → Place
@@ -70,19 +70,19 @@ HasAdded n seen old new = (new.number ≡ old.number)
     × (steps_of new ≡ steps_of old ++ step (semaphore_at n) (Add 2) seen)
 
 -- the steps of a call lead from its beginning to its answer
-abbrev pub HasWalked : ℕ → SemaphoreCall → Answer → Token → Token → Type 0
-HasWalked n call answer old new =
+abbrev pub HasWalkedSemaphore : ℕ → SemaphoreCall → Answer → Token → Token → Type 0
+HasWalkedSemaphore n call answer old new =
     Walks (at_semaphore n) (semaphore_begin n call) (steps_of old) (steps_of new) answer
 
 -- a call that waits, up to a deadline or without one
-abbrev pub HasWaited : ℕ → Bool → Answer → Token → Token → Type 0
-HasWaited n timed answer old new =
+abbrev pub HasAcquired : ℕ → Bool → Answer → Token → Token → Type 0
+HasAcquired n timed answer old new =
     Walks (at_semaphore n) (waiting n timed) (steps_of old) (steps_of new) answer
 
 -- the answer of a call that gives a permit, or none
-abbrev pub answer_by : {P : Type 0} → Answer → Option P → Answer
-answer_by given None = answers.No
-answer_by given (Some permit) = given
+abbrev pub permit_answer : {P : Type 0} → Answer → Option P → Answer
+permit_answer given None = answers.No
+permit_answer given (Some permit) = given
 
 -- a release whose addition saw that a thread may be parked left the section in which it took the
 -- first of the queue, and else there was no further step

@@ -16,7 +16,7 @@ ghost use Rattle.run_base.specs.OnceFitting.{OwnsBehind, OwnsKnowing, OwnsRun};
 ghost use Rattle.run_base.specs.Stages.{TookNobodyAt};
 ghost use Rattle.run_base.specs.Telling.{owns_of, steps_of};
 ghost use Rattle.parking_lot_core.specs.declared.tokens.Token.{Token};
-ghost use Rattle.run_signals.specs.OnceCalls.{Closes, EndsRun, HasSeen};
+ghost use Rattle.run_signals.specs.OnceCalls.{EndedAndWoke, EndsRun, HasLookedFirst};
 ghost use Rattle.run_signals.specs.Looks.{CameTo, FoundDone, came_by};
 
 use crate::once_calls::{Look, begin, begin_slow, close};
@@ -76,7 +76,7 @@ fn came_by(answer: Answer) -> Came
 }
 
 impl Once {
-    ghost use Rattle.run_signals.specs.Ran.{CalledOnce, DrewUsed, HasLooked, Loaded, MissedStart, SawDone, StaysKnowing, Waited, state_of, timed_answer};
+    ghost use Rattle.run_signals.specs.Ran.{CalledOnce, DrewUsed, RanNothing, Loaded, MissedStart, SawDone, StaysKnowing, Waited, state_of, deadline_answer};
     ghost use Rattle.run_signals.specs.OnceUsers.{lot_of, number_of};
 
     /// A `Once` that has run nothing.
@@ -216,7 +216,7 @@ impl Once {
     fn begin(&self, token: &mut Token) -> u64
         requires { IsTokenOf (lot_of self.now) token.old }
         ensures token { IsTokenOf (lot_of self.now) token.new }
-        ensures seen { HasSeen (number_of self.now) result token.old token.new }
+        ensures seen { HasLookedFirst (number_of self.now) result token.old token.new }
         ensures done { is_done result ≡ true → FoundDone (number_of self.now) token.old token.new }
     {
         begin(&self.lot, token, self.word)
@@ -235,9 +235,9 @@ impl Once {
         seen: u64,
     ) -> Came
         requires own { IsTokenOf (lot_of self.now) token.old }
-        requires seen { (before : Token) × HasSeen (number_of self.now) seen before token.old }
+        requires seen { (before : Token) × HasLookedFirst (number_of self.now) seen before token.old }
         ensures token { IsTokenOf (lot_of self.now) token.new }
-        ensures came { (before : Token) → HasSeen (number_of self.now) seen before token.old
+        ensures came { (before : Token) → HasLookedFirst (number_of self.now) seen before token.old
             → CameTo (IsUp C.tells limit.now) (number_of self.now) call before token.new result }
     {
         match begin_slow(rt, &self.lot, token, self.word, *limit, call, seen) {
@@ -255,7 +255,7 @@ impl Once {
             × (token.new.number ≡ token.old.number) }
         ensures ends { EndsRun (number_of self.now) forced succeeded (steps_of token.old)
             (steps_of token.new) }
-        ensures closes { Closes (number_of self.now) succeeded (steps_of token.old)
+        ensures closes { EndedAndWoke (number_of self.now) succeeded (steps_of token.old)
             (steps_of token.new) (last_of token.new) }
         ensures owns { (base : List Ownership)
             → OwnsRun (number_of self.now) base (owns_of token.old)
@@ -296,7 +296,7 @@ impl Once {
         ensures token { IsTokenOf (lot_of self.now) token.new
             × StaysKnowing (number_of self.now) token.old token.new }
         ensures done { SawDone (number_of self.now) token.old token.new }
-        ensures path { HasLooked (number_of self.now)
+        ensures path { RanNothing (number_of self.now)
             (calls.Wait true) answers.Ok token.old token.new }
     {
         let seen = self.begin(token);
@@ -321,7 +321,7 @@ impl Once {
         requires { IsTokenOf (lot_of self.now) token.old }
         ensures token { IsTokenOf (lot_of self.now) token.new
             × StaysKnowing (number_of self.now) token.old token.new }
-        ensures path { HasLooked (number_of self.now) calls.WaitTimed (timed_answer result)
+        ensures path { RanNothing (number_of self.now) calls.WaitTimed (deadline_answer result)
             token.old token.new }
         ensures done { IfOk result (λ done. done ≡ true
             → SawDone (number_of self.now) token.old token.new) }
@@ -360,7 +360,7 @@ impl Once {
         requires { IsTokenOf (lot_of self.now) token.old }
         ensures token { IsTokenOf (lot_of self.now) token.new
             × StaysKnowing (number_of self.now) token.old token.new }
-        ensures path { HasLooked (number_of self.now) calls.WaitTimed (timed_answer result)
+        ensures path { RanNothing (number_of self.now) calls.WaitTimed (deadline_answer result)
             token.old token.new }
         ensures done { IfOk result (λ done. done ≡ true
             → SawDone (number_of self.now) token.old token.new) }
@@ -389,7 +389,7 @@ impl Once {
         requires { IsTokenOf (lot_of self.now) token.old }
         ensures token { IsTokenOf (lot_of self.now) token.new
             × StaysKnowing (number_of self.now) token.old token.new }
-        ensures path { HasLooked (number_of self.now) calls.WaitTimed (timed_answer result)
+        ensures path { RanNothing (number_of self.now) calls.WaitTimed (deadline_answer result)
             token.old token.new }
         ensures done { IfOk result (λ done. done ≡ true
             → SawDone (number_of self.now) token.old token.new) }

@@ -15,9 +15,9 @@ ghost use Rattle.run_base.specs.OnceFitting.{IsRunOver, OwnsBehind};
 ghost use Rattle.run_base.specs.Paths.{Walks, at_once, once_at};
 ghost use Rattle.run_base.specs.Stages.{stage_of};
 ghost use Rattle.run_base.specs.Telling.{owns_of, steps_of};
-ghost use Rattle.run_signals.specs.OnceCalls.{Closes, EndsRun, HasSeen, LookOwns, LooksBy, MeetsOnce};
+ghost use Rattle.run_signals.specs.OnceCalls.{EndedAndWoke, EndsRun, HasLookedFirst, LookOwns, LooksBy, MeetsOnce};
 
-use lot_steps::{Place, Reply, advance};
+use lot_steps::{Place, Reply, call_step};
 use parking_lot_core::{Clock, Op, ParkingLot, Token, Word};
 use run_base::driver::{NO_LIMIT, Stop, answer_of, run};
 use run_base::words::Words;
@@ -40,7 +40,7 @@ pub(crate) enum Look {
 pub(crate) fn begin(lot: &ParkingLot, token: &mut Token, word: Word) -> u64
     requires own { MeetsOnce lot.now token.old word }
     ensures own { IsSameThread lot.now token.old token.new }
-    ensures seen { HasSeen word.number result token.old token.new }
+    ensures seen { HasLookedFirst word.number result token.old token.new }
 {
     lot.load(token, word)
 }
@@ -59,11 +59,11 @@ pub(crate) fn begin_slow<R: Wait, C: Clock>(
     seen: u64,
 ) -> Look
     requires own { MeetsOnce lot.now token.old word }
-    requires seen { (before : Token) × HasSeen word.number seen before token.old }
+    requires seen { (before : Token) × HasLookedFirst word.number seen before token.old }
     ensures own { IsSameThread lot.now token.old token.new }
-    ensures path { (before : Token) → HasSeen word.number seen before token.old
+    ensures path { (before : Token) → HasLookedFirst word.number seen before token.old
         → LooksBy word.number call result (steps_of before) (steps_of token.new) }
-    ensures over { (before : Token) → HasSeen word.number seen before token.old
+    ensures over { (before : Token) → HasLookedFirst word.number seen before token.old
         → LookOwns (IsUp C.tells limit.entry) word.number call result (owns_of before)
         (owns_of token.new) (last_of token.new) }
 {
@@ -71,7 +71,7 @@ pub(crate) fn begin_slow<R: Wait, C: Clock>(
         lock: word.number(),
         at: OncePlace::first(call),
     };
-    let (next, act) = advance(first, Reply::Value(seen));
+    let (next, act) = call_step(first, Reply::Value(seen));
     if let Some(answer) = answer_of(act) {
         return Look::Ended(answer);
     }
@@ -135,7 +135,7 @@ pub(crate) fn close<R: Wait>(
     requires runs { has (owning (once_at word.number) Runner) (owns_of token.old) ≡ true }
     ensures own { IsSameThread lot.now token.old token.new }
     ensures path { EndsRun word.number forced succeeded (steps_of token.old) (steps_of token.new) }
-    ensures closed { Closes word.number succeeded (steps_of token.old) (steps_of token.new)
+    ensures closed { EndedAndWoke word.number succeeded (steps_of token.old) (steps_of token.new)
         (last_of token.new) }
     ensures owns { OwnsBehind word.number succeeded
         (without (owning (once_at word.number) Runner) (owns_of token.old))

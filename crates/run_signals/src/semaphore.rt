@@ -19,7 +19,7 @@ ghost use Rattle.run_base.specs.Paths.{Walks, at_semaphore};
 ghost use Rattle.run_base.specs.SemaphoreFitting.{SawNoneFree, permit};
 ghost use Rattle.run_base.specs.Stages.{TookNobodyAt};
 ghost use Rattle.run_base.specs.Telling.{owns_of, steps_of};
-ghost use Rattle.run_signals.specs.SemaphoreCalls.{HasReleased, HasWaited, HasWalked, StaysAs, answer_by, deciding, trying};
+ghost use Rattle.run_signals.specs.SemaphoreCalls.{HasReleased, HasAcquired, HasWalkedSemaphore, StaysAs, permit_answer, deciding, try_place};
 
 use crate::semaphore_calls::{acquire_slow, give, give_all, look, take, try_slow, wake_first};
 use core_base::{main_key, to_deadline};
@@ -86,8 +86,8 @@ impl Semaphore {
         ensures token { IsTokenOf (lot_of self.now) token.new × StaysAs token.old token.new }
         ensures permit { IfSome result (λ permit. semaphore_of permit ≡ self.now) }
         ensures path { Walks (at_semaphore (number_of self.now))
-            (trying (number_of self.now) found) (steps_of token.old) (steps_of token.new)
-            (answer_by answers.Yes result) }
+            (try_place (number_of self.now) found) (steps_of token.old) (steps_of token.new)
+            (permit_answer answers.Yes result) }
         ensures none { IfNone result (SawNoneFree (number_of self.now) (steps_of token.new)) }
     {
         let answer = try_slow(rt, &self.lot, token, self.word, found);
@@ -142,8 +142,8 @@ impl Semaphore {
         requires { IsTokenOf (lot_of self.now) token.old }
         ensures token { IsTokenOf (lot_of self.now) token.new × StaysAs token.old token.new }
         ensures permit { IfSome result (λ permit. semaphore_of permit ≡ self.now) }
-        ensures path { HasWaited (number_of self.now) timed
-            (answer_by (acquired timed) result) token.old token.new }
+        ensures path { HasAcquired (number_of self.now) timed
+            (permit_answer (acquired timed) result) token.old token.new }
         ensures left { IfNone result (TookNobodyAt (number_of self.now) (last_of token.new)) }
         ensures late { IfNone result ((timed ≡ true) × IsUp C.tells limit.now) }
     {
@@ -175,7 +175,7 @@ impl Semaphore {
         ensures permit { IfSome result (λ permit. semaphore_of permit ≡ self.now) }
         ensures path { Walks (at_semaphore (number_of self.now))
             (deciding (number_of self.now) timed seen) (steps_of token.old) (steps_of token.new)
-            (answer_by (acquired timed) result) }
+            (permit_answer (acquired timed) result) }
         ensures left { IfNone result (TookNobodyAt (number_of self.now) (last_of token.new)) }
         ensures late { IfNone result ((timed ≡ true) × IsUp C.tells limit.now) }
     {
@@ -192,7 +192,7 @@ impl Semaphore {
         requires { IsTokenOf (lot_of self.now) token.old }
         ensures token { IsTokenOf (lot_of self.now) token.new × StaysAs token.old token.new }
         ensures permit { semaphore_of result ≡ self.now }
-        ensures path { HasWalked (number_of self.now) (Acquire Patient) answers.Ok token.old token.new }
+        ensures path { HasWalkedSemaphore (number_of self.now) (Acquire Patient) answers.Ok token.old token.new }
     {
         match self.wait(rt, token, FOR_EVER, false) {
             Some(permit) => permit,
@@ -206,8 +206,8 @@ impl Semaphore {
         requires { IsTokenOf (lot_of self.now) token.old }
         ensures token { IsTokenOf (lot_of self.now) token.new × StaysAs token.old token.new }
         ensures permit { IfSome result (λ permit. semaphore_of permit ≡ self.now) }
-        ensures path { HasWalked (number_of self.now) (Acquire Try)
-            (answer_by answers.Yes result) token.old token.new }
+        ensures path { HasWalkedSemaphore (number_of self.now) (Acquire Try)
+            (permit_answer answers.Yes result) token.old token.new }
         ensures none { IfNone result (SawNoneFree (number_of self.now) (steps_of token.new)) }
     {
         let lot: &ParkingLot = &self.lot;
@@ -238,8 +238,8 @@ impl Semaphore {
         requires { IsTokenOf (lot_of self.now) token.old }
         ensures token { IsTokenOf (lot_of self.now) token.new × StaysAs token.old token.new }
         ensures permit { IfSome result (λ permit. semaphore_of permit ≡ self.now) }
-        ensures path { HasWalked (number_of self.now) (Acquire Timed)
-            (answer_by answers.Yes result) token.old token.new }
+        ensures path { HasWalkedSemaphore (number_of self.now) (Acquire Timed)
+            (permit_answer answers.Yes result) token.old token.new }
         ensures left { IfNone result (TookNobodyAt (number_of self.now) (last_of token.new)) }
         ensures late { IfNone result (HasElapsed (C.tells clock.now) (as_nanos timeout)) }
     {
@@ -259,8 +259,8 @@ impl Semaphore {
         requires { IsTokenOf (lot_of self.now) token.old }
         ensures token { IsTokenOf (lot_of self.now) token.new × StaysAs token.old token.new }
         ensures permit { IfSome result (λ permit. semaphore_of permit ≡ self.now) }
-        ensures path { HasWalked (number_of self.now) (Acquire Timed)
-            (answer_by answers.Yes result) token.old token.new }
+        ensures path { HasWalkedSemaphore (number_of self.now) (Acquire Timed)
+            (permit_answer answers.Yes result) token.old token.new }
         ensures left { IfNone result (TookNobodyAt (number_of self.now) (last_of token.new)) }
         ensures late { IfNone result (HasPassed (C.tells clock.now) deadline) }
     {
@@ -289,7 +289,7 @@ impl<'a> Permit<'a> {
         requires { IsTokenOf (lot_of (semaphore_of self)) token.old }
         ensures token { IsTokenOf (lot_of (semaphore_of self.entry)) token.new
             × StaysAs token.old token.new }
-        ensures path { HasWalked (number_of (semaphore_of self.entry))
+        ensures path { HasWalkedSemaphore (number_of (semaphore_of self.entry))
             Release answers.Ok token.old token.new }
         ensures woke { HasReleased (number_of (semaphore_of self.entry)) token.old token.new }
     {

@@ -5,7 +5,7 @@ use Rattle.std.proofs.lemmas.Bool.Decides.{nat_tests}
 use Rattle.std.specs.Prelude.{drop, map}
 use Rattle.spec_locks.specs.Locks.{Queued, Mutex, KnowsAll, putting, times, without}
 use Rattle.spec_locks.specs.Sites.{Apart}
-use Rattle.spec_locks.specs.Condvars.{Stage, Rests, Adds, Refuses, Misses, Sees, Takes, Clears, Inside, CondvarSite, AllOf, IsSettledAt, IsSettled, IsAt, IsAsInside, IsCondvar, BeginsWait, EndsWait, GoesIn, GoesOut, Show, SeeOther, StandLast, SeeAgain, MissIt, Hide, MoveFirst, MoveAll, LeaveList, Clear, IsInsideAt, at, clears_if, hidden, waiter, condvar_leads, MayGo, MayGoOut, IsInsideNot, CondvarNeeded, EachCondvarDeedKeeps, moved_of, in_line, taken_of, line_of, moving, EachMoveFits}
+use Rattle.spec_locks.specs.Condvars.{CondvarStage, NothingToDo, ToStandLast, SeesOther, Misses, Sees, Takes, Clears, Inside, CondvarSite, AllOf, IsSettledAt, IsSettled, StageHolds, IsAsInside, IsCondvar, BeginsWait, EndsWait, GoIn, GoOut, Show, SeeOther, StandLast, SeeAgain, MissIt, HideAndTakeAll, MoveFirst, MoveAll, LeaveList, ShowNone, IsInsideAt, at, clears_if, hidden, queued_to_wait, condvar_leads, MayLeaveSection, MayGoOut, IsInsideNot, CondvarNeeded, EachCondvarDeedKeeps, moved_of, wanting_mutex, taken_of, line_of, moving, EachMoveFits}
 use Rattle.spec_locks.proofs.LockKeeps.{times_append}
 use Rattle.spec_locks.proofs.Hands.{without_fewer}
 
@@ -25,10 +25,10 @@ module _ (c : CondvarSite) (f : ℕ → Option ℕ) (agree : (u : ℕ) → 1 ≤
   still_settled None k = k
   still_settled (Some m) k = (k.0, still_all m k.1)
 
-  still_at : (t : ℕ) (stage : Stage) → f t ≡ c.waits_with t → IsAt c t stage → IsAt d t stage
-  still_at t Rests e k = still_settled c.shown k
-  still_at t (Adds m) e k = (k.0, e ∙ k.1, still_all m k.2)
-  still_at t (Refuses m) e k = (still_settled c.shown k.0, k.1, k.2)
+  still_at : (t : ℕ) (stage : CondvarStage) → f t ≡ c.waits_with t → StageHolds c t stage → StageHolds d t stage
+  still_at t NothingToDo e k = still_settled c.shown k
+  still_at t (ToStandLast m) e k = (k.0, e ∙ k.1, still_all m k.2)
+  still_at t (SeesOther m) e k = (still_settled c.shown k.0, k.1, k.2)
   still_at t (Misses m) e k = (still_settled c.shown k.0, k.1)
   still_at t (Sees m) e k = (k.0, k.1, still_all m k.2)
   still_at t (Takes m) e k = (k.0, k.1, still_all m k.2)
@@ -45,7 +45,7 @@ put_other f t u x ne = grind (arith, nat_tests)
 
 module _ (c : CondvarSite) (t : ℕ) (h : IsCondvar c) where
   -- tells what t knows by its stage
-  known : (stage : Stage) → IsInsideAt c t stage → IsAt c t stage
+  known : (stage : CondvarStage) → IsInsideAt c t stage → StageHolds c t stage
   known stage e = subst (λ (i : Option Inside). IsAsInside c i) e h.inside
 
   settled_at : (o : Option ℕ) → c.shown ≡ o → IsSettled c → IsSettledAt o c
@@ -64,9 +64,9 @@ module _ (c : CondvarSite) (t : ℕ) (h : IsCondvar c) where
   all_of m k (inr e) = (settled_at (Some m) e k).1
 
   -- where some are left, the mutex is shown still, and else nothing is to be
-  left_over : (left : List Queued) (m : ℕ) → c.shown ≡ Some m → ((u : ℕ) → 1 ≤ times u left → c.waits_with u ≡ Some m) → IsAt (at (record c { waiters = left }) t (clears_if left)) t (clears_if left)
+  left_over : (left : List Queued) (m : ℕ) → c.shown ≡ Some m → ((u : ℕ) → 1 ≤ times u left → c.waits_with u ≡ Some m) → StageHolds (at (record c { waiters = left }) t (clears_if left)) t (clears_if left)
   left_over [] m e all = refl
-  left_over (x ∷ xs) m e all = subst (λ (o : Option ℕ). IsSettledAt o (at (record c { waiters = x ∷ xs }) t Rests)) (sym e) ((λ k. cc), all)
+  left_over (x ∷ xs) m e all = subst (λ (o : Option ℕ). IsSettledAt o (at (record c { waiters = x ∷ xs }) t NothingToDo)) (sym e) ((λ k. cc), all)
 
   calls_keeps : (o : Option ℕ) → times t c.waiters ≡ 0 → IsInsideNot c.inside t → IsCondvar (record c { waits_with = putting c.waits_with t o })
   calls_keeps o none apart = record {
@@ -80,32 +80,32 @@ module _ (c : CondvarSite) (t : ℕ) (h : IsCondvar c) where
   gone None go k = absurd go
   gone (Some i) go k = by_stage i.stage go.1 k
     where
-      by_stage : (stage : Stage) → MayGo stage → IsAt c i.thread stage → IsSettled c
-      by_stage Rests g k = k
-      by_stage (Refuses m) g k = k.0
+      by_stage : (stage : CondvarStage) → MayLeaveSection stage → StageHolds c i.thread stage → IsSettled c
+      by_stage NothingToDo g k = k
+      by_stage (SeesOther m) g k = k.0
       by_stage (Misses m) g k = k.0
-      by_stage (Adds m) g k = absurd g
+      by_stage (ToStandLast m) g k = absurd g
       by_stage (Sees m) g k = absurd g
       by_stage (Takes m) g k = absurd g
       by_stage Clears g k = absurd g
 
-  last_of : (m : ℕ) → IsInsideAt c t (Adds m) → (u : ℕ) → 1 ≤ times u (c.waiters ++ waiter t ∷ []) → c.waits_with u ≡ Some m
+  last_of : (m : ℕ) → IsInsideAt c t (ToStandLast m) → (u : ℕ) → 1 ≤ times u (c.waiters ++ queued_to_wait t ∷ []) → c.waits_with u ≡ Some m
   last_of m n u k = elim (cases_eq u t) [
-    | inl e ↦ rw e (known (Adds m) n).1
-    | inr ne ↦ (known (Adds m) n).2 u (let a = times_append u c.waiters (waiter t ∷ []) in grind (arith, nat_tests))
+    | inl e ↦ rw e (known (ToStandLast m) n).1
+    | inr ne ↦ (known (ToStandLast m) n).2 u (let a = times_append u c.waiters (queued_to_wait t ∷ []) in grind (arith, nat_tests))
   ]
 
-  some_last : (xs : List Queued) → xs ++ waiter t ∷ [] ≢ []
+  some_last : (xs : List Queued) → xs ++ queued_to_wait t ∷ [] ≢ []
   some_last [] = λ e. cc
   some_last (x ∷ xs) = λ e. cc
 
   leaves_keeps : CondvarNeeded LeaveList c t → IsCondvar (condvar_leads LeaveList c t)
   leaves_keeps n = record {
     once = λ u. let a = h.once u in let b = without_fewer u t c.waiters in omega arith;
-    inside = by_shown c.shown refl (known Rests n.0);
+    inside = by_shown c.shown refl (known NothingToDo n.0);
   }
     where
-      by_shown : (o : Option ℕ) → c.shown ≡ o → IsSettled c → IsAt (condvar_leads LeaveList c t) t (clears_if (without t c.waiters))
+      by_shown : (o : Option ℕ) → c.shown ≡ o → IsSettled c → StageHolds (condvar_leads LeaveList c t) t (clears_if (without t c.waiters))
       by_shown None e k = absurd (nobody_waits t c.waiters (settled_at None e k) n.1)
       by_shown (Some m) e k = left_over (without t c.waiters) m e (λ u one. (settled_at (Some m) e k).1 u (let b = without_fewer u t c.waiters in omega arith))
 
@@ -119,44 +119,44 @@ module _ (c : CondvarSite) (t : ℕ) (h : IsCondvar c) where
     inside = left_over (drop 1 c.waiters) m k.0 (λ u one. k.2 u (let b = drop_fewer u c.waiters in omega arith));
   }
 
-  hide_keeps : (m : ℕ) → IsInsideAt c t (Sees m) → IsCondvar (condvar_leads Hide c t)
+  hide_keeps : (m : ℕ) → IsInsideAt c t (Sees m) → IsCondvar (condvar_leads HideAndTakeAll c t)
   hide_keeps m n = let k = known (Sees m) n in by_shown c.shown k.0 k
     where
-      by_shown : (o : Option ℕ) → o ≡ Some m → IsAt c t (Sees m) → IsCondvar (at (record c { shown = None }) t (hidden o))
+      by_shown : (o : Option ℕ) → o ≡ Some m → StageHolds c t (Sees m) → IsCondvar (at (record c { shown = None }) t (hidden o))
       by_shown None e k = absurd cc
       by_shown (Some x) e k = let same : x ≡ m = cc in record { once = h.once; inside = (refl, k.1, rw same k.2) }
 
 pub condvar_deed_keeps : EachCondvarDeedKeeps
 condvar_deed_keeps (BeginsWait m) c t h n = calls_keeps c t h (Some m) n.0 n.1
 condvar_deed_keeps EndsWait c t h n = calls_keeps c t h None n.0 n.1
-condvar_deed_keeps GoesIn c t h n = record { once = h.once; inside = settled_now c t h (Some (record { thread = t; stage = Rests })) (subst (λ (i : Option Inside). IsAsInside c i) n h.inside) }
-condvar_deed_keeps GoesOut c t h n = record { once = h.once; inside = settled_now c t h None (gone c t h c.inside n h.inside) }
-condvar_deed_keeps (Show m) c t h n = record { once = h.once; inside = (refl, n.1, all_of c t h m (known c t h Rests n.0) n.2) }
-condvar_deed_keeps (SeeOther m) c t h n = record { once = h.once; inside = (settled_now c t h (Some (record { thread = t; stage = Refuses m })) (known c t h Rests n.0), n.1, n.2) }
+condvar_deed_keeps GoIn c t h n = record { once = h.once; inside = settled_now c t h (Some (record { thread = t; stage = NothingToDo })) (subst (λ (i : Option Inside). IsAsInside c i) n h.inside) }
+condvar_deed_keeps GoOut c t h n = record { once = h.once; inside = settled_now c t h None (gone c t h c.inside n h.inside) }
+condvar_deed_keeps (Show m) c t h n = record { once = h.once; inside = (refl, n.1, all_of c t h m (known c t h NothingToDo n.0) n.2) }
+condvar_deed_keeps (SeeOther m) c t h n = record { once = h.once; inside = (settled_now c t h (Some (record { thread = t; stage = SeesOther m })) (known c t h NothingToDo n.0), n.1, n.2) }
 condvar_deed_keeps StandLast c t h n = record {
-  once = λ u. let a = times_append u c.waiters (waiter t ∷ []) in let b = h.once u in let e = n.1 in grind (arith, nat_tests);
-  inside = let k = known c t h (Adds n.0.0) n.0.1 in subst (λ (o : Option ℕ). IsSettledAt o (condvar_leads StandLast c t)) (sym k.0) (some_last c t h c.waiters, last_of c t h n.0.0 n.0.1);
+  once = λ u. let a = times_append u c.waiters (queued_to_wait t ∷ []) in let b = h.once u in let e = n.1 in grind (arith, nat_tests);
+  inside = let k = known c t h (ToStandLast n.0.0) n.0.1 in subst (λ (o : Option ℕ). IsSettledAt o (condvar_leads StandLast c t)) (sym k.0) (some_last c t h c.waiters, last_of c t h n.0.0 n.0.1);
 }
-condvar_deed_keeps (SeeAgain m) c t h n = let k = settled_at c t h (Some m) n.1 (known c t h Rests n.0) in record { once = h.once; inside = (n.1, k.0, k.1) }
-condvar_deed_keeps (MissIt m) c t h n = record { once = h.once; inside = (settled_now c t h (Some (record { thread = t; stage = Misses m })) (known c t h Rests n.0), n.1) }
-condvar_deed_keeps Hide c t h n = hide_keeps c t h n.0 n.1
+condvar_deed_keeps (SeeAgain m) c t h n = let k = settled_at c t h (Some m) n.1 (known c t h NothingToDo n.0) in record { once = h.once; inside = (n.1, k.0, k.1) }
+condvar_deed_keeps (MissIt m) c t h n = record { once = h.once; inside = (settled_now c t h (Some (record { thread = t; stage = Misses m })) (known c t h NothingToDo n.0), n.1) }
+condvar_deed_keeps HideAndTakeAll c t h n = hide_keeps c t h n.0 n.1
 condvar_deed_keeps MoveFirst c t h n = first_keeps c t h n.0 n.1
 condvar_deed_keeps MoveAll c t h n = let k = known c t h (Takes n.0) n.1 in record { once = λ u. omega arith; inside = subst (λ (o : Option ℕ). IsSettledAt o (condvar_leads MoveAll c t)) (sym k.0) refl }
 condvar_deed_keeps LeaveList c t h n = leaves_keeps c t h n
-condvar_deed_keeps Clear c t h n = record { once = h.once; inside = known c t h Clears n }
+condvar_deed_keeps ShowNone c t h n = record { once = h.once; inside = known c t h Clears n }
 
 -- ---------------------------------------------------------------- the waiters that a notification moves
 
-pub times_in_line : (u : ℕ) (xs : List Queued) → times u (map in_line xs) ≡ times u xs
+pub times_in_line : (u : ℕ) (xs : List Queued) → times u (map wanting_mutex xs) ≡ times u xs
 times_in_line u [] = refl
 times_in_line u (x ∷ xs) = grind (arith, times_in_line u xs)
 
-pub all_known : (xs : List Queued) → KnowsAll Mutex (map in_line xs)
+pub all_known : (xs : List Queued) → KnowsAll Mutex (map wanting_mutex xs)
 all_known [] = tt
 all_known (x ∷ xs) = (tt, all_known xs)
 
 -- the first and the others are all
-pub parts : (locked : Bool) (moved : List Queued) → taken_of locked moved ++ line_of locked moved ≡ map in_line moved
+pub parts : (locked : Bool) (moved : List Queued) → taken_of locked moved ++ line_of locked moved ≡ map wanting_mutex moved
 parts true moved = refl
 parts false [] = refl
 parts false (x ∷ xs) = refl
@@ -177,7 +177,7 @@ moved_some true q some = some
 moved_some false [] some = some
 moved_some false (x ∷ q) some = λ e. cc
 
-seen : (all : Bool) (c : CondvarSite) (t m : ℕ) → IsAt c t (moving all m) → (c.waiters ≢ []) × AllOf c m
+seen : (all : Bool) (c : CondvarSite) (t m : ℕ) → StageHolds c t (moving all m) → (c.waiters ≢ []) × AllOf c m
 seen true c t m k = (k.1, k.2)
 seen false c t m k = (k.1, k.2)
 

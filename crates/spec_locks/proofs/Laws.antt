@@ -6,7 +6,7 @@ use Rattle.spec_locks.specs.declared.calls.Turn.{Turn}
 use Rattle.spec_locks.specs.declared.calls.Turn as turn
 use Rattle.spec_locks.specs.declared.outcomes.Answer as answer
 use Rattle.spec_locks.specs.declared.outcomes.Outcome as outcome
-use Rattle.spec_locks.specs.Locks.{Enter, Pend, Settle, Leave, Park, Aside, TakePicked, Wake, Late, Rollback, Rights, Rules, LockState, Needs, IsFree, is_thread}
+use Rattle.spec_locks.specs.Locks.{Enter, Pend, Settle, Leave, Park, Aside, TakePicked, Wake, Late, Rollback, Rights, Rules, LockState, Needs, IsFree, one_if_thread}
 use Rattle.spec_locks.specs.Purposes.{Purpose, Releases, IsMadeOf, Timed, Try}
 use Rattle.spec_locks.proofs.Runs.{needs_of}
 use Rattle.spec_locks.specs.Runs.{LocksState, Event, Nothing, AtLock, Moves, MayDo, MayHappen, Does, Agrees, going_on, locks_after, rights_in, rules_at, no_rights}
@@ -61,8 +61,8 @@ no_try_fails v Nothing may led kinds agrees = let blocked = agrees.0.0 (rw (kind
 no_try_fails v (AtLock l (Enter y)) may led kinds agrees = let here : l ≡ 0 = may.0.0 in let want : y ≡ Exclusive = may.0.1 in
     let got : (v.locks 0).exclusive ≡ Some 0 = rw (led 0, here, want) refl in
     let kept : rights_in v 0 0 ≡ no_rights = agrees.0.1 0 in
-    let one : is_thread 0 (v.locks 0).exclusive ≡ 0 = ap (λ (r : Rights). r.exclusive) kept in
-    let two : 1 ≡ 0 = sym (ap (is_thread 0) got) ∙ one in cc
+    let one : one_if_thread 0 (v.locks 0).exclusive ≡ 0 = ap (λ (r : Rights). r.exclusive) kept in
+    let two : 1 ≡ 0 = sym (ap (one_if_thread 0) got) ∙ one in cc
 no_try_fails v (AtLock l Pend) may led kinds agrees = may.0.1.1 refl
 no_try_fails v (AtLock l (Park y)) may led kinds agrees = may.0.1.1 refl
 no_try_fails v (AtLock l Late) may led kinds agrees = let p : Try ≡ Timed = may.0.1.0 in cc

@@ -4,7 +4,7 @@ use Rattle.core_base.specs.declared.wants.Want.{Want}
 use Rattle.core_base.specs.declared.wants.Want.TheVariants.{Exclusive, Upgradable, Shared}
 use Rattle.spec_locks.specs.Onces.{Done, OnceCase, Start, Finish, Fail, Rest, TakeAll, MayStart}
 use Rattle.spec_locks.specs.Locks.{LockCase, LockState, Needs, Pending, Rules, after_case, Enter, Pend, Settle, Leave, Convert, Park, Aside, TakeFirst, TakeAside, TakePicked, Wake, HandOff, Late, Rollback, OfOnce, OnceNeeds, once_after, Sort, Once, with_owner, without_owner, converted, falling_back, pending_for, OfCondvar, SeeOwner, Look, Show, Hide}
-use Rattle.spec_locks.specs.Sites.{Main, Role, IsOpen, IsDebtor}
+use Rattle.spec_locks.specs.Sites.{Main, Role, IsOpen, IsDebtorRole}
 use Rattle.spec_locks.specs.OnceLaws.{NothingLeavesDone, CallersAreLookedAfter}
 use Rattle.spec_locks.proofs.Hands.{is_handed}
 use Rattle.spec_locks.proofs.SiteFacts.{callers_stand}
@@ -76,7 +76,7 @@ done_stays r case s t n e = elim (phase_by r case s t) [
 ]
 
 -- at a `Once` no thread that tries again passes a turn on
-debt_of : (sort : Sort) (d : Role) → sort ≡ Once → IsDebtor sort d → (d.wakes ≡ Some Main) ⊎ (d.covers ≡ true)
+debt_of : (sort : Sort) (d : Role) → sort ≡ Once → IsDebtorRole sort d → (d.wakes ≡ Some Main) ⊎ (d.covers ≡ true)
 debt_of sort d e (inl wakes) = inl wakes
 debt_of sort d e (inr (inl covers)) = inr covers
 debt_of sort d e (inr (inr again)) = absurd (grind (arith, e))

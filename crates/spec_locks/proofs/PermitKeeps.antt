@@ -6,10 +6,10 @@ use Rattle.std.specs.Prelude.{zero, suc, length, slice_index}
 use Rattle.std.proofs.lemmas.List.Sums.{sum_by-set}
 use Rattle.core_base.specs.declared.wants.Want.{Want}
 use Rattle.core_base.specs.declared.wants.Want.TheVariants.{Exclusive, Upgradable, Shared}
-use Rattle.spec_locks.specs.Locks.{Queued, Taken, Sort, Mutex, Normal, Recursive, Semaphore, Once, Rules, LockCase, OfOnce, Enter, Pend, Settle, Leave, Convert, Park, Aside, TakeFirst, TakeAside, TakePicked, Wake, HandOff, Late, Rollback, Knows, IsBlocked, readers, standing, times, is_thread, one_if_some, putting, OfCondvar, SeeOwner, Condvar}
+use Rattle.spec_locks.specs.Locks.{Queued, Taken, Sort, Mutex, Normal, Recursive, Semaphore, Once, Rules, LockCase, OfOnce, Enter, Pend, Settle, Leave, Convert, Park, Aside, TakeFirst, TakeAside, TakePicked, Wake, HandOff, Late, Rollback, Knows, IsBlocked, readers, standing, times, one_if_thread, one_if_some, putting, OfCondvar, SeeOwner, Condvar}
 use Rattle.spec_locks.specs.Sites.{Line, Main, Second, Role, Site, IsSite, Begin, End, In, Out, Mark, Clear, FindNobody, MarkOwned, MarkBrought, Send, LeaveLine, Bring, Case, Needed, after_deed, done, case_role, idle, leaves, wakened, counts_taken}
 use Rattle.spec_locks.specs.Codes.{bit}
-use Rattle.spec_locks.specs.Permits.{total, debt, debts, HasPermits, EachDeedKeepsPermits, PermitsAreLookedAfter}
+use Rattle.spec_locks.specs.Permits.{sum_to, debt, debts, HasPermits, EachDeedKeepsPermits, PermitsAreLookedAfter}
 use Rattle.spec_locks.specs.Locks as locks
 use Rattle.spec_locks.proofs.LockKeeps.{no_aside, times_append}
 use Rattle.spec_locks.proofs.Hands.{without_fewer, kept_few}
@@ -18,18 +18,18 @@ use Rattle.spec_locks.proofs.Turns.{Changed}
 
 -- ---------------------------------------------------------------- sums
 
-total_same : (n : ℕ) (f g : ℕ → ℕ) → ((u : ℕ) → u < n → g u ≡ f u) → total n g ≡ total n f
+total_same : (n : ℕ) (f g : ℕ → ℕ) → ((u : ℕ) → u < n → g u ≡ f u) → sum_to n g ≡ sum_to n f
 total_same zero f g same = refl
 total_same (suc n) f g same = let a = total_same n f g (λ u lt. same u (omega arith)) in let b = same n (omega arith) in omega arith
 
-total_changed : (n : ℕ) (f g : ℕ → ℕ) (t : ℕ) → t < n → ((u : ℕ) → u ≢ t → g u ≡ f u) → total n g + f t ≡ total n f + g t
+total_changed : (n : ℕ) (f g : ℕ → ℕ) (t : ℕ) → t < n → ((u : ℕ) → u ≢ t → g u ≡ f u) → sum_to n g + f t ≡ sum_to n f + g t
 total_changed zero f g t lt same = absurd (omega arith)
 total_changed (suc n) f g t lt same = elim (cases_eq n t) [
   | inl e ↦ let a = total_same n f g (λ u k. same u (λ i. omega arith)) in let b : f n ≡ f t = ap f e in let d : g n ≡ g t = ap g e in omega arith
   | inr ne ↦ let a = total_changed n f g t (omega arith) same in let b = same n ne in omega arith
 ]
 
-total_less : (n : ℕ) (f g : ℕ → ℕ) → ((u : ℕ) → f u ≤ g u) → total n f ≤ total n g
+total_less : (n : ℕ) (f g : ℕ → ℕ) → ((u : ℕ) → f u ≤ g u) → sum_to n f ≤ sum_to n g
 total_less zero f g less = omega arith
 total_less (suc n) f g less = let a = total_less n f g less in let b = less n in omega arith
 
@@ -37,20 +37,20 @@ abbrev one_at : ℕ → ℕ → ℕ
 one_at x u = if u == x then 1 else 0
 
 -- one value is at most one less, and another, or the same, is one more
-total_moved : (n : ℕ) (f g : ℕ → ℕ) (t x : ℕ) → t < n → x < n → ((u : ℕ) → f u + one_at x u ≤ g u + one_at t u) → total n f ≤ total n g
+total_moved : (n : ℕ) (f g : ℕ → ℕ) (t x : ℕ) → t < n → x < n → ((u : ℕ) → f u + one_at x u ≤ g u + one_at t u) → sum_to n f ≤ sum_to n g
 total_moved n f g t x lt xlt less =
-    let a : total n (λ u. f u + one_at x u) + f x ≡ total n f + (f x + one_at x x) = total_changed n f (λ u. f u + one_at x u) x xlt (λ u ne. grind (arith, nat_tests)) in
-    let b : total n (λ u. g u + one_at t u) + g t ≡ total n g + (g t + one_at t t) = total_changed n g (λ u. g u + one_at t u) t lt (λ u ne. grind (arith, nat_tests)) in
+    let a : sum_to n (λ u. f u + one_at x u) + f x ≡ sum_to n f + (f x + one_at x x) = total_changed n f (λ u. f u + one_at x u) x xlt (λ u ne. grind (arith, nat_tests)) in
+    let b : sum_to n (λ u. g u + one_at t u) + g t ≡ sum_to n g + (g t + one_at t t) = total_changed n g (λ u. g u + one_at t u) t lt (λ u ne. grind (arith, nat_tests)) in
     let c = total_less n (λ u. f u + one_at x u) (λ u. g u + one_at t u) less in
     let d : one_at x x ≡ 1 = grind (arith, nat_tests) in
     let e : one_at t t ≡ 1 = grind (arith, nat_tests) in
     omega arith
 
-some_of : (n : ℕ) (f : ℕ → ℕ) → 1 ≤ total n f → (t : ℕ) × (1 ≤ f t)
+some_of : (n : ℕ) (f : ℕ → ℕ) → 1 ≤ sum_to n f → (t : ℕ) × (1 ≤ f t)
 some_of zero f one = absurd (omega arith)
 some_of (suc n) f one = by_last (f n) refl (some_of n f)
   where
-    by_last : (k : ℕ) → f n ≡ k → (1 ≤ total n f → (t : ℕ) × (1 ≤ f t)) → (t : ℕ) × (1 ≤ f t)
+    by_last : (k : ℕ) → f n ≡ k → (1 ≤ sum_to n f → (t : ℕ) × (1 ≤ f t)) → (t : ℕ) × (1 ≤ f t)
     by_last zero e before = before (omega arith)
     by_last (suc k) e before = (n, omega arith)
 
@@ -67,7 +67,7 @@ module _ (r : Rules) (s : Site) (t : ℕ) (lt : t < length s.lock.shared) (h : I
           let a = p.enough k.0 in
           let b = total_changed (length s.lock.shared) (λ u. debt (s.role u)) (λ u. debt (v.role u)) t lt (λ u ne. ap debt (changed.other u ne)) in
           let d : debt (v.role t) ≡ debt e = ap debt changed.here in
-          let f : debts v ≡ total (length s.lock.shared) (λ u. debt (v.role u)) = ap (λ (n : ℕ). total n (λ u. debt (v.role u))) same in
+          let f : debts v ≡ sum_to (length s.lock.shared) (λ u. debt (v.role u)) = ap (λ (n : ℕ). sum_to n (λ u. debt (v.role u))) same in
           let l = k.1 in
           omega arith
     ];
@@ -205,7 +205,7 @@ module _ (r : Rules) (s : Site) (t : ℕ) (sort : r.sort ≡ Semaphore) (lt : t 
     where
       by_hand : (o : Option Taken) → s.lock.taken x ≡ o → 1 ≤ standing x s.lock
       by_hand None e = absurd (let g : counts_taken r.sort t None ≡ true = rw e at c in cc)
-      by_hand (Some a) e = let g : standing x s.lock ≡ times x s.lock.queue + is_thread x s.lock.aside + 1 = ap (λ (o : Option Taken). times x s.lock.queue + is_thread x s.lock.aside + one_if_some o) e in omega arith
+      by_hand (Some a) e = let g : standing x s.lock ≡ times x s.lock.queue + one_if_thread x s.lock.aside + 1 = ap (λ (o : Option Taken). times x s.lock.queue + one_if_thread x s.lock.aside + one_if_some o) e in omega arith
 
   moved_debts : (x : ℕ) → counts_taken r.sort t (s.lock.taken x) ≡ true → debts s ≤ debts v
   moved_debts x c = total_moved (length s.lock.shared) (λ u. debt (s.role u)) (λ u. debt (v.role u)) t x lt (p.known x (in_hand x c)) (λ u. each u)

@@ -4,7 +4,7 @@ use Rattle.std.proofs.Common.{ℕ, true, false, Option, Some, None, ◌≡◌, �
 use Rattle.std.proofs.lemmas.Bool.Decides.{nat_tests}
 use Rattle.core_base.specs.declared.wants.Want.{Want}
 use Rattle.core_base.specs.declared.wants.Want.TheVariants.{Exclusive, Upgradable, Shared}
-use Rattle.spec_locks.specs.Locks.{LockState, Queued, Taken, Rules, HandOff, Owns, IsSuccessor, times, standing, is_thread, one_if_some}
+use Rattle.spec_locks.specs.Locks.{LockState, Queued, Taken, Rules, HandOff, Owns, IsSuccessor, times, standing, one_if_thread, one_if_some}
 use Rattle.spec_locks.specs.Sites.{Line, Main, Second, Claim, Site, IsSite, Case, Needed, done, case_role, IsEmpty, IsOpen, Has, Pends, Runs, Ran, Holds, counts, counts_taken}
 use Rattle.spec_locks.specs.Locks as locks
 use Rattle.spec_locks.proofs.LockKeeps.{no_aside}
@@ -76,7 +76,7 @@ module _ (r : Rules) (s : Site) (t : ℕ) (h : IsSite r s) where
     stood_handed : (u : ℕ) → 1 ≤ standing u handed_lock → 1 ≤ standing u s.lock
     stood_handed u f =
         let e = is_handed t x successor s.lock in
-        let g : 1 ≤ times u s.lock.queue + is_thread u s.lock.aside + one_if_some (locks.let_go t s.lock.taken u) = rw (e.queue, e.aside, e.taken u) at f in
+        let g : 1 ≤ times u s.lock.queue + one_if_thread u s.lock.aside + one_if_some (locks.let_go t s.lock.taken u) = rw (e.queue, e.aside, e.taken u) at f in
         let k = kept_few t (s.lock.taken u) in omega arith
 
     still_left : ((done r (HandOff x successor) s t handed_lock).lock.queue ≢ []) ⊎ (false ≡ true) → s.lock.queue ≢ []

@@ -3,7 +3,7 @@ use Rattle.std.proofs.Common.{ℕ, Bool, true, false, Option, Some, None, if◌t
 use Rattle.std.proofs.lemmas.Bool.Decides.{nat_tests}
 use Rattle.core_base.specs.declared.wants.Want.TheVariants.{Exclusive, Upgradable, Shared}
 use Rattle.spec_locks.specs.Locks.{LockState, Pending, Sort, Rules, LockCase, Enter, Pend, Settle, Leave, Convert, Park, Aside, TakeFirst, TakeAside, TakePicked, Wake, HandOff, Late, Rollback, OfOnce, IsLockState, Knows, Mutex, Normal, Recursive, Semaphore, Once, standing, readers, OfCondvar, SeeOwner, Look, Show, Hide, Condvar}
-use Rattle.spec_locks.specs.Sites.{Line, Main, Second, Claim, Role, Site, IsSite, Begin, End, In, Out, Mark, Clear, FindNobody, MarkOwned, MarkBrought, Bring, Send, LeaveLine, Case, Needed, after_deed, done, case_role, IsEmpty, IsOpen, IsDebtor, late_found, gives_way, shares_less, Has, Pends, Runs, Ran, Holds, EachDeedKeeps}
+use Rattle.spec_locks.specs.Sites.{Line, Main, Second, Claim, Role, Site, IsSite, Begin, End, In, Out, Mark, Clear, FindNobody, MarkOwned, MarkBrought, Bring, Send, LeaveLine, Case, Needed, after_deed, done, case_role, IsEmpty, IsOpen, IsDebtorRole, late_found, role_giving_way, shares_less, Has, Pends, Runs, Ran, Holds, EachDeedKeeps}
 use Rattle.spec_locks.specs.Locks as locks
 use Rattle.spec_locks.proofs.LockKeeps.{no_aside, times_append}
 use Rattle.spec_locks.proofs.Hands.{without_fewer}
@@ -40,7 +40,7 @@ module _ (r : Rules) (s : Site) (t : ℕ) (h : IsSite r s) where
   rolls_by n (Some p) e now = rolls n p e p.falls_back refl now
 
   -- one more shares
-  shares_debt : (d : Role) → Knows r.sort Shared → (d.retries ≡ None) ⊎ (d.retries ≡ Some Shared) → IsOpen r.sort (locks.with_owner t Shared s.lock) → IsDebtor r.sort d → IsDebtor r.sort (record d { retries = None; claims = None })
+  shares_debt : (d : Role) → Knows r.sort Shared → (d.retries ≡ None) ⊎ (d.retries ≡ Some Shared) → IsOpen r.sort (locks.with_owner t Shared s.lock) → IsDebtorRole r.sort d → IsDebtorRole r.sort (record d { retries = None; claims = None })
   shares_debt d knows wanted free debt = grind arith
 
   shares_local : (n : Needed r (Case (Enter Shared)) s t) → Local r s (done r (Enter Shared) s t (locks.with_owner t Shared s.lock)) t (s.role t) (record (s.role t) { retries = None; claims = None })
@@ -85,10 +85,10 @@ module _ (r : Rules) (s : Site) (t : ℕ) (h : IsSite r s) where
   ]
 
   -- a thread that gives way sees the bit, or has the next in hand
-  way_debt : (claims : Option Claim) → (s.role t).wakes ≡ None → (s.lock.queue ≢ []) ⊎ ((s.role t).brings ≡ true) → IsDebtor r.sort (gives_way s (s.role t) claims) ⊎ ((s.lock.queue ≢ []) × (s.parked ≡ false) × ((s.role t).sets ≡ false))
+  way_debt : (claims : Option Claim) → (s.role t).wakes ≡ None → (s.lock.queue ≢ []) ⊎ ((s.role t).brings ≡ true) → IsDebtorRole r.sort (role_giving_way s (s.role t) claims) ⊎ ((s.lock.queue ≢ []) × (s.parked ≡ false) × ((s.role t).sets ≡ false))
   way_debt claims none one = grind (arith, h.brought t, h.setting t)
 
-  shared_local : (n : Needed r (Case (Convert Exclusive Shared)) s t) → Local r s (done r (Convert Exclusive Shared) s t (locks.with_owner t Shared (locks.without_owner t Exclusive s.lock))) t (s.role t) (gives_way s (s.role t) (Some (Has Shared)))
+  shared_local : (n : Needed r (Case (Convert Exclusive Shared)) s t) → Local r s (done r (Convert Exclusive Shared) s t (locks.with_owner t Shared (locks.without_owner t Exclusive s.lock))) t (s.role t) (role_giving_way s (s.role t) (Some (Has Shared)))
   shared_local n = record {
     state = state r s t h (Convert Exclusive Shared) n;
     parked = λ e. grind arith;

@@ -2,8 +2,8 @@
 use Rattle.std.proofs.Common.{ℕ, Bool, true, false, Option, Some, None, ◌≡◌, ◌≢◌, ◌≤◌, ◌+◌, ◌⊎◌, inl, inr, List, [], ◌∷◌, ◌++◌, refl, sym, ap, arith}
 use Rattle.std.proofs.lemmas.Bool.Decides.{nat_tests}
 use Rattle.core_base.specs.declared.wants.Want.TheVariants.{Exclusive, Upgradable, Shared}
-use Rattle.spec_locks.specs.Locks.{LockState, Queued, Taken, Rules, Late, IsLockState, KnowsAll, Mutex, times, taking, standing, is_thread, one_if_some, readers, putting, Condvar, left_behind}
-use Rattle.spec_locks.specs.Sites.{Line, Main, Second, Claim, Site, IsSite, Bring, Send, LeaveLine, Needed, after_deed, IsEmpty, IsOpen, IsDebtor, bringing, Has, Pends, Runs, Ran, Holds, counts_taken}
+use Rattle.spec_locks.specs.Locks.{LockState, Queued, Taken, Rules, Late, IsLockState, KnowsAll, Mutex, times, taking, standing, one_if_thread, one_if_some, readers, putting, Condvar, left_behind}
+use Rattle.spec_locks.specs.Sites.{Line, Main, Second, Claim, Site, IsSite, Bring, Send, LeaveLine, Needed, after_deed, IsEmpty, IsOpen, IsDebtorRole, bringing, Has, Pends, Runs, Ran, Holds, counts_taken}
 use Rattle.spec_locks.specs.Locks as locks
 use Rattle.spec_locks.proofs.LockKeeps.{case_keeps, times_taking, times_append, known_append, known_taking}
 use Rattle.spec_locks.proofs.Hands.{taking_others, taking_by, without_fewer}
@@ -48,7 +48,7 @@ module _ (r : Rules) (s : Site) (t : ℕ) (h : IsSite r s) where
         by_hand : (o : Option Taken) → s.lock.taken x ≡ o → counts_taken r.sort u (taking t gone s.lock.taken x) ≡ true
         by_hand None e = absurd (let g : false ≡ true = rw e at c in cc)
         by_hand (Some a) e =
-            let o : standing x s.lock ≡ times x s.lock.queue + is_thread x s.lock.aside + 1 = ap (λ (a : Option Taken). times x s.lock.queue + is_thread x s.lock.aside + one_if_some a) e in
+            let o : standing x s.lock ≡ times x s.lock.queue + one_if_thread x s.lock.aside + 1 = ap (λ (a : Option Taken). times x s.lock.queue + one_if_thread x s.lock.aside + one_if_some a) e in
             let b = n.5 x in
             let p = (stands x).1 in
             let absent : times x gone ≡ 0 = grind arith in
@@ -110,7 +110,7 @@ module _ (r : Rules) (s : Site) (t : ℕ) (h : IsSite r s) where
         bit_by (x ∷ xs) e [] f left = still_bit_there (λ k. left (rw (k, ← f) refl))
         bit_by (x ∷ xs) e (y ∷ ys) f left = inr (inl (rw (← e, ← f) refl))
 
-        debt_by : IsOpen r.sort s.lock → (xs : List Queued) → xs ≡ gone → IsDebtor r.sort (bringing gone moved (s.role t)) ⊎ ((((s.lock.queue ≢ []) ⊎ ((s.role t).brings ≡ true)) × IsOpen r.sort s.lock × (IsDebtor r.sort (s.role t) → IsDebtor r.sort (bringing gone moved (s.role t)))) ⊎ ((s.lock.queue ≢ []) × (s.parked ≡ false) × ((s.role t).sets ≡ false)))
+        debt_by : IsOpen r.sort s.lock → (xs : List Queued) → xs ≡ gone → IsDebtorRole r.sort (bringing gone moved (s.role t)) ⊎ ((((s.lock.queue ≢ []) ⊎ ((s.role t).brings ≡ true)) × IsOpen r.sort s.lock × (IsDebtorRole r.sort (s.role t) → IsDebtorRole r.sort (bringing gone moved (s.role t)))) ⊎ ((s.lock.queue ≢ []) × (s.parked ≡ false) × ((s.role t).sets ≡ false)))
         debt_by free [] e = inr (inl (inr (n.7 (sym e)), free, λ debt. absurd (grind (arith, not_covers))))
         debt_by free (x ∷ xs) e = inl (inr (inl (rw (← e) refl)))
 

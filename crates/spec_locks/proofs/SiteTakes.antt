@@ -5,7 +5,7 @@ use Rattle.std.specs.Prelude.{not, drop, ◌||◌}
 use Rattle.std.proofs.lemmas.Bool.Decides.{nat_tests}
 use Rattle.core_base.specs.declared.wants.Want.{Want}
 use Rattle.core_base.specs.declared.wants.Want.TheVariants.{Exclusive, Upgradable, Shared}
-use Rattle.spec_locks.specs.Locks.{LockState, Queued, Taken, Rules, TakeFirst, TakePicked, TakesFirst, IsLockState, HasTakenNobody, Knows, Once, keeps_more, picked, unpicked, times, taking, standing, is_thread, one_if_some, putting}
+use Rattle.spec_locks.specs.Locks.{LockState, Queued, Taken, Rules, TakeFirst, TakePicked, TakesOneAtATime, IsLockState, HasTakenNobody, Knows, Once, keeps_more, picked, unpicked, times, taking, standing, one_if_thread, one_if_some, putting}
 use Rattle.spec_locks.specs.Sites.{Main, Second, Site, IsSite, Case, Needed, after_deed, taking_main, IsOpen, KeepsOwned, counts_taken, is_full}
 use Rattle.spec_locks.proofs.LockKeeps.{times_taking}
 use Rattle.spec_locks.proofs.Hands.{taking_others, taking_by, times_picked, passes_on}
@@ -27,7 +27,7 @@ module _ (r : Rules) (s : Site) (t : ℕ) (h : IsSite r s) where
         by_hand None e = absurd (let g : false ≡ true = rw e at c in cc)
         by_hand (Some a) e =
             let one = h.state.once x in
-            let absent : times x gone ≡ 0 = (let k = part x in let o : standing x s.lock ≡ times x s.lock.queue + is_thread x s.lock.aside + 1 = ap (λ (a : Option Taken). times x s.lock.queue + is_thread x s.lock.aside + one_if_some a) e in omega arith) in
+            let absent : times x gone ≡ 0 = (let k = part x in let o : standing x s.lock ≡ times x s.lock.queue + one_if_thread x s.lock.aside + 1 = ap (λ (a : Option Taken). times x s.lock.queue + one_if_thread x s.lock.aside + one_if_some a) e in omega arith) in
             rw (taking_others t x gone s.lock.taken absent) c
 
     stood : (u : ℕ) → 1 ≤ standing u now → 1 ≤ standing u s.lock
@@ -92,9 +92,9 @@ module _ (r : Rules) (s : Site) (t : ℕ) (h : IsSite r s) where
       (λ e left. passes_on r.sort start t s.lock.queue s.lock.taken (grind arith) n.0.1 left once)
 
   -- the first of the queue of a mutex passes the turn on
-  first_counts : (x : Queued) → TakesFirst r.sort → counts_taken r.sort t (taking t (x ∷ []) s.lock.taken x.thread) ≡ true
+  first_counts : (x : Queued) → TakesOneAtATime r.sort → counts_taken r.sort t (taking t (x ∷ []) s.lock.taken x.thread) ≡ true
   first_counts x first = grind (arith, nat_tests)
 
   pub first_keeps : (x : Queued) → Needed r (Case (TakeFirst x)) s t → IsSite r (after_deed r (Case (TakeFirst x)) s t)
-  first_keeps x n = take_keeps (x ∷ []) (drop 1 s.lock.queue) true (λ e. let k : TakesFirst Once = rw e at n.0.2 in k) n.1.0 n.1.1 n.1.2 n.0.1 (state r s t h (TakeFirst x) n)
+  first_keeps x n = take_keeps (x ∷ []) (drop 1 s.lock.queue) true (λ e. let k : TakesOneAtATime Once = rw e at n.0.2 in k) n.1.0 n.1.1 n.1.2 n.0.1 (state r s t h (TakeFirst x) n)
       (λ u. let e = n.0.0.1 in grind (arith, nat_tests)) (λ e. rw e refl) (λ e. absurd cc) (λ e left. (x.thread, first_counts x n.0.2))

@@ -2,7 +2,7 @@
 use Rattle.std.proofs.Common.{ℕ, Bool, true, false, Some, None, ◌≡◌, ◌≢◌, ◌≤◌, ◌⊎◌, inl, inr, [], refl, sym, ◌∙◌}
 use Rattle.std.proofs.lemmas.Bool.{cases_eq}
 use Rattle.spec_locks.specs.Locks.{Taken, Mutex, Rules, IsLockState, standing, readers}
-use Rattle.spec_locks.specs.Sites.{Line, Main, Second, Claim, Role, Site, IsSite, IsEmpty, IsOpen, IsDebtor, LooksAfter, Holds, is_full, counts_taken}
+use Rattle.spec_locks.specs.Sites.{Line, Main, Second, Claim, Role, Site, IsSite, IsEmpty, IsOpen, IsDebtorRole, LooksAfter, Holds, is_full, counts_taken}
 
 -- The conditions on a step of thread t: it leads from s to v, and what t does goes from d to d2.
 -- They speak of t alone, and of no other thread's doing.
@@ -31,9 +31,9 @@ pub record Local (r : Rules) (s v : Site) (t : ℕ) (d d2 : Role) : Type 0 where
   pub taken_by : (x : ℕ) (h : Taken) → v.lock.taken x ≡ Some h → ((h.by ≡ t) × (d2.carries ≡ true)) ⊎ ((h.by ≢ t) × (s.lock.taken x ≡ Some h))
   -- a thread that is forgotten by it is another's
   pub main : (v.lock.queue ≢ []) ⊎ (d2.brings ≡ true) → IsOpen r.sort v.lock → v.filled ≡ false
-      → IsDebtor r.sort d2 ⊎ ((((s.lock.queue ≢ []) ⊎ (d.brings ≡ true)) × IsOpen r.sort s.lock × (IsDebtor r.sort d → IsDebtor r.sort d2)) ⊎ ((s.lock.queue ≢ []) × (s.parked ≡ false) × (d.sets ≡ false)))
+      → IsDebtorRole r.sort d2 ⊎ ((((s.lock.queue ≢ []) ⊎ (d.brings ≡ true)) × IsOpen r.sort s.lock × (IsDebtorRole r.sort d → IsDebtorRole r.sort d2)) ⊎ ((s.lock.queue ≢ []) × (s.parked ≡ false) × (d.sets ≡ false)))
   -- nor who is to be brought by another, inside the main section
-  pub main_brought : s.parked ≡ true → d.inside ≢ Some Main → IsOpen r.sort v.lock → v.filled ≡ false → IsDebtor r.sort d2 ⊎ (IsOpen r.sort s.lock × (IsDebtor r.sort d → IsDebtor r.sort d2))
+  pub main_brought : s.parked ≡ true → d.inside ≢ Some Main → IsOpen r.sort v.lock → v.filled ≡ false → IsDebtorRole r.sort d2 ⊎ (IsOpen r.sort s.lock × (IsDebtorRole r.sort d → IsDebtorRole r.sort d2))
   pub second : v.lock.aside ≢ None → readers v.lock ≡ 0 → (d2.wakes ≡ Some Second) ⊎ ((s.lock.aside ≢ None) × (readers s.lock ≡ 0) × (d.wakes ≢ Some Second))
 
 -- g is f, but for x at i
@@ -143,7 +143,7 @@ module _ (r : Rules) (s v : Site) (t : ℕ) (d d2 : Role) (h : IsSite r s) (is :
   ]
 
   -- a debtor is one still
-  other_debtor : ((u : ℕ) × IsDebtor r.sort (s.role u)) → (IsDebtor r.sort d → IsDebtor r.sort d2) → (u : ℕ) × IsDebtor r.sort (v.role u)
+  other_debtor : ((u : ℕ) × IsDebtorRole r.sort (s.role u)) → (IsDebtorRole r.sort d → IsDebtorRole r.sort d2) → (u : ℕ) × IsDebtorRole r.sort (v.role u)
   other_debtor one still = elim (cases_eq one.0 t) [
     | inl e ↦ (t, rw role.here (still (rw (e, is) at one.1)))
     | inr ne ↦ (one.0, rw (role.other one.0 ne) one.1)
@@ -161,18 +161,18 @@ module _ (r : Rules) (s v : Site) (t : ℕ) (d d2 : Role) (h : IsSite r s) (is :
   awaited (inr k) = inr (t, rw is k)
 
   -- a thread that looks after the line is a debtor
-  in_debt : (e : Role) → LooksAfter r.sort e → IsDebtor r.sort e
+  in_debt : (e : Role) → LooksAfter r.sort e → IsDebtorRole r.sort e
   in_debt e (inl covers) = inr (inl covers)
   in_debt e (inr wakes) = inl wakes.1
 
-  own_main : (v.lock.queue ≢ []) ⊎ (d2.brings ≡ true) → IsOpen r.sort v.lock → v.filled ≡ false → (u : ℕ) × IsDebtor r.sort (v.role u)
+  own_main : (v.lock.queue ≢ []) ⊎ (d2.brings ≡ true) → IsOpen r.sort v.lock → v.filled ≡ false → (u : ℕ) × IsDebtorRole r.sort (v.role u)
   own_main one free room = elim (local.main one free room) [
     | inl own ↦ (t, rw role.here own)
     | inr (inl k) ↦ other_debtor (h.main (awaited k.0) k.1 (unfilled room)) k.2
     | inr (inr k) ↦ let sets = other_sets k.0 k.1 k.2 in (sets.0, in_debt (v.role sets.0) (still_setting sets.0 sets.1))
   ]
 
-  still_main : (v.lock.queue ≢ []) ⊎ ((u : ℕ) × ((v.role u).brings ≡ true)) → IsOpen r.sort v.lock → v.filled ≡ false → (u : ℕ) × IsDebtor r.sort (v.role u)
+  still_main : (v.lock.queue ≢ []) ⊎ ((u : ℕ) × ((v.role u).brings ≡ true)) → IsOpen r.sort v.lock → v.filled ≡ false → (u : ℕ) × IsDebtorRole r.sort (v.role u)
   still_main (inl left) free room = own_main (inl left) free room
   still_main (inr one) free room = elim (cases_eq one.0 t) [
     | inl e ↦ own_main (inr (rw (e, role.here) at one.1)) free room

@@ -2,8 +2,8 @@
 use Rattle.std.proofs.Common.{ℕ, Bool, true, false, Option, Some, None, if◌then◌else◌, ◌==◌, ◌≡◌, ◌≢◌, ◌≤◌, ◌+◌, ◌⊎◌, inl, inr, [], refl, sym, ap, ◌∙◌, arith}
 use Rattle.std.proofs.lemmas.Bool.{cases_eq}
 use Rattle.std.proofs.lemmas.Bool.Decides.{nat_tests}
-use Rattle.spec_locks.specs.Locks.{Taken, Sort, Mutex, Normal, Recursive, Semaphore, Once, Rules, Wake, readers, times, is_thread, standing, one_if_some, keep_from, let_go, putting, Condvar}
-use Rattle.spec_locks.specs.Sites.{Line, Main, Second, Claim, Role, Site, IsSite, IsEmpty, IsOpen, IsDebtor, LooksAfter, Holds, Out, Needed, after_deed, leaves, wakened, counts_some, counts_taken}
+use Rattle.spec_locks.specs.Locks.{Taken, Sort, Mutex, Normal, Recursive, Semaphore, Once, Rules, Wake, readers, times, one_if_thread, standing, one_if_some, keep_from, let_go, putting, Condvar}
+use Rattle.spec_locks.specs.Sites.{Line, Main, Second, Claim, Role, Site, IsSite, IsEmpty, IsOpen, IsDebtorRole, LooksAfter, Holds, Out, Needed, after_deed, leaves, wakened, counts_some, counts_taken}
 use Rattle.spec_locks.proofs.LockKeeps.{case_keeps}
 use Rattle.spec_locks.proofs.Hands.{kept_few, kept_counts, kept_by}
 
@@ -138,14 +138,14 @@ module _ (r : Rules) (s : Site) (t : ℕ) (h : IsSite r s) (n : Needed r Out s t
           either : (b : Bool) → (a.by == t) ≡ b → (if b then None else Some a) ≡ Some a
           either false g = refl
           either true g = absurd (
-              let one : times u s.lock.queue + is_thread u s.lock.aside + one_if_some (Some a) ≤ 1 = rw f at (h.state.once u) in
-              let two : 1 ≤ times u s.lock.queue + is_thread u s.lock.aside + one_if_some (keep_from t (Some a)) = rw f at e in
+              let one : times u s.lock.queue + one_if_thread u s.lock.aside + one_if_some (Some a) ≤ 1 = rw f at (h.state.once u) in
+              let two : 1 ≤ times u s.lock.queue + one_if_thread u s.lock.aside + one_if_some (keep_from t (Some a)) = rw f at e in
               let three : one_if_some (keep_from t (Some a)) ≡ 0 = ap (λ b. one_if_some (if b then None else Some a)) g in
               omega arith)
 
   still_unwoken : (u : ℕ) → 1 ≤ standing u v.lock → (v.role u).retries ≡ None
   still_unwoken u e =
-      let stood : 1 ≤ standing u s.lock = (let k = kept_few t (s.lock.taken u) in let g : 1 ≤ times u s.lock.queue + is_thread u s.lock.aside + one_if_some (let_go t s.lock.taken u) = e in omega arith) in
+      let stood : 1 ≤ standing u s.lock = (let k = kept_few t (s.lock.taken u) in let g : 1 ≤ times u s.lock.queue + one_if_thread u s.lock.aside + one_if_some (let_go t s.lock.taken u) = e in omega arith) in
       unwakened t (s.lock.taken u) (putting s.role t (leaves (s.role t)) u) (still_there u e) ∙ same_retries u ∙ h.unwoken u stood
 
   was_open : (sort : Sort) → IsOpen sort v.lock → IsOpen sort s.lock
@@ -160,7 +160,7 @@ module _ (r : Rules) (s : Site) (t : ℕ) (h : IsSite r s) (n : Needed r Out s t
   in_no_hand : (u : ℕ) → counts_some r.sort (s.role u).retries ≡ true → (o : Option Taken) → s.lock.taken u ≡ o → keep_from t o ≡ o
   in_no_hand u c None e = refl
   in_no_hand u c (Some a) e = absurd (
-      let stood : 1 ≤ standing u s.lock = (let k : standing u s.lock ≡ times u s.lock.queue + is_thread u s.lock.aside + 1 = ap (λ (o : Option Taken). times u s.lock.queue + is_thread u s.lock.aside + one_if_some o) e in omega arith) in
+      let stood : 1 ≤ standing u s.lock = (let k : standing u s.lock ≡ times u s.lock.queue + one_if_thread u s.lock.aside + 1 = ap (λ (o : Option Taken). times u s.lock.queue + one_if_thread u s.lock.aside + one_if_some o) e in omega arith) in
       let g : counts_some r.sort None ≡ true = rw (h.unwoken u stood) at c in
       cc)
 
@@ -169,10 +169,10 @@ module _ (r : Rules) (s : Site) (t : ℕ) (h : IsSite r s) (n : Needed r Out s t
   left_by (inl k) c = k
   left_by (inr one) c = let b = brings_other one.0 one.1 in absurd (b.0 (h.alone one.0 t Main (h.brought one.0 b.1).0 (h.covered t c).0))
 
-  still_main : (v.lock.queue ≢ []) ⊎ ((u : ℕ) × ((v.role u).brings ≡ true)) → IsOpen r.sort v.lock → v.filled ≡ false → (u : ℕ) × IsDebtor r.sort (v.role u)
+  still_main : (v.lock.queue ≢ []) ⊎ ((u : ℕ) × ((v.role u).brings ≡ true)) → IsOpen r.sort v.lock → v.filled ≡ false → (u : ℕ) × IsDebtorRole r.sort (v.role u)
   still_main left free room = let one = h.main (was_awaited left) (was_open r.sort free) room in by_debt one.0 one.1
     where
-      by_debt : (u : ℕ) → IsDebtor r.sort (s.role u) → (x : ℕ) × IsDebtor r.sort (v.role x)
+      by_debt : (u : ℕ) → IsDebtorRole r.sort (s.role u) → (x : ℕ) × IsDebtorRole r.sort (v.role x)
       by_debt u (inl w) = let ne : u ≢ t = (λ e. let k : (s.role t).wakes ≡ Some Main = rw e at w in let g = n.1 in cc) in (u, inl ((other u ne).wakes ∙ w))
       by_debt u (inr (inl c)) = elim (cases_eq u t) [
         | inl e ↦ let one = (h.covered t (rw e at c)).2 (left_by left (rw e at c)) in (one.0, inr (inr (wakened_counts r.sort t (s.lock.taken one.0) (putting s.role t (leaves (s.role t)) one.0) one.1)))

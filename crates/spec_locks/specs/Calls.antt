@@ -27,5 +27,5 @@ mutex_in (call.TheVariants.Once lock c) = None
 mutex_in (call.TheVariants.Semaphore lock c) = None
 
 -- the lock to which the call needs a right, if it needs one
-abbrev pub right_in : Call → ℕ
-right_in c = unwrap_or (mutex_in c) (lock_in c)
+abbrev pub lock_of_right : Call → ℕ
+lock_of_right c = unwrap_or (mutex_in c) (lock_in c)

@@ -6,25 +6,25 @@ use Rattle.spec_locks.specs.Locks.{Queued, Mutex, Rules, putting, times, standin
 use Rattle.spec_locks.specs.Sites.{Main, Site, Bring, Needed, is_empty}
 
 -- The deed that a thread inside the section is about to do, `m` being a mutex.
-pub data Stage : Type 0 where
+pub data CondvarStage : Type 0 where
   -- nothing: it has come, or has done what it came for
-  Rests : Stage
+  NothingToDo : CondvarStage
   -- it has shown its mutex, and is to stand behind the last
-  Adds : (m : ℕ) → Stage
+  ToStandLast : (m : ℕ) → CondvarStage
   -- another mutex than its own is shown
-  Refuses : (m : ℕ) → Stage
+  SeesOther : (m : ℕ) → CondvarStage
   -- a notification finds another mutex than it saw first, or none
-  Misses : (m : ℕ) → Stage
+  Misses : (m : ℕ) → CondvarStage
   -- a notification finds the mutex that it saw first
-  Sees : (m : ℕ) → Stage
+  Sees : (m : ℕ) → CondvarStage
   -- nothing is shown, and it is to take all waiters
-  Takes : (m : ℕ) → Stage
+  Takes : (m : ℕ) → CondvarStage
   -- nobody is left, and it is to show nothing
-  Clears : Stage
+  Clears : CondvarStage
 
 pub record Inside : Type 0 where
   pub thread : ℕ
-  pub stage : Stage
+  pub stage : CondvarStage
 
 -- the mutex shown, the waiters in order, who is inside, and the mutex that a thread's wait names
 pub record CondvarSite : Type 0 where
@@ -50,18 +50,18 @@ IsSettledAt (Some m) c = (c.waiters ≢ []) × AllOf c m
 abbrev pub IsSettled : CondvarSite → Type 0
 IsSettled c = IsSettledAt c.shown c
 
-abbrev pub IsAt : CondvarSite → ℕ → Stage → Type 0
-IsAt c t Rests = IsSettled c
-IsAt c t (Adds m) = (c.shown ≡ Some m) × (c.waits_with t ≡ Some m) × AllOf c m
-IsAt c t (Refuses m) = IsSettled c × (c.shown ≢ None) × (c.shown ≢ Some m)
-IsAt c t (Misses m) = IsSettled c × (c.shown ≢ Some m)
-IsAt c t (Sees m) = (c.shown ≡ Some m) × (c.waiters ≢ []) × AllOf c m
-IsAt c t (Takes m) = (c.shown ≡ None) × (c.waiters ≢ []) × AllOf c m
-IsAt c t Clears = c.waiters ≡ []
+abbrev pub StageHolds : CondvarSite → ℕ → CondvarStage → Type 0
+StageHolds c t NothingToDo = IsSettled c
+StageHolds c t (ToStandLast m) = (c.shown ≡ Some m) × (c.waits_with t ≡ Some m) × AllOf c m
+StageHolds c t (SeesOther m) = IsSettled c × (c.shown ≢ None) × (c.shown ≢ Some m)
+StageHolds c t (Misses m) = IsSettled c × (c.shown ≢ Some m)
+StageHolds c t (Sees m) = (c.shown ≡ Some m) × (c.waiters ≢ []) × AllOf c m
+StageHolds c t (Takes m) = (c.shown ≡ None) × (c.waiters ≢ []) × AllOf c m
+StageHolds c t Clears = c.waiters ≡ []
 
 abbrev pub IsAsInside : CondvarSite → Option Inside → Type 0
 IsAsInside c None = IsSettled c
-IsAsInside c (Some i) = IsAt c i.thread i.stage
+IsAsInside c (Some i) = StageHolds c i.thread i.stage
 
 pub record IsCondvar (c : CondvarSite) : Type 0 where
   -- each thread waits at most once
@@ -76,8 +76,8 @@ pub data CondvarDeed : Type 0 where
   BeginsWait : (m : ℕ) → CondvarDeed
   EndsWait : CondvarDeed
   -- into the section, and out of it
-  GoesIn : CondvarDeed
-  GoesOut : CondvarDeed
+  GoIn : CondvarDeed
+  GoOut : CondvarDeed
   -- it shows its mutex, or sees another
   Show : (m : ℕ) → CondvarDeed
   SeeOther : (m : ℕ) → CondvarDeed
@@ -87,61 +87,61 @@ pub data CondvarDeed : Type 0 where
   SeeAgain : (m : ℕ) → CondvarDeed
   MissIt : (m : ℕ) → CondvarDeed
   -- it shows nothing and takes all; it moves the first, or all
-  Hide : CondvarDeed
+  HideAndTakeAll : CondvarDeed
   MoveFirst : CondvarDeed
   MoveAll : CondvarDeed
   -- its time is up, and it leaves the list
   LeaveList : CondvarDeed
   -- nobody is left, and nothing is shown
-  Clear : CondvarDeed
+  ShowNone : CondvarDeed
 
 -- t is inside, at this stage
-abbrev pub IsInsideAt : CondvarSite → ℕ → Stage → Type 0
+abbrev pub IsInsideAt : CondvarSite → ℕ → CondvarStage → Type 0
 IsInsideAt c t stage = c.inside ≡ Some (record { thread = t; stage = stage })
 
-abbrev pub at : CondvarSite → ℕ → Stage → CondvarSite
+abbrev pub at : CondvarSite → ℕ → CondvarStage → CondvarSite
 at c t stage = record c { inside = Some (record { thread = t; stage = stage }) }
 
-abbrev pub clears_if : List Queued → Stage
-clears_if left = if is_empty left then Clears else Rests
+abbrev pub clears_if : List Queued → CondvarStage
+clears_if left = if is_empty left then Clears else NothingToDo
 
 -- the mutex that was shown is to be taken
-abbrev pub hidden : Option ℕ → Stage
-hidden None = Rests
+abbrev pub hidden : Option ℕ → CondvarStage
+hidden None = NothingToDo
 hidden (Some m) = Takes m
 
-abbrev pub waiter : ℕ → Queued
-waiter t = record { thread = t; want = Wait }
+abbrev pub queued_to_wait : ℕ → Queued
+queued_to_wait t = record { thread = t; want = Wait }
 
 abbrev pub condvar_leads : CondvarDeed → CondvarSite → ℕ → CondvarSite
 condvar_leads (BeginsWait m) c t = record c { waits_with = putting c.waits_with t (Some m) }
 condvar_leads EndsWait c t = record c { waits_with = putting c.waits_with t None }
-condvar_leads GoesIn c t = at c t Rests
-condvar_leads GoesOut c t = record c { inside = None }
-condvar_leads (Show m) c t = at (record c { shown = Some m }) t (Adds m)
-condvar_leads (SeeOther m) c t = at c t (Refuses m)
-condvar_leads StandLast c t = at (record c { waiters = c.waiters ++ waiter t ∷ [] }) t Rests
+condvar_leads GoIn c t = at c t NothingToDo
+condvar_leads GoOut c t = record c { inside = None }
+condvar_leads (Show m) c t = at (record c { shown = Some m }) t (ToStandLast m)
+condvar_leads (SeeOther m) c t = at c t (SeesOther m)
+condvar_leads StandLast c t = at (record c { waiters = c.waiters ++ queued_to_wait t ∷ [] }) t NothingToDo
 condvar_leads (SeeAgain m) c t = at c t (Sees m)
 condvar_leads (MissIt m) c t = at c t (Misses m)
-condvar_leads Hide c t = at (record c { shown = None }) t (hidden c.shown)
+condvar_leads HideAndTakeAll c t = at (record c { shown = None }) t (hidden c.shown)
 condvar_leads MoveFirst c t =
     at (record c { waiters = drop 1 c.waiters }) t (clears_if (drop 1 c.waiters))
-condvar_leads MoveAll c t = at (record c { waiters = [] }) t Rests
+condvar_leads MoveAll c t = at (record c { waiters = [] }) t NothingToDo
 condvar_leads LeaveList c t =
     at (record c { waiters = without t c.waiters }) t (clears_if (without t c.waiters))
-condvar_leads Clear c t = at (record c { shown = None }) t Rests
+condvar_leads ShowNone c t = at (record c { shown = None }) t NothingToDo
 
 -- a thread may leave that has nothing left to do
-abbrev pub MayGo : Stage → Type 0
-MayGo Rests = Unit {0}
-MayGo (Refuses m) = Unit {0}
-MayGo (Misses m) = Unit {0}
-MayGo stage = ⊥
+abbrev pub MayLeaveSection : CondvarStage → Type 0
+MayLeaveSection NothingToDo = Unit {0}
+MayLeaveSection (SeesOther m) = Unit {0}
+MayLeaveSection (Misses m) = Unit {0}
+MayLeaveSection stage = ⊥
 
 -- t is inside, with nothing left to do
 abbrev pub MayGoOut : Option Inside → ℕ → Type 0
 MayGoOut None t = ⊥
-MayGoOut (Some i) t = (i.thread ≡ t) × MayGo i.stage
+MayGoOut (Some i) t = (i.thread ≡ t) × MayLeaveSection i.stage
 
 abbrev pub IsInsideNot : Option Inside → ℕ → Type 0
 IsInsideNot None t = Unit {0}
@@ -150,19 +150,19 @@ IsInsideNot (Some i) t = i.thread ≢ t
 abbrev pub CondvarNeeded : CondvarDeed → CondvarSite → ℕ → Type 0
 CondvarNeeded (BeginsWait m) c t = (times t c.waiters ≡ 0) × IsInsideNot c.inside t
 CondvarNeeded EndsWait c t = (times t c.waiters ≡ 0) × IsInsideNot c.inside t
-CondvarNeeded GoesIn c t = c.inside ≡ None
-CondvarNeeded GoesOut c t = MayGoOut c.inside t
+CondvarNeeded GoIn c t = c.inside ≡ None
+CondvarNeeded GoOut c t = MayGoOut c.inside t
 CondvarNeeded (Show m) c t =
-    IsInsideAt c t Rests × (c.waits_with t ≡ Some m) × ((c.shown ≡ None) ⊎ (c.shown ≡ Some m))
-CondvarNeeded (SeeOther m) c t = IsInsideAt c t Rests × (c.shown ≢ None) × (c.shown ≢ Some m)
-CondvarNeeded StandLast c t = ((m : ℕ) × IsInsideAt c t (Adds m)) × (times t c.waiters ≡ 0)
-CondvarNeeded (SeeAgain m) c t = IsInsideAt c t Rests × (c.shown ≡ Some m)
-CondvarNeeded (MissIt m) c t = IsInsideAt c t Rests × (c.shown ≢ Some m)
-CondvarNeeded Hide c t = (m : ℕ) × IsInsideAt c t (Sees m)
+    IsInsideAt c t NothingToDo × (c.waits_with t ≡ Some m) × ((c.shown ≡ None) ⊎ (c.shown ≡ Some m))
+CondvarNeeded (SeeOther m) c t = IsInsideAt c t NothingToDo × (c.shown ≢ None) × (c.shown ≢ Some m)
+CondvarNeeded StandLast c t = ((m : ℕ) × IsInsideAt c t (ToStandLast m)) × (times t c.waiters ≡ 0)
+CondvarNeeded (SeeAgain m) c t = IsInsideAt c t NothingToDo × (c.shown ≡ Some m)
+CondvarNeeded (MissIt m) c t = IsInsideAt c t NothingToDo × (c.shown ≢ Some m)
+CondvarNeeded HideAndTakeAll c t = (m : ℕ) × IsInsideAt c t (Sees m)
 CondvarNeeded MoveFirst c t = (m : ℕ) × IsInsideAt c t (Sees m)
 CondvarNeeded MoveAll c t = (m : ℕ) × IsInsideAt c t (Takes m)
-CondvarNeeded LeaveList c t = IsInsideAt c t Rests × (1 ≤ times t c.waiters)
-CondvarNeeded Clear c t = IsInsideAt c t Clears
+CondvarNeeded LeaveList c t = IsInsideAt c t NothingToDo × (1 ≤ times t c.waiters)
+CondvarNeeded ShowNone c t = IsInsideAt c t Clears
 
 abbrev pub EachCondvarDeedKeeps : Type 0
 EachCondvarDeedKeeps =
@@ -176,18 +176,18 @@ abbrev pub moved_of : Bool → List Queued → List Queued
 moved_of all q = if all then q else take 1 q
 
 -- in the mutex's line they want it
-abbrev pub in_line : Queued → Queued
-in_line x = record { thread = x.thread; want = Exclusive }
+abbrev pub wanting_mutex : Queued → Queued
+wanting_mutex x = record { thread = x.thread; want = Exclusive }
 
 -- no waiter is taken of a mutex that was locked, else the first
 abbrev pub taken_of : Bool → List Queued → List Queued
-taken_of locked moved = if locked then [] else take 1 (map in_line moved)
+taken_of locked moved = if locked then [] else take 1 (map wanting_mutex moved)
 
 abbrev pub line_of : Bool → List Queued → List Queued
-line_of locked moved = if locked then map in_line moved else drop 1 (map in_line moved)
+line_of locked moved = if locked then map wanting_mutex moved else drop 1 (map wanting_mutex moved)
 
 -- the stage at which a notification moves
-abbrev pub moving : Bool → ℕ → Stage
+abbrev pub moving : Bool → ℕ → CondvarStage
 moving all m = if all then Takes m else Sees m
 
 -- a waiter stands nowhere at its mutex, and doesn't try it again

@@ -56,13 +56,13 @@ pub record Rules : Type 0 where
 -- ---------------------------------------------------------------- counting
 
 -- how often a thread is the one named
-abbrev pub is_thread : ℕ → Option ℕ → ℕ
-is_thread t None = 0
-is_thread t (Some u) = if u == t then 1 else 0
+abbrev pub one_if_thread : ℕ → Option ℕ → ℕ
+one_if_thread t None = 0
+one_if_thread t (Some u) = if u == t then 1 else 0
 
-abbrev pub is_pending : ℕ → Option Pending → ℕ
-is_pending t None = 0
-is_pending t (Some p) = if p.thread == t then 1 else 0
+abbrev pub one_if_pending : ℕ → Option Pending → ℕ
+one_if_pending t None = 0
+one_if_pending t (Some p) = if p.thread == t then 1 else 0
 
 abbrev pub one_if_some : {A : Type 0} → Option A → ℕ
 one_if_some None = 0
@@ -112,7 +112,7 @@ has_caller (x ∷ q) = wants_to_run x.want || has_caller q
 
 -- how often a thread stands in the queue, stands aside or is taken
 abbrev pub standing : ℕ → LockState → ℕ
-standing t s = times t s.queue + is_thread t s.aside + one_if_some (s.taken t)
+standing t s = times t s.queue + one_if_thread t s.aside + one_if_some (s.taken t)
 
 -- ---------------------------------------------------------------- wants
 
@@ -135,9 +135,9 @@ pub record Rights : Type 0 where
 
 abbrev pub rights_of : LockState → ℕ → Rights
 rights_of s t = record {
-  exclusive = is_thread t s.exclusive;
-  pending = is_pending t s.pending;
-  upgradable = is_thread t s.upgradable;
+  exclusive = one_if_thread t s.exclusive;
+  pending = one_if_pending t s.pending;
+  upgradable = one_if_thread t s.upgradable;
   shared = slice_index s.shared t;
 }
 
@@ -411,13 +411,13 @@ HandOffFits r Upgradable s = count s ≤ r.limit
 HandOffFits r right s = Unit {0}
 
 -- a lock whose first waiter is taken alone
-abbrev pub TakesFirst : Sort → Type 0
-TakesFirst Mutex = Unit {0}
-TakesFirst Semaphore = Unit {0}
-TakesFirst Normal = ⊥
-TakesFirst Recursive = ⊥
-TakesFirst Once = ⊥
-TakesFirst Condvar = ⊥
+abbrev pub TakesOneAtATime : Sort → Type 0
+TakesOneAtATime Mutex = Unit {0}
+TakesOneAtATime Semaphore = Unit {0}
+TakesOneAtATime Normal = ⊥
+TakesOneAtATime Recursive = ⊥
+TakesOneAtATime Once = ⊥
+TakesOneAtATime Condvar = ⊥
 
 -- a deed at a `Once` needs a phase, and a run is ended by its runner
 abbrev pub OnceNeeds : OnceCase → LockState → ℕ → Type 0
@@ -463,14 +463,14 @@ Needs r (Convert right want) s t = Owns s t right × MayConvert right want × Kn
 Needs r (Park want) s t = IsBlocked r s want × (standing t s ≡ 0)
 Needs r Aside s t = IsSomePending s.pending t × (1 ≤ readers s) × (standing t s ≡ 0)
 Needs r (TakeFirst x) s t =
-    ((rest : List Queued) × (s.queue ≡ x ∷ rest)) × HasTakenNobody s t × TakesFirst r.sort
+    ((rest : List Queued) × (s.queue ≡ x ∷ rest)) × HasTakenNobody s t × TakesOneAtATime r.sort
 Needs r (TakeAside u) s t = (s.aside ≡ Some u) × HasTakenNobody s t
 Needs r (TakePicked start) s t = HasTakenNobody s t × Knows r.sort Upgradable
 Needs r Wake s t = Unit {0}
 Needs r (HandOff right successor) s t =
     Owns s t right × (right ≢ Shared) × IsSuccessor s t successor
     × HandOffFits r right (handed t right successor s)
-Needs r Late s t = 1 ≤ times t s.queue + is_thread t s.aside
+Needs r Late s t = 1 ≤ times t s.queue + one_if_thread t s.aside
 Needs r Rollback s t = IsSomePending s.pending t × (s.aside ≡ None)
 Needs r (OfOnce case) s t = (r.sort ≡ Once) × OnceNeeds case s t
 Needs r (OfCondvar case) s t = (r.sort ≡ Condvar) × CondvarNeeds case s

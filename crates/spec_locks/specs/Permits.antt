@@ -5,9 +5,9 @@ use Rattle.spec_locks.specs.Sites.{Line, Main, Role, Site, IsSite, Deed, Needed,
 use Rattle.spec_locks.specs.Codes.{bit}
 
 -- the sum of the first n values
-abbrev pub total : ℕ → (ℕ → ℕ) → ℕ
-total zero f = 0
-total (suc n) f = total n f + f n
+abbrev pub sum_to : ℕ → (ℕ → ℕ) → ℕ
+sum_to zero f = 0
+sum_to (suc n) f = sum_to n f + f n
 
 abbrev pub wakes_main : Option Line → ℕ
 wakes_main (Some Main) = 1
@@ -18,7 +18,7 @@ abbrev pub debt : Role → ℕ
 debt d = wakes_main d.wakes + bit d.covers + one_if_some d.retries
 
 abbrev pub debts : Site → ℕ
-debts s = total (length s.lock.shared) (λ t. debt (s.role t))
+debts s = sum_to (length s.lock.shared) (λ t. debt (s.role t))
 
 pub record HasPermits (r : Rules) (s : Site) : Type 0 where
   -- while somebody waits, those who hold a permit and those who look after the line are no fewer

@@ -136,8 +136,8 @@ StandsIn s t (Some Main) = s.aside ≢ Some t
 StandsIn s t (Some Second) = s.aside ≡ Some t
 
 -- t is to wake the next of the main line, or has it in hand, or is it
-abbrev pub IsDebtor : Sort → Role → Type 0
-IsDebtor sort d = (d.wakes ≡ Some Main) ⊎ ((d.covers ≡ true) ⊎ (counts_some sort d.retries ≡ true))
+abbrev pub IsDebtorRole : Sort → Role → Type 0
+IsDebtorRole sort d = (d.wakes ≡ Some Main) ⊎ ((d.covers ≡ true) ⊎ (counts_some sort d.retries ≡ true))
 
 -- a thread that is yet to set the bit has one of those that it has brought in hand, or is to take those of
 -- which it has seen the bit
@@ -175,7 +175,7 @@ pub record IsSite (r : Rules) (s : Site) : Type 0 where
   -- nobody is forgotten, nor who is to be brought
   pub main : (s.lock.queue ≢ []) ⊎ ((t : ℕ) × ((s.role t).brings ≡ true)) → IsOpen r.sort s.lock
       → s.filled ≡ false
-      → (t : ℕ) × IsDebtor r.sort (s.role t)
+      → (t : ℕ) × IsDebtorRole r.sort (s.role t)
   pub second : s.lock.aside ≢ None → readers s.lock ≡ 0
       → (t : ℕ) × ((s.role t).wakes ≡ Some Second)
 
@@ -215,8 +215,8 @@ abbrev pub seen_second : Bool → Option Line
 seen_second parked = if parked then Some Second else None
 
 -- a thread that has the next ones in hand gives way without another look
-abbrev pub gives_way : Site → Role → Option Claim → Role
-gives_way s d claims = record d
+abbrev pub role_giving_way : Site → Role → Option Claim → Role
+role_giving_way s d claims = record d
     { wakes = if d.covers then d.wakes else seen_main s.parked; claims = claims }
 
 abbrev pub found : Line → Bool → Option Line
@@ -254,12 +254,12 @@ once_parked Finish parked = false
 once_parked Fail parked = false
 once_parked case parked = parked
 
-abbrev pub once_role : OnceCase → Site → Role → Role
-once_role (Start forced) s d = record d { retries = None; claims = Some Runs }
-once_role Finish s d = record d { wakes = seen_main s.parked; sets = s.parked; claims = Some Ran }
-once_role Fail s d = record d { wakes = seen_main s.parked; sets = s.parked; claims = None }
-once_role (Rest wanted forced) s d = record d { retries = None; empty = None }
-once_role TakeAll s d = record d { wakes = None; sets = false; carries = true }
+abbrev pub role_after_once : OnceCase → Site → Role → Role
+role_after_once (Start forced) s d = record d { retries = None; claims = Some Runs }
+role_after_once Finish s d = record d { wakes = seen_main s.parked; sets = s.parked; claims = Some Ran }
+role_after_once Fail s d = record d { wakes = seen_main s.parked; sets = s.parked; claims = None }
+role_after_once (Rest wanted forced) s d = record d { retries = None; empty = None }
+role_after_once TakeAll s d = record d { wakes = None; sets = false; carries = true }
 
 -- the thread's doing after a case; now is the lock then
 abbrev pub case_role : Sort → Site → LockState → LockCase → Role → Role
@@ -267,9 +267,9 @@ case_role sort s now (Enter x) d = record d { retries = None; claims = None }
 case_role sort s now Pend d = record d { retries = None; claims = Some (Pends false) }
 case_role sort s now Settle d = record d { retries = None; claims = None }
 case_role sort s now (Leave Shared) d = shares_less sort s d
-case_role sort s now (Leave x) d = gives_way s d None
+case_role sort s now (Leave x) d = role_giving_way s d None
 case_role sort s now (Convert x Exclusive) d = record d { claims = upgraded now }
-case_role sort s now (Convert x y) d = gives_way s d (Some (Has y))
+case_role sort s now (Convert x y) d = role_giving_way s d (Some (Has y))
 case_role sort s now (Park x) d = record d { retries = None; empty = None }
 case_role sort s now Aside d = record d { retries = None; empty = None }
 case_role sort s now (TakeFirst x) d = taking_main true now d
@@ -280,8 +280,8 @@ case_role sort s now Wake d = d
 case_role sort s now (HandOff x successor) d =
     record d { covers = false; claims = None; brings = false; sets = false }
 case_role sort s now Late d = record d { empty = late_found now d.inside }
-case_role sort s now Rollback d = gives_way s d (fallen s.lock.pending)
-case_role sort s now (OfOnce case) d = once_role case s d
+case_role sort s now Rollback d = role_giving_way s d (fallen s.lock.pending)
+case_role sort s now (OfOnce case) d = role_after_once case s d
 case_role sort s now (OfCondvar case) d = d
 case_role sort s now (SeeOwner owned) d = d
 

@@ -1,6 +1,6 @@
 //! The calls of a world's threads, and the turns of a schedule.
 ghost use Rattle.std.specs.Prelude.{◌≡◌};
-ghost use Rattle.spec_locks.specs.Calls.{lock_in, mutex_in, right_in};
+ghost use Rattle.spec_locks.specs.Calls.{lock_in, mutex_in, lock_of_right};
 
 /// The calls of a mutex.
 #[derive(Clone, Copy, Debug, PartialEq, Eq)]
@@ -161,7 +161,7 @@ impl Call {
     /// The lock to which the call needs a right, if it needs one: of a wait the mutex that it
     /// names.
     pub fn needs_right_to(self) -> usize
-        ensures { result ≡ right_in self }
+        ensures { result ≡ lock_of_right self }
     {
         self.mutex().unwrap_or(self.lock())
     }

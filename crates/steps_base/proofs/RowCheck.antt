@@ -11,7 +11,7 @@ use Rattle.steps_base.specs.declared.acts.Act.{Act}
 use Rattle.steps_base.specs.declared.acts.Act.TheVariants.{Enter, Leave, Sleep}
 use Rattle.steps_base.specs.declared.acts.Wakes as wakes
 use Rattle.steps_base.specs.Profiles.{Profile, Hand, Of, hand}
-use Rattle.steps_base.specs.Rows.{is_acting, taken_of, IsWaiting, HasClaimed, WasHanded, LetsIn, LetsInAt, IsDebtorIn, HasDebt, RowLooksAfter, RowIsLate, RowPromises, IsDowngrade, WakesAside, KnowsRights}
+use Rattle.steps_base.specs.Rows.{is_acting, taken_in_row, IsWaiting, HasClaimed, WasHanded, LetsIn, LetsInAt, IsDebtorIn, HasDebt, RowLooksAfter, RowIsLate, RowPromises, IsDowngrade, WakesAside, KnowsRights}
 use Rattle.spec_locks.specs.Headline.{WakesWaiters, want_of}
 use Rattle.spec_locks.specs.Locks.{Sort, Taken, Knows, wants_exclusive}
 use Rattle.spec_locks.specs.Locks as sorts
@@ -125,7 +125,7 @@ is_taken None = false
 is_taken (Some x) = true
 
 abbrev pub is_waiting : Profile → Bool
-is_waiting row = not (no_line row.stands) || is_taken (taken_of row)
+is_waiting row = not (no_line row.stands) || is_taken (taken_in_row row)
 
 abbrev pub pends : Option Claim → Bool
 pends (Some (Pends b)) = true
@@ -144,7 +144,7 @@ has_debt sort row q Main = (is_line Main row.owes && wakes_waiters sort q row.ga
 has_debt sort row q Second = is_line Second row.owes
 
 abbrev pub looks_after : Sort → Profile → Purpose → Going → Line → Bool
-looks_after sort row q g m = has_debt sort row q m && (not (sleeps g) && (no_line row.stands && not (is_taken (taken_of row))))
+looks_after sort row q g m = has_debt sort row q m && (not (sleeps g) && (no_line row.stands && not (is_taken (taken_in_row row))))
 
 abbrev pub told : Option Bool → Bool
 told (Some true) = true
@@ -526,11 +526,11 @@ module _ (sort : Sort) (l : ℕ) (row : Profile) (a : Act) (g : Going) (own : lo
   debt_so Second h = line_is Second row.owes h
 
   waiting_so : is_waiting row ≡ true → IsWaiting row
-  waiting_so h = elim (either _ _ h) [ inl r ↦ inl (not_none row.stands r) | inr s ↦ inr (is_taken_so (taken_of row) s) ]
+  waiting_so h = elim (either _ _ h) [ inl r ↦ inl (not_none row.stands r) | inr s ↦ inr (is_taken_so (taken_in_row row) s) ]
 
   waiting_is : IsWaiting row → is_waiting row ≡ true
   waiting_is (inl n) = or_l _ _ (some_is row.stands n)
-  waiting_is (inr n) = or_r (not (no_line row.stands)) _ (taken_is (taken_of row) n)
+  waiting_is (inr n) = or_r (not (no_line row.stands)) _ (taken_is (taken_in_row row) n)
 
   handed_so : was_handed sort row (row.purpose l) ≡ true → WasHanded sort l row
   handed_so h =
@@ -619,10 +619,10 @@ module _ (sort : Sort) (l : ℕ) (row : Profile) (a : Act) (g : Going) (own : lo
 
       looks : (m : Line) → looks_after sort row (row.purpose l) g m ≡ true → RowLooksAfter sort l row a m
       looks m x =
-          let p : (has_debt sort row (row.purpose l) m ≡ true) × ((not (sleeps g) && (no_line row.stands && not (is_taken (taken_of row)))) ≡ true) = both _ _ x in
-          let r : (not (sleeps g) ≡ true) × ((no_line row.stands && not (is_taken (taken_of row))) ≡ true) = both _ _ p.1 in
-          let s : (no_line row.stands ≡ true) × (not (is_taken (taken_of row)) ≡ true) = both _ _ r.1 in
-          record { debt = debt_so m p.0; awake = λ e. no (sleeps g) r.0 (asleep_is l a g goes e); stands = none_is row.stands s.0; taken = not_taken (taken_of row) s.1 }
+          let p : (has_debt sort row (row.purpose l) m ≡ true) × ((not (sleeps g) && (no_line row.stands && not (is_taken (taken_in_row row)))) ≡ true) = both _ _ x in
+          let r : (not (sleeps g) ≡ true) × ((no_line row.stands && not (is_taken (taken_in_row row))) ≡ true) = both _ _ p.1 in
+          let s : (no_line row.stands ≡ true) × (not (is_taken (taken_in_row row)) ≡ true) = both _ _ r.1 in
+          record { debt = debt_so m p.0; awake = λ e. no (sleeps g) r.0 (asleep_is l a g goes e); stands = none_is row.stands s.0; taken = not_taken (taken_in_row row) s.1 }
 
       pays : (m : Line) → IsDebtorIn sort row.role m → (row.role.claims ≡ Some (Has w.Exclusive) → ⊥) → RowLooksAfter sort l row a m
       pays m d free = elim (either (owns_alone row.role.claims) _ (so _ _ (of m).debtor (debtor_is m d))) [

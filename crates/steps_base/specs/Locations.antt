@@ -2,7 +2,7 @@
 -- place.
 use Rattle.std.specs.Prelude.{Bool, Option, Some, None}
 use Rattle.core_base.specs.declared.wants.Want.{Want}
-use Rattle.steps_base.specs.Profiles.{Hand, Profile, blank}
+use Rattle.steps_base.specs.Profiles.{Hand, Profile, blank_row}
 use Rattle.spec_locks.specs.Sites.{Line}
 
 pub record Location : Type 0 where
@@ -16,18 +16,18 @@ pub record Location : Type 0 where
   -- in whose hand it is
   pub hand : Option Hand
 
-abbrev pub waits_for : Option Line → Option Want → Option Want
-waits_for None wants = None
-waits_for (Some m) wants = wants
+abbrev pub want_in_line : Option Line → Option Want → Option Want
+want_in_line None wants = None
+want_in_line (Some m) wants = wants
 
 abbrev pub location_by : Profile → Location
 location_by row = record {
   inside = row.role.inside;
   stands = row.stands;
-  waits = waits_for row.stands row.wants;
+  waits = want_in_line row.stands row.wants;
   carries = row.carries;
   hand = row.hand;
 }
 
 abbrev pub nowhere : Location
-nowhere = location_by blank
+nowhere = location_by blank_row

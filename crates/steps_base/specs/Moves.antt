@@ -18,7 +18,7 @@ use Rattle.steps_base.specs.declared.acts.Reply.TheVariants.{Done, Value, Parked
 use Rattle.steps_base.specs.declared.acts.Wakes.{Wakes}
 use Rattle.steps_base.specs.declared.acts.Whom as whom
 use Rattle.steps_base.specs.Acts.{holds, takes_effect, wakes_taken, any_picked}
-use Rattle.steps_base.specs.Profiles.{Profile, blank, hand, in_hand}
+use Rattle.steps_base.specs.Profiles.{Profile, blank_row, hand, in_hand}
 use Rattle.steps_base.specs.Locations.{Location, location_by, nowhere}
 use Rattle.spec_locks.specs.Locks.{Rules, Queued, Aside, HandOff, Late as GivesUp, Park, TakeAside, TakePicked, Wake, standing, times, unpicked, without}
 use Rattle.spec_locks.specs.Sites.{Site, Claim, Has, Pends, Deed, Line, Main, Second, End, In, Out, Mark, Clear, FindNobody, Case, is_empty}
@@ -27,7 +27,7 @@ use Rattle.spec_locks.specs.Codes.{code}
 -- the row of the next place, or of none
 abbrev pub row_of : Next Profile → Profile
 row_of (At row) = row
-row_of (Ends answer) = blank
+row_of (Ends answer) = blank_row
 
 -- a thread at a place: its row, where each reply leads it, and what it does then, where whomever it
 -- takes is no part of the place
@@ -53,8 +53,8 @@ abbrev pub Hears : Type 1
 Hears = Rules → Site → ℕ → Option ℕ → Reply → Type 0
 
 -- nobody is inside a section
-abbrev pub IsFree : Site → Line → Type 0
-IsFree s m = (u : ℕ) → (s.role u).inside ≢ Some m
+abbrev pub IsSectionFree : Site → Line → Type 0
+IsSectionFree s m = (u : ℕ) → (s.role u).inside ≢ Some m
 
 -- it stands in a line, and whether nobody else does
 abbrev pub StandsAlone : Site → ℕ → Line → Bool → Type 0
@@ -114,7 +114,7 @@ pub record GoesIn (x : Move) (hears : Hears) (m : Line) (told : Reply) : Type 0 
   pub free : (location_of x).hand ≡ None
   pub deeds : x.deeds None told ≡ In m ∷ []
   pub goes : location_then x told ≡ record (location_of x) { inside = Some m }
-  pub may : (r : Rules) (s : Site) (t : ℕ) → IsFree s m → hears r s t None told
+  pub may : (r : Rules) (s : Site) (t : ℕ) → IsSectionFree s m → hears r s t None told
 
 -- where the test holds, it stands behind the last
 pub record Parks (x : Move) (hears : Hears) (m : Line) (check : Check) (want : Want) : Type 0 where
@@ -234,22 +234,22 @@ pub record WasGiven (x : Move) (u : ℕ) : Type 0 where
 -- ---------------------------------------------------------------- all acts
 
 -- at a lock, which is recursive or not, by the act
-abbrev pub Moves : ℕ → Bool → Move → Hears → Act → Type 0
-Moves l recursive x hears (act.Word k op) = (k ≡ l) × StaysPut x
-Moves l recursive x hears (act.Enter keys) =
+abbrev pub MovesByAct : ℕ → Bool → Move → Hears → Act → Type 0
+MovesByAct l recursive x hears (act.Word k op) = (k ≡ l) × StaysPut x
+MovesByAct l recursive x hears (act.Enter keys) =
     (m : Line) × (keys ≡ One (key_of l m)) × GoesIn x hears m Done
-Moves l recursive x hears (act.Park k key check want) =
+MovesByAct l recursive x hears (act.Park k key check want) =
     (m : Line) × (k ≡ l) × (key ≡ key_of l m) × Parks x hears m check want
-Moves l recursive x hears (act.Take key (whom.TheVariants.Picked start b)) =
+MovesByAct l recursive x hears (act.Take key (whom.TheVariants.Picked start b)) =
     (key ≡ key_of l Main) × (b ≡ recursive) × Picks x hears start
-Moves l recursive x hears (act.Take key whom.TheVariants.First) =
+MovesByAct l recursive x hears (act.Take key whom.TheVariants.First) =
     (key ≡ key_of l Second) × TakesAside x hears
-Moves l recursive x hears (act.Remove key) = (m : Line) × (key ≡ key_of l m) × LeavesLine x hears m
-Moves l recursive x hears (act.Leave keys wakes) =
+MovesByAct l recursive x hears (act.Remove key) = (m : Line) × (key ≡ key_of l m) × LeavesLine x hears m
+MovesByAct l recursive x hears (act.Leave keys wakes) =
     (m : Line) × (keys ≡ One (key_of l m)) × GoesOut x hears m wakes
-Moves l recursive x hears act.Sleep = Unit {0}
-Moves l recursive x hears (act.End answer) = Unit {0}
-Moves l recursive x hears act = ⊥
+MovesByAct l recursive x hears act.Sleep = Unit {0}
+MovesByAct l recursive x hears (act.End answer) = Unit {0}
+MovesByAct l recursive x hears act = ⊥
 
 -- ---------------------------------------------------------------- effects on a thread asleep
 
@@ -271,7 +271,7 @@ pub record IsHeld (x : Move) (u : ℕ) : Type 0 where
 
 -- a thread that stands in a line sleeps there or is inside its section, only a pending writer stands aside,
 -- and one in a hand is so to be woken
-pub record Waits (x : Move) : Type 0 where
+pub record RowWaits (x : Move) : Type 0 where
   pub aside : x.row.stands ≡ Some Second
       → (x.row.wants ≡ Some Exclusive)
       × ((falls_back : Bool) × (x.row.role.claims ≡ Some (Pends falls_back)))

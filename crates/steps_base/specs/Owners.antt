@@ -35,9 +35,9 @@ pending_owner None = None
 pending_owner (Some p) = Some (record { thread = p.thread; falls_back = is_upgradable p.fallback })
 
 -- the thread that runs the closure of a `Once`
-abbrev pub runner : Phase → Option ℕ
-runner (phases.InProgress t) = Some t
-runner phase = None
+abbrev pub running_thread : Phase → Option ℕ
+running_thread (phases.InProgress t) = Some t
+running_thread phase = None
 
 abbrev pub phase_seen : Phase → onces.Phase
 phase_seen phases.New = onces.New

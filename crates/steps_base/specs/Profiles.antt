@@ -3,7 +3,7 @@
 use Rattle.std.specs.Prelude.{ℕ, Bool, false, Option, Some, None, if◌then◌else◌}
 use Rattle.core_base.specs.declared.wants.Want.{Want}
 use Rattle.core_base.specs.declared.wants.Want.TheVariants.{Exclusive}
-use Rattle.spec_locks.specs.Condvars.{Stage}
+use Rattle.spec_locks.specs.Condvars.{CondvarStage}
 use Rattle.spec_locks.specs.Locks.{Rights, Taken}
 use Rattle.spec_locks.specs.Purposes.{Purpose, Enters, Recall, Blank}
 use Rattle.spec_locks.specs.declared.calls.Patience.TheVariants.{Try}
@@ -52,7 +52,7 @@ pub record Profile : Type 0 where
   -- a call of a condition variable: what it has seen and moved, and what befell it
   pub recalls : Recall
   -- its next deed inside the section of a condition variable, and the mutex that its wait names
-  pub stage : Option Stage
+  pub stage : Option CondvarStage
   pub names : Option ℕ
   -- the goal of its call, by the lock, and whether it has given its right up
   pub purpose : ℕ → Purpose
@@ -61,8 +61,8 @@ pub record Profile : Type 0 where
   pub former : ℕ → (ℕ → Rights) → ℕ → Rights
 
 -- the row of a try: each other row is told by what is otherwise
-abbrev pub blank : Profile
-blank = record {
+abbrev pub blank_row : Profile
+blank_row = record {
   role = idle;
   stands = None;
   carries = None;

@@ -15,7 +15,7 @@ use Rattle.spec_locks.specs.Locks.{Sort, Taken, Knows, Once}
 use Rattle.spec_locks.specs.Locks as locks
 use Rattle.spec_locks.specs.Purposes.{Purpose, Enters, Releases, Converts, Bumps, CallsOnce, Awaits, Waits, Notifies, MayWait, IsReleasing, lock_for}
 use Rattle.spec_locks.specs.Runs.{IsTimed}
-use Rattle.spec_locks.specs.Sites.{Claim, Role, Line, Main, Second, Has, Pends, IsDebtor, counts_some, has_readers}
+use Rattle.spec_locks.specs.Sites.{Claim, Role, Line, Main, Second, Has, Pends, IsDebtorRole, counts_some, has_readers}
 
 -- ---------------------------------------------------------------- calls
 
@@ -51,12 +51,12 @@ is_acting (End answer) = false
 is_acting a = true
 
 -- by whom it was taken from a queue of its lock
-abbrev pub taken_of : Profile → Option Taken
-taken_of row = taken_from row.hand row.wants true
+abbrev pub taken_in_row : Profile → Option Taken
+taken_in_row row = taken_from row.hand row.wants true
 
 -- it stands in a line, or was taken from one
 abbrev pub IsWaiting : Profile → Type 0
-IsWaiting row = (row.stands ≢ None) ⊎ (taken_of row ≢ None)
+IsWaiting row = (row.stands ≢ None) ⊎ (taken_in_row row ≢ None)
 
 -- it has this right, or, to a lock that is shared, its pending one
 abbrev pub HasClaimed : Sort → Option Claim → Want → Type 0
@@ -92,7 +92,7 @@ pub record RowOwes (sort : Sort) (l : ℕ) (row : Profile) (a : Act) : Type 0 wh
 
 -- it is to look after the waiters of a line, by what it does
 abbrev pub IsDebtorIn : Sort → Role → Line → Type 0
-IsDebtorIn sort d Main = IsDebtor sort d
+IsDebtorIn sort d Main = IsDebtorRole sort d
 IsDebtorIn sort d Second = d.wakes ≡ Some Second
 
 abbrev pub HasDebt : Sort → ℕ → Profile → Line → Type 0
@@ -106,7 +106,7 @@ pub record RowLooksAfter (sort : Sort) (l : ℕ) (row : Profile) (a : Act) (m : 
   pub debt : HasDebt sort l row m
   pub awake : a ≢ Sleep
   pub stands : row.stands ≡ None
-  pub taken : taken_of row ≡ None
+  pub taken : taken_in_row row ≡ None
 
 -- a sleeper that may give up stands in the line, in a call that has a deadline and lets nobody in
 pub record RowIsLate (sort : Sort) (l : ℕ) (row : Profile) (a : Act) (m : Line) : Type 0 where

@@ -1,6 +1,6 @@
 //! The owners of a lock.
 ghost use Rattle.std.specs.Prelude.{◌≡◌, Option};
-ghost use Rattle.steps_base.specs.Owners.{runner};
+ghost use Rattle.steps_base.specs.Owners.{running_thread};
 
 /// A sort of ownership.
 #[derive(Clone, Copy, Debug, PartialEq, Eq)]
@@ -105,7 +105,7 @@ impl Owners {
 impl Phase {
     /// The thread that runs the closure.
     pub fn runner(self) -> Option<usize>
-        ensures { result ≡ runner self }
+        ensures { result ≡ running_thread self }
     {
         match self {
             Phase::InProgress(thread) => Some(thread),

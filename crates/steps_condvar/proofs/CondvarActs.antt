@@ -28,7 +28,7 @@ use Rattle.steps_mutex.specs.declared.lock.LockAt.TheVariants as lock
 use Rattle.steps_mutex.specs.declared.places.MutexPlace.TheVariants as mutex
 use Rattle.steps_mutex.specs.declared.unlock.UnlockAt.{UnlockAt}
 use Rattle.steps_mutex.specs.declared.unlock.UnlockAt.TheVariants as unlock
-use Rattle.steps_mutex.specs.MutexDeeds.{enters, takes}
+use Rattle.steps_mutex.specs.MutexDeeds.{enter_deeds, take_deeds}
 use Rattle.steps_mutex.specs.MutexProfiles.{inside}
 use Rattle.steps_mutex.specs.MutexSteps.{entered, in_lock, in_unlock, is_locked, is_parked}
 use Rattle.steps_condvar.specs.declared.notify.NotifyAt.{NotifyAt}
@@ -39,12 +39,12 @@ use Rattle.steps_condvar.specs.declared.wait.Stands.{Stands}
 use Rattle.steps_condvar.specs.declared.wait.Stands.TheVariants as stands
 use Rattle.steps_condvar.specs.declared.wait.WaitAt.{WaitAt}
 use Rattle.steps_condvar.specs.declared.wait.WaitAt.TheVariants as wait
-use Rattle.steps_condvar.specs.CondvarSteps.{in_lock as in_lock_once, behind, condvar_act, in_notify, in_wait, is_shown, marks, moved_one, mutex_shown, notified, released, relocked}
+use Rattle.steps_condvar.specs.CondvarSteps.{in_lock as in_lock_once, behind_release, condvar_act, in_notify, in_wait, is_shown, marks, moved_one, mutex_shown, notified, released, relocked}
 use Rattle.steps_condvar.specs.CondvarProfiles.{has_moved, mutex_side, condvar_profile}
 use Rattle.steps_condvar.specs.CondvarDeeds.{relocked_deeds}
 use Rattle.steps_condvar.specs.CondvarWaits as waits
 use Rattle.steps_condvar.specs.CondvarCalls.{IsLockOf, IsReached}
-use Rattle.steps_condvar.specs.CondvarMoves.{WaitersLookAgain, WaitsBegin, CondvarMoves, IsInHand, LooksMove, NotifiesMove, SleepsBeside, SleepsThere, StayBeside, StayThere, StaysBeside, StaysThere, WaitersMove, WaitsAtBoth, WaitsMove, beside, row_beside, row_there, there}
+use Rattle.steps_condvar.specs.CondvarMoves.{WaitersLookAgain, WaitsBegin, CondvarMoves, IsInHand, LooksMove, NotifiesMove, SleepsBeside, SleepsThere, StayBeside, StayThere, StaysPutBeside, StaysThere, WaitersMove, WaitsAtBoth, WaitsMove, move_beside, row_beside, row_there, there}
 
 -- where a thread is next, at each lock
 abbrev there_next : Next CondvarPlace → Location
@@ -63,7 +63,7 @@ module _ (c m : ℕ) (timed : Bool) where
   releasing st at = place (wait.Release st (mutex.Unlock at))
 
   -- after it, it is where what befell it says
-  behind_there : (st : Stands) → there (place (behind st)) ≡ there (releasing st unlock.Subtract)
+  behind_there : (st : Stands) → there (place (behind_release st)) ≡ there (releasing st unlock.Subtract)
   behind_there stands.Listed = refl
   behind_there stands.Moved = refl
   behind_there (stands.InHand by) = refl
@@ -71,7 +71,7 @@ module _ (c m : ℕ) (timed : Bool) where
   behind_there (stands.Noted note.Normal) = refl
   behind_there (stands.Noted note.HandOff) = refl
 
-  behind_beside : (st : Stands) → location_by (mutex_side (place (behind st))) ≡ location_by (mutex_side (releasing st unlock.Subtract))
+  behind_beside : (st : Stands) → location_by (mutex_side (place (behind_release st))) ≡ location_by (mutex_side (releasing st unlock.Subtract))
   behind_beside stands.Listed = refl
   behind_beside stands.Moved = refl
   behind_beside (stands.InHand by) = refl
@@ -79,7 +79,7 @@ module _ (c m : ℕ) (timed : Bool) where
   behind_beside (stands.Noted note.Normal) = refl
   behind_beside (stands.Noted note.HandOff) = refl
 
-  subtracts : (st : Stands) (seen : ℕ) → StaysThere (releasing st unlock.Subtract) (Value seen) × StaysBeside (beside [] (releasing st unlock.Subtract)) (Value seen)
+  subtracts : (st : Stands) (seen : ℕ) → StaysThere (releasing st unlock.Subtract) (Value seen) × StaysPutBeside (move_beside [] (releasing st unlock.Subtract)) (Value seen)
   subtracts st seen = (record { deeds = tt; goes = by_there (is_parked seen) }, record { deeds = by_deeds (is_parked seen); goes = by_beside (is_parked seen) })
     where
       by_there : (b : Bool) → there_next (in_wait m timed (At (released st (in_unlock (if b then At unlock.Enter else Over answer.Ok))))) ≡ there (releasing st unlock.Subtract)
@@ -100,7 +100,7 @@ module _ (c m : ℕ) (timed : Bool) where
   releases st unlock.Take =
       inl (refl, record { inside = refl; empty_handed = refl; deeds = takes_so; goes = λ any none_left. took any none_left; may = λ r s t whom any none_left first nobody. (first, nobody) }, λ any none_left. record { deeds = tt; goes = left_there any none_left })
     where
-      takes_so : (whom : Option ℕ) (any none_left : Bool) → waits.unended (takes whom) ≡ takes whom
+      takes_so : (whom : Option ℕ) (any none_left : Bool) → waits.unended (take_deeds whom) ≡ take_deeds whom
       takes_so None any none_left = refl
       takes_so (Some u) any none_left = refl
 
@@ -124,7 +124,7 @@ module _ (c m : ℕ) (timed : Bool) where
     lock_next n = in_wait m timed (relocked timed timed_out (in_lock entry.Lock retries n))
 
     abbrev StayBoth : LockAt → Reply → Type 0
-    StayBoth at told = StaysThere (locking at) told × StaysBeside (beside [] (locking at)) told
+    StayBoth at told = StaysThere (locking at) told × StaysPutBeside (move_beside [] (locking at)) told
 
     tries : (seen : ℕ) → StayBoth lock.First (Value seen)
     tries seen = (record { deeds = deeds_there (seen == 0); goes = by_there (seen == 0) }, record { deeds = deeds_by (seen == 0); goes = by_beside (seen == 0) })
@@ -137,7 +137,7 @@ module _ (c m : ℕ) (timed : Bool) where
         by_there true = refl
         by_there false = refl
 
-        deeds_by : (b : Bool) → StayBeside (if b then enters else [])
+        deeds_by : (b : Bool) → StayBeside (if b then enter_deeds else [])
         deeds_by true = tt
         deeds_by false = tt
 
@@ -162,7 +162,7 @@ module _ (c m : ℕ) (timed : Bool) where
         by_there true true = refl
         by_there true false = refl
 
-        deeds_by : (same locked : Bool) → StayBeside (if not same then [] else if locked then Mark Main ∷ [] else enters)
+        deeds_by : (same locked : Bool) → StayBeside (if not same then [] else if locked then Mark Main ∷ [] else enter_deeds)
         deeds_by false locked = tt
         deeds_by true true = tt
         deeds_by true false = tt
@@ -201,7 +201,7 @@ module _ (c m : ℕ) (timed : Bool) where
 
   -- ---------------------------------------------------------------- each place of a wait
 
-  shows : (seen : ℕ) → StaysThere (place wait.Show) (Value seen) × StaysBeside (beside [] (place wait.Show)) (Value seen)
+  shows : (seen : ℕ) → StaysThere (place wait.Show) (Value seen) × StaysPutBeside (move_beside [] (place wait.Show)) (Value seen)
   shows seen = (record { deeds = deeds_there ((seen == 0) || is_shown seen m); goes = by_there ((seen == 0) || is_shown seen m) }, record { deeds = tt; goes = by_beside ((seen == 0) || is_shown seen m) })
     where
       deeds_there : (b : Bool) → StayThere (if b then Show m ∷ [] else SeeOther m ∷ [])
@@ -255,7 +255,7 @@ module _ (c m : ℕ) (q : List Queued) where
   notifying all at = Notify all m at
 
   abbrev Stays : Bool → NotifyAt → Reply → Type 0
-  Stays all at told = StaysThere (notifying all at) told × StaysBeside (beside q (notifying all at)) told
+  Stays all at told = StaysThere (notifying all at) told × StaysPutBeside (move_beside q (notifying all at)) told
 
   -- inside both sections, with those whom it has taken, if any, in hand
   abbrev both_with : Bool → Location
@@ -374,7 +374,7 @@ looks_move c m all = (inl refl, λ seen. (record { deeds = tt; goes = by_there s
 -- ---------------------------------------------------------------- effects on a waiter
 
 -- it stands in neither queue, and is in nobody's hand
-awake : (p : CondvarPlace) → (there p).stands ≡ None → (location_of (beside [] p)).stands ≡ None → (location_of (beside [] p)).hand ≡ None → WaitsAtBoth p
+awake : (p : CondvarPlace) → (there p).stands ≡ None → (location_of (move_beside [] p)).stands ≡ None → (location_of (move_beside [] p)).hand ≡ None → WaitsAtBoth p
 awake p out off free = record {
   listed = λ e. absurd (let g : ◌≡◌ {A = Option Line} None (Some Main) = sym out ∙ e in cc);
   moved = λ e. absurd (let g : ◌≡◌ {A = Option Line} None (Some Main) = sym off ∙ e in cc);
@@ -385,21 +385,21 @@ module _ (m : ℕ) (timed : Bool) where
   abbrev waiting : WaitAt → CondvarPlace
   waiting at = Wait m timed at
 
-  listed : (p : CondvarPlace) → ((there p).inside ≡ Some Main) ⊎ SleepsThere p → (location_of (beside [] p)).stands ≡ None → (location_of (beside [] p)).hand ≡ None → WaitsAtBoth p
+  listed : (p : CondvarPlace) → ((there p).inside ≡ Some Main) ⊎ SleepsThere p → (location_of (move_beside [] p)).stands ≡ None → (location_of (move_beside [] p)).hand ≡ None → WaitsAtBoth p
   listed p so off free = record {
     listed = λ e. so;
     moved = λ e. absurd (let g : ◌≡◌ {A = Option Line} None (Some Main) = sym off ∙ e in cc);
     held = λ u handed e. absurd (let g : ◌≡◌ {A = Option Hand} None (hand u handed) = sym free ∙ e in cc);
   }
 
-  moved : (p : CondvarPlace) → ((location_of (beside [] p)).inside ≡ Some Main) ⊎ SleepsBeside p → (there p).stands ≡ None → (location_of (beside [] p)).hand ≡ None → WaitsAtBoth p
+  moved : (p : CondvarPlace) → ((location_of (move_beside [] p)).inside ≡ Some Main) ⊎ SleepsBeside p → (there p).stands ≡ None → (location_of (move_beside [] p)).hand ≡ None → WaitsAtBoth p
   moved p so out free = record {
     listed = λ e. absurd (let g : ◌≡◌ {A = Option Line} None (Some Main) = sym out ∙ e in cc);
     moved = λ e. so;
     held = λ u handed e. absurd (let g : ◌≡◌ {A = Option Hand} None (hand u handed) = sym free ∙ e in cc);
   }
 
-  in_hand_of : (p : CondvarPlace) (by : ℕ) (given : Bool) → (there p).stands ≡ None → (location_of (beside [] p)).stands ≡ None → (location_of (beside [] p)).hand ≡ hand by given
+  in_hand_of : (p : CondvarPlace) (by : ℕ) (given : Bool) → (there p).stands ≡ None → (location_of (move_beside [] p)).stands ≡ None → (location_of (move_beside [] p)).hand ≡ hand by given
       → ((u : ℕ) → hand by given ≡ hand u given → IsInHand p u given) → WaitsAtBoth p
   in_hand_of p by given out off holds so = record {
     listed = λ e. absurd (let g : ◌≡◌ {A = Option Line} None (Some Main) = sym out ∙ e in cc);

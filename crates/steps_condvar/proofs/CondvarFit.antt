@@ -13,7 +13,7 @@ use Rattle.steps_base.specs.declared.acts.Next.TheVariants.{At, End}
 use Rattle.steps_base.specs.declared.acts.Reply.{Reply}
 use Rattle.steps_base.specs.declared.acts.Reply.TheVariants as reply
 use Rattle.steps_base.specs.declared.owners.Owners.{Owners}
-use Rattle.spec_locks.specs.Condvars.{Stage, Rests, Refuses, Misses, Sees, Takes, Clears, Inside, CondvarSite, IsCondvar, CondvarDeed, Show, SeeOther, SeeAgain, MissIt, Hide, MoveFirst, MoveAll, LeaveList, Clear, MayGo, MayGoOut, IsAsInside, IsInsideAt, IsInsideNot, at, condvar_leads, hidden, waiter}
+use Rattle.spec_locks.specs.Condvars.{CondvarStage, NothingToDo, SeesOther, Misses, Sees, Takes, Clears, Inside, CondvarSite, IsCondvar, CondvarDeed, Show, SeeOther, SeeAgain, MissIt, HideAndTakeAll, MoveFirst, MoveAll, LeaveList, ShowNone, MayLeaveSection, MayGoOut, IsAsInside, IsInsideAt, IsInsideNot, at, condvar_leads, hidden, queued_to_wait}
 use Rattle.spec_locks.specs.Condvars as condvars
 use Rattle.spec_locks.specs.Locks.{Queued, putting, times, without}
 use Rattle.spec_locks.specs.Sites.{Role, is_empty}
@@ -33,16 +33,16 @@ use Rattle.steps_condvar.specs.declared.wait.Stands.{Stands}
 use Rattle.steps_condvar.specs.declared.wait.Stands.TheVariants as stands
 use Rattle.steps_condvar.specs.declared.wait.WaitAt.{WaitAt}
 use Rattle.steps_condvar.specs.declared.wait.WaitAt.TheVariants as wait
-use Rattle.steps_condvar.specs.CondvarSteps.{stands_after, befalls, behind, condvar_act, condvar_owners, in_notify, in_wait, is_shown, marks, mutex_beside, mutex_shown, notified, released, relocked, shown_as}
+use Rattle.steps_condvar.specs.CondvarSteps.{stands_after, comes_from_another, behind_release, condvar_act, condvar_owners, in_notify, in_wait, is_shown, marks, mutex_beside, mutex_shown, notified, released, relocked, shown_as}
 use Rattle.steps_condvar.specs.CondvarProfiles.{is_listed, told_stage}
-use Rattle.steps_condvar.specs.CondvarDeeds.{AllNeeded, CondvarMovesFit, CondvarOwnersFollow, CondvarStepsCode, CondvarStepsFollow, Follows, IsAt, IsAtNext, IsListed, MayHear, after_all, condvar_deeds, relocked_deeds, word_of}
+use Rattle.steps_condvar.specs.CondvarDeeds.{AllCondvarNeeded, CondvarMovesFit, CondvarOwnersFollow, CondvarStepsCode, CondvarStepsFollow, Follows, IsAt, IsAtNext, IsListed, MayHear, after_condvar_deeds, condvar_deeds, relocked_deeds, word_showing}
 
 times_gone : (t : ℕ) (q : List Queued) → times t (without t q) ≡ 0
 times_gone t [] = refl
 times_gone t (x ∷ q) = grind (arith, nat_tests, times_gone t q)
 
-times_behind : (t : ℕ) (q : List Queued) → times t q ≡ 0 → times t (q ++ waiter t ∷ []) ≡ 1
-times_behind t q e = grind (arith, nat_tests, times_append t q (waiter t ∷ []))
+times_behind : (t : ℕ) (q : List Queued) → times t q ≡ 0 → times t (q ++ queued_to_wait t ∷ []) ≡ 1
+times_behind t q e = grind (arith, nat_tests, times_append t q (queued_to_wait t ∷ []))
 
 times_rest : (t : ℕ) (q : List Queued) → times t q ≡ 0 → times t (drop 1 q) ≡ 0
 times_rest t [] e = refl
@@ -58,11 +58,11 @@ same_shown n m e = grind (arith, nat_tests)
 other_shown : (n m : ℕ) → ((shown_as n == 0) || is_shown (shown_as n) m) ≡ false → n ≢ m
 other_shown n m e k = grind (arith, nat_tests)
 
-sees_own : (o : Option ℕ) (m : ℕ) → ((word_of o == 0) || is_shown (word_of o) m) ≡ true → (o ≡ None) ⊎ (o ≡ Some m)
+sees_own : (o : Option ℕ) (m : ℕ) → ((word_showing o == 0) || is_shown (word_showing o) m) ≡ true → (o ≡ None) ⊎ (o ≡ Some m)
 sees_own None m e = inl refl
 sees_own (Some n) m e = inr (ap (λ k. Some k) (same_shown n m e))
 
-sees_other : (o : Option ℕ) (m : ℕ) → ((word_of o == 0) || is_shown (word_of o) m) ≡ false → (o ≢ None) × (o ≢ Some m)
+sees_other : (o : Option ℕ) (m : ℕ) → ((word_showing o == 0) || is_shown (word_showing o) m) ≡ false → (o ≢ None) × (o ≢ Some m)
 sees_other None m e = absurd cc
 sees_other (Some n) m e = ((λ k. cc), λ k. other_shown n m e (let g : n ≡ m = cc in g))
 
@@ -72,11 +72,11 @@ same_again n m e = grind (arith, nat_tests)
 other_again : (n m : ℕ) → is_shown (shown_as n) m ≡ false → n ≢ m
 other_again n m e k = grind (arith, nat_tests)
 
-sees_again : (o : Option ℕ) (m : ℕ) → is_shown (word_of o) m ≡ true → o ≡ Some m
+sees_again : (o : Option ℕ) (m : ℕ) → is_shown (word_showing o) m ≡ true → o ≡ Some m
 sees_again None m e = absurd cc
 sees_again (Some n) m e = ap (λ k. Some k) (same_again n m e)
 
-misses : (o : Option ℕ) (m : ℕ) → is_shown (word_of o) m ≡ false → o ≢ Some m
+misses : (o : Option ℕ) (m : ℕ) → is_shown (word_showing o) m ≡ false → o ≢ Some m
 misses None m e k = cc
 misses (Some n) m e k = other_again n m e (let g : n ≡ m = cc in g)
 
@@ -89,19 +89,19 @@ not_none n ne = grind (arith, nat_tests)
 
 -- deeds may be done, and the thread is there behind them
 record Does (c : CondvarSite) (t : ℕ) (ds : List CondvarDeed) (n : Next CondvarPlace) : Type 0 where
-  pub needed : AllNeeded ds c t
-  pub next : IsAtNext (after_all ds c t) t n
+  pub needed : AllCondvarNeeded ds c t
+  pub next : IsAtNext (after_condvar_deeds ds c t) t n
 
 module _ (c : CondvarSite) (t : ℕ) (site : IsCondvar c) where
   -- tells what t knows by its stage
-  known : (stage : Stage) → IsInsideAt c t stage → condvars.IsAt c t stage
+  known : (stage : CondvarStage) → IsInsideAt c t stage → condvars.StageHolds c t stage
   known stage e = subst (λ (i : Option Inside). IsAsInside c i) e site.inside
 
   -- it may leave with nothing left to do
-  may_go : (stage : Stage) → IsInsideAt c t stage → MayGo stage → MayGoOut c.inside t
+  may_go : (stage : CondvarStage) → IsInsideAt c t stage → MayLeaveSection stage → MayGoOut c.inside t
   may_go stage e go = subst (λ (i : Option Inside). MayGoOut i t) (sym e) (refl, go)
 
-  stage_by : (d : CondvarSite) (b b2 : Bool) (x y : Stage) → b ≡ b2 → IsInsideAt d t (if b then x else y) → IsInsideAt d t (if b2 then x else y)
+  stage_by : (d : CondvarSite) (b b2 : Bool) (x y : CondvarStage) → b ≡ b2 → IsInsideAt d t (if b then x else y) → IsInsideAt d t (if b2 then x else y)
   stage_by d b b2 x y e h = subst (λ b. IsInsideAt d t (if b then x else y)) e h
 
   -- ---------------------------------------------------------------- waiters
@@ -112,7 +112,7 @@ module _ (c : CondvarSite) (t : ℕ) (site : IsCondvar c) where
     shows a true own other = record { needed = ((a.stage, a.names, own refl), tt); next = record { stage = refl; listed = a.listed; names = a.names } }
     shows a false own other = let x = other refl in record { needed = ((a.stage, x.0, x.1), tt); next = record { stage = refl; listed = a.listed; names = a.names } }
 
-    goes_behind : (s : Stands) → IsInsideNot c.inside t → IsListed c t (is_listed s) → c.waits_with t ≡ Some m → IsAt c t (Wait m timed (behind s))
+    goes_behind : (s : Stands) → IsInsideNot c.inside t → IsListed c t (is_listed s) → c.waits_with t ≡ Some m → IsAt c t (Wait m timed (behind_release s))
     goes_behind stands.Listed out listed names = record { stage = out; listed = listed; names = names }
     goes_behind stands.Moved out listed names = record { stage = out; listed = listed; names = names }
     goes_behind (stands.InHand by) out listed names = record { stage = out; listed = listed; names = names }
@@ -128,8 +128,8 @@ module _ (c : CondvarSite) (t : ℕ) (site : IsCondvar c) where
 
     leaves_list : IsAt c t (Wait m timed wait.Remove) → (b : Bool) → b ≡ is_empty (without t c.waiters)
         → IsAtNext (condvar_leads LeaveList c t) t (in_wait m timed (if b then At wait.Hide else At wait.GiveUp))
-    leaves_list a true e = record { stage = stage_by (condvar_leads LeaveList c t) (is_empty (without t c.waiters)) true Clears Rests (sym e) refl; listed = times_gone t c.waiters; names = a.names }
-    leaves_list a false e = record { stage = stage_by (condvar_leads LeaveList c t) (is_empty (without t c.waiters)) false Clears Rests (sym e) refl; listed = times_gone t c.waiters; names = a.names }
+    leaves_list a true e = record { stage = stage_by (condvar_leads LeaveList c t) (is_empty (without t c.waiters)) true Clears NothingToDo (sym e) refl; listed = times_gone t c.waiters; names = a.names }
+    leaves_list a false e = record { stage = stage_by (condvar_leads LeaveList c t) (is_empty (without t c.waiters)) false Clears NothingToDo (sym e) refl; listed = times_gone t c.waiters; names = a.names }
 
     locks : (timed_out : Bool) (at : MutexPlace) → IsAt c t (Wait m timed (wait.Lock timed_out at)) → (n : Next MutexPlace)
         → Does c t (relocked_deeds n) (in_wait m timed (relocked timed timed_out n))
@@ -139,17 +139,17 @@ module _ (c : CondvarSite) (t : ℕ) (site : IsCondvar c) where
     waits : (p : WaitAt) (told : Reply) → IsAt c t (Wait m timed p) → MayHear c t (Wait m timed p) told → Follows c t (Wait m timed p) told
     waits wait.Enter reply.Done a h = record { needed = (h, tt); next = record { stage = refl; listed = a.listed; names = a.names } }
     waits wait.Show (reply.Value seen) a h =
-        let d = shows a ((word_of c.shown == 0) || is_shown (word_of c.shown) m) (sees_own c.shown m) (sees_other c.shown m) in
+        let d = shows a ((word_showing c.shown == 0) || is_shown (word_showing c.shown) m) (sees_own c.shown m) (sees_other c.shown m) in
         subst (λ v. Follows c t (Wait m timed wait.Show) (reply.Value v)) (sym h) (record { needed = d.needed; next = d.next })
     waits wait.Stand reply.Done a h = record { needed = (((m, a.stage), a.listed), tt); next = record { stage = refl; listed = times_behind t c.waiters a.listed; names = a.names } }
-    waits wait.Leave reply.Done a h = record { needed = (may_go Rests a.stage tt, tt); next = record { stage = tt; listed = a.listed; names = a.names } }
-    waits wait.Refuse reply.Done a h = record { needed = (may_go (Refuses m) a.stage tt, ((a.listed, tt), tt)); next = record { outside = tt; unlisted = a.listed; names = put_same c.waits_with t None } }
-    waits (wait.Release s at) told a h = record { needed = tt; next = releases s (stands_after s told) at a (befalls told) (mutex_next at told) h }
+    waits wait.Leave reply.Done a h = record { needed = (may_go NothingToDo a.stage tt, tt); next = record { stage = tt; listed = a.listed; names = a.names } }
+    waits wait.Refuse reply.Done a h = record { needed = (may_go (SeesOther m) a.stage tt, ((a.listed, tt), tt)); next = record { outside = tt; unlisted = a.listed; names = put_same c.waits_with t None } }
+    waits (wait.Release s at) told a h = record { needed = tt; next = releases s (stands_after s told) at a (comes_from_another told) (mutex_next at told) h }
     waits (wait.Asleep stands.Listed) reply.Late a h = record { needed = (h, tt); next = record { stage = refl; listed = a.listed; names = a.names } }
     waits (wait.Asleep stands.Moved) reply.Late a h = record { needed = tt; next = record { stage = a.stage; listed = a.listed; names = a.names } }
     waits wait.Remove (reply.Removed none_left) a h = record { needed = ((a.stage, subst (λ n. 1 ≤ n) (sym a.listed) (omega arith)), tt); next = leaves_list a none_left h }
     waits wait.Hide (reply.Value seen) a h = record { needed = (a.stage, tt); next = record { stage = refl; listed = a.listed; names = a.names } }
-    waits wait.GiveUp reply.Done a h = record { needed = (may_go Rests a.stage tt, tt); next = record { stage = tt; listed = a.listed; names = a.names } }
+    waits wait.GiveUp reply.Done a h = record { needed = (may_go NothingToDo a.stage tt, tt); next = record { stage = tt; listed = a.listed; names = a.names } }
     waits wait.RemoveMoved (reply.Removed none_left) a h = record { needed = tt; next = record { stage = a.stage; listed = a.listed; names = a.names } }
     waits (wait.GiveUpMoved none_left) reply.Done a h = record { needed = tt; next = record { stage = a.stage; listed = a.listed; names = a.names } }
     waits (wait.Lock timed_out at) told a h = let d = locks timed_out at a (mutex_next at told) in record { needed = d.needed; next = d.next }
@@ -179,22 +179,22 @@ module _ (c : CondvarSite) (t : ℕ) (site : IsCondvar c) where
 
     moves_first : (locked any : Bool) → IsAt c t (Notify false m (notify.Move locked)) → (b : Bool) → b ≡ is_empty (drop 1 c.waiters)
         → IsAt (condvar_leads MoveFirst c t) t (Notify false m (if b then notify.Clear any else notify.Leave any 1))
-    moves_first locked any a true e = record { stage = stage_by (condvar_leads MoveFirst c t) (is_empty (drop 1 c.waiters)) true Clears Rests (sym e) refl; listed = times_rest t c.waiters a.listed; names = a.names }
-    moves_first locked any a false e = record { stage = stage_by (condvar_leads MoveFirst c t) (is_empty (drop 1 c.waiters)) false Clears Rests (sym e) refl; listed = times_rest t c.waiters a.listed; names = a.names }
+    moves_first locked any a true e = record { stage = stage_by (condvar_leads MoveFirst c t) (is_empty (drop 1 c.waiters)) true Clears NothingToDo (sym e) refl; listed = times_rest t c.waiters a.listed; names = a.names }
+    moves_first locked any a false e = record { stage = stage_by (condvar_leads MoveFirst c t) (is_empty (drop 1 c.waiters)) false Clears NothingToDo (sym e) refl; listed = times_rest t c.waiters a.listed; names = a.names }
 
     moves_all : (locked : Bool) (number : ℕ) → IsAt c t (Notify true m (notify.Move locked)) → (number == 0) ≡ false → (b : Bool)
         → IsAt (condvar_leads MoveAll c t) t (Notify true m (if b then notify.MarkMoved number else notify.Leave (not locked) number))
     moves_all locked number a e true = record { stage = refl; listed = refl; names = a.names }
-    moves_all locked number a e false = record { stage = stage_by (condvar_leads MoveAll c t) false (number == 0) (Misses m) Rests (sym e) refl; listed = refl; names = a.names }
+    moves_all locked number a e false = record { stage = stage_by (condvar_leads MoveAll c t) false (number == 0) (Misses m) NothingToDo (sym e) refl; listed = refl; names = a.names }
 
-    may_tell : (b : Bool) → MayGo (if b then Misses m else Rests)
+    may_tell : (b : Bool) → MayLeaveSection (if b then Misses m else NothingToDo)
     may_tell true = tt
     may_tell false = tt
 
     notifies : (all : Bool) (p : NotifyAt) (told : Reply) → IsAt c t (Notify all m p) → MayHear c t (Notify all m p) told → Follows c t (Notify all m p) told
     notifies all notify.Enter reply.Done a h = record { needed = (h, tt); next = record { stage = refl; listed = a.listed; names = a.names } }
     notifies all notify.Again (reply.Value seen) a h =
-        let d = looks_again all a (is_shown (word_of c.shown) m) (sees_again c.shown m) (misses c.shown m) in
+        let d = looks_again all a (is_shown (word_showing c.shown) m) (sees_again c.shown m) (misses c.shown m) in
         subst (λ v. Follows c t (Notify all m notify.Again) (reply.Value v)) (sym h) (record { needed = d.needed; next = d.next })
     notifies true notify.Hide (reply.Value seen) a h =
         let k = known (Sees m) a.stage in
@@ -210,7 +210,7 @@ module _ (c : CondvarSite) (t : ℕ) (site : IsCondvar c) where
         record { needed = ((m, a.stage), tt); next = moves_all locked number a (ap (λ n. n == 0) h ∙ some_left c.waiters k.1) (not locked && nat_lt 1 number) }
     notifies all (notify.Clear any) (reply.Value seen) a h = record { needed = (a.stage, tt); next = record { stage = refl; listed = a.listed; names = a.names } }
     notifies all (notify.MarkMoved number) (reply.Value seen) a h =
-        record { needed = tt; next = record { stage = stage_by c false (number == 0) (Misses m) Rests (sym (not_none number h)) a.stage; listed = a.listed; names = a.names } }
+        record { needed = tt; next = record { stage = stage_by c false (number == 0) (Misses m) NothingToDo (sym (not_none number h)) a.stage; listed = a.listed; names = a.names } }
     notifies all (notify.Leave any number) reply.Done a h =
         record { needed = (may_go (told_stage m number) a.stage (may_tell (number == 0)), tt); next = record { outside = tt; unlisted = a.listed; names = a.names } }
     notifies all p told a h = absurd h
@@ -264,12 +264,12 @@ module _ (c : CondvarSite) (t : ℕ) where
   other_word : (n m : ℕ) → (if shown_as n == 0 then shown_as m else shown_as n) ≡ shown_as n
   other_word n m = grind (arith, nat_tests)
 
-  shows_word : (m : ℕ) (o : Option ℕ) → c.shown ≡ o → (b : Bool) → ((word_of o == 0) || is_shown (word_of o) m) ≡ b
-      → (if word_of o == 0 then shown_as m else word_of o) ≡ word_of (after_all (if b then Show m ∷ [] else SeeOther m ∷ []) c t).shown
+  shows_word : (m : ℕ) (o : Option ℕ) → c.shown ≡ o → (b : Bool) → ((word_showing o == 0) || is_shown (word_showing o) m) ≡ b
+      → (if word_showing o == 0 then shown_as m else word_showing o) ≡ word_showing (after_condvar_deeds (if b then Show m ∷ [] else SeeOther m ∷ []) c t).shown
   shows_word m None e true h = refl
   shows_word m None e false h = absurd cc
   shows_word m (Some n) e true h = same_word n m h
-  shows_word m (Some n) e false h = other_word n m ∙ ap word_of (sym e)
+  shows_word m (Some n) e false h = other_word n m ∙ ap word_showing (sym e)
 
   other_owners : (n m : ℕ) (o : Owners) → (if shown_as n == 0 then record o { shown = Some m } else o) ≡ o
   other_owners n m o = grind (arith, nat_tests)
@@ -277,13 +277,13 @@ module _ (c : CondvarSite) (t : ℕ) where
   shown_still : (n m : ℕ) (o : Owners) → n ≡ m → o.shown ≡ Some n → (if shown_as n == 0 then record o { shown = Some m } else o) ≡ record o { shown = Some m }
   shown_still n m o same e = other_owners n m o ∙ (λ i. record o { shown = (e ∙ ap (λ k. Some k) same) i })
 
-  looks_word : (m : ℕ) (b : Bool) → word_of c.shown ≡ word_of (after_all (if b then SeeAgain m ∷ [] else MissIt m ∷ []) c t).shown
+  looks_word : (m : ℕ) (b : Bool) → word_showing c.shown ≡ word_showing (after_condvar_deeds (if b then SeeAgain m ∷ [] else MissIt m ∷ []) c t).shown
   looks_word m true = refl
   looks_word m false = refl
 
   leaves_word : (k : ℕ) (p : CondvarPlace) (f : Op) → condvar_act k p ≡ act.Word k f → mutex_beside p ≢ Some k
-      → apply f (word_of c.shown) ≡ word_of (after_all (condvar_deeds p (reply.Value (word_of c.shown))) c t).shown
-  leaves_word k (Wait m timed wait.Show) f is ne = let e : op.Exchange 0 (shown_as m) ≡ f = cc in rw (← e) (shows_word m c.shown refl ((word_of c.shown == 0) || is_shown (word_of c.shown) m) refl)
+      → apply f (word_showing c.shown) ≡ word_showing (after_condvar_deeds (condvar_deeds p (reply.Value (word_showing c.shown))) c t).shown
+  leaves_word k (Wait m timed wait.Show) f is ne = let e : op.Exchange 0 (shown_as m) ≡ f = cc in rw (← e) (shows_word m c.shown refl ((word_showing c.shown == 0) || is_shown (word_showing c.shown) m) refl)
   leaves_word k (Wait m timed wait.Hide) f is ne = let e : op.Store 0 ≡ f = cc in rw (← e) refl
   leaves_word k (Wait m timed (wait.Release s at)) f is ne = absurd (ne (ap (λ l. Some l) (mutex_word_is m k f at is)))
   leaves_word k (Wait m timed (wait.Lock timed_out at)) f is ne = absurd (ne (ap (λ l. Some l) (mutex_word_is m k f at is)))
@@ -297,7 +297,7 @@ module _ (c : CondvarSite) (t : ℕ) where
   leaves_word k (Wait m timed wait.RemoveMoved) f is ne = absurd cc
   leaves_word k (Wait m timed (wait.GiveUpMoved none_left)) f is ne = absurd cc
   leaves_word k (Look all) f is ne = let e : op.Load ≡ f = cc in rw (← e) refl
-  leaves_word k (Notify all m notify.Again) f is ne = let e : op.Load ≡ f = cc in rw (← e) (looks_word m (is_shown (word_of c.shown) m))
+  leaves_word k (Notify all m notify.Again) f is ne = let e : op.Load ≡ f = cc in rw (← e) (looks_word m (is_shown (word_showing c.shown) m))
   leaves_word k (Notify all m notify.Hide) f is ne = let e : op.Store 0 ≡ f = cc in rw (← e) refl
   leaves_word k (Notify all m (notify.Clear any)) f is ne = let e : op.Store 0 ≡ f = cc in rw (← e) refl
   leaves_word k (Notify all m notify.Mark) f is ne = absurd (ne (ap (λ l. Some l) (let g : m ≡ k = cc in g)))
@@ -309,20 +309,20 @@ module _ (c : CondvarSite) (t : ℕ) where
   leaves_word k (Notify false m (notify.Move false)) f is ne = absurd cc
   leaves_word k (Notify all m (notify.Leave any number)) f is ne = absurd cc
 
-  shows_owners : (m : ℕ) (o : Owners) (x : Option ℕ) → c.shown ≡ x → o.shown ≡ x → (b : Bool) → ((word_of x == 0) || is_shown (word_of x) m) ≡ b
-      → (if word_of x == 0 then record o { shown = Some m } else o) ≡ record o { shown = (after_all (if b then Show m ∷ [] else SeeOther m ∷ []) c t).shown }
+  shows_owners : (m : ℕ) (o : Owners) (x : Option ℕ) → c.shown ≡ x → o.shown ≡ x → (b : Bool) → ((word_showing x == 0) || is_shown (word_showing x) m) ≡ b
+      → (if word_showing x == 0 then record o { shown = Some m } else o) ≡ record o { shown = (after_condvar_deeds (if b then Show m ∷ [] else SeeOther m ∷ []) c t).shown }
   shows_owners m o None e f true h = refl
   shows_owners m o None e f false h = absurd cc
   shows_owners m o (Some n) e f true h = shown_still n m o (same_shown n m h) f
   shows_owners m o (Some n) e f false h = other_owners n m o ∙ (λ i. record o { shown = (f ∙ sym e) i })
 
-  looks_owners : (m : ℕ) (o : Owners) → o.shown ≡ c.shown → (b : Bool) → o ≡ record o { shown = (after_all (if b then SeeAgain m ∷ [] else MissIt m ∷ []) c t).shown }
+  looks_owners : (m : ℕ) (o : Owners) → o.shown ≡ c.shown → (b : Bool) → o ≡ record o { shown = (after_condvar_deeds (if b then SeeAgain m ∷ [] else MissIt m ∷ []) c t).shown }
   looks_owners m o e true = λ i. record o { shown = e i }
   looks_owners m o e false = λ i. record o { shown = e i }
 
   leaves_owners : (k : ℕ) (p : CondvarPlace) (f : Op) (o : Owners) → condvar_act k p ≡ act.Word k f → mutex_beside p ≢ Some k → o.shown ≡ c.shown
-      → condvar_owners p t (word_of c.shown) o ≡ record o { shown = (after_all (condvar_deeds p (reply.Value (word_of c.shown))) c t).shown }
-  leaves_owners k (Wait m timed wait.Show) f o is ne e = shows_owners m o c.shown refl e ((word_of c.shown == 0) || is_shown (word_of c.shown) m) refl
+      → condvar_owners p t (word_showing c.shown) o ≡ record o { shown = (after_condvar_deeds (condvar_deeds p (reply.Value (word_showing c.shown))) c t).shown }
+  leaves_owners k (Wait m timed wait.Show) f o is ne e = shows_owners m o c.shown refl e ((word_showing c.shown == 0) || is_shown (word_showing c.shown) m) refl
   leaves_owners k (Wait m timed wait.Hide) f o is ne e = refl
   leaves_owners k (Wait m timed (wait.Release s at)) f o is ne e = absurd (ne (ap (λ l. Some l) (mutex_word_is m k f at is)))
   leaves_owners k (Wait m timed (wait.Lock timed_out at)) f o is ne e = absurd (ne (ap (λ l. Some l) (mutex_word_is m k f at is)))
@@ -336,7 +336,7 @@ module _ (c : CondvarSite) (t : ℕ) where
   leaves_owners k (Wait m timed wait.RemoveMoved) f o is ne e = absurd cc
   leaves_owners k (Wait m timed (wait.GiveUpMoved none_left)) f o is ne e = absurd cc
   leaves_owners k (Look all) f o is ne e = λ i. record o { shown = e i }
-  leaves_owners k (Notify all m notify.Again) f o is ne e = looks_owners m o e (is_shown (word_of c.shown) m)
+  leaves_owners k (Notify all m notify.Again) f o is ne e = looks_owners m o e (is_shown (word_showing c.shown) m)
   leaves_owners k (Notify all m notify.Hide) f o is ne e = refl
   leaves_owners k (Notify all m (notify.Clear any)) f o is ne e = refl
   leaves_owners k (Notify all m notify.Mark) f o is ne e = absurd (ne (ap (λ l. Some l) (let g : m ≡ k = cc in g)))

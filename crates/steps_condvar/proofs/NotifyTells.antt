@@ -8,7 +8,7 @@ use Rattle.steps_base.specs.declared.acts.Next.{Next}
 use Rattle.steps_base.specs.declared.acts.Next.TheVariants.{At, End as Over}
 use Rattle.steps_base.specs.declared.acts.Reply.{Reply}
 use Rattle.steps_base.specs.declared.acts.Reply.TheVariants.{Done, Value, Parked, Took, Requeued, Removed, Late, Woken}
-use Rattle.spec_locks.specs.Condvars.{CondvarSite, Inside, IsAsInside, IsCondvar, IsInsideAt, Misses, MoveFits, Rests, Takes}
+use Rattle.spec_locks.specs.Condvars.{CondvarSite, Inside, IsAsInside, IsCondvar, IsInsideAt, Misses, MoveFits, NothingToDo, Takes}
 use Rattle.spec_locks.specs.Condvars as condvars
 use Rattle.spec_locks.specs.Deeds.{after_all}
 use Rattle.spec_locks.specs.Locks as cases
@@ -32,12 +32,12 @@ use Rattle.steps_condvar.specs.declared.wait.Stands.{Stands}
 use Rattle.steps_condvar.specs.declared.wait.Stands.TheVariants as stands
 use Rattle.steps_condvar.specs.declared.wait.WaitAt.TheVariants as wait
 use Rattle.core_base.specs.declared.notes.Note.TheVariants as note
-use Rattle.steps_condvar.specs.CondvarSteps.{behind, stands_after, befalls, condvar_next, in_notify, in_wait, is_shown, marks, moved_one, mutex_shown, notified, released, relocked}
+use Rattle.steps_condvar.specs.CondvarSteps.{behind_release, stands_after, comes_from_another, condvar_next, in_notify, in_wait, is_shown, marks, moved_one, mutex_shown, notified, released, relocked}
 use Rattle.steps_condvar.specs.CondvarProfiles.{has_mutex, may_give_up}
-use Rattle.steps_condvar.specs.CondvarDeeds.{IsAt, MayHear, condvar_deeds, word_of}
+use Rattle.steps_condvar.specs.CondvarDeeds.{IsAt, MayHear, condvar_deeds, word_showing}
 use Rattle.steps_condvar.specs.CondvarDeeds as deeds
 use Rattle.steps_condvar.specs.CondvarMutex.{MayHearBeside, beside_deeds}
-use Rattle.steps_condvar.specs.CondvarCalls.{CallFollows, CondvarPlacesReached, IsLockOf, IsReached, IsReachedNext, LooksTell, NotifiesTell, call_at, heard, notify_event}
+use Rattle.steps_condvar.specs.CondvarCalls.{CallOfTwoFollows, CondvarPlacesReached, IsLockOf, IsReached, IsReachedNext, LooksTell, NotifiesTell, condvar_call_by, heard, notify_event}
 use Rattle.steps_condvar.proofs.CondvarFit.{not_none, some_left}
 use Rattle.steps_condvar.proofs.WaitTells.{keeps, same_rights}
 
@@ -53,22 +53,22 @@ one_alone n few e = grind (arith, nat_tests)
 module _ (v : CondvarSite) (r : Rules) (s : Site) (t c m : ℕ) (site : IsCondvar v) where
   abbrev Follows : Bool → NotifyAt → Reply → Type 0
   Follows all at told =
-      CallFollows c m (Notify all m at) told (notify_event c all m at told) (deeds.after_all (condvar_deeds (Notify all m at) told) v t).shown s.lock (after_all r (beside_deeds all v.waiters at told) s t).lock t (condvar_next (Notify all m at) told)
+      CallOfTwoFollows c m (Notify all m at) told (notify_event c all m at told) (deeds.after_condvar_deeds (condvar_deeds (Notify all m at) told) v t).shown s.lock (after_all r (beside_deeds all v.waiters at told) s t).lock t (condvar_next (Notify all m at) told)
 
   sees_again : (all : Bool) (seen : ℕ) (b : Bool) (shown : Option ℕ)
-      → CallFollows c m (Notify all m notify.Again) (Value seen) Nothing shown s.lock s.lock t (At (Notify all m (if not b then notify.Leave false 0 else if all then notify.Hide else notify.Mark)))
+      → CallOfTwoFollows c m (Notify all m notify.Again) (Value seen) Nothing shown s.lock s.lock t (At (Notify all m (if not b then notify.Leave false 0 else if all then notify.Hide else notify.Mark)))
   sees_again true seen true shown = keeps c m t _ _ (Value seen) Nothing shown s.lock _ tt refl (λ rights. refl)
   sees_again false seen true shown = keeps c m t _ _ (Value seen) Nothing shown s.lock _ tt refl (λ rights. refl)
   sees_again all seen false shown = keeps c m t _ _ (Value seen) Nothing shown s.lock _ tt refl (λ rights. refl)
 
   -- it has looked whether the mutex is owned
   marked : (all : Bool) (seen : ℕ) (b : Bool)
-      → CallFollows c m (Notify all m notify.Mark) (Value seen) (if b then Nothing else AtLock m (SeeOwner false)) v.shown s.lock s.lock t (At (Notify all m (if b then notify.Set seen else notify.Move false)))
+      → CallOfTwoFollows c m (Notify all m notify.Mark) (Value seen) (if b then Nothing else AtLock m (SeeOwner false)) v.shown s.lock s.lock t (At (Notify all m (if b then notify.Set seen else notify.Move false)))
   marked all seen true = keeps c m t _ _ (Value seen) Nothing v.shown s.lock _ tt refl (λ rights. refl)
   marked all seen false = keeps c m t _ _ (Value seen) (AtLock m (SeeOwner false)) v.shown s.lock _ (inr refl, tt) refl (λ rights. refl)
 
   set : (all : Bool) (expected seen : ℕ) (won b : Bool)
-      → CallFollows c m (Notify all m (notify.Set expected)) (Value seen) (if won then AtLock m (SeeOwner true) else if b then Nothing else AtLock m (SeeOwner false)) v.shown s.lock
+      → CallOfTwoFollows c m (Notify all m (notify.Set expected)) (Value seen) (if won then AtLock m (SeeOwner true) else if b then Nothing else AtLock m (SeeOwner false)) v.shown s.lock
       (after_all r (if won then MarkOwned ∷ [] else []) s t).lock t (in_notify all m (if won then At (notify.Move true) else At (if b then notify.Set seen else notify.Move false)))
   set all expected seen true b = keeps c m t _ _ (Value seen) (AtLock m (SeeOwner true)) v.shown s.lock _ (inr refl, tt) refl (λ rights. refl)
   set all expected seen false true = keeps c m t _ _ (Value seen) Nothing v.shown s.lock _ tt refl (λ rights. refl)
@@ -76,23 +76,23 @@ module _ (v : CondvarSite) (r : Rules) (s : Site) (t c m : ℕ) (site : IsCondva
 
   -- it has moved waiters
   moves_one : (locked any none_left : Bool) (told : Reply) (shown : Option ℕ) (s2 : LockState) → rights_of s2 t ≡ rights_of s.lock t → ((call : CallState) → heard told call ≡ call)
-      → CallFollows c m (Notify false m (notify.Move locked)) told (Moves c m false locked 1) shown s.lock s2 t (At (Notify false m (moved_one any none_left)))
+      → CallOfTwoFollows c m (Notify false m (notify.Move locked)) told (Moves c m false locked 1) shown s.lock s2 t (At (Notify false m (moved_one any none_left)))
   moves_one locked any true told shown s2 stay quiet = keeps c m t _ _ told (Moves c m false locked 1) shown s.lock s2 (refl, refl, refl, λ e. cc) stay (λ rights. ap (going_on (Moves c m false locked 1)) (sym (quiet _)))
   moves_one locked any false told shown s2 stay quiet = keeps c m t _ _ told (Moves c m false locked 1) shown s.lock s2 (refl, refl, refl, λ e. cc) stay (λ rights. ap (going_on (Moves c m false locked 1)) (sym (quiet _)))
 
   moves_all : (locked none_left : Bool) (number : ℕ) (shown : Option ℕ) (s2 : LockState) → rights_of s2 t ≡ rights_of s.lock t → number ≢ 0 → (b : Bool)
-      → CallFollows c m (Notify true m (notify.Move locked)) (Requeued number none_left) (Moves c m true locked number) shown s.lock s2 t (At (Notify true m (if b then notify.MarkMoved number else notify.Leave (not locked) number)))
+      → CallOfTwoFollows c m (Notify true m (notify.Move locked)) (Requeued number none_left) (Moves c m true locked number) shown s.lock s2 t (At (Notify true m (if b then notify.MarkMoved number else notify.Leave (not locked) number)))
   moves_all locked none_left number shown s2 stay some true = keeps c m t _ _ (Requeued number none_left) (Moves c m true locked number) shown s.lock s2 (refl, refl, refl, some) stay (λ rights. refl)
   moves_all locked none_left number shown s2 stay some false =
       keeps c m t _ _ (Requeued number none_left) (Moves c m true locked number) shown s.lock s2 (refl, refl, refl, some) stay
-      (λ rights. ap (λ b. record (call_at c m (Notify true m (notify.MarkMoved number)) rights) { recalls = if b then Saw m else HasMoved m number }) (not_none number some))
+      (λ rights. ap (λ b. record (condvar_call_by c m (Notify true m (notify.MarkMoved number)) rights) { recalls = if b then Saw m else HasMoved m number }) (not_none number some))
 
   -- ---------------------------------------------------------------- its answer
 
   unshown : IsInsideAt v t (Misses m) → v.shown ≢ Some m
-  unshown stage = let k : condvars.IsAt v t (Misses m) = subst (λ (i : Option Inside). IsAsInside v i) stage site.inside in k.1
+  unshown stage = let k : condvars.StageHolds v t (Misses m) = subst (λ (i : Option Inside). IsAsInside v i) stage site.inside in k.1
 
-  answers : (all : Bool) (number : ℕ) (b : Bool) → (number == 0) ≡ b → IsInsideAt v t (if b then Misses m else Rests) → (all ≡ false → number ≤ 1)
+  answers : (all : Bool) (number : ℕ) (b : Bool) → (number == 0) ≡ b → IsInsideAt v t (if b then Misses m else NothingToDo) → (all ≡ false → number ≤ 1)
       → (w : LocksState) (call : CallState) → (w.locks c).shown ≡ v.shown → call.recalls ≡ (if b then Saw m else HasMoved m number) → Keeps w t call
       → AnswerHolds (Some (Notifies c all)) w t call (if all then answer.Number number else if b then answer.No else answer.Yes)
   answers false number true e stage few w call now recalls own = (subst (MovedNobody (w.locks c)) (sym recalls) (λ x. unshown stage (sym now ∙ x)), own)
@@ -101,16 +101,16 @@ module _ (v : CondvarSite) (r : Rules) (s : Site) (t c m : ℕ) (site : IsCondva
   answers true number false e stage few w call now recalls own = inr ((m, recalls), own)
 
   ends : (all any : Bool) (number : ℕ) → IsAt v t (Notify all m (notify.Leave any number)) → IsReached (Notify all m (notify.Leave any number)) → (s2 : LockState) → rights_of s2 t ≡ rights_of s.lock t
-      → CallFollows c m (Notify all m (notify.Leave any number)) Done (if any then AtLock m Wake else Nothing) v.shown s.lock s2 t (Over (notified all number))
+      → CallOfTwoFollows c m (Notify all m (notify.Leave any number)) Done (if any then AtLock m Wake else Nothing) v.shown s.lock s2 t (Over (notified all number))
   ends all true number a reached s2 stay = record {
     may = (inr (number, ap (λ b. if b then Saw m else HasMoved m number) (not_none number (reached.0 refl))), tt);
     becomes = λ w rights now is has.
-        answers all number (number == 0) refl a.stage reached.1 w (call_at c m (Notify all m (notify.Leave true number)) rights) now refl (λ k. has k ∙ ap (λ (f : ℕ → Rights). f k) (same_rights t m s.lock s2 rights is stay));
+        answers all number (number == 0) refl a.stage reached.1 w (condvar_call_by c m (Notify all m (notify.Leave true number)) rights) now refl (λ k. has k ∙ ap (λ (f : ℕ → Rights). f k) (same_rights t m s.lock s2 rights is stay));
   }
   ends all false number a reached s2 stay = record {
     may = tt;
     becomes = λ w rights now is has.
-        answers all number (number == 0) refl a.stage reached.1 w (call_at c m (Notify all m (notify.Leave false number)) rights) now refl (λ k. has k ∙ ap (λ (f : ℕ → Rights). f k) (same_rights t m s.lock s2 rights is stay));
+        answers all number (number == 0) refl a.stage reached.1 w (condvar_call_by c m (Notify all m (notify.Leave false number)) rights) now refl (λ k. has k ∙ ap (λ (f : ℕ → Rights). f k) (same_rights t m s.lock s2 rights is stay));
   }
 
   -- ---------------------------------------------------------------- each place
@@ -130,7 +130,7 @@ module _ (v : CondvarSite) (r : Rules) (s : Site) (t c m : ℕ) (site : IsCondva
   tells all (notify.Clear any) (Value seen) a h f reached = keeps c m t _ _ (Value seen) (AtLock c (OfCondvar cases.Hide)) None s.lock _ (inl (refl, tt), tt) refl (λ rights. refl)
   tells all (notify.MarkMoved number) (Value seen) a h f reached =
       keeps c m t _ _ (Value seen) Nothing v.shown s.lock _ tt refl
-      (λ rights. ap (λ b. record (call_at c m (Notify all m (notify.MarkMoved number)) rights) { recalls = if b then Saw m else HasMoved m number }) (not_none number reached.1))
+      (λ rights. ap (λ b. record (condvar_call_by c m (Notify all m (notify.MarkMoved number)) rights) { recalls = if b then Saw m else HasMoved m number }) (not_none number reached.1))
   tells all (notify.Leave any number) Done a h f reached = ends all any number a reached _ refl
   tells all at told a h f reached = absurd f
 
@@ -145,24 +145,24 @@ module _ (v : CondvarSite) (s : LockState) (t c : ℕ) where
   none_shown w call true now blank own = inl (refl, subst (MovedNobody (w.locks c)) (sym blank) now, own)
 
   looks : (all : Bool) (seen : ℕ) (b : Bool) → (b ≡ true → v.shown ≡ None)
-      → CallFollows c (mutex_shown seen) (Look all) (Value seen) (if b then Nothing else AtLock c (OfCondvar (cases.Look (Some (mutex_shown seen))))) v.shown s s t
+      → CallOfTwoFollows c (mutex_shown seen) (Look all) (Value seen) (if b then Nothing else AtLock c (OfCondvar (cases.Look (Some (mutex_shown seen))))) v.shown s s t
       (if b then Over (notified all 0) else At (Notify all (mutex_shown seen) notify.Enter))
   looks all seen true none = record {
     may = tt;
-    becomes = λ w rights now is has. none_shown w (call_at c (mutex_shown seen) (Look all) rights) all (now ∙ none refl) refl (λ k. has k ∙ ap (λ (f : ℕ → Rights). f k) (same_rights t (mutex_shown seen) s s rights is refl));
+    becomes = λ w rights now is has. none_shown w (condvar_call_by c (mutex_shown seen) (Look all) rights) all (now ∙ none refl) refl (λ k. has k ∙ ap (λ (f : ℕ → Rights). f k) (same_rights t (mutex_shown seen) s s rights is refl));
   }
   looks all seen false none = keeps c (mutex_shown seen) t _ _ (Value seen) (AtLock c (OfCondvar (cases.Look (Some (mutex_shown seen))))) v.shown s s (inl (refl, refl), tt) refl (λ rights. refl)
 
-shows_none : (o : Option ℕ) → (word_of o == 0) ≡ true → o ≡ None
+shows_none : (o : Option ℕ) → (word_showing o == 0) ≡ true → o ≡ None
 shows_none None e = refl
 shows_none (Some n) e = absurd (grind (arith, nat_tests))
 
 pub looks_tell : LooksTell
-looks_tell v s t c all = looks v s t c all (word_of v.shown) (word_of v.shown == 0) (shows_none v.shown)
+looks_tell v s t c all = looks v s t c all (word_showing v.shown) (word_showing v.shown == 0) (shows_none v.shown)
 
 -- ---------------------------------------------------------------- the places that calls come to
 
-goes_behind : (m : ℕ) (timed : Bool) (st : Stands) → IsReached (Wait m timed (behind st))
+goes_behind : (m : ℕ) (timed : Bool) (st : Stands) → IsReached (Wait m timed (behind_release st))
 goes_behind m timed stands.Listed = tt
 goes_behind m timed stands.Moved = tt
 goes_behind m timed (stands.InHand by) = tt
@@ -262,7 +262,7 @@ module _ (c : CondvarSite) (t : ℕ) (site : IsCondvar c) where
   reaches (Wait m timed wait.Stand) Done reached h a late = tt
   reaches (Wait m timed wait.Leave) Done reached h a late = (tt, λ e. absurd cc)
   reaches (Wait m timed wait.Refuse) Done reached h a late = tt
-  reaches (Wait m timed (wait.Release st (mutex.Unlock at))) told reached h a late = releases m timed st (stands_after st told) at (befalls told) (next_unlock at told) h (owns_not st at told reached.1)
+  reaches (Wait m timed (wait.Release st (mutex.Unlock at))) told reached h a late = releases m timed st (stands_after st told) at (comes_from_another told) (next_unlock at told) h (owns_not st at told reached.1)
   reaches (Wait m timed (wait.Release st at)) told reached h a late = absurd reached.0
   reaches (Wait m timed (wait.Asleep stands.Listed)) Late reached h a late = late refl
   reaches (Wait m timed (wait.Asleep stands.Moved)) Late reached h a late = late refl
@@ -294,7 +294,7 @@ module _ (c : CondvarSite) (t : ℕ) (site : IsCondvar c) where
   reaches (Notify false m (notify.Move locked)) (Took any none_left) reached h a late = one_reached false any none_left m
   reaches (Notify false m (notify.Move locked)) (Requeued number none_left) reached h a late = one_reached false false none_left m
   reaches (Notify true m (notify.Move locked)) (Requeued number none_left) reached h a late =
-      let k : condvars.IsAt c t (Takes m) = subst (λ (i : Option Inside). IsAsInside c i) a.stage site.inside in
+      let k : condvars.StageHolds c t (Takes m) = subst (λ (i : Option Inside). IsAsInside c i) a.stage site.inside in
       moved_reached m number (not locked) (not locked && nat_lt 1 number) (λ z. some_number (length c.waiters) (some_left c.waiters k.1) (sym h ∙ z))
   reaches (Notify all m (notify.Clear any)) (Value seen) reached h a late = ((λ e z. cc), λ e. omega arith)
   reaches (Notify all m (notify.MarkMoved number)) (Value seen) reached h a late = ((λ e. reached.1), λ e. absurd (let g : false ≡ true = sym e ∙ reached.0 in cc))

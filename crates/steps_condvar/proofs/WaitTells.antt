@@ -10,7 +10,7 @@ use Rattle.steps_base.specs.declared.acts.Reply.{Reply}
 use Rattle.steps_base.specs.declared.acts.Reply.TheVariants.{Done, Value, Parked, Took, Removed, TakenBy, MovedTo, HandedBy, Late, Woken}
 use Rattle.steps_base.specs.Calls.{rights_where}
 use Rattle.steps_base.specs.Profiles.{in_hand}
-use Rattle.spec_locks.specs.Condvars.{CondvarSite, Inside, IsAsInside, IsCondvar, Refuses, SeeOther, Show}
+use Rattle.spec_locks.specs.Condvars.{CondvarSite, Inside, IsAsInside, IsCondvar, SeesOther, SeeOther, Show}
 use Rattle.spec_locks.specs.Condvars as condvars
 use Rattle.spec_locks.specs.Deeds.{after_all, event_by, event_of}
 use Rattle.spec_locks.specs.Locks as cases
@@ -26,7 +26,7 @@ use Rattle.steps_mutex.specs.declared.places.MutexPlace.{MutexPlace}
 use Rattle.steps_mutex.specs.declared.places.MutexPlace.TheVariants as mutex
 use Rattle.steps_mutex.specs.declared.unlock.UnlockAt.{UnlockAt}
 use Rattle.steps_mutex.specs.declared.unlock.UnlockAt.TheVariants as unlock
-use Rattle.steps_mutex.specs.MutexDeeds.{enters, queued, takes}
+use Rattle.steps_mutex.specs.MutexDeeds.{enter_deeds, queued, take_deeds}
 use Rattle.steps_mutex.specs.MutexProfiles.{before_release, mutex_profile}
 use Rattle.steps_mutex.specs.MutexSteps.{entered, in_lock, in_unlock, is_locked, is_parked}
 use Rattle.steps_condvar.specs.declared.places.CondvarPlace.{CondvarPlace}
@@ -35,13 +35,13 @@ use Rattle.steps_condvar.specs.declared.wait.Stands.{Stands}
 use Rattle.steps_condvar.specs.declared.wait.Stands.TheVariants as stands
 use Rattle.steps_condvar.specs.declared.wait.WaitAt.{WaitAt}
 use Rattle.steps_condvar.specs.declared.wait.WaitAt.TheVariants as wait
-use Rattle.steps_condvar.specs.CondvarSteps.{behind, condvar_next, in_wait, is_shown, released, relocked, waited}
+use Rattle.steps_condvar.specs.CondvarSteps.{behind_release, condvar_next, in_wait, is_shown, released, relocked, waited}
 use Rattle.steps_condvar.specs.CondvarProfiles.{condvar_profile, has_mutex, wait_row}
 use Rattle.steps_condvar.specs.CondvarDeeds.{IsAt, condvar_deeds, relocked_deeds}
 use Rattle.steps_condvar.specs.CondvarDeeds as deeds
 use Rattle.steps_condvar.specs.CondvarWaits.{MayHearLocking, MayHearReleasing, MayHearWaiter, waiter_deeds}
 use Rattle.steps_condvar.specs.CondvarWaits as waits
-use Rattle.steps_condvar.specs.CondvarCalls.{CallFollows, IsReached, MayComeOfTwo, WaitersAreTold, WaitsTell, call_at, case_there, heard, or_else, wait_event}
+use Rattle.steps_condvar.specs.CondvarCalls.{CallOfTwoFollows, IsReached, MayComeOfTwo, WaitersAreTold, WaitsTell, condvar_call_by, case_there, heard, or_else, wait_event}
 use Rattle.steps_condvar.proofs.WaiterFit.{owns, unlocked_free, zero_free}
 
 -- a thread's rights at the mutex, seen anew
@@ -59,8 +59,8 @@ module _ (t m : ℕ) (s s2 : LockState) (rights : ℕ → Rights) (is : rights m
 
 -- the call goes on, and its rights stay
 pub keeps : (c m t : ℕ) (p p2 : CondvarPlace) (told : Reply) (event : Event) (shown : Option ℕ) (s s2 : LockState) → MayComeOfTwo c (condvar_profile p) event → rights_of s2 t ≡ rights_of s t
-    → ((rights : ℕ → Rights) → call_at c m p2 rights ≡ going_on event (heard told (call_at c m p rights))) → CallFollows c m p told event shown s s2 t (At p2)
-keeps c m t p p2 told event shown s s2 may stay same = record { may = may; becomes = λ rights is. ap (call_at c m p2) (same_rights t m s s2 rights is stay) ∙ same rights }
+    → ((rights : ℕ → Rights) → condvar_call_by c m p2 rights ≡ going_on event (heard told (condvar_call_by c m p rights))) → CallOfTwoFollows c m p told event shown s s2 t (At p2)
+keeps c m t p p2 told event shown s s2 may stay same = record { may = may; becomes = λ rights is. ap (condvar_call_by c m p2) (same_rights t m s s2 rights is stay) ∙ same rights }
 
 module _ (v : CondvarSite) (limit : ℕ) (s : Site) (t c m : ℕ) (timed : Bool) (site : IsCondvar v) (h : IsSite (record { sort = Mutex; limit = limit }) s) where
   abbrev r : Rules
@@ -71,7 +71,7 @@ module _ (v : CondvarSite) (limit : ℕ) (s : Site) (t c m : ℕ) (timed : Bool)
 
   -- a step with these deeds at the mutex, and this event
   abbrev Tells : WaitAt → Reply → Event → Option ℕ → List Deed → Next CondvarPlace → Type 0
-  Tells at told event shown ds n = CallFollows c m (place at) told event shown s.lock (after_all r ds s t).lock t n
+  Tells at told event shown ds n = CallOfTwoFollows c m (place at) told event shown s.lock (after_all r ds s t).lock t n
 
   -- ---------------------------------------------------------------- its release
 
@@ -81,18 +81,18 @@ module _ (v : CondvarSite) (limit : ℕ) (s : Site) (t c m : ℕ) (timed : Bool)
 
     -- it has released the mutex
     gives_way : (p2 : CondvarPlace) (seen : ℕ) (shown : Option ℕ) → s.lock.exclusive ≡ Some t
-        → ((rights2 rights : ℕ → Rights) → call_at c m p2 rights2 ≡ record (call_at c m (releasing unlock.Subtract) rights) { released = true; former = one_more_at m Exclusive rights2 })
-        → ((rights : ℕ → Rights) → (call_at c m (releasing unlock.Subtract) rights).former ≡ rights)
-        → CallFollows c m (releasing unlock.Subtract) (Value seen) (AtLock m (Leave Exclusive)) shown s.lock (without_owner t Exclusive s.lock) t (At p2)
+        → ((rights2 rights : ℕ → Rights) → condvar_call_by c m p2 rights2 ≡ record (condvar_call_by c m (releasing unlock.Subtract) rights) { released = true; former = one_more_at m Exclusive rights2 })
+        → ((rights : ℕ → Rights) → (condvar_call_by c m (releasing unlock.Subtract) rights).former ≡ rights)
+        → CallOfTwoFollows c m (releasing unlock.Subtract) (Value seen) (AtLock m (Leave Exclusive)) shown s.lock (without_owner t Exclusive s.lock) t (At p2)
     gives_way p2 seen shown own same former = record {
       may = (inr (refl, inl (refl, refl)), tt);
       becomes = λ rights is.
           same (rights_where m (without_owner t Exclusive s.lock) t rights) rights
-          ∙ ap (λ (f : ℕ → Rights). record (call_at c m (releasing unlock.Subtract) rights) { released = true; former = f }) (lost t m s.lock (without_owner t Exclusive s.lock) rights is (left s.lock t Exclusive own) ∙ sym (former rights));
+          ∙ ap (λ (f : ℕ → Rights). record (condvar_call_by c m (releasing unlock.Subtract) rights) { released = true; former = f }) (lost t m s.lock (without_owner t Exclusive s.lock) rights is (left s.lock t Exclusive own) ∙ sym (former rights));
     }
 
   subtracts : (st : Stands) (seen : ℕ) (shown : Option ℕ) → s.lock.exclusive ≡ Some t → has_mutex st ≡ false → (b : Bool)
-      → CallFollows c m (releasing st unlock.Subtract) (Value seen) (AtLock m (Leave Exclusive)) shown s.lock (without_owner t Exclusive s.lock) t (At (place (released st (in_unlock (if b then At unlock.Enter else Over answer.Ok)))))
+      → CallOfTwoFollows c m (releasing st unlock.Subtract) (Value seen) (AtLock m (Leave Exclusive)) shown s.lock (without_owner t Exclusive s.lock) t (At (place (released st (in_unlock (if b then At unlock.Enter else Over answer.Ok)))))
   subtracts stands.Listed seen shown own without true = gives_way stands.Listed _ seen shown own (λ rights2 rights. refl) (λ rights. refl)
   subtracts stands.Listed seen shown own without false = gives_way stands.Listed _ seen shown own (λ rights2 rights. refl) (λ rights. refl)
   subtracts stands.Moved seen shown own without true = gives_way stands.Moved _ seen shown own (λ rights2 rights. refl) (λ rights. refl)
@@ -106,7 +106,7 @@ module _ (v : CondvarSite) (limit : ℕ) (s : Site) (t c m : ℕ) (timed : Bool)
 
   -- it leaves its section, and wakes whom it has taken, if anybody
   wakes : (st : Stands) (any : Bool) (shown : Option ℕ) (s2 : LockState) → rights_of s2 t ≡ rights_of s.lock t
-      → CallFollows c m (releasing st (unlock.Leave any)) Done (or_else (event_of m (in_hand any false) (Out ∷ [])) Nothing) shown s.lock s2 t (At (place (behind st)))
+      → CallOfTwoFollows c m (releasing st (unlock.Leave any)) Done (or_else (event_of m (in_hand any false) (Out ∷ [])) Nothing) shown s.lock s2 t (At (place (behind_release st)))
   wakes stands.Listed true shown s2 stay = keeps c m t _ _ Done (AtLock m Wake) shown s.lock s2 (inr (refl, inl (inl refl)), tt) stay (λ rights. refl)
   wakes stands.Listed false shown s2 stay = keeps c m t _ _ Done Nothing shown s.lock s2 tt stay (λ rights. refl)
   wakes stands.Moved true shown s2 stay = keeps c m t _ _ Done (AtLock m Wake) shown s.lock s2 (inr (refl, inl (inl refl)), tt) stay (λ rights. refl)
@@ -121,7 +121,7 @@ module _ (v : CondvarSite) (limit : ℕ) (s : Site) (t c m : ℕ) (timed : Bool)
   wakes (stands.Noted note.HandOff) false shown s2 stay = keeps c m t _ _ Done Nothing shown s.lock s2 tt stay (λ rights. refl)
 
   took : (st : Stands) (whom : Option ℕ) (any none_left : Bool) (shown : Option ℕ)
-      → CallFollows c m (releasing st unlock.Take) (Took any none_left) (or_else (event_of m None (waits.unended (takes whom))) Nothing) shown s.lock (after_all r (waits.unended (takes whom)) s t).lock t
+      → CallOfTwoFollows c m (releasing st unlock.Take) (Took any none_left) (or_else (event_of m None (waits.unended (take_deeds whom))) Nothing) shown s.lock (after_all r (waits.unended (take_deeds whom)) s t).lock t
       (At (place (released st (in_unlock (if none_left then At (unlock.Clear any) else At (unlock.Leave any))))))
   took st None any true shown = keeps c m t _ _ (Took any true) Nothing shown s.lock _ tt refl (λ rights. refl)
   took st None any false shown = keeps c m t _ _ (Took any false) Nothing shown s.lock _ tt refl (λ rights. refl)
@@ -130,13 +130,13 @@ module _ (v : CondvarSite) (limit : ℕ) (s : Site) (t c m : ℕ) (timed : Bool)
 
   abbrev Follows : WaitAt → Option ℕ → Reply → Type 0
   Follows at whom told =
-      CallFollows c m (place at) told (wait_event c m at whom told) (deeds.after_all (condvar_deeds (place at) told) v t).shown s.lock (after_all r (waiter_deeds at whom told) s t).lock t (condvar_next (place at) told)
+      CallOfTwoFollows c m (place at) told (wait_event c m at whom told) (deeds.after_condvar_deeds (condvar_deeds (place at) told) v t).shown s.lock (after_all r (waiter_deeds at whom told) s t).lock t (condvar_next (place at) told)
 
   releases : (st : Stands) (at : UnlockAt) (whom : Option ℕ) (told : Reply) → s.role t ≡ (wait_row m (wait.Release st (mutex.Unlock at))).role → MayHearReleasing r s t st at whom told → Follows (wait.Release st (mutex.Unlock at)) whom told
   releases st unlock.Subtract whom (Value seen) is f = by_bit (is_parked seen)
     where
       by_bit : (b : Bool)
-          → CallFollows c m (releasing st unlock.Subtract) (Value seen) (AtLock m (Leave Exclusive)) v.shown s.lock (after_all r (waits.unended (Case (Leave Exclusive) ∷ (if b then [] else End ∷ []))) s t).lock t
+          → CallOfTwoFollows c m (releasing st unlock.Subtract) (Value seen) (AtLock m (Leave Exclusive)) v.shown s.lock (after_all r (waits.unended (Case (Leave Exclusive) ∷ (if b then [] else End ∷ []))) s t).lock t
           (At (place (released st (in_unlock (if b then At unlock.Enter else Over answer.Ok)))))
       by_bit true = subtracts st seen v.shown (owns limit s t m h st is) f.1 true
       by_bit false = subtracts st seen v.shown (owns limit s t m h st is) f.1 false
@@ -163,11 +163,11 @@ module _ (v : CondvarSite) (limit : ℕ) (s : Site) (t c m : ℕ) (timed : Bool)
         by true false late a b = (subst IsNotified (sym a) tt, (released, own))
         by true true late a b = (b, (released, own))
 
-    comes_in : (at : LockAt) (seen : ℕ) (shown : Option ℕ) → s.lock.exclusive ≡ None → ((rights : ℕ → Rights) → (call_at c m (locking at) rights).former ≡ one_more_at m Exclusive rights)
-        → CallFollows c m (locking at) (Value seen) (AtLock m (Enter Exclusive)) shown s.lock (with_owner t Exclusive s.lock) t (Over (waited timed timed_out))
+    comes_in : (at : LockAt) (seen : ℕ) (shown : Option ℕ) → s.lock.exclusive ≡ None → ((rights : ℕ → Rights) → (condvar_call_by c m (locking at) rights).former ≡ one_more_at m Exclusive rights)
+        → CallOfTwoFollows c m (locking at) (Value seen) (AtLock m (Enter Exclusive)) shown s.lock (with_owner t Exclusive s.lock) t (Over (waited timed timed_out))
     comes_in at seen shown free former = record {
       may = (inr (refl, inr (refl, refl)), tt);
-      becomes = λ w rights now is has. answers w (going_on (AtLock m (Enter Exclusive)) (call_at c m (locking at) rights)) refl refl refl
+      becomes = λ w rights now is has. answers w (going_on (AtLock m (Enter Exclusive)) (condvar_call_by c m (locking at) rights)) refl refl refl
           (λ k. has k ∙ gained t m s.lock (with_owner t Exclusive s.lock) rights is (entered_alone s.lock t free) k ∙ ap (λ (f : ℕ → Rights). f k) (sym (former rights)));
     }
 
@@ -176,14 +176,14 @@ module _ (v : CondvarSite) (limit : ℕ) (s : Site) (t c m : ℕ) (timed : Bool)
 
     abbrev Locks : LockAt → Reply → List Deed → Next LockAt → Type 0
     Locks at told ds n =
-        CallFollows c m (locking at) told (goes ds n) (deeds.after_all (relocked_deeds (in_lock e retries n)) v t).shown s.lock (after_all r ds s t).lock t (in_wait m timed (relocked timed timed_out (in_lock e retries n)))
+        CallOfTwoFollows c m (locking at) told (goes ds n) (deeds.after_condvar_deeds (relocked_deeds (in_lock e retries n)) v t).shown s.lock (after_all r ds s t).lock t (in_wait m timed (relocked timed timed_out (in_lock e retries n)))
 
-    tries : (seen : ℕ) (b : Bool) → (b ≡ true → s.lock.exclusive ≡ None) → Locks lock.First (Value seen) (if b then enters else []) (if b then Over (entered e) else At lock.Load)
+    tries : (seen : ℕ) (b : Bool) → (b ≡ true → s.lock.exclusive ≡ None) → Locks lock.First (Value seen) (if b then enter_deeds else []) (if b then Over (entered e) else At lock.Load)
     tries seen true free = comes_in lock.First seen v.shown (free refl) (λ rights. refl)
     tries seen false free = keeps c m t _ _ (Value seen) Nothing v.shown s.lock _ tt refl (λ rights. refl)
 
     decides : (expected seen : ℕ) (same locked : Bool) → (locked ≡ false → s.lock.exclusive ≡ None)
-        → Locks (lock.Decide expected) (Value seen) (if not same then [] else if locked then Mark Main ∷ [] else enters) (if not same then At (lock.Decide seen) else if locked then At (lock.Decide 3) else Over (entered e))
+        → Locks (lock.Decide expected) (Value seen) (if not same then [] else if locked then Mark Main ∷ [] else enter_deeds) (if not same then At (lock.Decide seen) else if locked then At (lock.Decide 3) else Over (entered e))
     decides expected seen false locked free = keeps c m t _ _ (Value seen) Nothing v.shown s.lock _ tt refl (λ rights. refl)
     decides expected seen true true free = keeps c m t _ _ (Value seen) Nothing v.shown s.lock _ tt refl (λ rights. refl)
     decides expected seen true false free = comes_in (lock.Decide expected) seen v.shown (free refl) (λ rights. refl)
@@ -207,27 +207,27 @@ module _ (v : CondvarSite) (limit : ℕ) (s : Site) (t c m : ℕ) (timed : Bool)
   locks e retries timed_out late (lock.Leave parked) whom Done f = leaves e retries timed_out parked
   locks e retries timed_out late lock.Accept whom Done f = record {
     may = tt;
-    becomes = λ w rights now is has. answers e retries timed_out late w (call_at c m (place (wait.Lock timed_out (mutex.Lock e retries lock.Accept))) rights) refl refl refl (λ k. has k ∙ ap (λ (f : ℕ → Rights). f k) (same_rights t m s.lock s.lock rights is refl));
+    becomes = λ w rights now is has. answers e retries timed_out late w (condvar_call_by c m (place (wait.Lock timed_out (mutex.Lock e retries lock.Accept))) rights) refl refl refl (λ k. has k ∙ ap (λ (f : ℕ → Rights). f k) (same_rights t m s.lock s.lock rights is refl));
   }
   locks e retries timed_out late at whom told f = absurd f
 
   -- ---------------------------------------------------------------- each place
 
   shows : (seen : ℕ) (b : Bool)
-      → CallFollows c m (place wait.Show) (Value seen) (event_by c (case_there (if b then Show m ∷ [] else SeeOther m ∷ []))) (deeds.after_all (if b then Show m ∷ [] else SeeOther m ∷ []) v t).shown s.lock s.lock t
+      → CallOfTwoFollows c m (place wait.Show) (Value seen) (event_by c (case_there (if b then Show m ∷ [] else SeeOther m ∷ []))) (deeds.after_condvar_deeds (if b then Show m ∷ [] else SeeOther m ∷ []) v t).shown s.lock s.lock t
       (in_wait m timed (if b then At wait.Stand else At wait.Refuse))
   shows seen true = keeps c m t _ _ (Value seen) (AtLock c (OfCondvar (cases.Show m))) (Some m) s.lock _ (inl (refl, (refl, refl)), tt) refl (λ rights. refl)
   shows seen false = keeps c m t _ _ (Value seen) Nothing v.shown s.lock _ tt refl (λ rights. refl)
 
   unlisted : (b : Bool) → timed ≡ true
-      → CallFollows c m (place wait.Remove) (Removed b) (AtLock c cases.Late) v.shown s.lock s.lock t (in_wait m timed (if b then At wait.Hide else At wait.GiveUp))
+      → CallOfTwoFollows c m (place wait.Remove) (Removed b) (AtLock c cases.Late) v.shown s.lock s.lock t (in_wait m timed (if b then At wait.Hide else At wait.GiveUp))
   unlisted true late = keeps c m t _ _ (Removed true) (AtLock c cases.Late) v.shown s.lock _ (inl (refl, (late, refl)), refl) refl (λ rights. refl)
   unlisted false late = keeps c m t _ _ (Removed false) (AtLock c cases.Late) v.shown s.lock _ (inl (refl, (late, refl)), refl) refl (λ rights. refl)
 
   refused : IsAt v t (place wait.Refuse) → (w : LocksState) (call : CallState) → (w.locks c).shown ≡ v.shown → call.released ≡ false → Keeps w t call → AnswerHolds (Some (Waits c m timed)) w t call answer.TwoMutexes
   refused a w call now released own = by timed
     where
-      known : condvars.IsAt v t (Refuses m)
+      known : condvars.StageHolds v t (SeesOther m)
       known = subst (λ (i : Option Inside). IsAsInside v i) a.stage site.inside
 
       other : ShowsOther (w.locks c) m
@@ -244,7 +244,7 @@ module _ (v : CondvarSite) (limit : ℕ) (s : Site) (t c m : ℕ) (timed : Bool)
   tells wait.Leave whom Done a is f reached = keeps c m t _ _ Done Nothing v.shown s.lock _ tt refl (λ rights. refl)
   tells wait.Refuse whom Done a is f reached = record {
     may = tt;
-    becomes = λ w rights now is has. refused a w (call_at c m (place wait.Refuse) rights) now refl (λ k. has k ∙ ap (λ (f : ℕ → Rights). f k) (same_rights t m s.lock s.lock rights is refl));
+    becomes = λ w rights now is has. refused a w (condvar_call_by c m (place wait.Refuse) rights) now refl (λ k. has k ∙ ap (λ (f : ℕ → Rights). f k) (same_rights t m s.lock s.lock rights is refl));
   }
   tells (wait.Release st (mutex.Unlock at)) whom told a is f reached = releases st at whom told is f
   tells (wait.Asleep stands.Listed) whom Late a is f reached = keeps c m t _ _ Late Nothing v.shown s.lock _ tt refl (λ rights. refl)
@@ -259,16 +259,16 @@ module _ (v : CondvarSite) (limit : ℕ) (s : Site) (t c m : ℕ) (timed : Bool)
 
 pub waits_tell : WaitsTell
 waits_tell v r s t c m timed at whom told sort site a h is hears f reached =
-    subst (λ x. IsSite x s → MayHearWaiter x s t at whom told → CallFollows c m (Wait m timed at) told (wait_event c m at whom told) (deeds.after_all (condvar_deeds (Wait m timed at) told) v t).shown s.lock (after_all x (waiter_deeds at whom told) s t).lock t (condvar_next (Wait m timed at) told))
+    subst (λ x. IsSite x s → MayHearWaiter x s t at whom told → CallOfTwoFollows c m (Wait m timed at) told (wait_event c m at whom told) (deeds.after_condvar_deeds (condvar_deeds (Wait m timed at) told) v t).shown s.lock (after_all x (waiter_deeds at whom told) s t).lock t (condvar_next (Wait m timed at) told))
     (λ i. record { sort = sym sort i; limit = r.limit }) (λ h f. tells v r.limit s t c m timed site h at whom told a is f reached) h f
 
 -- ---------------------------------------------------------------- effects on it
 
 handed_release : (c m : ℕ) (timed : Bool) (by u : ℕ) (alone : Bool) (at : MutexPlace) (rights : ℕ → Rights) → (mutex_profile at).role.claims ≡ None
-    → call_at c m (Wait m timed (wait.Release (stands.Handed u) at)) (one_more_at m Exclusive rights)
-    ≡ record (call_at c m (Wait m timed (wait.Release (stands.InHand by) at)) rights) { retries = None; recalls = WasNotified }
+    → condvar_call_by c m (Wait m timed (wait.Release (stands.Handed u) at)) (one_more_at m Exclusive rights)
+    ≡ record (condvar_call_by c m (Wait m timed (wait.Release (stands.InHand by) at)) rights) { retries = None; recalls = WasNotified }
 handed_release c m timed by u alone at rights e =
-    ap (λ o. record (call_at c m (Wait m timed (wait.Release (stands.Handed u) at)) rights) { former = before_release m (is_none o) rights }) (sym e)
+    ap (λ o. record (condvar_call_by c m (Wait m timed (wait.Release (stands.Handed u) at)) rights) { former = before_release m (is_none o) rights }) (sym e)
 
 pub waiters_are_told : WaitersAreTold
 waiters_are_told c m timed (wait.Release stands.Listed at) (TakenBy u) may free = λ rights. refl

@@ -17,7 +17,7 @@ use Rattle.steps_base.specs.declared.acts.Next.TheVariants.{At, End as Over}
 use Rattle.steps_base.specs.declared.acts.Reply.{Reply}
 use Rattle.steps_base.specs.declared.acts.Reply.TheVariants.{Done, Value, Parked, Took, Removed, TakenBy, MovedTo, HandedBy, Late, Woken}
 use Rattle.steps_base.specs.declared.owners.Owners.{Owners}
-use Rattle.steps_base.specs.Moves.{IsFree}
+use Rattle.steps_base.specs.Moves.{IsSectionFree}
 use Rattle.steps_base.specs.Owners.{with_exclusive}
 use Rattle.spec_locks.specs.Codes.{code}
 use Rattle.spec_locks.specs.Deeds.{AllNeeded, after_all}
@@ -31,14 +31,14 @@ use Rattle.steps_mutex.specs.declared.places.MutexPlace.TheVariants as mutex
 use Rattle.steps_mutex.specs.declared.places.TheConstants.{NOT_PARKED}
 use Rattle.steps_mutex.specs.declared.unlock.UnlockAt.{UnlockAt}
 use Rattle.steps_mutex.specs.declared.unlock.UnlockAt.TheVariants as unlock
-use Rattle.steps_mutex.specs.MutexDeeds.{enters, queued, takes}
-use Rattle.steps_mutex.specs.MutexProfiles.{again, carrying, inside, owner}
+use Rattle.steps_mutex.specs.MutexDeeds.{enter_deeds, queued, take_deeds}
+use Rattle.steps_mutex.specs.MutexProfiles.{with_retry, carrying, inside, owner}
 use Rattle.steps_mutex.specs.MutexSteps.{entered, in_lock, in_unlock, is_locked, is_parked}
 use Rattle.steps_condvar.specs.declared.wait.Stands.{Stands}
 use Rattle.steps_condvar.specs.declared.wait.Stands.TheVariants as stands
 use Rattle.steps_condvar.specs.declared.wait.WaitAt.{WaitAt}
 use Rattle.steps_condvar.specs.declared.wait.WaitAt.TheVariants as wait
-use Rattle.steps_condvar.specs.CondvarSteps.{behind, is_shown, released, relocked, wait_act}
+use Rattle.steps_condvar.specs.CondvarSteps.{behind_release, is_shown, released, relocked, wait_act}
 use Rattle.steps_condvar.specs.CondvarProfiles.{befell, has_mutex, wait_row}
 use Rattle.steps_condvar.specs.CondvarWaits.{LeavesMutex, MayHearLocking, MayHearReleasing, MayHearWaiter, TakesFirst, WaiterFollows, WaitersCode, WaitersFollow, WaitersHear, unended, itself_woken, waiter_next}
 use Rattle.steps_condvar.proofs.NotifierFit.{owned_word, put_same, word_of}
@@ -85,7 +85,7 @@ first_is : (q : List Queued) (u : ℕ) → KnowsAll Mutex q → first_thread q �
 first_is [] u k e = absurd cc
 first_is (x ∷ q) u k e = let same : x.thread ≡ u = cc in ap (λ y. y ∷ q) (exclusive_wanted x k.0 ∙ ap queued same)
 
-behind_row : (m : ℕ) (st : Stands) → (wait_row m (behind st)).role ≡ befell st idle
+behind_row : (m : ℕ) (st : Stands) → (wait_row m (behind_release st)).role ≡ befell st idle
 behind_row m stands.Listed = refl
 behind_row m stands.Moved = refl
 behind_row m (stands.InHand by) = refl
@@ -130,7 +130,7 @@ module _ (limit : ℕ) (s : Site) (t m : ℕ) (h : IsSite (record { sort = Mutex
     took any false = refl
 
     takes_first : s.role t ≡ befell st (record inside { wakes = Some Main }) → (whom : Option ℕ) (any none_left : Bool) → TakesFirst s whom any none_left → HasTakenNobody s.lock t
-        → Releases (takes whom) (if none_left then At (unlock.Clear any) else At (unlock.Leave any))
+        → Releases (take_deeds whom) (if none_left then At (unlock.Clear any) else At (unlock.Leave any))
     takes_first is None any none_left f nobody =
         let e : s.lock.queue ≡ [] = nobody_first s.lock.queue (sym f.first) in
         let left : none_left ≡ true = f.left ∙ ap (λ q. is_empty (drop 1 q)) e in (
@@ -176,7 +176,7 @@ module _ (limit : ℕ) (s : Site) (t m : ℕ) (h : IsSite (record { sort = Mutex
     wants_it false = inl refl
 
     -- it enters, and its call ends
-    comes_in : s.role t ≡ again retries idle → s.lock.exclusive ≡ None → Locks enters retries (Over (entered e))
+    comes_in : s.role t ≡ with_retry retries idle → s.lock.exclusive ≡ None → Locks enter_deeds retries (Over (entered e))
     comes_in is free =
         let own : (after_deed r (Case (Enter Exclusive)) s t).role t ≡ record (s.role t) { retries = None; claims = None } = put_same s.role t _ in (
           (
@@ -194,37 +194,37 @@ module _ (limit : ℕ) (s : Site) (t m : ℕ) (h : IsSite (record { sort = Mutex
           put_same (after_deed r (Case (Enter Exclusive)) s t).role t idle,
         )
 
-    tries : s.role t ≡ again retries idle → (b : Bool) → (b ≡ true → s.lock.exclusive ≡ None) → Locks (if b then enters else []) retries (if b then Over (entered e) else At lock.Load)
+    tries : s.role t ≡ with_retry retries idle → (b : Bool) → (b ≡ true → s.lock.exclusive ≡ None) → Locks (if b then enter_deeds else []) retries (if b then Over (entered e) else At lock.Load)
     tries is true free = comes_in is (free refl)
     tries is false free = (tt, is)
 
     -- an exchange, and whether it saw the mutex locked
-    decides : s.role t ≡ again retries idle → (v : ℕ) (same locked : Bool) → (locked ≡ false → s.lock.exclusive ≡ None)
-        → Locks (if not same then [] else if locked then Mark Main ∷ [] else enters) retries (if not same then At (lock.Decide v) else if locked then At (lock.Decide 3) else Over (entered e))
+    decides : s.role t ≡ with_retry retries idle → (v : ℕ) (same locked : Bool) → (locked ≡ false → s.lock.exclusive ≡ None)
+        → Locks (if not same then [] else if locked then Mark Main ∷ [] else enter_deeds) retries (if not same then At (lock.Decide v) else if locked then At (lock.Decide 3) else Over (entered e))
     decides is v false locked free = (tt, is)
     decides is v true true free = ((tt, tt), is)
     decides is v true false free = comes_in is (free refl)
 
-    parks : s.role t ≡ again retries inside → (b : Bool) → b ≡ (word_of s.parked s.lock.exclusive == 3) → standing t s.lock ≡ 0
+    parks : s.role t ≡ with_retry retries inside → (b : Bool) → b ≡ (word_of s.parked s.lock.exclusive == 3) → standing t s.lock ≡ 0
         → WaiterFollows r s t m timed (wait.Lock timed_out (mutex.Lock e retries lock.Check)) None (Parked b)
     parks is true f out = let w = three s.parked s.lock.exclusive (sym f) in record {
       needed = (((((tt, w.0), out), (ap (λ (d : Role). d.inside) is, w.1, ap (λ (d : Role). d.wakes) is, ap (λ (d : Role). d.covers) is)), tt));
       role = put_same s.role t _ ∙ ap (λ (d : Role). record d { retries = None; empty = None }) is;
     }
-    parks is false f out = record { needed = tt; role = is ∙ ap (λ b. again b inside) (still retries) }
+    parks is false f out = record { needed = tt; role = is ∙ ap (λ b. with_retry b inside) (still retries) }
       where
         still : (b : Bool) → b ≡ (b && true)
         still true = refl
         still false = refl
 
-    leaves_section : (parked : Bool) → s.role t ≡ again (if parked then false else retries) inside
+    leaves_section : (parked : Bool) → s.role t ≡ with_retry (if parked then false else retries) inside
         → WaiterFollows r s t m timed (wait.Lock timed_out (mutex.Lock e retries (lock.Leave parked))) None Done
     leaves_section parked is = record {
       needed = ((λ e. let g : Some Main ≡ None = sym (ap (λ (d : Role). d.inside) is) ∙ e in cc, ap (λ (d : Role). d.wakes) is, ap (λ (d : Role). d.sets) is), tt);
       role = ap (λ d. wakened t (s.lock.taken t) d) (put_same s.role t _ ∙ ap leaves is ∙ left parked);
     }
       where
-        left : (b : Bool) → again (if b then false else retries) idle ≡ waiter_next m (relocked timed timed_out (in_lock e retries (if b then At lock.Asleep else At lock.Load)))
+        left : (b : Bool) → with_retry (if b then false else retries) idle ≡ waiter_next m (relocked timed timed_out (in_lock e retries (if b then At lock.Asleep else At lock.Load)))
         left true = refl
         left false = refl
 
@@ -250,7 +250,7 @@ module _ (limit : ℕ) (s : Site) (t m : ℕ) (h : IsSite (record { sort = Mutex
 
   -- ---------------------------------------------------------------- each place
 
-  goes_in : s.role t ≡ idle → IsFree s Main → Does (In Main ∷ []) inside
+  goes_in : s.role t ≡ idle → IsSectionFree s Main → Does (In Main ∷ []) inside
   goes_in is free = (((free, ap (λ (d : Role). d.inside) is, ap (λ (d : Role). d.empty) is), tt), put_same s.role t _ ∙ ap (λ (d : Role). record d { inside = Some Main }) is)
 
   late : s.role t ≡ inside → (b : Bool) → 1 ≤ times t s.lock.queue → b ≡ is_empty (without t s.lock.queue)
@@ -348,14 +348,14 @@ module _ (limit : ℕ) (s : Site) (t k m : ℕ) (apart : k ≢ m) (h : IsSite (r
   released_word own true = (ap (λ e. apply (op.Sub 1) (word_of s.parked e)) own ∙ less_one s.parked t, refl)
   released_word own false = (ap (λ e. apply (op.Sub 1) (word_of s.parked e)) own ∙ less_one s.parked t, refl)
 
-  tried_word : (b : Bool) → (v == 0) ≡ b → Leaves (if b then enters else []) (if b then 1 else v) (if b then with_exclusive o (Some t) else o).exclusive
+  tried_word : (b : Bool) → (v == 0) ≡ b → Leaves (if b then enter_deeds else []) (if b then 1 else v) (if b then with_exclusive o (Some t) else o).exclusive
   tried_word true e = (entered_zero s.parked s.lock.exclusive t e, refl)
   tried_word false e = (refl, owned)
 
   -- after an exchange that found what it expected, or did not
   abbrev Decides : ℕ → (same locked : Bool) → Op → Type 0
   Decides expected same locked f =
-      Leaves (if not same then [] else if locked then Mark Main ∷ [] else enters) (apply f v) (if same && not locked then with_exclusive o (Some t) else o).exclusive
+      Leaves (if not same then [] else if locked then Mark Main ∷ [] else enter_deeds) (apply f v) (if same && not locked then with_exclusive o (Some t) else o).exclusive
 
   stale : (expected y : ℕ) (locked : Bool) → (v == expected) ≡ false → Decides expected false locked (op.Exchange expected y)
   stale expected y locked e = (ap (λ b. if b then y else v) e, owned)

@@ -46,8 +46,8 @@ use Rattle.steps_condvar.specs.CondvarWaits.{MayBefall, MayHearWaiter, waiter_de
 -- leaves
 abbrev pub case_there : List CondvarDeed → Option LockCase
 case_there (Show m ∷ ds) = Some (OfCondvar (locks.Show m))
-case_there (condvars.Hide ∷ ds) = Some (OfCondvar locks.Hide)
-case_there (condvars.Clear ∷ ds) = Some (OfCondvar locks.Hide)
+case_there (condvars.HideAndTakeAll ∷ ds) = Some (OfCondvar locks.Hide)
+case_there (condvars.ShowNone ∷ ds) = Some (OfCondvar locks.Hide)
 case_there (StandLast ∷ ds) = Some (Park WaitHere)
 case_there (LeaveList ∷ ds) = Some locks.Late
 case_there ds = None
@@ -85,8 +85,8 @@ look_event c seen = if seen == 0 then Nothing
 -- ---------------------------------------------------------------- its effect on the call
 
 -- the state of a call at a place, by what its thread owns
-abbrev pub call_at : ℕ → ℕ → CondvarPlace → (ℕ → Rights) → CallState
-call_at c m p rights = call_of_two c m (condvar_profile p) (mutex_side p) rights
+abbrev pub condvar_call_by : ℕ → ℕ → CondvarPlace → (ℕ → Rights) → CallState
+condvar_call_by c m p rights = call_of_two c m (condvar_profile p) (mutex_side p) rights
 
 -- the call is made of the event; a notification moves waiters to the mutex at which it has looked
 abbrev pub MayComeOfTwo : ℕ → Profile → Event → Type 0
@@ -105,15 +105,15 @@ abbrev pub BecomesOfTwo : ℕ → ℕ → CondvarPlace → Reply → Event → O
     → ℕ → Next CondvarPlace → Type 0
 BecomesOfTwo c m p told event shown s s2 t (At next) =
     (rights : ℕ → Rights) → rights m ≡ rights_of s t
-    → call_at c m next (rights_where m s2 t rights)
-    ≡ going_on event (heard told (call_at c m p rights))
+    → condvar_call_by c m next (rights_where m s2 t rights)
+    ≡ going_on event (heard told (condvar_call_by c m p rights))
 BecomesOfTwo c m p told event shown s s2 t (Over answer) =
     (v : LocksState) (rights : ℕ → Rights) → (v.locks c).shown ≡ shown → rights m ≡ rights_of s t
     → ((k : ℕ) → rights_in v t k ≡ rights_where m s2 t rights k)
     → AnswerHolds (Some ((condvar_profile p).purpose c)) v t
-    (going_on event (heard told (call_at c m p rights))) answer
+    (going_on event (heard told (condvar_call_by c m p rights))) answer
 
-pub record CallFollows (c m : ℕ) (p : CondvarPlace) (told : Reply) (event : Event)
+pub record CallOfTwoFollows (c m : ℕ) (p : CondvarPlace) (told : Reply) (event : Event)
     (shown : Option ℕ) (s s2 : LockState) (t : ℕ) (next : Next CondvarPlace) : Type 0 where
   pub may : MayComeOfTwo c (condvar_profile p) event
   pub becomes : BecomesOfTwo c m p told event shown s s2 t next
@@ -121,9 +121,9 @@ pub record CallFollows (c m : ℕ) (p : CondvarPlace) (told : Reply) (event : Ev
 -- ---------------------------------------------------------------- the places that calls come to
 
 -- a wait releases its mutex as `unlock` does, and locks it again as `lock` does
-abbrev pub IsRelease : MutexPlace → Type 0
-IsRelease (mutex.Unlock at) = Unit {0}
-IsRelease at = ⊥
+abbrev pub IsUnlockPlace : MutexPlace → Type 0
+IsUnlockPlace (mutex.Unlock at) = Unit {0}
+IsUnlockPlace at = ⊥
 
 abbrev pub IsLockOf : LockAt → Type 0
 IsLockOf lock.Remove = ⊥
@@ -145,7 +145,7 @@ IsUnnoted s = Unit {0}
 -- wake somebody has moved some: the first alone where it isn't to move all
 abbrev pub IsReached : CondvarPlace → Type 0
 IsReached (Wait m timed (wait.Release s at)) =
-    IsRelease at × (has_mutex s ≡ true → (mutex_profile at).role.claims ≡ None)
+    IsUnlockPlace at × (has_mutex s ≡ true → (mutex_profile at).role.claims ≡ None)
 IsReached (Wait m timed (wait.Asleep s)) = IsUnnoted s
 IsReached (Wait m timed wait.Remove) = timed ≡ true
 IsReached (Wait m timed wait.Hide) = timed ≡ true
@@ -180,8 +180,8 @@ WaitsTell =
     → s.role t ≡ (wait_row m at).role
     → MayHear v t (Wait m timed at) told → MayHearWaiter r s t at whom told
     → IsReached (Wait m timed at)
-    → CallFollows c m (Wait m timed at) told (wait_event c m at whom told)
-    (deeds.after_all (condvar_deeds (Wait m timed at) told) v t).shown
+    → CallOfTwoFollows c m (Wait m timed at) told (wait_event c m at whom told)
+    (deeds.after_condvar_deeds (condvar_deeds (Wait m timed at) told) v t).shown
     s.lock (after_all r (waiter_deeds at whom told) s t).lock t
     (condvar_next (Wait m timed at) told)
 
@@ -193,8 +193,8 @@ NotifiesTell =
     → s.role t ≡ (notify_row all m at).role
     → MayHear v t (Notify all m at) told → MayHearBeside r s v t m all at told
     → IsReached (Notify all m at)
-    → CallFollows c m (Notify all m at) told (notify_event c all m at told)
-    (deeds.after_all (condvar_deeds (Notify all m at) told) v t).shown
+    → CallOfTwoFollows c m (Notify all m at) told (notify_event c all m at told)
+    (deeds.after_condvar_deeds (condvar_deeds (Notify all m at) told) v t).shown
     s.lock (after_all r (beside_deeds all v.waiters at told) s t).lock t
     (condvar_next (Notify all m at) told)
 
@@ -202,9 +202,9 @@ NotifiesTell =
 abbrev pub LooksTell : Type 0
 LooksTell =
     (v : CondvarSite) (s : LockState) (t c : ℕ) (all : Bool)
-    → CallFollows c (mutex_shown (deeds.word_of v.shown)) (Look all) (Value (deeds.word_of v.shown))
-    (look_event c (deeds.word_of v.shown)) v.shown s s t
-    (condvar_next (Look all) (Value (deeds.word_of v.shown)))
+    → CallOfTwoFollows c (mutex_shown (deeds.word_showing v.shown)) (Look all) (Value (deeds.word_showing v.shown))
+    (look_event c (deeds.word_showing v.shown)) v.shown s s t
+    (condvar_next (Look all) (Value (deeds.word_showing v.shown)))
 
 -- ---------------------------------------------------------------- effects on a waiter
 
@@ -227,15 +227,15 @@ told_rights m told rights = rights
 abbrev pub BecomesTold : ℕ → ℕ → Bool → WaitAt → Reply → Next WaitAt → Type 0
 BecomesTold c m timed at told (At next) =
     (rights : ℕ → Rights)
-    → call_at c m (Wait m timed next) (told_rights m told rights)
-    ≡ told_call m at told (call_at c m (Wait m timed at) rights)
+    → condvar_call_by c m (Wait m timed next) (told_rights m told rights)
+    ≡ told_call m at told (condvar_call_by c m (Wait m timed at) rights)
 BecomesTold c m timed at told (Over answer) = ⊥
 
-abbrev pub HasReleased : WaitAt → Reply → Type 0
-HasReleased at (HandedBy u alone) = (wait_row 0 at).role.claims ≡ None
-HasReleased at told = Unit {0}
+abbrev pub HandedAfterRelease : WaitAt → Reply → Type 0
+HandedAfterRelease at (HandedBy u alone) = (wait_row 0 at).role.claims ≡ None
+HandedAfterRelease at told = Unit {0}
 
 abbrev pub WaitersAreTold : Type 0
 WaitersAreTold =
-    (c m : ℕ) (timed : Bool) (at : WaitAt) (told : Reply) → MayBefall at told → HasReleased at told
+    (c m : ℕ) (timed : Bool) (at : WaitAt) (told : Reply) → MayBefall at told → HandedAfterRelease at told
     → BecomesTold c m timed at told (next_wait m timed at told)

@@ -9,7 +9,7 @@ use Rattle.steps_base.specs.declared.acts.Next.TheVariants.{At, End}
 use Rattle.steps_base.specs.declared.acts.Reply.{Reply}
 use Rattle.steps_base.specs.declared.acts.Reply.TheVariants.{Done, Value, Took, Requeued, Removed, Late}
 use Rattle.steps_base.specs.declared.owners.Owners.{Owners}
-use Rattle.spec_locks.specs.Condvars.{Stage, CondvarSite, IsCondvar, CondvarDeed, EndsWait, GoesIn, GoesOut, Show, SeeOther, StandLast, SeeAgain, MissIt, Hide, MoveFirst, MoveAll, LeaveList, Clear, CondvarNeeded, IsInsideAt, IsInsideNot, MoveFits, WaitsAside, condvar_leads}
+use Rattle.spec_locks.specs.Condvars.{CondvarStage, CondvarSite, IsCondvar, CondvarDeed, EndsWait, GoIn, GoOut, Show, SeeOther, StandLast, SeeAgain, MissIt, HideAndTakeAll, MoveFirst, MoveAll, LeaveList, ShowNone, CondvarNeeded, IsInsideAt, IsInsideNot, MoveFits, WaitsAside, condvar_leads}
 use Rattle.spec_locks.specs.Locks.{Mutex, Rules, times, without}
 use Rattle.spec_locks.specs.Sites.{Site, is_empty}
 use Rattle.steps_mutex.specs.declared.places.MutexPlace.{MutexPlace}
@@ -21,7 +21,7 @@ use Rattle.steps_condvar.specs.declared.places.CondvarPlace.TheVariants.{Wait, L
 use Rattle.steps_condvar.specs.declared.wait.Stands.TheVariants as stands
 use Rattle.steps_condvar.specs.declared.wait.WaitAt.{WaitAt}
 use Rattle.steps_condvar.specs.declared.wait.WaitAt.TheVariants as wait
-use Rattle.steps_condvar.specs.CondvarSteps.{befalls, condvar_act, condvar_next, condvar_owners, is_shown, mutex_beside, shown_as}
+use Rattle.steps_condvar.specs.CondvarSteps.{comes_from_another, condvar_act, condvar_next, condvar_owners, is_shown, mutex_beside, shown_as}
 use Rattle.steps_condvar.specs.CondvarProfiles.{condvar_row, notify_row}
 
 -- ---------------------------------------------------------------- the deeds of each step
@@ -32,29 +32,29 @@ relocked_deeds (At at) = []
 relocked_deeds (End answer) = EndsWait ∷ []
 
 abbrev pub wait_deeds : ℕ → WaitAt → Reply → List CondvarDeed
-wait_deeds m wait.Enter Done = GoesIn ∷ []
+wait_deeds m wait.Enter Done = GoIn ∷ []
 wait_deeds m wait.Show (Value seen) =
     if (seen == 0) || is_shown seen m then Show m ∷ [] else SeeOther m ∷ []
 wait_deeds m wait.Stand Done = StandLast ∷ []
-wait_deeds m wait.Leave Done = GoesOut ∷ []
-wait_deeds m wait.Refuse Done = GoesOut ∷ EndsWait ∷ []
-wait_deeds m (wait.Asleep stands.Listed) Late = GoesIn ∷ []
+wait_deeds m wait.Leave Done = GoOut ∷ []
+wait_deeds m wait.Refuse Done = GoOut ∷ EndsWait ∷ []
+wait_deeds m (wait.Asleep stands.Listed) Late = GoIn ∷ []
 wait_deeds m wait.Remove (Removed none_left) = LeaveList ∷ []
-wait_deeds m wait.Hide (Value seen) = Clear ∷ []
-wait_deeds m wait.GiveUp Done = GoesOut ∷ []
+wait_deeds m wait.Hide (Value seen) = ShowNone ∷ []
+wait_deeds m wait.GiveUp Done = GoOut ∷ []
 wait_deeds m (wait.Lock timed_out at) told = relocked_deeds (mutex_next at told)
 wait_deeds m at told = []
 
 abbrev pub notify_deeds : Bool → ℕ → NotifyAt → Reply → List CondvarDeed
-notify_deeds all m notify.Enter Done = GoesIn ∷ []
+notify_deeds all m notify.Enter Done = GoIn ∷ []
 notify_deeds all m notify.Again (Value seen) =
     if is_shown seen m then SeeAgain m ∷ [] else MissIt m ∷ []
-notify_deeds all m notify.Hide (Value seen) = Hide ∷ []
+notify_deeds all m notify.Hide (Value seen) = HideAndTakeAll ∷ []
 notify_deeds all m (notify.Move locked) (Took any none_left) = MoveFirst ∷ []
 notify_deeds all m (notify.Move locked) (Requeued number none_left) =
     if all then MoveAll ∷ [] else MoveFirst ∷ []
-notify_deeds all m (notify.Clear any) (Value seen) = Clear ∷ []
-notify_deeds all m (notify.Leave any number) Done = GoesOut ∷ []
+notify_deeds all m (notify.Clear any) (Value seen) = ShowNone ∷ []
+notify_deeds all m (notify.Leave any number) Done = GoOut ∷ []
 notify_deeds all m at told = []
 
 abbrev pub condvar_deeds : CondvarPlace → Reply → List CondvarDeed
@@ -63,17 +63,17 @@ condvar_deeds (Look all) told = []
 condvar_deeds (Notify all m at) told = notify_deeds all m at told
 
 -- the condition variable behind deeds of one thread, each of them allowed where it is done
-abbrev pub after_all : List CondvarDeed → CondvarSite → ℕ → CondvarSite
-after_all [] c t = c
-after_all (d ∷ ds) c t = after_all ds (condvar_leads d c t) t
+abbrev pub after_condvar_deeds : List CondvarDeed → CondvarSite → ℕ → CondvarSite
+after_condvar_deeds [] c t = c
+after_condvar_deeds (d ∷ ds) c t = after_condvar_deeds ds (condvar_leads d c t) t
 
-abbrev pub AllNeeded : List CondvarDeed → CondvarSite → ℕ → Type 0
-AllNeeded [] c t = Unit {0}
-AllNeeded (d ∷ ds) c t = CondvarNeeded d c t × AllNeeded ds (condvar_leads d c t) t
+abbrev pub AllCondvarNeeded : List CondvarDeed → CondvarSite → ℕ → Type 0
+AllCondvarNeeded [] c t = Unit {0}
+AllCondvarNeeded (d ∷ ds) c t = CondvarNeeded d c t × AllCondvarNeeded ds (condvar_leads d c t) t
 
 -- ---------------------------------------------------------------- a thread at a place
 
-abbrev pub IsAtStage : CondvarSite → ℕ → Option Stage → Type 0
+abbrev pub IsAtStage : CondvarSite → ℕ → Option CondvarStage → Type 0
 IsAtStage c t None = IsInsideNot c.inside t
 IsAtStage c t (Some stage) = IsInsideAt c t stage
 
@@ -100,17 +100,17 @@ IsAtNext c t (End answer) = IsAway c t
 -- ---------------------------------------------------------------- the laws
 
 -- the word: it shows the mutex that is shown
-abbrev pub word_of : Option ℕ → ℕ
-word_of None = 0
-word_of (Some m) = shown_as m
+abbrev pub word_showing : Option ℕ → ℕ
+word_showing None = 0
+word_showing (Some m) = shown_as m
 
 abbrev pub MayHearWaiting : CondvarSite → ℕ → WaitAt → Reply → Type 0
 MayHearWaiting c t wait.Enter Done = c.inside ≡ None
-MayHearWaiting c t wait.Show (Value seen) = seen ≡ word_of c.shown
+MayHearWaiting c t wait.Show (Value seen) = seen ≡ word_showing c.shown
 MayHearWaiting c t wait.Stand Done = Unit {0}
 MayHearWaiting c t wait.Leave Done = Unit {0}
 MayHearWaiting c t wait.Refuse Done = Unit {0}
-MayHearWaiting c t (wait.Release s at) told = befalls told ≡ false
+MayHearWaiting c t (wait.Release s at) told = comes_from_another told ≡ false
 MayHearWaiting c t (wait.Asleep stands.Listed) Late = c.inside ≡ None
 MayHearWaiting c t (wait.Asleep stands.Moved) Late = Unit {0}
 MayHearWaiting c t wait.Remove (Removed none_left) = none_left ≡ is_empty (without t c.waiters)
@@ -123,7 +123,7 @@ MayHearWaiting c t at told = ⊥
 
 abbrev pub MayHearNotifying : CondvarSite → Bool → NotifyAt → Reply → Type 0
 MayHearNotifying c all notify.Enter Done = c.inside ≡ None
-MayHearNotifying c all notify.Again (Value seen) = seen ≡ word_of c.shown
+MayHearNotifying c all notify.Again (Value seen) = seen ≡ word_showing c.shown
 MayHearNotifying c all notify.Hide (Value seen) = all ≡ true
 MayHearNotifying c all notify.Mark (Value seen) = Unit {0}
 MayHearNotifying c all (notify.Set expected) (Value seen) = Unit {0}
@@ -146,8 +146,8 @@ MayHear c t (Notify all m at) told = MayHearNotifying c all at told
 
 -- the deeds may be done, and behind them the thread is where its next place says
 pub record Follows (c : CondvarSite) (t : ℕ) (p : CondvarPlace) (told : Reply) : Type 0 where
-  pub needed : AllNeeded (condvar_deeds p told) c t
-  pub next : IsAtNext (after_all (condvar_deeds p told) c t) t (condvar_next p told)
+  pub needed : AllCondvarNeeded (condvar_deeds p told) c t
+  pub next : IsAtNext (after_condvar_deeds (condvar_deeds p told) c t) t (condvar_next p told)
 
 abbrev pub CondvarStepsFollow : Type 0
 CondvarStepsFollow =
@@ -160,8 +160,8 @@ abbrev pub CondvarStepsCode : Type 0
 CondvarStepsCode =
     (c : CondvarSite) (t k : ℕ) (p : CondvarPlace) (f : Op) → condvar_act k p ≡ act.Word k f
     → mutex_beside p ≢ Some k
-    → apply f (word_of c.shown)
-    ≡ word_of (after_all (condvar_deeds p (Value (word_of c.shown))) c t).shown
+    → apply f (word_showing c.shown)
+    ≡ word_showing (after_condvar_deeds (condvar_deeds p (Value (word_showing c.shown))) c t).shown
 
 -- and shows what is shown then
 abbrev pub CondvarOwnersFollow : Type 0
@@ -169,8 +169,8 @@ CondvarOwnersFollow =
     (c : CondvarSite) (t k : ℕ) (p : CondvarPlace) (f : Op) (o : Owners)
     → condvar_act k p ≡ act.Word k f
     → mutex_beside p ≢ Some k → o.shown ≡ c.shown
-    → condvar_owners p t (word_of c.shown) o
-    ≡ record o { shown = (after_all (condvar_deeds p (Value (word_of c.shown))) c t).shown }
+    → condvar_owners p t (word_showing c.shown) o
+    ≡ record o { shown = (after_condvar_deeds (condvar_deeds p (Value (word_showing c.shown))) c t).shown }
 
 -- where a notification moves, it moves somebody, each of them waits with the mutex that it saw, and
 -- that mutex may be brought them

@@ -17,15 +17,15 @@ use Rattle.steps_base.specs.declared.acts.Reply.TheVariants.{Done, Value, Parked
 use Rattle.steps_base.specs.declared.acts.Wakes.{Wakes}
 use Rattle.steps_base.specs.declared.acts.Whom.TheVariants.{First}
 use Rattle.steps_base.specs.Acts.{wakes_taken}
-use Rattle.steps_base.specs.Moves.{Accepts, AreLeaving, AreOfWord, Hears, IsFree, LeavesLine, Move, Parks, inside_of, location_of, location_then}
-use Rattle.steps_base.specs.Profiles.{Profile, blank, hand, in_hand}
+use Rattle.steps_base.specs.Moves.{Accepts, AreLeaving, AreOfWord, Hears, IsSectionFree, LeavesLine, Move, Parks, inside_of, location_of, location_then}
+use Rattle.steps_base.specs.Profiles.{Profile, blank_row, hand, in_hand}
 use Rattle.steps_base.specs.Locations.{Location, location_by, nowhere}
-use Rattle.spec_locks.specs.Condvars.{BeginsWait, CondvarNeeded, condvar_leads, CondvarDeed, CondvarSite, EndsWait, GoesIn, GoesOut, LeaveList, MoveAll, MoveFirst, StandLast, line_of, moved_of, taken_of}
+use Rattle.spec_locks.specs.Condvars.{BeginsWait, CondvarNeeded, condvar_leads, CondvarDeed, CondvarSite, EndsWait, GoIn, GoOut, LeaveList, MoveAll, MoveFirst, StandLast, line_of, moved_of, taken_of}
 use Rattle.spec_locks.specs.Locks.{HasTakenNobody, Owns, Queued, Rights, Rules}
 use Rattle.spec_locks.specs.Sites.{Begin, Bring, Deed, Has, In, Main, MarkBrought, MarkOwned, Needed, Site, after_deed, idle}
 use Rattle.spec_locks.specs.Purposes.{Waits}
 use Rattle.spec_locks.specs.Runs.{new_call}
-use Rattle.steps_mutex.specs.MutexDeeds.{takes}
+use Rattle.steps_mutex.specs.MutexDeeds.{take_deeds}
 use Rattle.steps_condvar.specs.declared.notify.NotifyAt.{NotifyAt}
 use Rattle.steps_condvar.specs.declared.places.CondvarPlace.{CondvarPlace}
 use Rattle.steps_condvar.specs.declared.places.CondvarPlace.TheVariants.{Wait, Look, Notify}
@@ -36,17 +36,17 @@ use Rattle.steps_condvar.specs.CondvarProfiles.{condvar_profile, mutex_side, wai
 use Rattle.steps_condvar.specs.CondvarDeeds.{IsAt, IsAway, condvar_deeds}
 use Rattle.steps_condvar.specs.CondvarMutex.{MayHearBeside, beside_deeds}
 use Rattle.steps_condvar.specs.CondvarWaits.{MayHearWaiter, TakesFirst, waiter_deeds}
-use Rattle.steps_condvar.specs.CondvarCalls.{IsReached, call_at}
+use Rattle.steps_condvar.specs.CondvarCalls.{IsReached, condvar_call_by}
 
 -- ---------------------------------------------------------------- a thread at a place, seen at each of its locks
 
 abbrev pub row_there : Next CondvarPlace → Profile
 row_there (At p) = condvar_profile p
-row_there (Over answer) = blank
+row_there (Over answer) = blank_row
 
 abbrev pub row_beside : Next CondvarPlace → Profile
 row_beside (At p) = mutex_side p
-row_beside (Over answer) = blank
+row_beside (Over answer) = blank_row
 
 -- at the condition variable
 abbrev pub there : CondvarPlace → Location
@@ -62,8 +62,8 @@ deeds_beside q (Wait m timed at) whom told = waiter_deeds at whom told
 deeds_beside q (Look all) whom told = []
 deeds_beside q (Notify all m at) whom told = beside_deeds all q at told
 
-abbrev pub beside : List Queued → CondvarPlace → Move
-beside q p = record {
+abbrev pub move_beside : List Queued → CondvarPlace → Move
+move_beside q p = record {
   row = mutex_side p;
   next = λ told. row_beside (condvar_next p told);
   deeds = λ whom told. deeds_beside q p whom told;
@@ -81,8 +81,8 @@ hears_beside (Notify all m at) r s t whom told = (v : CondvarSite)
 -- a step on the word, or at the mutex: nobody goes in or out, and nobody stands or is moved
 abbrev pub StayThere : List CondvarDeed → Type 0
 StayThere [] = Unit {0}
-StayThere (GoesIn ∷ ds) = ⊥
-StayThere (GoesOut ∷ ds) = ⊥
+StayThere (GoIn ∷ ds) = ⊥
+StayThere (GoOut ∷ ds) = ⊥
 StayThere (StandLast ∷ ds) = ⊥
 StayThere (LeaveList ∷ ds) = ⊥
 StayThere (MoveFirst ∷ ds) = ⊥
@@ -96,7 +96,7 @@ pub record StaysThere (p : CondvarPlace) (told : Reply) : Type 0 where
 -- it goes into the section
 pub record GoesInThere (p : CondvarPlace) (told : Reply) : Type 0 where
   pub out : (there p).inside ≡ None
-  pub deeds : condvar_deeds p told ≡ GoesIn ∷ []
+  pub deeds : condvar_deeds p told ≡ GoIn ∷ []
   pub goes : there_then p told ≡ record (there p) { inside = Some Main }
 
 -- it stands behind the last, and waits to be notified
@@ -114,8 +114,8 @@ pub record LeavesThere (p : CondvarPlace) : Type 0 where
 
 -- out of the section, and where another mutex is shown its call ends
 abbrev pub AreLeavingThere : List CondvarDeed → Type 0
-AreLeavingThere (GoesOut ∷ []) = Unit {0}
-AreLeavingThere (GoesOut ∷ EndsWait ∷ []) = Unit {0}
+AreLeavingThere (GoOut ∷ []) = Unit {0}
+AreLeavingThere (GoOut ∷ EndsWait ∷ []) = Unit {0}
 AreLeavingThere ds = ⊥
 
 pub record GoesOutThere (p : CondvarPlace) : Type 0 where
@@ -132,7 +132,7 @@ StayBeside (MarkBrought ∷ []) = Unit {0}
 StayBeside ds = AreOfWord ds
 
 -- it stays where it is; while it releases the mutex it may stand in its queue, or be in a hand
-pub record StaysBeside (x : Move) (told : Reply) : Type 0 where
+pub record StaysPutBeside (x : Move) (told : Reply) : Type 0 where
   pub deeds : StayBeside (x.deeds None told)
   pub goes : location_then x told ≡ location_of x
 
@@ -140,14 +140,14 @@ pub record GoesInBeside (x : Move) (hears : Hears) (told : Reply) : Type 0 where
   pub out : (location_of x).inside ≡ None
   pub deeds : x.deeds None told ≡ In Main ∷ []
   pub goes : location_then x told ≡ record (location_of x) { inside = Some Main }
-  pub may : (r : Rules) (s : Site) (t : ℕ) → IsFree s Main → hears r s t None told
+  pub may : (r : Rules) (s : Site) (t : ℕ) → IsSectionFree s Main → hears r s t None told
 
 -- a release takes the first, if anybody waits: it may be its own thread
 pub record TakesBeside (x : Move) (hears : Hears) : Type 0 where
   pub inside : (location_of x).inside ≡ Some Main
   pub empty_handed : (location_of x).carries ≡ None
   pub deeds : (whom : Option ℕ) (any none_left : Bool)
-      → x.deeds whom (Took any none_left) ≡ takes whom
+      → x.deeds whom (Took any none_left) ≡ take_deeds whom
   pub goes : (any none_left : Bool)
       → location_then x (Took any none_left) ≡ record (location_of x) { carries = in_hand any false }
   pub may : (r : Rules) (s : Site) (t : ℕ) (whom : Option ℕ) (any none_left : Bool)
@@ -169,12 +169,12 @@ pub record GoesOutBeside (x : Move) (wakes : Wakes) : Type 0 where
 -- them
 pub record MovesWaiters (q : List Queued) (p : CondvarPlace) (all locked : Bool)
     (told : Reply) : Type 0 where
-  pub inside : ((there p) ≡ inside_of Main) × (location_of (beside q p) ≡ inside_of Main)
+  pub inside : ((there p) ≡ inside_of Main) × (location_of (move_beside q p) ≡ inside_of Main)
   pub deeds_there : condvar_deeds p told ≡ (if all then MoveAll else MoveFirst) ∷ []
   pub deeds_beside : deeds_beside q p None told
       ≡ Bring (taken_of locked (moved_of all q)) (line_of locked (moved_of all q)) ∷ []
   pub stays : there_then p told ≡ there p
-  pub carries : location_then (beside q p) told
+  pub carries : location_then (move_beside q p) told
       ≡ record (inside_of Main) { carries = in_hand (not locked) false }
 
 -- the waiters moved, by how
@@ -191,20 +191,20 @@ MovesBy q p requeue.TakeOneMoveRest = (number : ℕ) (none_left : Bool)
 abbrev pub CondvarMoves : ℕ → ℕ → List Queued → CondvarPlace → Act → Type 0
 CondvarMoves c m q p (act.Word k op) =
     ((k ≡ c) ⊎ (k ≡ m)) ×
-    ((seen : ℕ) → StaysThere p (Value seen) × StaysBeside (beside q p) (Value seen))
+    ((seen : ℕ) → StaysThere p (Value seen) × StaysPutBeside (move_beside q p) (Value seen))
 CondvarMoves c m q p (act.Enter keys) =
-    ((keys ≡ One (key_of c Main)) × GoesInThere p Done × StaysBeside (beside q p) Done)
+    ((keys ≡ One (key_of c Main)) × GoesInThere p Done × StaysPutBeside (move_beside q p) Done)
     ⊎ (((keys ≡ One (key_of m Main)) × StaysThere p Done
-    × GoesInBeside (beside q p) (hears_beside p) Done)
+    × GoesInBeside (move_beside q p) (hears_beside p) Done)
     ⊎ ((keys ≡ Two (key_of c Main) (key_of m Main)) × GoesInThere p Done
-    × GoesInBeside (beside q p) (hears_beside p) Done))
+    × GoesInBeside (move_beside q p) (hears_beside p) Done))
 CondvarMoves c m q p (act.Stand key want) =
-    (key ≡ key_of c Main) × (want ≡ WaitHere) × StandsThere p × StaysBeside (beside q p) Done
+    (key ≡ key_of c Main) × (want ≡ WaitHere) × StandsThere p × StaysPutBeside (move_beside q p) Done
 CondvarMoves c m q p (act.Park k key check want) =
-    (k ≡ m) × (key ≡ key_of m Main) × Parks (beside q p) (hears_beside p) Main check want
+    (k ≡ m) × (key ≡ key_of m Main) × Parks (move_beside q p) (hears_beside p) Main check want
     × ((parked : Bool) → StaysThere p (Parked parked))
 CondvarMoves c m q p (act.Take key First) =
-    ((key ≡ key_of m Main) × TakesBeside (beside q p) (hears_beside p)
+    ((key ≡ key_of m Main) × TakesBeside (move_beside q p) (hears_beside p)
     × ((any none_left : Bool) → StaysThere p (Took any none_left)))
     ⊎ ((key ≡ key_of c Main)
     × ((none_left : Bool) → MovesWaiters q p false false (Took true none_left)))
@@ -212,15 +212,15 @@ CondvarMoves c m q p (act.Requeue from to how) =
     (from ≡ key_of c Main) × (to ≡ key_of m Main) × MovesBy q p how
 CondvarMoves c m q p (act.Remove key) =
     ((key ≡ key_of c Main) × LeavesThere p
-    × ((none_left : Bool) → StaysBeside (beside q p) (Removed none_left)))
+    × ((none_left : Bool) → StaysPutBeside (move_beside q p) (Removed none_left)))
     ⊎ ((key ≡ key_of m Main) × ((none_left : Bool) → StaysThere p (Removed none_left))
-    × LeavesLine (beside q p) (hears_beside p) Main)
+    × LeavesLine (move_beside q p) (hears_beside p) Main)
 CondvarMoves c m q p (act.Leave keys wakes) =
-    ((keys ≡ One (key_of c Main)) × GoesOutThere p × StaysBeside (beside q p) Done)
-    ⊎ (((keys ≡ One (key_of m Main)) × StaysThere p Done × GoesOutBeside (beside q p) wakes)
+    ((keys ≡ One (key_of c Main)) × GoesOutThere p × StaysPutBeside (move_beside q p) Done)
+    ⊎ (((keys ≡ One (key_of m Main)) × StaysThere p Done × GoesOutBeside (move_beside q p) wakes)
     ⊎ ((keys ≡ Two (key_of c Main) (key_of m Main)) × GoesOutThere p
-    × GoesOutBeside (beside q p) wakes))
-CondvarMoves c m q p act.Accept = StaysThere p Done × Accepts (beside q p) (hears_beside p)
+    × GoesOutBeside (move_beside q p) wakes))
+CondvarMoves c m q p act.Accept = StaysThere p Done × Accepts (move_beside q p) (hears_beside p)
 CondvarMoves c m q p act.Sleep = Unit {0}
 CondvarMoves c m q p act = ⊥
 
@@ -244,42 +244,42 @@ LooksMove = (c m : ℕ) (all : Bool) → CondvarMoves c m [] (Look all) (condvar
 -- a waiter in the queue of the condition variable is taken or moved: it stands there no more, and is in a
 -- hand at the mutex, or stands there
 pub record SleepsThere (p : CondvarPlace) : Type 0 where
-  pub was : ((there p).stands ≡ Some Main) × ((location_of (beside [] p)).stands ≡ None)
-      × ((location_of (beside [] p)).hand ≡ None)
+  pub was : ((there p).stands ≡ Some Main) × ((location_of (move_beside [] p)).stands ≡ None)
+      × ((location_of (move_beside [] p)).hand ≡ None)
   pub taken : (u : ℕ) → (there_then p (TakenBy u)
       ≡ record (there p) { stands = None; waits = None })
-      × (location_then (beside [] p) (TakenBy u)
-      ≡ record (location_of (beside [] p)) { hand = hand u false })
+      × (location_then (move_beside [] p) (TakenBy u)
+      ≡ record (location_of (move_beside [] p)) { hand = hand u false })
   pub moved : (key : ℕ) →
       (there_then p (MovedTo key) ≡ record (there p) { stands = None; waits = None })
-      × (location_then (beside [] p) (MovedTo key)
-      ≡ record (location_of (beside [] p)) { stands = Some Main; waits = Some Exclusive })
+      × (location_then (move_beside [] p) (MovedTo key)
+      ≡ record (location_of (move_beside [] p)) { stands = Some Main; waits = Some Exclusive })
 
 -- a waiter in that of the mutex is taken
 pub record SleepsBeside (p : CondvarPlace) : Type 0 where
-  pub was : ((location_of (beside [] p)).stands ≡ Some Main) × ((there p).stands ≡ None)
+  pub was : ((location_of (move_beside [] p)).stands ≡ Some Main) × ((there p).stands ≡ None)
   pub taken : (u : ℕ) → (there_then p (TakenBy u) ≡ there p)
-      × (location_then (beside [] p) (TakenBy u)
-      ≡ record (location_of (beside [] p)) { stands = None; waits = None; hand = hand u false })
+      × (location_then (move_beside [] p) (TakenBy u)
+      ≡ record (location_of (move_beside [] p)) { stands = None; waits = None; hand = hand u false })
 
 -- a thread in a hand is handed the mutex, or woken, and then stands nowhere
 pub record IsHeldBeside (p : CondvarPlace) (u : ℕ) : Type 0 where
-  pub was : ((location_of (beside [] p)).hand ≡ hand u false)
-      × ((location_of (beside [] p)).stands ≡ None) × ((there p).stands ≡ None)
+  pub was : ((location_of (move_beside [] p)).hand ≡ hand u false)
+      × ((location_of (move_beside [] p)).stands ≡ None) × ((there p).stands ≡ None)
   pub handed : (alone : Bool) → (there_then p (HandedBy u alone) ≡ there p)
-      × (location_then (beside [] p) (HandedBy u alone)
-      ≡ record (location_of (beside [] p)) { hand = hand u true })
+      × (location_then (move_beside [] p) (HandedBy u alone)
+      ≡ record (location_of (move_beside [] p)) { hand = hand u true })
   pub woken : (there_then p (Woken Normal) ≡ there p)
-      × (location_then (beside [] p) (Woken Normal)
-      ≡ record (location_of (beside [] p)) { hand = None })
+      × (location_then (move_beside [] p) (Woken Normal)
+      ≡ record (location_of (move_beside [] p)) { hand = None })
 
 -- a thread that was handed the mutex is told so
 pub record WasGivenBeside (p : CondvarPlace) (u : ℕ) : Type 0 where
-  pub was : ((location_of (beside [] p)).hand ≡ hand u true)
-      × ((location_of (beside [] p)).stands ≡ None) × ((there p).stands ≡ None)
+  pub was : ((location_of (move_beside [] p)).hand ≡ hand u true)
+      × ((location_of (move_beside [] p)).stands ≡ None) × ((there p).stands ≡ None)
   pub told : (there_then p (Woken HandOffNote) ≡ there p)
-      × (location_then (beside [] p) (Woken HandOffNote)
-      ≡ record (location_of (beside [] p)) { hand = None })
+      × (location_then (move_beside [] p) (Woken HandOffNote)
+      ≡ record (location_of (move_beside [] p)) { hand = None })
 
 abbrev pub IsInHand : CondvarPlace → ℕ → Bool → Type 0
 IsInHand p u false = IsHeldBeside p u
@@ -289,9 +289,9 @@ IsInHand p u true = WasGivenBeside p u
 -- be told
 pub record WaitsAtBoth (p : CondvarPlace) : Type 0 where
   pub listed : (there p).stands ≡ Some Main → ((there p).inside ≡ Some Main) ⊎ SleepsThere p
-  pub moved : (location_of (beside [] p)).stands ≡ Some Main
-      → ((location_of (beside [] p)).inside ≡ Some Main) ⊎ SleepsBeside p
-  pub held : (u : ℕ) (handed : Bool) → (location_of (beside [] p)).hand ≡ hand u handed
+  pub moved : (location_of (move_beside [] p)).stands ≡ Some Main
+      → ((location_of (move_beside [] p)).inside ≡ Some Main) ⊎ SleepsBeside p
+  pub held : (u : ℕ) (handed : Bool) → (location_of (move_beside [] p)).hand ≡ hand u handed
       → IsInHand p u handed
 
 abbrev pub WaitersMove : Type 0
@@ -309,9 +309,9 @@ pub record BeginsAt (v : CondvarSite) (r : Rules) (s : Site) (t c m : ℕ)
   pub role : (after_deed r (Begin (Some (Has Exclusive))) s t).role t
       ≡ (wait_row m wait.Enter).role
   pub locations : (there (condvar_first (call.Wait m timed)) ≡ nowhere)
-      × (location_of (beside [] (condvar_first (call.Wait m timed))) ≡ nowhere)
+      × (location_of (move_beside [] (condvar_first (call.Wait m timed))) ≡ nowhere)
   pub call : (rights : ℕ → Rights)
-      → call_at c m (condvar_first (call.Wait m timed)) rights
+      → condvar_call_by c m (condvar_first (call.Wait m timed)) rights
       ≡ new_call (Some (Waits c m timed)) rights
 
 abbrev pub WaitsBegin : Type 0

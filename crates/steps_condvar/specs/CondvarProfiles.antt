@@ -6,7 +6,7 @@ use Rattle.core_base.specs.declared.wants.Want.{Want}
 use Rattle.core_base.specs.declared.wants.Want.TheVariants as wants
 use Rattle.steps_base.specs.Profiles as profiles
 use Rattle.steps_base.specs.Profiles.{Hand, Profile, hand, hand_owner, in_hand, in_line}
-use Rattle.spec_locks.specs.Condvars.{Stage, Rests, Adds, Refuses, Misses, Sees, Clears, moving}
+use Rattle.spec_locks.specs.Condvars.{CondvarStage, NothingToDo, ToStandLast, SeesOther, Misses, Sees, Clears, moving}
 use Rattle.spec_locks.specs.Locks.{Rights}
 use Rattle.spec_locks.specs.Purposes.{Purpose, Waits, Notifies, Recall, Blank, Saw, SawOwner, HasMoved, WasMoved, WasNotified}
 use Rattle.spec_locks.specs.Sites.{Role, Line, Has, Main, found, idle}
@@ -23,7 +23,7 @@ use Rattle.steps_condvar.specs.declared.wait.WaitAt.TheVariants as wait
 pub record CondvarRow : Type 0 where
   -- inside the section of the condition variable, what it is about to do there; the mutex that its
   -- wait names, and whether it stands in the queue of the condition variable
-  pub stage : Option Stage
+  pub stage : Option CondvarStage
   pub waits_with : Option ℕ
   pub listed : Bool
   -- its deeds at the mutex, and whether it stands in that queue
@@ -37,8 +37,8 @@ pub record CondvarRow : Type 0 where
   pub owes_mutex : Bool
   pub retries : Bool
 
-abbrev pub blank : CondvarRow
-blank = record {
+abbrev pub blank_condvar_row : CondvarRow
+blank_condvar_row = record {
   stage = None;
   waits_with = None;
   listed = false;
@@ -51,9 +51,9 @@ blank = record {
   retries = false;
 }
 
-abbrev pub is_main : Option Line → Bool
-is_main (Some Main) = true
-is_main line = false
+abbrev pub is_main_line : Option Line → Bool
+is_main_line (Some Main) = true
+is_main_line line = false
 
 -- ---------------------------------------------------------------- waiters
 
@@ -95,8 +95,8 @@ befell s d = record d {
 }
 
 -- it stands somewhere since it stood behind the last
-abbrev pub standing : Stands → CondvarRow → CondvarRow
-standing s row = record row {
+abbrev pub standing_row : Stands → CondvarRow → CondvarRow
+standing_row s row = record row {
   listed = is_listed s;
   moved = is_moved s;
   hand = hand_of s;
@@ -105,45 +105,45 @@ standing s row = record row {
 }
 
 -- as in a call of the mutex
-abbrev pub beside : Profile → CondvarRow
-beside row = record blank {
+abbrev pub mutex_row_beside : Profile → CondvarRow
+mutex_row_beside row = record blank_condvar_row {
   role = row.role;
-  moved = is_main row.stands;
+  moved = is_main_line row.stands;
   hand = row.hand;
   wants = row.wants;
-  owes_mutex = is_main row.owes;
+  owes_mutex = is_main_line row.owes;
   retries = row.retries;
 }
 
 -- inside the section of the condition variable
-abbrev pub waiting_at : Stage → CondvarRow
-waiting_at stage = record blank { stage = Some stage; wants = Some wants.Wait; owes = true }
+abbrev pub waiting_at : CondvarStage → CondvarRow
+waiting_at stage = record blank_condvar_row { stage = Some stage; wants = Some wants.Wait; owes = true }
 
 -- it still owns its mutex there
-abbrev pub coming : Stage → CondvarRow
+abbrev pub coming : CondvarStage → CondvarRow
 coming stage = record (waiting_at stage) { role = owner }
 
 -- inside the section of the mutex, to which it was moved
 abbrev pub leaving_mutex : Bool → Role → CondvarRow
 leaving_mutex moved role =
-    record blank { role = role; moved = moved; wants = Some wants.Exclusive; owes_mutex = true }
+    record blank_condvar_row { role = role; moved = moved; wants = Some wants.Exclusive; owes_mutex = true }
 
 abbrev pub wait_row : ℕ → WaitAt → CondvarRow
-wait_row m wait.Enter = record blank { role = owner; wants = Some wants.Wait }
-wait_row m wait.Show = coming Rests
-wait_row m wait.Stand = coming (Adds m)
-wait_row m wait.Leave = record (coming Rests) { listed = true }
-wait_row m wait.Refuse = coming (Refuses m)
+wait_row m wait.Enter = record blank_condvar_row { role = owner; wants = Some wants.Wait }
+wait_row m wait.Show = coming NothingToDo
+wait_row m wait.Stand = coming (ToStandLast m)
+wait_row m wait.Leave = record (coming NothingToDo) { listed = true }
+wait_row m wait.Refuse = coming (SeesOther m)
 wait_row m (wait.Release s at) =
-    standing s (record (beside (mutex_profile at)) { role = befell s (mutex_profile at).role })
-wait_row m (wait.Asleep s) = standing s (record blank { role = befell s idle })
-wait_row m wait.Remove = record (waiting_at Rests) { listed = true }
+    standing_row s (record (mutex_row_beside (mutex_profile at)) { role = befell s (mutex_profile at).role })
+wait_row m (wait.Asleep s) = standing_row s (record blank_condvar_row { role = befell s idle })
+wait_row m wait.Remove = record (waiting_at NothingToDo) { listed = true }
 wait_row m wait.Hide = waiting_at Clears
-wait_row m wait.GiveUp = waiting_at Rests
+wait_row m wait.GiveUp = waiting_at NothingToDo
 wait_row m wait.RemoveMoved = leaving_mutex true inside
 wait_row m (wait.GiveUpMoved none_left) =
     leaving_mutex false (record inside { empty = found Main none_left })
-wait_row m (wait.Lock timed_out at) = beside (mutex_profile at)
+wait_row m (wait.Lock timed_out at) = mutex_row_beside (mutex_profile at)
 
 -- ---------------------------------------------------------------- a thread that notifies
 
@@ -154,34 +154,34 @@ brings_to locked = record inside { brings = locked }
 abbrev pub has_moved : Bool → Bool → Role
 has_moved any sets = record inside { carries = true; covers = any; sets = sets }
 
-abbrev pub both : Stage → Role → CondvarRow
-both stage role = record blank
+abbrev pub inside_both : CondvarStage → Role → CondvarRow
+inside_both stage role = record blank_condvar_row
     { stage = Some stage; role = role; owes = true; owes_mutex = true }
 
 -- it has moved nobody, or so many
-abbrev pub told_stage : ℕ → ℕ → Stage
-told_stage m number = if number == 0 then Misses m else Rests
+abbrev pub told_stage : ℕ → ℕ → CondvarStage
+told_stage m number = if number == 0 then Misses m else NothingToDo
 
 abbrev pub told_of : Bool → ℕ → ℕ → CondvarRow
-told_of any number m = both (told_stage m number)
+told_of any number m = inside_both (told_stage m number)
     (if number == 0 then inside else has_moved any false)
 
 abbrev pub notify_row : Bool → ℕ → NotifyAt → CondvarRow
-notify_row all m notify.Enter = blank
-notify_row all m notify.Again = both Rests inside
-notify_row all m notify.Hide = both (Sees m) inside
-notify_row all m notify.Mark = both (moving all m) inside
-notify_row all m (notify.Set seen) = both (moving all m) inside
-notify_row all m (notify.Move locked) = both (moving all m) (brings_to locked)
-notify_row all m (notify.Clear any) = both Clears (has_moved any false)
-notify_row all m (notify.MarkMoved number) = both Rests (has_moved true true)
+notify_row all m notify.Enter = blank_condvar_row
+notify_row all m notify.Again = inside_both NothingToDo inside
+notify_row all m notify.Hide = inside_both (Sees m) inside
+notify_row all m notify.Mark = inside_both (moving all m) inside
+notify_row all m (notify.Set seen) = inside_both (moving all m) inside
+notify_row all m (notify.Move locked) = inside_both (moving all m) (brings_to locked)
+notify_row all m (notify.Clear any) = inside_both Clears (has_moved any false)
+notify_row all m (notify.MarkMoved number) = inside_both NothingToDo (has_moved true true)
 notify_row all m (notify.Leave any number) = told_of any number m
 
 -- ---------------------------------------------------------------- every place
 
 abbrev pub condvar_row : CondvarPlace → CondvarRow
 condvar_row (Wait m timed at) = record (wait_row m at) { waits_with = Some m }
-condvar_row (Look all) = blank
+condvar_row (Look all) = blank_condvar_row
 condvar_row (Notify all m at) = notify_row all m at
 
 -- the thread that took this one and has not left its sections yet
@@ -215,7 +215,7 @@ condvar_retries p = (condvar_row p).retries
 
 -- ---------------------------------------------------------------- as a place of each of its two locks
 
-abbrev pub section_in : Option Stage → Option Line
+abbrev pub section_in : Option CondvarStage → Option Line
 section_in None = None
 section_in (Some stage) = Some Main
 
@@ -257,10 +257,10 @@ is_late_beside (Wait m timed wait.RemoveMoved) = true
 is_late_beside p = false
 
 -- the goal of its call
-abbrev pub condvar_purpose : CondvarPlace → ℕ → Purpose
-condvar_purpose (Wait m timed at) c = Waits c m timed
-condvar_purpose (Look all) c = Notifies c all
-condvar_purpose (Notify all m at) c = Notifies c all
+abbrev pub condvar_place_purpose : CondvarPlace → ℕ → Purpose
+condvar_place_purpose (Wait m timed at) c = Waits c m timed
+condvar_place_purpose (Look all) c = Notifies c all
+condvar_place_purpose (Notify all m at) c = Notifies c all
 
 -- whether a wait has released its mutex
 abbrev pub has_released : WaitAt → Bool
@@ -328,7 +328,7 @@ carries_beside (Notify all m at) = notify_carries at
 
 -- the row of a place at the condition variable: nobody is in a hand there
 abbrev pub condvar_profile : CondvarPlace → Profile
-condvar_profile p = record profiles.blank {
+condvar_profile p = record profiles.blank_row {
   role = record idle { inside = section_in (condvar_row p).stage };
   stands = in_line (condvar_row p).listed Main;
   wants = wants_there (condvar_row p).wants;
@@ -340,13 +340,13 @@ condvar_profile p = record profiles.blank {
   recalls = condvar_recalls p;
   stage = (condvar_row p).stage;
   names = (condvar_row p).waits_with;
-  purpose = condvar_purpose p;
+  purpose = condvar_place_purpose p;
   released = condvar_released p;
 }
 
 -- and at the mutex beside it
 abbrev pub mutex_side : CondvarPlace → Profile
-mutex_side p = record profiles.blank {
+mutex_side p = record profiles.blank_row {
   role = (condvar_row p).role;
   stands = in_line (condvar_row p).moved Main;
   carries = carries_beside p;

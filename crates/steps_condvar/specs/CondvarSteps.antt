@@ -114,12 +114,12 @@ condvar_act c (Notify all m at) = notify_act all c m at
 -- ---------------------------------------------------------------- effects on waiters
 
 -- a reply tells what another thread has done to this one
-abbrev pub befalls : Reply → Bool
-befalls (TakenBy by) = true
-befalls (MovedTo key) = true
-befalls (HandedBy by alone) = true
-befalls (Woken by) = true
-befalls reply = false
+abbrev pub comes_from_another : Reply → Bool
+comes_from_another (TakenBy by) = true
+comes_from_another (MovedTo key) = true
+comes_from_another (HandedBy by alone) = true
+comes_from_another (Woken by) = true
+comes_from_another reply = false
 
 abbrev pub stands_after : Stands → Reply → Stands
 stands_after s (TakenBy by) = stands.InHand by
@@ -133,10 +133,10 @@ abbrev pub first_lock : Bool → MutexPlace
 first_lock retries = mutex.Lock entry.Lock retries lock.First
 
 -- after its release: with a normal note it locks the mutex again, with that of a hand-off it has it
-abbrev pub behind : Stands → WaitAt
-behind (stands.Noted note.Normal) = wait.Lock false (first_lock true)
-behind (stands.Noted note.HandOff) = wait.Lock false (mutex.Lock entry.Lock false lock.Accept)
-behind s = wait.Asleep s
+abbrev pub behind_release : Stands → WaitAt
+behind_release (stands.Noted note.Normal) = wait.Lock false (first_lock true)
+behind_release (stands.Noted note.HandOff) = wait.Lock false (mutex.Lock entry.Lock false lock.Accept)
+behind_release s = wait.Asleep s
 
 -- its time is up: it leaves the queue in which it stands
 abbrev pub late_place : Stands → WaitAt
@@ -153,7 +153,7 @@ waited timed timed_out =
 
 abbrev pub released : Stands → Next MutexPlace → WaitAt
 released s (At at) = wait.Release s at
-released s (End answer) = behind s
+released s (End answer) = behind_release s
 
 abbrev pub relocked : Bool → Bool → Next MutexPlace → Next WaitAt
 relocked timed timed_out (At at) = At (wait.Lock timed_out at)
@@ -161,11 +161,11 @@ relocked timed timed_out (End answer) = End (waited timed timed_out)
 
 abbrev pub asleep_next : Stands → Reply → WaitAt
 asleep_next s Late = late_place s
-asleep_next s reply = behind (stands_after s reply)
+asleep_next s reply = behind_release (stands_after s reply)
 
 abbrev pub release_next : Stands → MutexPlace → Reply → WaitAt
 release_next s at reply =
-    if befalls reply then wait.Release (stands_after s reply) at else released s (mutex_next at reply)
+    if comes_from_another reply then wait.Release (stands_after s reply) at else released s (mutex_next at reply)
 
 abbrev pub next_wait : ℕ → Bool → WaitAt → Reply → Next WaitAt
 next_wait m timed wait.Enter Done = At wait.Show

@@ -10,7 +10,7 @@ use Rattle.steps_base.specs.declared.acts.Next.TheVariants.{At, End as Over}
 use Rattle.steps_base.specs.declared.acts.Reply.{Reply}
 use Rattle.steps_base.specs.declared.acts.Reply.TheVariants.{Done, Value, Parked, Took, Removed, TakenBy, MovedTo, HandedBy, Late, Woken}
 use Rattle.steps_base.specs.declared.owners.Owners.{Owners}
-use Rattle.steps_base.specs.Moves.{IsFree}
+use Rattle.steps_base.specs.Moves.{IsSectionFree}
 use Rattle.spec_locks.specs.Codes.{code}
 use Rattle.spec_locks.specs.Deeds.{AllNeeded, after_all}
 use Rattle.spec_locks.specs.Locks.{HasTakenNobody, Late as GivesUp, Mutex, Rules, first_thread, standing, times, without}
@@ -60,7 +60,7 @@ pub record TakesFirst (s : Site) (whom : Option ℕ) (any none_left : Bool) : Ty
 abbrev pub MayHearReleasing : Rules → Site → ℕ → Stands → UnlockAt → Option ℕ → Reply → Type 0
 MayHearReleasing r s t st unlock.Subtract whom (Value seen) =
     (seen ≡ code r s) × (has_mutex st ≡ false)
-MayHearReleasing r s t st unlock.Enter whom Done = IsFree s Main
+MayHearReleasing r s t st unlock.Enter whom Done = IsSectionFree s Main
 MayHearReleasing r s t st unlock.Take whom (Took any none_left) =
     TakesFirst s whom any none_left × HasTakenNobody s.lock t
 MayHearReleasing r s t st (unlock.Clear any) whom (Value seen) = Unit {0}
@@ -72,7 +72,7 @@ abbrev pub MayHearLocking : Rules → Site → ℕ → LockAt → Reply → Type
 MayHearLocking r s t lock.First (Value seen) = seen ≡ code r s
 MayHearLocking r s t lock.Load (Value seen) = Unit {0}
 MayHearLocking r s t (lock.Decide expected) (Value seen) = seen ≡ code r s
-MayHearLocking r s t (lock.Decide expected) Done = IsFree s Main
+MayHearLocking r s t (lock.Decide expected) Done = IsSectionFree s Main
 MayHearLocking r s t lock.Check (Parked parked) =
     (parked ≡ (code r s == 3)) × (standing t s.lock ≡ 0)
 MayHearLocking r s t (lock.Leave parked) Done = Unit {0}
@@ -88,7 +88,7 @@ MayHearWaiter r s t wait.Refuse whom Done = Unit {0}
 MayHearWaiter r s t (wait.Release st (mutex.Unlock at)) whom told =
     MayHearReleasing r s t st at whom told
 MayHearWaiter r s t (wait.Asleep stands.Listed) whom Late = Unit {0}
-MayHearWaiter r s t (wait.Asleep stands.Moved) whom Late = IsFree s Main
+MayHearWaiter r s t (wait.Asleep stands.Moved) whom Late = IsSectionFree s Main
 MayHearWaiter r s t wait.Remove whom (Removed none_left) = Unit {0}
 MayHearWaiter r s t wait.Hide whom (Value seen) = Unit {0}
 MayHearWaiter r s t wait.GiveUp whom Done = Unit {0}

@@ -17,7 +17,7 @@
 //! | `Lock` | locks its mutex, as `lock` does | ends |
 ghost use Rattle.std.specs.Prelude.{◌≡◌, ◌<◌, ◌^◌};
 ghost use Rattle.steps_condvar.specs.CondvarProfiles.{is_woken, taker_of, want_of, wait_row};
-ghost use Rattle.steps_condvar.specs.CondvarSteps.{befalls, behind, first_lock, late_place, relocked, released, waited, stands_after, asleep_next, next_wait, wait_act};
+ghost use Rattle.steps_condvar.specs.CondvarSteps.{comes_from_another, behind_release, first_lock, late_place, relocked, released, waited, stands_after, asleep_next, next_wait, wait_act};
 
 use crate::places::{shown, shows};
 use core_base::{Keys, Line, Note, Op, Want, main_key};
@@ -126,8 +126,8 @@ impl WaitAt {
 }
 
 /// Whether a reply tells what another thread has done to this one.
-pub(super) fn befalls(reply: Reply) -> bool
-    ensures { result ≡ befalls reply }
+pub(super) fn comes_from_another(reply: Reply) -> bool
+    ensures { result ≡ comes_from_another reply }
 {
     matches!(
         reply,
@@ -161,7 +161,7 @@ pub(super) fn first_lock(retries: bool) -> MutexPlace
 
 /// Where a thread goes that has released its mutex.
 fn behind(stands: Stands) -> WaitAt
-    ensures { result ≡ behind stands }
+    ensures { result ≡ behind_release stands }
 {
     match stands {
         Stands::Noted(Note::Normal) => WaitAt::Lock {
@@ -251,7 +251,7 @@ pub(super) fn next_wait(mutex: usize, timed: bool, at: WaitAt, reply: Reply) -> 
             at: MutexPlace::Unlock(UnlockAt::Subtract),
         }),
         (WaitAt::Refuse, Reply::Done) => Next::End(Answer::TwoMutexes),
-        (WaitAt::Release { stands, at }, reply) => if befalls(reply) {
+        (WaitAt::Release { stands, at }, reply) => if comes_from_another(reply) {
             Next::At(WaitAt::Release {
                 stands: stands_after(stands, reply),
                 at,

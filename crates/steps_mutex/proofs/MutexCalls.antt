@@ -25,7 +25,7 @@ use Rattle.spec_locks.specs.Runs.{LocksState, CallState, AtLock, going_on, Answe
 use Rattle.spec_locks.specs.Sites.{Deed, Main, End, Out, Mark, Case}
 use Rattle.spec_locks.specs.Deeds.{AreOneCase, case_of, after_event}
 use Rattle.spec_locks.proofs.Rights.{unchanged, changed, agree, entered_alone, left, regained}
-use Rattle.steps_mutex.specs.MutexDeeds.{enters, takes, hands_over, queued}
+use Rattle.steps_mutex.specs.MutexDeeds.{enter_deeds, take_deeds, handing_deeds, queued}
 use Rattle.steps_mutex.specs.MutexLaws.{heir, mutex_row, next_row}
 use Rattle.steps_mutex.specs.MutexProfiles.{is_bump, entry_purpose, release_purpose, before_release}
 
@@ -143,7 +143,7 @@ module _ (limit l t : ℕ) (s : LockState) where
   by_case case at rights = going_on (AtLock l case) (call_by l (mutex_row at) rights)
 
   pub first : (e : Entry) (again b : Bool) → (b ≡ true → s.exclusive ≡ None)
-      → Tells (Lock e again First) (if b then enters else []) (in_lock e again (if b then next.End (entered e) else next.At Load))
+      → Tells (Lock e again First) (if b then enter_deeds else []) (in_lock e again (if b then next.End (entered e) else next.At Load))
   first e again true free = record {
     follows = record { one = tt; may = (enters_by e, tt); comes = λ v rights ruled now is has. agreed e v (by_case (Enter Exclusive) (Lock e again First) rights) rights refl (rw now refl) (gains v rights _ now is has (entered_alone s t (free refl))) };
     rests = tt;
@@ -154,7 +154,7 @@ module _ (limit l t : ℕ) (s : LockState) where
   loads e again seen = quiet (Lock e again Load) (Lock e again (Decide seen)) [] tt refl (λ rights. refl) (inl (decides l seen))
 
   pub exchanges : (e : Entry) (again : Bool) (was seen : ℕ) (a b : Bool) → (a ≡ true → b ≡ false → s.exclusive ≡ None)
-      → Tells (Lock e again (Decide was)) (if not a then [] else if b then Mark Main ∷ [] else enters)
+      → Tells (Lock e again (Decide was)) (if not a then [] else if b then Mark Main ∷ [] else enter_deeds)
       (in_lock e again (if not a then next.At (Decide seen) else if b then next.At (Decide 3) else next.End (entered e)))
   exchanges e again was seen false b free = quiet (Lock e again (Decide was)) (Lock e again (Decide seen)) [] tt refl (λ rights. refl) (inl (decides l seen))
   exchanges e again was seen true true free = quiet (Lock e again (Decide was)) (Lock e again (Decide 3)) (Mark Main ∷ []) tt refl (λ rights. refl) (inl (decides l 3))
@@ -199,7 +199,7 @@ module _ (limit l t : ℕ) (s : LockState) where
   accepts entries.Bump again own = record { follows = record { one = tt; may = tt; comes = λ v rights ruled now is has. (rw now own, stays v rights s now is has refl) }; rests = tt }
 
   pub tries : (b : Bool) → (b ≡ false → s.exclusive ≡ None) → (b ≡ true → s.exclusive ≢ None)
-      → Tells TryLock (if b then End ∷ [] else enters) (if b then next.End answer.No else next.End answer.Yes)
+      → Tells TryLock (if b then End ∷ [] else enter_deeds) (if b then next.End answer.No else next.End answer.Yes)
   tries false free owned = record { follows = record { one = tt; may = ((refl, refl), tt); comes = λ v rights ruled now is has. (rw now refl, gains v rights _ now is has (entered_alone s t (free refl))) }; rests = tt }
   tries true free owned = record {
     follows = record {
@@ -224,11 +224,11 @@ module _ (limit l t : ℕ) (s : LockState) where
 
   -- it takes the first of the queue, or finds nobody
   pub takes_one : (o : Option ℕ) (any b : Bool)
-      → Tells (Unlock unlock.Take) (takes o) (in_unlock (if b then next.At (unlock.Clear any) else next.At (unlock.Leave any)))
-  takes_one None any true = quiet (Unlock unlock.Take) (Unlock (unlock.Clear any)) (takes None) tt refl (λ rights. refl) (inl refl)
-  takes_one None any false = quiet (Unlock unlock.Take) (Unlock (unlock.Leave any)) (takes None) tt refl (λ rights. refl) (inl refl)
-  takes_one (Some u) any true = keeps (Unlock unlock.Take) (Unlock (unlock.Clear any)) (takes (Some u)) tt ((refl, tt), tt) refl (λ rights. refl) (inl refl)
-  takes_one (Some u) any false = keeps (Unlock unlock.Take) (Unlock (unlock.Leave any)) (takes (Some u)) tt ((refl, tt), tt) refl (λ rights. refl) (inl refl)
+      → Tells (Unlock unlock.Take) (take_deeds o) (in_unlock (if b then next.At (unlock.Clear any) else next.At (unlock.Leave any)))
+  takes_one None any true = quiet (Unlock unlock.Take) (Unlock (unlock.Clear any)) (take_deeds None) tt refl (λ rights. refl) (inl refl)
+  takes_one None any false = quiet (Unlock unlock.Take) (Unlock (unlock.Leave any)) (take_deeds None) tt refl (λ rights. refl) (inl refl)
+  takes_one (Some u) any true = keeps (Unlock unlock.Take) (Unlock (unlock.Clear any)) (take_deeds (Some u)) tt ((refl, tt), tt) refl (λ rights. refl) (inl refl)
+  takes_one (Some u) any false = keeps (Unlock unlock.Take) (Unlock (unlock.Leave any)) (take_deeds (Some u)) tt ((refl, tt), tt) refl (λ rights. refl) (inl refl)
 
   -- it wakes whom it has taken
   pub wakes_taken : (any : Bool) → Tells (Unlock (unlock.Leave any)) (Out ∷ []) (next.End answer.Ok)
@@ -247,25 +247,25 @@ module _ (limit l t : ℕ) (s : LockState) where
   bumps false own = record { follows = record { one = tt; may = tt; comes = λ v rights ruled now is has. (rw now own, stays v rights s now is has refl) }; rests = tt }
 
   pub takes_fairly : (bumping : Bool) (o : Option ℕ) (any b : Bool)
-      → Tells (HandOff bumping hand_off.Take) (takes o) (next.At (HandOff bumping (hand_off.Store any b)))
-  takes_fairly bumping None any b = quiet (HandOff bumping hand_off.Take) (HandOff bumping (hand_off.Store any b)) (takes None) tt refl (λ rights. refl) (inl (stores_so l any b))
-  takes_fairly bumping (Some u) any b = keeps (HandOff bumping hand_off.Take) (HandOff bumping (hand_off.Store any b)) (takes (Some u)) tt (takes_by bumping (queued u), tt) refl (λ rights. refl) (inl (stores_so l any b))
+      → Tells (HandOff bumping hand_off.Take) (take_deeds o) (next.At (HandOff bumping (hand_off.Store any b)))
+  takes_fairly bumping None any b = quiet (HandOff bumping hand_off.Take) (HandOff bumping (hand_off.Store any b)) (take_deeds None) tt refl (λ rights. refl) (inl (stores_so l any b))
+  takes_fairly bumping (Some u) any b = keeps (HandOff bumping hand_off.Take) (HandOff bumping (hand_off.Store any b)) (take_deeds (Some u)) tt (takes_by bumping (queued u), tt) refl (λ rights. refl) (inl (stores_so l any b))
 
   -- it gives its right to its heir, which isn't itself
   pub stores : (bumping any none_left : Bool) (to : Option ℕ)
       → with_right Exclusive (rights_of (locks.handed t Exclusive (heir to) s) t) ≡ rights_of s t
-      → Tells (HandOff bumping (hand_off.Store any none_left)) (hands_over to none_left)
+      → Tells (HandOff bumping (hand_off.Store any none_left)) (handing_deeds to none_left)
       (next.At (HandOff bumping (hand_off.Leave any)))
   stores bumping any none_left to gave = record { follows = record { one = one to none_left; may = may to; comes = comes to gave }; rests = inl (leaves_so any) }
     where
-      one : (o : Option ℕ) (b : Bool) → AreOneCase (hands_over o b)
+      one : (o : Option ℕ) (b : Bool) → AreOneCase (handing_deeds o b)
       one None b = tt
       one (Some u) true = tt
       one (Some u) false = tt
 
       may : (o : Option ℕ)
           → MayCome l (mutex_row (HandOff bumping (hand_off.Store any none_left)))
-          (event_at l (mutex_row (HandOff bumping (hand_off.Store any none_left))) (hands_over o none_left))
+          (event_at l (mutex_row (HandOff bumping (hand_off.Store any none_left))) (handing_deeds o none_left))
       may None = (hands_by bumping None, tt)
       may (Some u) = (hands_by bumping (heir (Some u)), tt)
 
@@ -275,8 +275,8 @@ module _ (limit l t : ℕ) (s : LockState) where
 
       comes : (o : Option ℕ) → with_right Exclusive (rights_of (locks.handed t Exclusive (heir o) s) t) ≡ rights_of s t
           → IsNextCall l (mutex_row (HandOff bumping (hand_off.Store any none_left)))
-          (event_at l (mutex_row (HandOff bumping (hand_off.Store any none_left))) (hands_over o none_left)) s
-          (after_event mutex (event_at l (mutex_row (HandOff bumping (hand_off.Store any none_left))) (hands_over o none_left)) s t) t
+          (event_at l (mutex_row (HandOff bumping (hand_off.Store any none_left))) (handing_deeds o none_left)) s
+          (after_event mutex (event_at l (mutex_row (HandOff bumping (hand_off.Store any none_left))) (handing_deeds o none_left)) s t) t
           (mutex_row (HandOff bumping (hand_off.Leave any)))
       comes None e rights is = ap (λ f. record (by_case (HandsOff Exclusive None) (HandOff bumping (hand_off.Store any none_left)) rights) { former = f }) (lost (locks.handed t Exclusive None s) e rights is)
       comes (Some u) e rights is = ap (λ f. record (by_case (HandsOff Exclusive (heir (Some u))) (HandOff bumping (hand_off.Store any none_left)) rights) { former = f }) (lost (locks.handed t Exclusive (heir (Some u)) s) e rights is)

@@ -24,8 +24,8 @@ use Rattle.steps_mutex.specs.declared.places.MutexPlace.TheVariants.{Lock, TryLo
 use Rattle.steps_mutex.specs.declared.places.TheConstants.{NOT_PARKED}
 use Rattle.steps_mutex.specs.declared.unlock.UnlockAt.TheVariants as unlock
 use Rattle.steps_mutex.specs.declared.hand_off.HandOffAt.TheVariants as hand_off
-use Rattle.steps_mutex.specs.MutexDeeds.{enters, hands_over, mutex_deeds, queued}
-use Rattle.steps_mutex.specs.MutexLaws.{HandsOver, LeavesMutex, MayHear, MutexHandOversCode, MutexStepsCode, mutex_role}
+use Rattle.steps_mutex.specs.MutexDeeds.{enter_deeds, handing_deeds, mutex_deeds, queued}
+use Rattle.steps_mutex.specs.MutexLaws.{HandsOverToHeir, LeavesMutex, MayHear, MutexHandOversCode, MutexStepsCode, mutex_role}
 use Rattle.steps_mutex.specs.MutexSteps.{decided, hand_off_word, is_locked, is_parked, mutex_act, mutex_owners}
 use Rattle.steps_mutex.proofs.MutexWords.{cleared, entered_free, entered_zero, less_one, one, owned_word, tried_free, tried_owned, word_of}
 
@@ -41,14 +41,14 @@ module _ (limit : ℕ) (s : Site) (t l : ℕ) (h : IsSite (record { sort = Mutex
     abbrev Leaves : List Deed → ℕ → Option ℕ → Type 0
     Leaves ds w owner = (w ≡ code r (after_all r ds s t)) × (owner ≡ (after_all r ds s t).lock.exclusive)
 
-    tried : (b : Bool) → (v == 0) ≡ b → Leaves (if b then enters else []) (if b then 1 else v) (if b then with_exclusive o (Some t) else o).exclusive
+    tried : (b : Bool) → (v == 0) ≡ b → Leaves (if b then enter_deeds else []) (if b then 1 else v) (if b then with_exclusive o (Some t) else o).exclusive
     tried true e = (entered_zero s.parked s.lock.exclusive t e, refl)
     tried false e = (refl, owned)
 
     -- an exchange that found what it expected, or did not
     abbrev Decides : ℕ → (same locked : Bool) → Op → Type 0
     Decides expected same locked f =
-        Leaves (if not same then [] else if locked then Mark Main ∷ [] else enters) (apply f v) (if same && not locked then with_exclusive o (Some t) else o).exclusive
+        Leaves (if not same then [] else if locked then Mark Main ∷ [] else enter_deeds) (apply f v) (if same && not locked then with_exclusive o (Some t) else o).exclusive
 
     abbrev decides_by : ℕ → Bool → Bool → Act
     decides_by x a b =
@@ -78,7 +78,7 @@ module _ (limit : ℕ) (s : Site) (t l : ℕ) (h : IsSite (record { sort = Mutex
         subst (λ n. Decides n true (is_locked v) f) same (fresh f (is_locked v) refl (v == 1) refl (subst (λ n. decided l n ≡ act.Word l f) (sym same) is))
     decides expected f is false e = missed expected f (is_locked expected) (expected == 1) (is_locked v) e is (λ x. eqb-true expected 1 x)
 
-    tried_once : (b : Bool) → is_locked v ≡ b → Leaves (if b then End ∷ [] else enters) (apply (op.Or 1) v) (if b then o else with_exclusive o (Some t)).exclusive
+    tried_once : (b : Bool) → is_locked v ≡ b → Leaves (if b then End ∷ [] else enter_deeds) (apply (op.Or 1) v) (if b then o else with_exclusive o (Some t)).exclusive
     tried_once true e = (tried_owned s.parked s.lock.exclusive e, owned)
     tried_once false e = (tried_free s.parked s.lock.exclusive t e, refl)
 
@@ -100,7 +100,7 @@ module _ (limit : ℕ) (s : Site) (t l : ℕ) (h : IsSite (record { sort = Mutex
     glanced false = (refl, owned)
 
     -- a hand-off that has nobody in hand
-    stores_none : (none_left : Bool) → Leaves (hands_over None none_left) 0 None
+    stores_none : (none_left : Bool) → Leaves (handing_deeds None none_left) 0 None
     stores_none none_left = (refl, refl)
 
     leaves : (p : MutexPlace) (whom : Option ℕ) (f : Op) (ds : List Deed) (w : ℕ) → mutex_deeds p whom (Value v) ≡ ds → apply f v ≡ w
@@ -140,11 +140,11 @@ module _ (limit : ℕ) (s : Site) (t l : ℕ) (h : IsSite (record { sort = Mutex
       ∙ ap (λ (n : ℕ). (if n == 0 then with_owner u Exclusive (freed s.lock.shared) else pending_for u false (freed s.lock.shared)).exclusive) (h.state.unshared (λ x. x))
 
   stores : (u : ℕ) (none_left : Bool)
-      → (hand_off_word true none_left ≡ code r (after_all r (hands_over (Some u) none_left) s t)) × ((after_all r (hands_over (Some u) none_left) s t).lock.exclusive ≡ Some u)
+      → (hand_off_word true none_left ≡ code r (after_all r (handing_deeds (Some u) none_left) s t)) × ((after_all r (handing_deeds (Some u) none_left) s t).lock.exclusive ≡ Some u)
   stores u true = (ap (λ e. word_of false e) (sym (heir_owns u)), heir_owns u)
   stores u false = (ap (λ e. word_of true e) (sym (heir_owns u)), heir_owns u)
 
-  each_hand_over : (p : MutexPlace) (whom : Option ℕ) (f : Op) → MayHear r s t p whom (Value v) → mutex_act l p ≡ act.HandOver l f → HandsOver r s t p whom f
+  each_hand_over : (p : MutexPlace) (whom : Option ℕ) (f : Op) → MayHear r s t p whom (Value v) → mutex_act l p ≡ act.HandOver l f → HandsOverToHeir r s t p whom f
   each_hand_over (HandOff bumping (hand_off.Store true none_left)) (Some u) f hears does =
       let g : op.Store (hand_off_word true none_left) ≡ f = cc in rw (← g) (let d = stores u none_left in record { word = d.0; owner = d.1; some = refl })
   each_hand_over (HandOff bumping (hand_off.Store true none_left)) None f hears does = absurd (let g : true ≡ false = hears.1 in cc)
@@ -156,7 +156,7 @@ module _ (limit : ℕ) (s : Site) (t l : ℕ) (h : IsSite (record { sort = Mutex
     where
       by_tests : (a b : Bool)
           → (if not a then act.Word l (op.Exchange expected (expected + 1)) else if b then act.Word l (op.Exchange 1 3) else act.Enter (One (2 * l))) ≡ act.HandOver l f
-          → HandsOver r s t (Lock e retries (lock.Decide expected)) whom f
+          → HandsOverToHeir r s t (Lock e retries (lock.Decide expected)) whom f
       by_tests false b is = absurd cc
       by_tests true true is = absurd cc
       by_tests true false is = absurd cc
@@ -164,7 +164,7 @@ module _ (limit : ℕ) (s : Site) (t l : ℕ) (h : IsSite (record { sort = Mutex
   each_hand_over TryLock whom f hears does = absurd cc
   each_hand_over (Unlock at) whom f hears does = by_place at does
     where
-      by_place : (at : _) → mutex_act l (Unlock at) ≡ act.HandOver l f → HandsOver r s t (Unlock at) whom f
+      by_place : (at : _) → mutex_act l (Unlock at) ≡ act.HandOver l f → HandsOverToHeir r s t (Unlock at) whom f
       by_place unlock.Subtract is = absurd cc
       by_place unlock.Enter is = absurd cc
       by_place unlock.Take is = absurd cc
@@ -180,5 +180,5 @@ mutex_steps_code r s t l p whom f o a hears does owned =
 
 pub mutex_hand_overs_code : MutexHandOversCode
 mutex_hand_overs_code r s t l p whom f a hears does =
-    subst (λ x. IsSite x s → MayHear x s t p whom (Value (code x s)) → HandsOver x s t p whom f)
+    subst (λ x. IsSite x s → MayHear x s t p whom (Value (code x s)) → HandsOverToHeir x s t p whom f)
     (λ i. record { sort = sym a.sort i; limit = r.limit }) (λ h hears. each_hand_over r.limit s t l h p whom f hears does) a.site hears

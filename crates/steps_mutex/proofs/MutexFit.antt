@@ -7,7 +7,7 @@ use Rattle.steps_base.specs.declared.acts.Next.{Next}
 use Rattle.steps_base.specs.declared.acts.Next.TheVariants.{At, End as Over}
 use Rattle.steps_base.specs.declared.acts.Reply.{Reply}
 use Rattle.steps_base.specs.declared.acts.Reply.TheVariants.{Done, Value, Parked, Took, Removed, Late}
-use Rattle.steps_base.specs.Moves.{IsFree, StandsAlone}
+use Rattle.steps_base.specs.Moves.{IsSectionFree, StandsAlone}
 use Rattle.spec_locks.specs.Deeds.{AllNeeded, after_all}
 use Rattle.spec_locks.specs.Locks.{Enter, HandOff as HandsOff, HasTakenNobody, IsSomePending, IsSuccessor, Late as GivesUp, Leave, Mutex, Pending, Rules, aside_without, putting, standing, without}
 use Rattle.spec_locks.specs.Sites.{Case, Clear, Deed, Role, End, Has, In, IsSite, Main, Mark, Out, Second, Site, StandsIn, after_deed, counts_some, found, idle, is_empty, late_found, leaves, seen_main, wakened}
@@ -20,9 +20,9 @@ use Rattle.steps_mutex.specs.declared.unlock.UnlockAt.{UnlockAt}
 use Rattle.steps_mutex.specs.declared.unlock.UnlockAt.TheVariants as unlock
 use Rattle.steps_mutex.specs.declared.hand_off.HandOffAt.{HandOffAt}
 use Rattle.steps_mutex.specs.declared.hand_off.HandOffAt.TheVariants as hand_off
-use Rattle.steps_mutex.specs.MutexDeeds.{enters, hands_over, mutex_deeds, queued, takes}
+use Rattle.steps_mutex.specs.MutexDeeds.{enter_deeds, handing_deeds, mutex_deeds, queued, take_deeds}
 use Rattle.steps_mutex.specs.MutexLaws.{Follows, MayHear, MayHearHandingOff, MayHearLocking, MayHearUnlocking, MutexStepsFollow, TakesFirst, role_next, heir, mutex_role}
-use Rattle.steps_mutex.specs.MutexProfiles.{again, carrying, inside, owner, seen_empty}
+use Rattle.steps_mutex.specs.MutexProfiles.{with_retry, carrying, inside, owner, seen_empty}
 use Rattle.steps_mutex.specs.MutexSteps.{entered, in_hand_off, in_lock, in_unlock, is_locked, is_parked, looked, mutex_next}
 use Rattle.steps_mutex.proofs.MutexWords.{first_is, nobody_first, one, parked_is, put_same, three, unlocked_free, word_of, zero_free}
 
@@ -44,7 +44,7 @@ module _ (limit : ℕ) (s : Site) (t : ℕ) (h : IsSite (record { sort = Mutex; 
   ends : (c : Option _) → s.role t ≡ record idle { claims = c } → AllNeeded r (End ∷ []) s t
   ends c is = ((ap (λ (d : Role). d.inside) is, ap (λ (d : Role). d.wakes) is, ap (λ (d : Role). d.carries) is, λ some. absurd (let g : false ≡ true = sym (ap (λ (d : Role). counts_some Mutex d.retries) is) ∙ some in cc)), tt)
 
-  goes_in : (d : Role) → s.role t ≡ d → d.inside ≡ None → d.empty ≡ None → IsFree s Main → AllNeeded r (In Main ∷ []) s t × ((after_all r (In Main ∷ []) s t).role t ≡ record d { inside = Some Main })
+  goes_in : (d : Role) → s.role t ≡ d → d.inside ≡ None → d.empty ≡ None → IsSectionFree s Main → AllNeeded r (In Main ∷ []) s t × ((after_all r (In Main ∷ []) s t).role t ≡ record d { inside = Some Main })
   goes_in d is out e free = (((free, ap (λ (d : Role). d.inside) is ∙ out, ap (λ (d : Role). d.empty) is ∙ e), tt), put_same s.role t _ ∙ ap (λ (d : Role). record d { inside = Some Main }) is)
 
   goes_out : (d : Role) → s.role t ≡ d → d.inside ≡ Some Main → d.wakes ≡ None → d.sets ≡ false → s.lock.taken t ≡ None
@@ -64,7 +64,7 @@ module _ (limit : ℕ) (s : Site) (t : ℕ) (h : IsSite (record { sort = Mutex; 
   wants_it false = inl refl
 
   -- it enters, and its call ends
-  comes_in : (retries : Bool) (a : _) → s.role t ≡ again retries idle → s.lock.exclusive ≡ None → Does enters (Over a)
+  comes_in : (retries : Bool) (a : _) → s.role t ≡ with_retry retries idle → s.lock.exclusive ≡ None → Does enter_deeds (Over a)
   comes_in retries a is free =
       let own : (after_deed r (Case (Enter Exclusive)) s t).role t ≡ record (s.role t) { retries = None; claims = None } = put_same s.role t _ in (
         (
@@ -83,18 +83,18 @@ module _ (limit : ℕ) (s : Site) (t : ℕ) (h : IsSite (record { sort = Mutex; 
       )
 
   module _ (e : Entry) (retries : Bool) where
-    tries : s.role t ≡ again retries idle → (b : Bool) → (b ≡ true → s.lock.exclusive ≡ None) → Does (if b then enters else []) (in_lock e retries (if b then Over (entered e) else At lock.Load))
+    tries : s.role t ≡ with_retry retries idle → (b : Bool) → (b ≡ true → s.lock.exclusive ≡ None) → Does (if b then enter_deeds else []) (in_lock e retries (if b then Over (entered e) else At lock.Load))
     tries is true free = comes_in retries (entered e) is (free refl)
     tries is false free = (tt, is)
 
     -- an exchange, and whether it saw the mutex locked
-    decides : s.role t ≡ again retries idle → (v : ℕ) (same locked : Bool) → (locked ≡ false → s.lock.exclusive ≡ None)
-        → Does (if not same then [] else if locked then Mark Main ∷ [] else enters) (in_lock e retries (if not same then At (lock.Decide v) else if locked then At (lock.Decide 3) else Over (entered e)))
+    decides : s.role t ≡ with_retry retries idle → (v : ℕ) (same locked : Bool) → (locked ≡ false → s.lock.exclusive ≡ None)
+        → Does (if not same then [] else if locked then Mark Main ∷ [] else enter_deeds) (in_lock e retries (if not same then At (lock.Decide v) else if locked then At (lock.Decide 3) else Over (entered e)))
     decides is v false locked free = (tt, is)
     decides is v true true free = ((tt, tt), is)
     decides is v true false free = comes_in retries (entered e) is (free refl)
 
-    parks : s.role t ≡ again retries inside → (b : Bool) → b ≡ (word_of s.parked s.lock.exclusive == 3) → standing t s.lock ≡ 0
+    parks : s.role t ≡ with_retry retries inside → (b : Bool) → b ≡ (word_of s.parked s.lock.exclusive == 3) → standing t s.lock ≡ 0
         → Follows r s t (Lock e retries lock.Check) None (Parked b)
     parks is true f out = let w = three s.parked s.lock.exclusive (sym f) in record {
       needed = (((((tt, w.0), out), (ap (λ (d : Role). d.inside) is, w.1, ap (λ (d : Role). d.wakes) is, ap (λ (d : Role). d.covers) is)), tt));
@@ -106,7 +106,7 @@ module _ (limit : ℕ) (s : Site) (t : ℕ) (h : IsSite (record { sort = Mutex; 
         unparked false = refl
     parks is false f out = record { needed = tt; role = is ∙ still retries }
       where
-        still : (b : Bool) → again b inside ≡ mutex_role (Lock e (b && true) (lock.Leave false))
+        still : (b : Bool) → with_retry b inside ≡ mutex_role (Lock e (b && true) (lock.Leave false))
         still true = refl
         still false = refl
 
@@ -129,10 +129,10 @@ module _ (limit : ℕ) (s : Site) (t : ℕ) (h : IsSite (record { sort = Mutex; 
             nobody_pends None e p = p
             nobody_pends (Some x) e p = cc
 
-    leaves_section : (parked : Bool) → s.role t ≡ again (if parked then false else retries) inside → s.lock.taken t ≡ None
+    leaves_section : (parked : Bool) → s.role t ≡ with_retry (if parked then false else retries) inside → s.lock.taken t ≡ None
         → Does (Out ∷ []) (in_lock e retries (if parked then At lock.Asleep else At lock.Load))
     leaves_section true is free = let d = goes_out inside is refl refl refl free in (d.0, d.1)
-    leaves_section false is free = let d = goes_out (again retries inside) is refl refl refl free in (d.0, d.1)
+    leaves_section false is free = let d = goes_out (with_retry retries inside) is refl refl refl free in (d.0, d.1)
 
     locks : (at : LockAt) (whom : Option ℕ) (told : Reply) → s.role t ≡ mutex_role (Lock e retries at) → MayHearLocking r s t e at told
         → Follows r s t (Lock e retries at) whom told
@@ -140,7 +140,7 @@ module _ (limit : ℕ) (s : Site) (t : ℕ) (h : IsSite (record { sort = Mutex; 
     locks lock.Load whom (Value seen) is f = record { needed = tt; role = is }
     locks (lock.Decide expected) whom (Value seen) is f =
         follows _ whom (Value seen) (decides is seen (seen == expected) (is_locked seen) (λ z. unlocked_free s.parked s.lock.exclusive (ap is_locked (sym f) ∙ z)))
-    locks (lock.Decide expected) whom Done is f = follows _ whom Done (goes_in (again retries idle) is refl refl f)
+    locks (lock.Decide expected) whom Done is f = follows _ whom Done (goes_in (with_retry retries idle) is refl refl f)
     locks lock.Check whom (Parked true) is f = let d = parks is true f.0 f.1 in record { needed = d.needed; role = d.role }
     locks lock.Check whom (Parked false) is f = let d = parks is false f.0 f.1 in record { needed = d.needed; role = d.role }
     locks (lock.Leave parked) whom Done is f = follows _ whom Done (leaves_section parked is f)
@@ -167,7 +167,7 @@ module _ (limit : ℕ) (s : Site) (t : ℕ) (h : IsSite (record { sort = Mutex; 
 
   -- it takes the first waiter, if there is one
   takes_first : (d : Role) → s.role t ≡ d → d.inside ≡ Some Main → d.carries ≡ false → ((d.wakes ≡ None) ⊎ (d.wakes ≡ Some Main)) → (whom : Option ℕ) (any none_left : Bool) → TakesFirst s whom any none_left → HasTakenNobody s.lock t
-      → AllNeeded r (takes whom) s t × ((after_all r (takes whom) s t).role t ≡ record d { wakes = None; carries = true; covers = true; empty = found Main none_left })
+      → AllNeeded r (take_deeds whom) s t × ((after_all r (take_deeds whom) s t).role t ≡ record d { wakes = None; carries = true; covers = true; empty = found Main none_left })
   takes_first d is i c w None any none_left f nobody =
       let e : s.lock.queue ≡ [] = nobody_first s.lock.queue (sym f.first) in
       let left : none_left ≡ true = f.left ∙ ap (λ q. is_empty (drop 1 q)) e in (
@@ -221,7 +221,7 @@ module _ (limit : ℕ) (s : Site) (t : ℕ) (h : IsSite (record { sort = Mutex; 
     given whom none_left is = put_same s.role t _ ∙ ap (λ (d : Role). record d { covers = false; claims = None; brings = false; sets = false }) is
 
     stores : (whom : Option ℕ) (none_left : Bool) → s.role t ≡ storing none_left → any ≡ not (is_none whom) → IsSuccessor s.lock t (heir whom)
-        → Does (hands_over whom none_left) (At (HandOff bumping (hand_off.Leave any)))
+        → Does (handing_deeds whom none_left) (At (HandOff bumping (hand_off.Leave any)))
     stores None none_left is some to =
         let d = given None none_left is ∙ ap (λ b. record inside { carries = true; empty = found Main (seen_empty b none_left) }) some in (
           ((gives None none_left is to).0, (ap (λ (d : Role). d.empty) d, tt)),
@@ -256,7 +256,7 @@ module _ (limit : ℕ) (s : Site) (t : ℕ) (h : IsSite (record { sort = Mutex; 
 
   -- ---------------------------------------------------------------- each place
 
-  tries_once : s.role t ≡ idle → (b : Bool) → (b ≡ false → s.lock.exclusive ≡ None) → Does (if b then End ∷ [] else enters) (if b then Over answer.No else Over answer.Yes)
+  tries_once : s.role t ≡ idle → (b : Bool) → (b ≡ false → s.lock.exclusive ≡ None) → Does (if b then End ∷ [] else enter_deeds) (if b then Over answer.No else Over answer.Yes)
   tries_once is true free = (ends None is, put_same s.role t idle)
   tries_once is false free = comes_in false answer.Yes is (free refl)
 

@@ -13,7 +13,7 @@ use Rattle.steps_mutex.specs.declared.places.MutexPlace.TheVariants.{Lock, TryLo
 use Rattle.steps_mutex.specs.declared.lock.LockAt.TheVariants.{First, Load, Decide, Check, Leave, Asleep, Accept, Remove, Clear, GiveUp}
 use Rattle.steps_mutex.specs.declared.unlock.UnlockAt.TheVariants as unlock
 use Rattle.steps_mutex.specs.declared.hand_off.HandOffAt.TheVariants as hand_off
-use Rattle.steps_mutex.specs.MutexDeeds.{mutex_deeds, enters, hands_over}
+use Rattle.steps_mutex.specs.MutexDeeds.{mutex_deeds, enter_deeds, handing_deeds}
 use Rattle.steps_mutex.specs.MutexLaws.{MayHear, MutexStepsTell, heir, mutex_role, mutex_row, next_row}
 use Rattle.steps_mutex.specs.MutexSteps.{is_locked, is_parked, is_timed, mutex_next}
 use Rattle.steps_mutex.proofs.HandOffRights.{gives_right}
@@ -56,24 +56,24 @@ module _ (limit : ℕ) (s : Site) (t l : ℕ) (site : IsSite (record { sort = Mu
   owns d role claims = site.held t (Has Exclusive) (ap (λ (x : Role). x.claims) role ∙ claims)
 
   -- a thread that enters, finds nobody
-  nobody : AllNeeded mutex enters s t → s.lock.exclusive ≡ None
+  nobody : AllNeeded mutex enter_deeds s t → s.lock.exclusive ≡ None
   nobody needed = needed.0.0.0.0.1
 
-  first_free : (b : Bool) → AllNeeded mutex (if b then enters else []) s t → b ≡ true → s.lock.exclusive ≡ None
+  first_free : (b : Bool) → AllNeeded mutex (if b then enter_deeds else []) s t → b ≡ true → s.lock.exclusive ≡ None
   first_free true needed e = nobody needed
   first_free false needed e = absurd cc
 
-  decided_free : (a b : Bool) → AllNeeded mutex (if not a then [] else if b then Mark Main ∷ [] else enters) s t → a ≡ true
+  decided_free : (a b : Bool) → AllNeeded mutex (if not a then [] else if b then Mark Main ∷ [] else enter_deeds) s t → a ≡ true
       → b ≡ false → s.lock.exclusive ≡ None
   decided_free true false needed e f = nobody needed
   decided_free true true needed e f = absurd cc
   decided_free false b needed e f = absurd cc
 
-  tried_free : (b : Bool) → AllNeeded mutex (if b then End ∷ [] else enters) s t → b ≡ false → s.lock.exclusive ≡ None
+  tried_free : (b : Bool) → AllNeeded mutex (if b then End ∷ [] else enter_deeds) s t → b ≡ false → s.lock.exclusive ≡ None
   tried_free false needed e = nobody needed
   tried_free true needed e = absurd cc
 
-  given : (o : Option ℕ) (b : Bool) → AllNeeded mutex (hands_over o b) s t → Needs mutex (HandsOff Exclusive (heir o)) s.lock t
+  given : (o : Option ℕ) (b : Bool) → AllNeeded mutex (handing_deeds o b) s t → Needs mutex (HandsOff Exclusive (heir o)) s.lock t
   given None b needed = needed.0.0
   given (Some u) b needed = needed.0.0
 

@@ -10,7 +10,7 @@ use Rattle.steps_base.specs.declared.acts.Reply.{Reply}
 use Rattle.steps_base.specs.declared.acts.Reply.TheVariants.{Done, Value, Parked, Took, Removed, Late}
 use Rattle.steps_base.specs.declared.owners.Owners.{Owners}
 use Rattle.steps_base.specs.Calls.{CallFollows}
-use Rattle.steps_base.specs.Moves.{IsFree, StandsAlone}
+use Rattle.steps_base.specs.Moves.{IsSectionFree, StandsAlone}
 use Rattle.steps_base.specs.Profiles.{Profile, bringing_nobody}
 use Rattle.steps_base.specs.Rows.{RowPromises}
 use Rattle.spec_locks.specs.Codes.{code}
@@ -66,11 +66,11 @@ abbrev pub MayHearLocking : Rules → Site → ℕ → Entry → LockAt → Repl
 MayHearLocking r s t e lock.First (Value seen) = seen ≡ code r s
 MayHearLocking r s t e lock.Load (Value seen) = seen ≡ code r s
 MayHearLocking r s t e (lock.Decide expected) (Value seen) = seen ≡ code r s
-MayHearLocking r s t e (lock.Decide expected) Done = IsFree s Main
+MayHearLocking r s t e (lock.Decide expected) Done = IsSectionFree s Main
 MayHearLocking r s t e lock.Check (Parked parked) =
     (parked ≡ (code r s == 3)) × (standing t s.lock ≡ 0)
 MayHearLocking r s t e (lock.Leave parked) Done = s.lock.taken t ≡ None
-MayHearLocking r s t e lock.Asleep Late = (is_timed e ≡ true) × IsFree s Main
+MayHearLocking r s t e lock.Asleep Late = (is_timed e ≡ true) × IsSectionFree s Main
 MayHearLocking r s t e lock.Accept Done = Unit {0}
 MayHearLocking r s t e lock.Remove (Removed none_left) =
     (is_timed e ≡ true) × StandsAlone s t Main none_left
@@ -80,7 +80,7 @@ MayHearLocking r s t e at told = ⊥
 
 abbrev pub MayHearUnlocking : Rules → Site → ℕ → UnlockAt → Option ℕ → Reply → Type 0
 MayHearUnlocking r s t unlock.Subtract whom (Value seen) = seen ≡ code r s
-MayHearUnlocking r s t unlock.Enter whom Done = IsFree s Main
+MayHearUnlocking r s t unlock.Enter whom Done = IsSectionFree s Main
 MayHearUnlocking r s t unlock.Take whom (Took any none_left) =
     TakesFirst s whom any none_left × HasTakenNobody s.lock t
 MayHearUnlocking r s t (unlock.Clear any) whom (Value seen) = seen ≡ code r s
@@ -89,7 +89,7 @@ MayHearUnlocking r s t at whom told = ⊥
 
 -- the waiter that it has in hand is the heir
 abbrev pub MayHearHandingOff : Rules → Site → ℕ → HandOffAt → Option ℕ → Reply → Type 0
-MayHearHandingOff r s t hand_off.Enter whom Done = IsFree s Main
+MayHearHandingOff r s t hand_off.Enter whom Done = IsSectionFree s Main
 MayHearHandingOff r s t hand_off.Take whom (Took any none_left) =
     TakesFirst s whom any none_left × HasTakenNobody s.lock t
 MayHearHandingOff r s t (hand_off.Store any none_left) whom (Value seen) =
@@ -141,7 +141,7 @@ MutexStepsCode =
     → LeavesMutex r s t p whom op o
 
 -- and of one that hands the mutex over: the heir owns it
-pub record HandsOver (r : Rules) (s : Site) (t : ℕ) (p : MutexPlace) (whom : Option ℕ) (op : Op)
+pub record HandsOverToHeir (r : Rules) (s : Site) (t : ℕ) (p : MutexPlace) (whom : Option ℕ) (op : Op)
     : Type 0 where
   pub word : LeavesWord r s t p whom op
   pub owner : (after_all r (mutex_deeds p whom (Value (code r s))) s t).lock.exclusive ≡ whom
@@ -151,7 +151,7 @@ abbrev pub MutexHandOversCode : Type 0
 MutexHandOversCode =
     (r : Rules) (s : Site) (t l : ℕ) (p : MutexPlace) (whom : Option ℕ) (op : Op)
     → IsAt r s t p → MayHear r s t p whom (Value (code r s)) → mutex_act l p ≡ act.HandOver l op
-    → HandsOver r s t p whom op
+    → HandsOverToHeir r s t p whom op
 
 -- ---------------------------------------------------------------- a step's effect on its call
 

@@ -13,7 +13,7 @@ use Rattle.steps_mutex.specs.declared.unlock.UnlockAt.TheVariants as unlock
 use Rattle.steps_mutex.specs.declared.hand_off.HandOffAt.{HandOffAt}
 use Rattle.steps_mutex.specs.declared.hand_off.HandOffAt.TheVariants as hand_off
 use Rattle.steps_mutex.specs.MutexSteps.{is_timed}
-use Rattle.steps_base.specs.Profiles.{hand, hand_owner, in_hand, in_line, Profile, blank}
+use Rattle.steps_base.specs.Profiles.{hand, hand_owner, in_hand, in_line, Profile, blank_row}
 use Rattle.spec_locks.specs.Locks.{Rights}
 use Rattle.spec_locks.specs.Runs.{one_more_at, one_less_at}
 use Rattle.spec_locks.specs.Purposes.{Purpose, Enters, Releases, Bumps}
@@ -31,8 +31,8 @@ inside = record idle { inside = Some Main }
 abbrev pub carrying : Role
 carrying = record inside { carries = true; covers = true }
 
-abbrev pub again : Bool → Role → Role
-again retries d = record d { retries = if retries then Some Exclusive else None }
+abbrev pub with_retry : Bool → Role → Role
+with_retry retries d = record d { retries = if retries then Some Exclusive else None }
 
 -- ---------------------------------------------------------------- calls that enter
 
@@ -59,32 +59,32 @@ was_handed lock.Accept = true
 was_handed at = false
 
 abbrev pub lock_row : Bool → Bool → LockAt → Profile
-lock_row timed retries lock.First = record blank { role = again retries idle }
-lock_row timed retries lock.Load = record blank { role = again retries idle }
-lock_row timed retries (lock.Decide seen) = record blank { role = again retries idle }
-lock_row timed retries lock.Check = record blank { role = again retries inside; owes = Some Main }
+lock_row timed retries lock.First = record blank_row { role = with_retry retries idle }
+lock_row timed retries lock.Load = record blank_row { role = with_retry retries idle }
+lock_row timed retries (lock.Decide seen) = record blank_row { role = with_retry retries idle }
+lock_row timed retries lock.Check = record blank_row { role = with_retry retries inside; owes = Some Main }
 lock_row timed retries (lock.Leave parked) =
-    record blank {
-      role = again (if parked then false else retries) inside;
+    record blank_row {
+      role = with_retry (if parked then false else retries) inside;
       stands = if parked then Some Main else None;
       owes = Some Main;
     }
 lock_row timed retries lock.Asleep =
-    record blank { stands = Some Main; late_line = in_line timed Main }
-lock_row timed retries (lock.Taken by) = record blank { hand = hand by false }
-lock_row timed retries (lock.Handed by) = record blank { role = owner; hand = hand by true }
-lock_row timed retries lock.Accept = record blank { role = owner }
+    record blank_row { stands = Some Main; late_line = in_line timed Main }
+lock_row timed retries (lock.Taken by) = record blank_row { hand = hand by false }
+lock_row timed retries (lock.Handed by) = record blank_row { role = owner; hand = hand by true }
+lock_row timed retries lock.Accept = record blank_row { role = owner }
 lock_row timed retries lock.Remove =
-    record blank { role = inside; stands = Some Main; owes = Some Main; late = true }
+    record blank_row { role = inside; stands = Some Main; owes = Some Main; late = true }
 lock_row timed retries lock.Clear =
-    record blank {
+    record blank_row {
       role = record inside { empty = Some Main };
       owes = Some Main;
       late = true;
       gave_up = true;
     }
 lock_row timed retries lock.GiveUp =
-    record blank { role = inside; owes = Some Main; late = true; gave_up = true }
+    record blank_row { role = inside; owes = Some Main; late = true; gave_up = true }
 
 -- ---------------------------------------------------------------- calls that release
 
@@ -93,20 +93,20 @@ abbrev pub release_purpose : ℕ → Bool → Purpose
 release_purpose l bumps = if bumps then Bumps l Exclusive else Releases l Exclusive true
 
 abbrev pub unlock_row : UnlockAt → Profile
-unlock_row unlock.Subtract = record blank { role = owner }
+unlock_row unlock.Subtract = record blank_row { role = owner }
 unlock_row unlock.Enter =
-    record blank { role = record idle { wakes = Some Main }; owes = Some Main; released = true }
+    record blank_row { role = record idle { wakes = Some Main }; owes = Some Main; released = true }
 unlock_row unlock.Take =
-    record blank { role = record inside { wakes = Some Main }; owes = Some Main; released = true }
+    record blank_row { role = record inside { wakes = Some Main }; owes = Some Main; released = true }
 unlock_row (unlock.Clear any) =
-    record blank {
+    record blank_row {
       role = record carrying { empty = Some Main };
       carries = in_hand any false;
       owes = Some Main;
       released = true;
     }
 unlock_row (unlock.Leave any) =
-    record blank {
+    record blank_row {
       role = carrying;
       carries = in_hand any false;
       owes = Some Main;
@@ -118,17 +118,17 @@ abbrev pub seen_empty : Bool → Bool → Bool
 seen_empty any none_left = if any then none_left else true
 
 abbrev pub hand_off_row : HandOffAt → Profile
-hand_off_row hand_off.Enter = record blank { role = owner }
-hand_off_row hand_off.Take = record blank { role = record owner { inside = Some Main } }
+hand_off_row hand_off.Enter = record blank_row { role = owner }
+hand_off_row hand_off.Take = record blank_row { role = record owner { inside = Some Main } }
 hand_off_row (hand_off.Store any none_left) =
-    record blank {
+    record blank_row {
       role = record carrying
           { claims = Some (Has Exclusive); empty = found Main (seen_empty any none_left) };
       carries =
           in_hand any false;
     }
 hand_off_row (hand_off.Leave any) =
-    record blank {
+    record blank_row {
       role = record inside { carries = true };
       carries = in_hand any true;
       released = true;
@@ -137,8 +137,8 @@ hand_off_row (hand_off.Leave any) =
 -- ---------------------------------------------------------------- every place
 
 -- a call that enters has nobody in hand
-abbrev pub entering : Entry → Bool → Bool → Profile → Profile
-entering e retries handed row = record row {
+abbrev pub entering_row : Entry → Bool → Bool → Profile → Profile
+entering_row e retries handed row = record row {
   carries = None;
   wants = Some Exclusive;
   retries = retries;
@@ -149,8 +149,8 @@ entering e retries handed row = record row {
 }
 
 -- a call that releases waits for nothing
-abbrev pub leaving : (ℕ → Purpose) → Profile → Profile
-leaving purpose row = record blank {
+abbrev pub leaving_row : (ℕ → Purpose) → Profile → Profile
+leaving_row purpose row = record blank_row {
   role = row.role;
   carries = row.carries;
   owes = row.owes;
@@ -161,13 +161,13 @@ leaving purpose row = record blank {
 
 abbrev pub mutex_profile : MutexPlace → Profile
 mutex_profile (Lock e retries at) =
-    entering e retries (was_handed at) (lock_row (is_timed e) retries at)
-mutex_profile TryLock = blank
-mutex_profile (Unlock at) = leaving (λ l. Releases l Exclusive false) (unlock_row at)
-mutex_profile UnlockFair = leaving (λ l. release_purpose l false) (record blank { role = owner })
-mutex_profile Bump = leaving (λ l. release_purpose l true) (record blank { role = owner })
+    entering_row e retries (was_handed at) (lock_row (is_timed e) retries at)
+mutex_profile TryLock = blank_row
+mutex_profile (Unlock at) = leaving_row (λ l. Releases l Exclusive false) (unlock_row at)
+mutex_profile UnlockFair = leaving_row (λ l. release_purpose l false) (record blank_row { role = owner })
+mutex_profile Bump = leaving_row (λ l. release_purpose l true) (record blank_row { role = owner })
 mutex_profile (HandOff bumps at) =
-    leaving (λ l. release_purpose l bumps) (record (hand_off_row at) { owes = Some Main })
+    leaving_row (λ l. release_purpose l bumps) (record (hand_off_row at) { owes = Some Main })
 
 -- the thread that took this one and has not left its section yet
 abbrev pub mutex_taker : MutexPlace → Option ℕ

@@ -44,13 +44,13 @@ abbrev pub is_timed : Entry → Bool
 is_timed entry.TheVariants.LockTimed = true
 is_timed e = false
 
-abbrev pub enters : Entry → MutexPlace
-enters e = Lock e false lock.TheVariants.First
+abbrev pub entry_place : Entry → MutexPlace
+entry_place e = Lock e false lock.TheVariants.First
 
 -- where a call begins; a fair mutex hands over by unlock too
 abbrev pub mutex_first : Bool → MutexCall → MutexPlace
-mutex_first fair call.TheVariants.Lock = enters entry.TheVariants.Lock
-mutex_first fair call.TheVariants.LockTimed = enters entry.TheVariants.LockTimed
+mutex_first fair call.TheVariants.Lock = entry_place entry.TheVariants.Lock
+mutex_first fair call.TheVariants.LockTimed = entry_place entry.TheVariants.LockTimed
 mutex_first fair call.TheVariants.TryLock = TryLock
 mutex_first fair call.TheVariants.Unlock =
     if fair then UnlockFair else Unlock unlock.TheVariants.Subtract
@@ -214,7 +214,7 @@ in_unlock (End answer) = End answer
 -- after its hand-off a bump enters again
 abbrev pub in_hand_off : Bool → Next HandOffAt → Next MutexPlace
 in_hand_off bumps (At at) = At (HandOff bumps at)
-in_hand_off bumps (End answer) = if bumps then At (enters entry.TheVariants.Bump) else End answer
+in_hand_off bumps (End answer) = if bumps then At (entry_place entry.TheVariants.Bump) else End answer
 
 abbrev pub mutex_next : MutexPlace → Reply → Next MutexPlace
 mutex_next (Lock e retries at) reply =

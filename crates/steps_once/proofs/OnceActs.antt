@@ -7,7 +7,7 @@ use Rattle.spec_locks.specs.declared.calls.OnceCall.TheVariants.{CallOnce, Wait,
 use Rattle.steps_base.specs.declared.acts.Next.{Next}
 use Rattle.steps_base.specs.declared.acts.Next.TheVariants.{At, End as Over}
 use Rattle.steps_base.specs.declared.acts.Reply.TheVariants as reply
-use Rattle.steps_base.specs.Moves.{AreOfWord, GoesIn, inside_of, location_then, IsHeld, Sleeps, StaysPut, Waits, row_of}
+use Rattle.steps_base.specs.Moves.{AreOfWord, GoesIn, inside_of, location_then, IsHeld, Sleeps, StaysPut, RowWaits, row_of}
 use Rattle.steps_base.specs.Profiles.{Hand, hand}
 use Rattle.steps_base.specs.Locations.{Location, location_by, nowhere}
 use Rattle.spec_locks.specs.Sites.{Line, Main, Second}
@@ -19,7 +19,7 @@ use Rattle.steps_once.specs.declared.run.RunAt.TheVariants as run
 use Rattle.steps_once.specs.declared.give_up.GiveUpAt.TheVariants as give_up
 use Rattle.steps_once.specs.declared.places.OncePlace.{OncePlace}
 use Rattle.steps_once.specs.declared.places.OncePlace.TheVariants.{Look, Run, GiveUp}
-use Rattle.steps_once.specs.OnceSteps.{course_act, course_of, ended, found, in_look, in_run, is_forced, is_mark, is_run, looked_by, marked, want_of}
+use Rattle.steps_once.specs.OnceSteps.{course_act, course_of, ended, closure_begun, in_look, in_run, is_forced, is_mark, is_run, looked_by, marked, want_of}
 use Rattle.steps_once.specs.OnceProfiles.{once_profile}
 use Rattle.steps_once.specs.OnceDeeds.{closes, exchanged_deeds, looked_deeds}
 use Rattle.steps_once.specs.OnceCalls.{next_row}
@@ -44,7 +44,7 @@ looks_word Parks = tt
 
 -- by whether the exchange succeeded
 exchanged_rest : (c : OnceCall) (again won : Bool) (v : ℕ) (k : Course)
-    → location_next (if won && is_run k then At (Run (is_forced c) (found (reply.Value v))) else in_look c again (if won && is_mark k then At (look.Decide (marked v)) else looked_by v k)) ≡ nowhere
+    → location_next (if won && is_run k then At (Run (is_forced c) (closure_begun (reply.Value v))) else in_look c again (if won && is_mark k then At (look.Decide (marked v)) else looked_by v k)) ≡ nowhere
 exchanged_rest c again true v (Ends answer) = refl
 exchanged_rest c again true v Runs = refl
 exchanged_rest c again true v Marks = refl
@@ -112,7 +112,7 @@ once_acts_move l (GiveUp retries give_up.Leave) = (Main, refl, record { any = fa
 -- ---------------------------------------------------------------- threads asleep
 
 -- it stands in no line, and is in nobody's hand
-awake : (p : OncePlace) → (once_profile p).stands ≡ None → (once_profile p).hand ≡ None → Waits (once_move p)
+awake : (p : OncePlace) → (once_profile p).stands ≡ None → (once_profile p).hand ≡ None → RowWaits (once_move p)
 awake p out free = record {
   aside = λ h. absurd (let e : ◌≡◌ {A = Option Line} None (Some Second) = sym out ∙ h in cc);
   stands = λ m h. absurd (let e : ◌≡◌ {A = Option Line} None (Some m) = sym out ∙ h in cc);

@@ -28,9 +28,9 @@ use Rattle.steps_once.specs.declared.give_up.GiveUpAt.TheVariants as give_up
 use Rattle.steps_once.specs.declared.places.OncePlace.{OncePlace}
 use Rattle.steps_once.specs.declared.places.TheConstants.{NOT_PARKED}
 use Rattle.steps_once.specs.declared.places.OncePlace.TheVariants.{Look, Run, GiveUp}
-use Rattle.steps_once.specs.OnceSteps.{is_forced, course_of, course_act, is_run, is_mark, started, marked, found, looked_by, in_look, in_run, ended, once_act, once_owners, phase_behind, word_behind}
-use Rattle.steps_once.specs.OnceProfiles.{again, again_of, running, taking}
-use Rattle.steps_once.specs.OnceDeeds.{once_deeds, looked_deeds, exchanged_deeds, end_of, closes, role_next, IsAt, Follows, OnceStepsFollow, OnceStepsCode, OnceOwnersFollow}
+use Rattle.steps_once.specs.OnceSteps.{is_forced, course_of, course_act, is_run, is_mark, started, marked, closure_begun, looked_by, in_look, in_run, ended, once_act, once_owners, phase_behind, word_behind}
+use Rattle.steps_once.specs.OnceProfiles.{with_retry, retried_want, running_role, taking_role}
+use Rattle.steps_once.specs.OnceDeeds.{once_deeds, looked_deeds, exchanged_deeds, run_ending, closes, role_next, IsAt, Follows, OnceStepsFollow, OnceStepsCode, OnceOwnersFollow}
 use Rattle.steps_once.proofs.OnceWords.{word_of, coded, MayGo, may_go, marks_tell, started_is, marked_is, unmarked_is}
 
 put_same : {A : Type 0} (f : ℕ → A) (t : ℕ) (x : A) → putting f t x t ≡ x
@@ -43,22 +43,22 @@ record Does (r : Rules) (s : Site) (t : ℕ) (ds : List Deed) (n : Next OncePlac
 
 module _ (r : Rules) (s : Site) (t : ℕ) (sort : r.sort ≡ Once) (h : IsSite r s) where
   -- a call ends, of a thread outside the section
-  ends : (wanted : Option _) → s.role t ≡ again wanted idle → AllNeeded r (End ∷ []) s t
+  ends : (wanted : Option _) → s.role t ≡ with_retry wanted idle → AllNeeded r (End ∷ []) s t
   ends wanted is = ((ap (λ (d : Role). d.inside) is, ap (λ (d : Role). d.wakes) is, ap (λ (d : Role). d.carries) is, λ some. absurd (nobody (s.role t).retries some)), tt)
     where
       nobody : (o : Option _) → counts_some r.sort o ≡ true → ⊥
       nobody o some = grind (arith, sort)
 
-  module _ (c : OnceCall) (retries : Bool) (v : ℕ) (is : s.role t ≡ again (again_of c retries) idle) where
+  module _ (c : OnceCall) (retries : Bool) (v : ℕ) (is : s.role t ≡ with_retry (retried_want c retries) idle) where
     looks : (k : Course) → Does r s t (looked_deeds k) (in_look c retries (looked_by v k))
-    looks (Ends answer) = record { needed = ends (again_of c retries) is; role = put_same s.role t idle }
+    looks (Ends answer) = record { needed = ends (retried_want c retries) is; role = put_same s.role t idle }
     looks Runs = record { needed = tt; role = is }
     looks Marks = record { needed = tt; role = is }
     looks Parks = record { needed = tt; role = is }
 
     -- after its exchange
     exchanges : (b : Bool) (k : Course) → (k ≡ Runs → MayStart s.lock.phase (is_forced c))
-        → Does r s t (exchanged_deeds c b k) (if b && is_run k then At (Run (is_forced c) (found (Value v))) else in_look c retries (if b && is_mark k then At (look.Decide (marked v)) else looked_by v k))
+        → Does r s t (exchanged_deeds c b k) (if b && is_run k then At (Run (is_forced c) (closure_begun (Value v))) else in_look c retries (if b && is_mark k then At (look.Decide (marked v)) else looked_by v k))
     exchanges true Runs may = record { needed = (((sort, may refl), tt), tt); role = put_same s.role t _ ∙ ap (λ (d : Role). record d { retries = None; claims = Some Running }) is }
     exchanges true Marks may = record { needed = (tt, tt); role = is }
     exchanges true (Ends answer) may = looks (Ends answer)
@@ -69,7 +69,7 @@ module _ (r : Rules) (s : Site) (t : ℕ) (sort : r.sort ≡ Once) (h : IsSite r
     exchanges false (Ends answer) may = looks (Ends answer)
 
   -- a run ends
-  module _ (forced succeeded : Bool) (is : s.role t ≡ running) where
+  module _ (forced succeeded : Bool) (is : s.role t ≡ running_role) where
     runs : s.lock.phase ≡ InProgress t
     runs = h.held t Running (ap (λ (d : Role). d.claims) is)
 
@@ -80,15 +80,15 @@ module _ (r : Rules) (s : Site) (t : ℕ) (sort : r.sort ≡ Once) (h : IsSite r
     ends_run true e = by_end succeeded
       where
         by_end : (ok : Bool) → Does r s t (closes ok true) (At (Run forced (run.Enter ok)))
-        by_end true = record { needed = (((sort, runs), quiet), tt); role = put_same s.role t _ ∙ (λ i. record (is i) { wakes = seen_main (e i); sets = e i; claims = (taking true).claims }) }
+        by_end true = record { needed = (((sort, runs), quiet), tt); role = put_same s.role t _ ∙ (λ i. record (is i) { wakes = seen_main (e i); sets = e i; claims = (taking_role true).claims }) }
         by_end false = record { needed = (((sort, runs), quiet), tt); role = put_same s.role t _ ∙ (λ i. record (is i) { wakes = seen_main (e i); sets = e i; claims = None }) }
     ends_run false e = by_end succeeded
       where
-        out : (ok : Bool) → (after_deed r (Case (OfOnce (end_of ok))) s t).role t ≡ record running { claims = (taking ok).claims }
-        out true = put_same s.role t _ ∙ (λ i. record (is i) { wakes = seen_main (e i); sets = e i; claims = (taking true).claims })
+        out : (ok : Bool) → (after_deed r (Case (OfOnce (run_ending ok))) s t).role t ≡ record running_role { claims = (taking_role ok).claims }
+        out true = put_same s.role t _ ∙ (λ i. record (is i) { wakes = seen_main (e i); sets = e i; claims = (taking_role true).claims })
         out false = put_same s.role t _ ∙ (λ i. record (is i) { wakes = seen_main (e i); sets = e i; claims = None })
 
-        may_end : (ok : Bool) → AllNeeded r (End ∷ []) (after_deed r (Case (OfOnce (end_of ok))) s t) t
+        may_end : (ok : Bool) → AllNeeded r (End ∷ []) (after_deed r (Case (OfOnce (run_ending ok))) s t) t
         may_end ok = ((ap (λ (d : Role). d.inside) (out ok), ap (λ (d : Role). d.wakes) (out ok), ap (λ (d : Role). d.carries) (out ok), λ some. absurd (let f : false ≡ true = sym (ap (λ (d : Role). counts_some r.sort d.retries) (out ok)) ∙ some in cc)), tt)
 
         by_end : (ok : Bool) → Does r s t (closes ok false) (Over (ended ok))

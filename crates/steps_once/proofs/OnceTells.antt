@@ -25,7 +25,7 @@ use Rattle.steps_once.specs.declared.run.RunAt.TheVariants as run
 use Rattle.steps_once.specs.declared.give_up.GiveUpAt.TheVariants as give_up
 use Rattle.steps_once.specs.declared.places.OncePlace.{OncePlace}
 use Rattle.steps_once.specs.declared.places.OncePlace.TheVariants.{Look, Run, GiveUp}
-use Rattle.steps_once.specs.OnceSteps.{is_forced, is_timed, runs, course_of, is_run, is_mark, marked, found, looked_by, in_look, in_run, ended, once_act, once_next}
+use Rattle.steps_once.specs.OnceSteps.{is_forced, is_timed, runs, course_of, is_run, is_mark, marked, closure_begun, looked_by, in_look, in_run, ended, once_act, once_next}
 use Rattle.steps_once.specs.OnceProfiles.{once_profile}
 use Rattle.steps_once.specs.OnceDeeds.{IsAt, MayHear, once_deeds, looked_deeds, exchanged_deeds, closes}
 use Rattle.steps_once.specs.OnceCalls.{next_row, CallFollowsBy, OnceStepsTell, OnceSectionsTell}
@@ -90,7 +90,7 @@ module _ (r : Rules) (s : Site) (t l : ℕ) where
   starts WaitTimed retries poisoned is_run = absurd cc
 
   exchanges : (c : OnceCall) (retries : Bool) (v : ℕ) (b : Bool) (k : Course) → MayGo c s.parked s.lock.phase k
-      → Tells (Look c retries look.Load) (exchanged_deeds c b k) (if b && is_run k then At (Run (is_forced c) (found (reply.Value v))) else in_look c retries (if b && is_mark k then At (look.Decide (marked v)) else looked_by v k))
+      → Tells (Look c retries look.Load) (exchanged_deeds c b k) (if b && is_run k then At (Run (is_forced c) (closure_begun (reply.Value v))) else in_look c retries (if b && is_mark k then At (look.Decide (marked v)) else looked_by v k))
   exchanges c retries v true Runs may = starts c retries (is_poisoned v) may.1
   exchanges c retries v true Marks may = looks_marked
     where

@@ -53,13 +53,13 @@ look_deeds c (look.Leave parked) reply.Done = Out ∷ []
 look_deeds c look.Asleep reply.Late = In Main ∷ []
 look_deeds c at told = []
 
-abbrev pub end_of : Bool → OnceCase
-end_of succeeded = if succeeded then Finish else Fail
+abbrev pub run_ending : Bool → OnceCase
+run_ending succeeded = if succeeded then Finish else Fail
 
 -- the run ends, and so does its call where nobody is to be woken
 abbrev pub closes : Bool → Bool → List Deed
-closes succeeded true = Case (OfOnce (end_of succeeded)) ∷ []
-closes succeeded false = Case (OfOnce (end_of succeeded)) ∷ End ∷ []
+closes succeeded true = Case (OfOnce (run_ending succeeded)) ∷ []
+closes succeeded false = Case (OfOnce (run_ending succeeded)) ∷ End ∷ []
 
 abbrev pub run_deeds : RunAt → Reply → List Deed
 run_deeds (run.Close succeeded) (reply.Value seen) = closes succeeded (is_marked seen)
@@ -124,17 +124,17 @@ OnceOwnersFollow =
     ≡ (after_all r (once_deeds p (reply.Value (code r s))) s t).lock
 
 -- nobody is inside the section
-abbrev pub IsFree : Site → Type 0
-IsFree s = (u : ℕ) → (s.role u).inside ≢ Some Main
+abbrev pub IsMainSectionFree : Site → Type 0
+IsMainSectionFree s = (u : ℕ) → (s.role u).inside ≢ Some Main
 
 -- the outcomes that a thread may be told of its steps in and out of the section, and as its time is up
 abbrev pub MayHear : Rules → Site → ℕ → OncePlace → Reply → Type 0
-MayHear r s t (Look c retries (look.Decide seen)) reply.Done = IsFree s
+MayHear r s t (Look c retries (look.Decide seen)) reply.Done = IsMainSectionFree s
 MayHear r s t (Look c retries look.Check) (reply.Parked b) =
     (b ≡ holds (check_of c) (code r s)) × (standing t s.lock ≡ 0)
 MayHear r s t (Look c retries (look.Leave parked)) reply.Done = s.lock.taken t ≡ None
-MayHear r s t (Look c retries look.Asleep) reply.Late = (is_timed c ≡ true) × IsFree s
-MayHear r s t (Run forced (run.Enter succeeded)) reply.Done = IsFree s
+MayHear r s t (Look c retries look.Asleep) reply.Late = (is_timed c ≡ true) × IsMainSectionFree s
+MayHear r s t (Run forced (run.Enter succeeded)) reply.Done = IsMainSectionFree s
 MayHear r s t (Run forced (run.Take succeeded)) (reply.Took any none_left) = HasTakenNobody s.lock t
 MayHear r s t (Run forced (run.Leave succeeded any)) reply.Done = s.lock.taken t ≡ None
 MayHear r s t (GiveUp retries give_up.Remove) (reply.Removed none_left) = StandsAlone s t Main none_left

@@ -8,7 +8,7 @@ use Rattle.steps_base.specs.declared.acts.Check.{Check}
 use Rattle.steps_base.specs.declared.acts.Reply.TheVariants.{Parked, Took, Late, Closed}
 use Rattle.steps_base.specs.declared.acts.Whom.TheVariants.{All}
 use Rattle.steps_base.specs.Acts.{holds}
-use Rattle.steps_base.specs.Moves.{Move, Hears, GoesIn, Moves, Waits, row_of, location_of, location_then, inside_of}
+use Rattle.steps_base.specs.Moves.{Move, Hears, GoesIn, MovesByAct, RowWaits, row_of, location_of, location_then, inside_of}
 use Rattle.steps_base.specs.Profiles.{in_hand}
 use Rattle.steps_base.specs.Locations.{nowhere}
 use Rattle.spec_locks.specs.Onces.{Rest, TakeAll}
@@ -57,7 +57,7 @@ pub record TakesAll (x : Move) (hears : Hears) : Type 0 where
       → hears r s t None (Took any none_left)
 
 -- its closure answers, and it stands nowhere before and behind
-pub record Closes (x : Move) : Type 0 where
+pub record ClosureAnswers (x : Move) : Type 0 where
   pub was : location_of x ≡ nowhere
   pub deeds : (succeeded : Bool) → x.deeds None (Closed succeeded) ≡ []
   pub goes : (succeeded : Bool) → location_then x (Closed succeeded) ≡ nowhere
@@ -68,8 +68,8 @@ abbrev pub OnceMoves : ℕ → Move → Hears → Act → Type 0
 OnceMoves l x hears (act.Park k key check want) =
     (k ≡ l) × (key ≡ key_of l Main) × RestsBehind x hears check want
 OnceMoves l x hears (act.Take key All) = (key ≡ key_of l Main) × TakesAll x hears
-OnceMoves l x hears (act.Closure state) = Closes x
-OnceMoves l x hears act = Moves l false x hears act
+OnceMoves l x hears (act.Closure state) = ClosureAnswers x
+OnceMoves l x hears act = MovesByAct l false x hears act
 
 -- each place moves as its act says
 abbrev pub OnceActsMove : Type 0
@@ -77,7 +77,7 @@ OnceActsMove = (l : ℕ) (p : OncePlace) → OnceMoves l (once_move p) (once_hea
 
 -- a thread in the queue sleeps there or is inside its section, and one in a hand is so to be woken
 abbrev pub OnceSleepersMove : Type 0
-OnceSleepersMove = (p : OncePlace) → Waits (once_move p)
+OnceSleepersMove = (p : OncePlace) → RowWaits (once_move p)
 
 -- a thread that gives up goes into the section of the line in which it sleeps
 abbrev pub OnceLateMove : Type 0

@@ -3,7 +3,7 @@ use Rattle.std.specs.Prelude.{ℕ, Bool, true, false, Option, Some, None, if◌t
 use Rattle.core_base.specs.declared.wants.Want.{Want}
 use Rattle.core_base.specs.declared.wants.Want.TheVariants as wants
 use Rattle.spec_locks.specs.declared.calls.OnceCall.{OnceCall}
-use Rattle.steps_base.specs.Profiles.{hand, hand_owner, in_hand, in_line, Profile, blank}
+use Rattle.steps_base.specs.Profiles.{hand, hand_owner, in_hand, in_line, Profile, blank_row}
 use Rattle.spec_locks.specs.Purposes.{Awaits, CallsOnce, once_purpose}
 use Rattle.spec_locks.specs.Sites.{Role, Line, Claim, Runs, Ran, Main, idle}
 use Rattle.steps_once.specs.declared.look.LookAt.{LookAt}
@@ -22,25 +22,25 @@ abbrev pub inside : Role
 inside = record idle { inside = Some Main }
 
 -- its want again since it was woken
-abbrev pub again : Option Want → Role → Role
-again wanted d = record d { retries = wanted }
+abbrev pub with_retry : Option Want → Role → Role
+with_retry wanted d = record d { retries = wanted }
 
 abbrev pub look_row : Bool → Option Want → LookAt → Profile
-look_row timed wanted look.Load = record blank { role = again wanted idle }
-look_row timed wanted (look.Decide seen) = record blank { role = again wanted idle }
-look_row timed wanted look.Check = record blank { role = again wanted inside; owes = Some Main }
+look_row timed wanted look.Load = record blank_row { role = with_retry wanted idle }
+look_row timed wanted (look.Decide seen) = record blank_row { role = with_retry wanted idle }
+look_row timed wanted look.Check = record blank_row { role = with_retry wanted inside; owes = Some Main }
 look_row timed wanted (look.Leave parked) =
-    record blank {
-      role = again (if parked then None else wanted) inside;
+    record blank_row {
+      role = with_retry (if parked then None else wanted) inside;
       stands = in_line parked Main;
       owes = Some Main;
     }
 look_row timed wanted look.Asleep =
-    record blank { stands = Some Main; late_line = in_line timed Main }
-look_row timed wanted (look.Taken by) = record blank { hand = hand by false }
+    record blank_row { stands = Some Main; late_line = in_line timed Main }
+look_row timed wanted (look.Taken by) = record blank_row { hand = hand by false }
 
-abbrev pub looking : OnceCall → Bool → Profile → Profile
-looking c retries row = record row {
+abbrev pub looking_row : OnceCall → Bool → Profile → Profile
+looking_row c retries row = record row {
   wants = Some (want_of c);
   retries = retries;
   timed = is_timed c;
@@ -54,44 +54,44 @@ abbrev pub late_row : Profile → Profile
 late_row row = record row { owes = Some Main; late = true }
 
 abbrev pub give_up_row : GiveUpAt → Profile
-give_up_row give_up.Remove = late_row (record blank { role = inside; stands = Some Main })
+give_up_row give_up.Remove = late_row (record blank_row { role = inside; stands = Some Main })
 give_up_row give_up.Clear =
-    late_row (record blank { role = record inside { empty = Some Main }; gave_up = true })
-give_up_row give_up.Leave = late_row (record blank { role = inside; gave_up = true })
+    late_row (record blank_row { role = record inside { empty = Some Main }; gave_up = true })
+give_up_row give_up.Leave = late_row (record blank_row { role = inside; gave_up = true })
 
 -- ---------------------------------------------------------------- a thread that runs its closure
 
-abbrev pub running : Role
-running = record idle { claims = Some Runs }
+abbrev pub running_role : Role
+running_role = record idle { claims = Some Runs }
 
 -- its own run ended well, or not
 abbrev pub ran : Bool → Option Claim
 ran succeeded = if succeeded then Some Ran else None
 
 -- it has cleared the bit beside waiters, whom it takes
-abbrev pub taking : Bool → Role
-taking succeeded = record idle { wakes = Some Main; sets = true; claims = ran succeeded }
+abbrev pub taking_role : Bool → Role
+taking_role succeeded = record idle { wakes = Some Main; sets = true; claims = ran succeeded }
 
 -- once its run has ended, it owes the waiters their wake
 abbrev pub ending : Bool → Role → Profile
-ending succeeded role = record blank { role = role; owes = Some Main; failed = not succeeded }
+ending succeeded role = record blank_row { role = role; owes = Some Main; failed = not succeeded }
 
 abbrev pub run_row : RunAt → Profile
-run_row (run.Closure poisoned) = record blank { role = running }
-run_row (run.Close succeeded) = record blank { role = running }
-run_row (run.Enter succeeded) = ending succeeded (taking succeeded)
-run_row (run.Take succeeded) = ending succeeded (record (taking succeeded) { inside = Some Main })
+run_row (run.Closure poisoned) = record blank_row { role = running_role }
+run_row (run.Close succeeded) = record blank_row { role = running_role }
+run_row (run.Enter succeeded) = ending succeeded (taking_role succeeded)
+run_row (run.Take succeeded) = ending succeeded (record (taking_role succeeded) { inside = Some Main })
 run_row (run.Leave succeeded any) =
     record (ending succeeded (record inside { carries = true; claims = ran succeeded }))
     { carries = in_hand any false }
 
 -- ---------------------------------------------------------------- every place
 
-abbrev pub again_of : OnceCall → Bool → Option Want
-again_of c retries = if retries then Some (want_of c) else None
+abbrev pub retried_want : OnceCall → Bool → Option Want
+retried_want c retries = if retries then Some (want_of c) else None
 
 abbrev pub once_profile : OncePlace → Profile
-once_profile (Look c retries at) = looking c retries (look_row (is_timed c) (again_of c retries) at)
+once_profile (Look c retries at) = looking_row c retries (look_row (is_timed c) (retried_want c retries) at)
 once_profile (Run forced at) =
     record (run_row at) { purpose = λ l. CallsOnce l forced; released = true }
 once_profile (GiveUp retries at) =

@@ -152,9 +152,9 @@ begins_run c (look.Decide expected) (Value seen) = (seen == expected) && is_run 
 begins_run c at reply = false
 
 -- a thread sleeps in a call that has a deadline, and its time is up
-abbrev pub gives_up : OnceCall → LookAt → Reply → Bool
-gives_up c look.Asleep Late = is_timed c
-gives_up c at reply = false
+abbrev pub is_late_asleep : OnceCall → LookAt → Reply → Bool
+is_late_asleep c look.Asleep Late = is_timed c
+is_late_asleep c at reply = false
 
 abbrev pub looked_by : ℕ → Course → Next LookAt
 looked_by v (Ends answer) = End answer
@@ -183,9 +183,9 @@ still_retries retries (Parked parked) = retries && not parked
 still_retries retries reply = retries
 
 -- a run begins by what its exchange found
-abbrev pub found : Reply → RunAt
-found (Value seen) = run.Closure (is_poisoned seen)
-found reply = run.Closure false
+abbrev pub closure_begun : Reply → RunAt
+closure_begun (Value seen) = run.Closure (is_poisoned seen)
+closure_begun reply = run.Closure false
 
 abbrev pub ended : Bool → Answer
 ended succeeded = if succeeded then answer.Ok else answer.Failed
@@ -220,8 +220,8 @@ in_give_up retries (End answer) = End answer
 
 abbrev pub once_next : OncePlace → Reply → Next OncePlace
 once_next (Look c retries at) reply =
-    if begins_run c at reply then At (Run (is_forced c) (found reply))
-    else if gives_up c at reply then At (GiveUp retries give_up.Remove)
+    if begins_run c at reply then At (Run (is_forced c) (closure_begun reply))
+    else if is_late_asleep c at reply then At (GiveUp retries give_up.Remove)
     else in_look c (still_retries retries reply) (next_look c at reply)
 once_next (Run forced at) reply = in_run forced (next_run at reply)
 once_next (GiveUp retries at) reply = in_give_up retries (next_give_up at reply)

@@ -12,7 +12,7 @@
 //! | `Asleep` | sleeps | `Taken`, or it gives up where its time is up |
 //! | `Taken` | sleeps | `Load` at a wake |
 ghost use Rattle.std.specs.Prelude.{◌≡◌, ◌<◌, ◌^◌};
-ghost use Rattle.steps_once.specs.OnceSteps.{is_forced, is_timed, runs, want_of, when_done, course_of, started, marked, begins_run, gives_up, looked, next_look, still_retries, check_of, decided, look_act};
+ghost use Rattle.steps_once.specs.OnceSteps.{is_forced, is_timed, runs, want_of, when_done, course_of, started, marked, begins_run, is_late_asleep, looked, next_look, still_retries, check_of, decided, look_act};
 
 use crate::places::{LOCKED, PARKED};
 use core_base::{Keys, Note, Op, Want, main_key};
@@ -133,7 +133,7 @@ pub(super) fn begins_run(call: OnceCall, at: LookAt, reply: Reply) -> bool
 
 /// Tells whether the thread gives up its sleep, since its time is up.
 pub(super) fn gives_up(call: OnceCall, at: LookAt, reply: Reply) -> bool
-    ensures { result ≡ gives_up call at reply }
+    ensures { result ≡ is_late_asleep call at reply }
 {
     match (at, reply) {
         (LookAt::Asleep, Reply::Late) => is_timed(call),

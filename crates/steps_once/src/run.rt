@@ -8,7 +8,7 @@
 //! | `Take` | takes all waiters | `Leave` |
 //! | `Leave` | leaves the section, and wakes them | ends |
 ghost use Rattle.std.specs.Prelude.{◌≡◌, ◌<◌, ◌^◌};
-ghost use Rattle.steps_once.specs.OnceSteps.{found, state_before, phase_behind, word_behind, ended, next_run, run_act};
+ghost use Rattle.steps_once.specs.OnceSteps.{closure_begun, state_before, phase_behind, word_behind, ended, next_run, run_act};
 
 use crate::places::{DONE, POISONED};
 use core_base::{Keys, Note, Op, main_key};
@@ -31,7 +31,7 @@ pub enum RunAt {
 impl RunAt {
     /// Where a run begins, by the value that the thread's exchange found.
     pub(super) fn found(reply: Reply) -> RunAt
-        ensures { result ≡ found reply }
+        ensures { result ≡ closure_begun reply }
     {
         match reply {
             Reply::Value(seen) => RunAt::Closure {

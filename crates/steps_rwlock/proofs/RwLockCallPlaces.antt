@@ -27,11 +27,11 @@ use Rattle.steps_rwlock.specs.declared.park.ParkAt.{ParkAt}
 use Rattle.steps_rwlock.specs.declared.park.ParkAt.TheVariants as parking
 use Rattle.steps_rwlock.specs.declared.release.WakeAt.{WakeAt}
 use Rattle.steps_rwlock.specs.declared.release.WakeAt.TheVariants as waking
-use Rattle.steps_rwlock.specs.RwLockSteps.{entered, goes, counted, wanted, patience_of, decision_blocked, decision, decided, is_counted, plus, stays, missed, looked_by, looked, came_in, exchanged_next, wakes, wakes_or_ends, park_next, wake_next, rwlock_next}
-use Rattle.steps_rwlock.specs.RwLockCalls.{MayWait, HasDeadline, ParksBy, EntersAt, SharesAt, WritesAt, ReleasesAt, DowngradesAt, UpgradesAt, StandsAt, MayBeTold, MayStand, RwLockLooksStand, CallBecomes, RwLockSleepersHear}
+use Rattle.steps_rwlock.specs.RwLockSteps.{entered, goes, after_count, wanted, patience_of, decision_blocked, decision, decided, is_counted, plus, stays, missed, looked_by, looked, came_in, exchanged_next, wakes, wakes_or_ends, park_next, wake_next, rwlock_next}
+use Rattle.steps_rwlock.specs.RwLockCalls.{WaitsIfBlocked, HasDeadline, ParksBy, EntersAt, SharesAt, WritesAt, ReleasesAt, DowngradesAt, UpgradesAt, StandsAt, MayBeTold, MayStand, RwLockLooksStand, CallBecomes, RwLockSleepersHear}
 use Rattle.steps_base.specs.Calls.{call_by}
 use Rattle.steps_base.specs.Profiles.{hand}
-use Rattle.steps_rwlock.specs.RwLockProfiles.{rwlock_profile, looking_at, gone_to, hand_at, late_line_at}
+use Rattle.steps_rwlock.specs.RwLockProfiles.{rwlock_profile, looking_at, gone_to, parked_hand, late_line_at}
 use Rattle.spec_locks.specs.Locks.{Rights}
 use Rattle.spec_locks.specs.Runs.{CallState}
 use Rattle.spec_locks.specs.Codes.{count_in, has_parked, has_aside, is_blocked}
@@ -45,13 +45,13 @@ module _ (a : Admission) where
   abbrev of : RwLockPurpose → Bool → RwLockAt → RwLockPlace
   of q again to = record { purpose = q; retries = again; at = to }
 
-  waits_timed : (how : Patience) → HasDeadline how → MayWait how
+  waits_timed : (how : Patience) → HasDeadline how → WaitsIfBlocked how
   waits_timed Timed d = tt
   waits_timed Patient d = absurd d
   waits_timed Try d = absurd d
 
   -- a thread that decides to wait may
-  waits_by : (how : Patience) (word : ℕ) (b c : Bool) → (if b then decision_blocked how word else if c then decisions.Refuse ReadersFull else decisions.Take) ≡ decisions.Park → MayWait how
+  waits_by : (how : Patience) (word : ℕ) (b c : Bool) → (if b then decision_blocked how word else if c then decisions.Refuse ReadersFull else decisions.Take) ≡ decisions.Park → WaitsIfBlocked how
   waits_by Patient word b c e = tt
   waits_by Timed word b c e = tt
   waits_by Try word true c e = cc
@@ -70,12 +70,12 @@ module _ (a : Admission) where
     looks to fits seen decisions.Mark = fits seen
     looks to fits seen decisions.Park = fits seen
 
-    came : (y : Access) (to : RwLockAt) → (y ≡ access.Exclusive → MayWait how) → StandsNext (came_in (of (purpose.Enter y how) again to))
+    came : (y : Access) (to : RwLockAt) → (y ≡ access.Exclusive → WaitsIfBlocked how) → StandsNext (came_in (of (purpose.Enter y how) again to))
     came access.Exclusive to fits = fits refl
     came access.Shared to fits = tt
     came access.Upgradable to fits = tt
 
-    exchanges : (was seen : ℕ) → ((seen : ℕ) → EntersAt x how (at.Decide seen)) → (x ≡ access.Exclusive → MayWait how) → (d : Decision) → StandsNext (exchanged_next a (enterer (at.Decide was)) was seen d)
+    exchanges : (was seen : ℕ) → ((seen : ℕ) → EntersAt x how (at.Decide seen)) → (x ≡ access.Exclusive → WaitsIfBlocked how) → (d : Decision) → StandsNext (exchanged_next a (enterer (at.Decide was)) was seen d)
     exchanges was seen fits writes decisions.Take = either (seen == was)
       where
         either : (b : Bool) → StandsNext (if b then came_in (enterer (at.Decide was)) else looked a (enterer (at.Decide was)) seen)
@@ -90,7 +90,7 @@ module _ (a : Admission) where
     exchanges was seen fits writes (decisions.Refuse ans) = looks (at.Decide was) fits seen (decided a (enterer (at.Decide was)) seen)
 
     -- on its way into the main queue, and out of it
-    parks : ((to : ParkAt) → ParksBy how to → EntersAt x how (at.Park to)) → (MayWait how → EntersAt x how at.Load) → (to : ParkAt) (told : Reply) → ParksBy how to → MayBeTold a (enterer (at.Park to)) (at.Park to) told → StandsNext (park_next (enterer (at.Park to)) Main to told)
+    parks : ((to : ParkAt) → ParksBy how to → EntersAt x how (at.Park to)) → (WaitsIfBlocked how → EntersAt x how at.Load) → (to : ParkAt) (told : Reply) → ParksBy how to → MayBeTold a (enterer (at.Park to)) (at.Park to) told → StandsNext (park_next (enterer (at.Park to)) Main to told)
     parks fits loads parking.Check (reply.Parked b) by may = fits (parking.Leave b) by
     parks fits loads (parking.Leave true) reply.Done by may = fits parking.Asleep by
     parks fits loads (parking.Leave false) reply.Done by may = loads by
@@ -106,7 +106,7 @@ module _ (a : Admission) where
 
   -- a writer, on its way aside and out of there
   module _ (q : RwLockPurpose) (again : Bool) (how : Patience) (is : patience_of q ≡ how) where
-    asides : ((again : Bool) (to : ParkAt) → ParksBy how to → StandsAt q again (at.Aside to)) → ((again : Bool) → MayWait how → StandsAt q again at.Look) → (HasDeadline how → StandsAt q again at.RollBack)
+    asides : ((again : Bool) (to : ParkAt) → ParksBy how to → StandsAt q again (at.Aside to)) → ((again : Bool) → WaitsIfBlocked how → StandsAt q again at.Look) → (HasDeadline how → StandsAt q again at.RollBack)
         → (to : ParkAt) (told : Reply) → ParksBy how to → MayBeTold a (of q again (at.Aside to)) (at.Aside to) told → StandsNext (park_next (of q again (at.Aside to)) Second to told)
     asides fits looks rolls parking.Check (reply.Parked b) by may = fits (again && not b) (parking.Leave b) by
     asides fits looks rolls (parking.Leave true) reply.Done by may = fits again parking.Asleep by
@@ -152,7 +152,7 @@ module _ (a : Admission) where
   writes_stand how again at.Look (reply.Value seen) fits may = counts_on (purpose.Enter access.Exclusive how) again at.Look seen (λ n. fits) (count_in seen == 0) _
   writes_stand how again (at.Count was) (reply.Value seen) fits may = either (seen == was)
     where
-      either : (b : Bool) → StandsNext (if b then stays (of (purpose.Enter access.Exclusive how) again (at.Count was)) at.Marked else counted (of (purpose.Enter access.Exclusive how) again (at.Count was)) seen)
+      either : (b : Bool) → StandsNext (if b then stays (of (purpose.Enter access.Exclusive how) again (at.Count was)) at.Marked else after_count (of (purpose.Enter access.Exclusive how) again (at.Count was)) seen)
       either true = fits
       either false = counts_on (purpose.Enter access.Exclusive how) again (at.Count was) seen (λ n. fits) (count_in seen == 0) _
   writes_stand how again (at.Count was) reply.Done fits may = fits
@@ -210,7 +210,7 @@ module _ (a : Admission) where
   patient_stands again at.Look told fits may = tt
   patient_stands again (at.Count was) (reply.Value seen) fits may = either (seen == was)
     where
-      either : (b : Bool) → StandsNext (if b then stays (of (purpose.Upgrade Patient) again (at.Count was)) at.Marked else counted (of (purpose.Upgrade Patient) again (at.Count was)) seen)
+      either : (b : Bool) → StandsNext (if b then stays (of (purpose.Upgrade Patient) again (at.Count was)) at.Marked else after_count (of (purpose.Upgrade Patient) again (at.Count was)) seen)
       either true = tt
       either false = counts_on (purpose.Upgrade Patient) again (at.Count was) seen (λ n. tt) (count_in seen == 0) (entered Patient)
   patient_stands again (at.Count was) reply.Done fits may = tt
@@ -233,7 +233,7 @@ module _ (a : Admission) where
   timed_stands again at.Look told fits may = tt
   timed_stands again (at.Count was) (reply.Value seen) fits may = either (seen == was)
     where
-      either : (b : Bool) → StandsNext (if b then stays (of (purpose.Upgrade Timed) again (at.Count was)) at.Marked else counted (of (purpose.Upgrade Timed) again (at.Count was)) seen)
+      either : (b : Bool) → StandsNext (if b then stays (of (purpose.Upgrade Timed) again (at.Count was)) at.Marked else after_count (of (purpose.Upgrade Timed) again (at.Count was)) seen)
       either true = tt
       either false = counts_on (purpose.Upgrade Timed) again (at.Count was) seen (λ n. tt) (count_in seen == 0) (entered Timed)
   timed_stands again (at.Count was) reply.Done fits may = tt
@@ -378,7 +378,7 @@ module _ (a : Admission) (l : ℕ) where
   taken_same q again to u rights = refl
 
   -- a thread that was taken, and is woken, tries again
-  wakes_up : (q : RwLockPurpose) (again : Bool) (to : RwLockAt) (u : ℕ) → hand_at to ≡ hand u false → CallBecomes a l (of a q again to) (reply.Woken note.Normal) (λ c. record c { retries = Some l })
+  wakes_up : (q : RwLockPurpose) (again : Bool) (to : RwLockAt) (u : ℕ) → parked_hand to ≡ hand u false → CallBecomes a l (of a q again to) (reply.Woken note.Normal) (λ c. record c { retries = Some l })
   wakes_up q again (at.Park (parking.Taken v)) u h = becomes (of a q again (at.Park (parking.Taken v))) (of a q true at.Load) (reply.Woken note.Normal) again_then refl (by_purpose q)
     where
       by_purpose : (q : RwLockPurpose) (rights : ℕ → Rights) → call_by l (rwlock_profile a (of a q true at.Load)) rights ≡ record (call_by l (rwlock_profile a (of a q again (at.Park (parking.Taken v)))) rights) { retries = Some l }
@@ -430,16 +430,16 @@ pub taken_goes : (a : Admission) (l : ℕ) (p : RwLockPlace) (u : ℕ) → (p2 :
 taken_goes a l p u = (of a p.purpose p.retries (taken_to a l u p.at), takes a l p.purpose p.retries p.at u, taken_same a l p.purpose p.retries p.at u, refl)
 
 -- a thread that was taken, and is woken, does too, and it tries again
-pub woken_goes : (a : Admission) (l : ℕ) (p : RwLockPlace) (u : ℕ) → hand_at p.at ≡ hand u false → (p2 : RwLockPlace) × (rwlock_next a p (reply.Woken note.Normal) ≡ next.At p2)
+pub woken_goes : (a : Admission) (l : ℕ) (p : RwLockPlace) (u : ℕ) → parked_hand p.at ≡ hand u false → (p2 : RwLockPlace) × (rwlock_next a p (reply.Woken note.Normal) ≡ next.At p2)
     × ((rights : ℕ → Rights) → call_by l (rwlock_profile a p2) rights ≡ record (call_by l (rwlock_profile a p) rights) { retries = Some l }) × (p2.purpose ≡ p.purpose)
 woken_goes a l p u h = by_place p.at refl h
   where
-    at_once : (to goes_to : RwLockAt) → p.at ≡ to → hand_at to ≡ hand u false → rwlock_next a (of a p.purpose p.retries to) (reply.Woken note.Normal) ≡ next.At (of a p.purpose true goes_to)
+    at_once : (to goes_to : RwLockAt) → p.at ≡ to → parked_hand to ≡ hand u false → rwlock_next a (of a p.purpose p.retries to) (reply.Woken note.Normal) ≡ next.At (of a p.purpose true goes_to)
         → (p2 : RwLockPlace) × (rwlock_next a p (reply.Woken note.Normal) ≡ next.At p2) × ((rights : ℕ → Rights) → call_by l (rwlock_profile a p2) rights ≡ record (call_by l (rwlock_profile a p) rights) { retries = Some l }) × (p2.purpose ≡ p.purpose)
     at_once to goes_to e h is = let then_is : rwlock_next a p (reply.Woken note.Normal) ≡ next.At (of a p.purpose true goes_to) = ap (λ x. rwlock_next a (of a p.purpose p.retries x) (reply.Woken note.Normal)) e ∙ is in
         (of a p.purpose true goes_to, then_is, λ rights. wakes_up a l p.purpose p.retries p.at u (rw e h) (of a p.purpose true goes_to) rights then_is, refl)
 
-    by_place : (to : RwLockAt) → p.at ≡ to → hand_at to ≡ hand u false → (p2 : RwLockPlace) × (rwlock_next a p (reply.Woken note.Normal) ≡ next.At p2)
+    by_place : (to : RwLockAt) → p.at ≡ to → parked_hand to ≡ hand u false → (p2 : RwLockPlace) × (rwlock_next a p (reply.Woken note.Normal) ≡ next.At p2)
         × ((rights : ℕ → Rights) → call_by l (rwlock_profile a p2) rights ≡ record (call_by l (rwlock_profile a p) rights) { retries = Some l }) × (p2.purpose ≡ p.purpose)
     by_place (at.Park (parking.Taken v)) e h = at_once (at.Park (parking.Taken v)) at.Load e h refl
     by_place (at.Aside (parking.Taken v)) e h = at_once (at.Aside (parking.Taken v)) at.Look e h refl

@@ -27,7 +27,7 @@ use Rattle.steps_rwlock.specs.declared.release.WakeAt.TheVariants as waking
 use Rattle.steps_rwlock.specs.RwLockSteps.{wanted, from_of, to_of, start_of, patience_of, park_next, wake_next, rwlock_next}
 use Rattle.steps_rwlock.specs.RwLockDeeds.{Admits, IsFreshTry, MayHear, MayHearParking, MayHearWaking, rwlock_deeds, park_deeds, wake_deeds, rwlock_role}
 use Rattle.steps_rwlock.specs.RwLockProfiles.{rwlock_profile}
-use Rattle.steps_rwlock.specs.RwLockCalls.{MayWait, HasDeadline, ParksBy, EntersAt, SharesAt, WritesAt, ReleasesAt, DowngradesAt, UpgradesAt, StandsAt, next_row, CallFollowsBy, RwLockSectionsTell}
+use Rattle.steps_rwlock.specs.RwLockCalls.{WaitsIfBlocked, HasDeadline, ParksBy, EntersAt, SharesAt, WritesAt, ReleasesAt, DowngradesAt, UpgradesAt, StandsAt, next_row, CallFollowsBy, RwLockSectionsTell}
 use Rattle.steps_rwlock.proofs.RwLockCallRights.{recalls, goes, keeps, loses, replaces}
 use Rattle.spec_locks.specs.Locks.{LockCase, LockState, Rules, Rights, Park, Aside, TakeAside, TakePicked, Wake, Late, Owns, after_case, rights_of, with_right, without_right}
 use Rattle.spec_locks.specs.Runs.{CallState, AtLock, going_on, EntersAnswer, ConvertsAnswer}
@@ -49,7 +49,7 @@ module _ (r : Rules) (a : Admission) (s : Site) (t l : ℕ) (admits : Admits r a
   abbrev by_case : LockCase → RwLockPlace → (ℕ → Rights) → CallState
   by_case case p rights = going_on (AtLock l case) (call_by l (rwlock_profile a p) rights)
 
-  can_wait : (y : Patience) → MayWait y → y ≢ Try
+  can_wait : (y : Patience) → WaitsIfBlocked y → y ≢ Try
   can_wait Try may e = may
   can_wait Patient may e = cc
   can_wait Timed may e = cc

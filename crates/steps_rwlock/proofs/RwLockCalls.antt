@@ -30,10 +30,10 @@ use Rattle.steps_rwlock.specs.declared.enter.Decision.{Decision}
 use Rattle.steps_rwlock.specs.declared.enter.Decision.TheVariants as decisions
 use Rattle.steps_rwlock.specs.declared.park.ParkAt.TheVariants as parking
 use Rattle.steps_rwlock.specs.declared.release.WakeAt.TheVariants as waking
-use Rattle.steps_rwlock.specs.RwLockSteps.{patience_of, rwlock_act, rwlock_next, wanted, from_of, to_of, entered, is_counted, waits, decision_blocked, decision, decided, missed, looked_by, looked, came_in, exchanged_next, counted, stays, goes as goes_to, plus, wakes, wakes_or_ends}
+use Rattle.steps_rwlock.specs.RwLockSteps.{patience_of, rwlock_act, rwlock_next, wanted, from_of, to_of, entered, is_counted, park_or_mark, decision_blocked, decision, decided, missed, looked_by, looked, came_in, exchanged_next, after_count, stays, goes as goes_to, plus, wakes, wakes_or_ends}
 use Rattle.steps_rwlock.specs.RwLockDeeds.{rwlock_deeds, AtPending, AtTry, AtUpgrade, AtFits, Admits, IsFreshTry, missed_deeds, looked_deeds, enters_deeds, exchanged_deeds, counted_deeds, does_and_wakes, rwlock_role}
 use Rattle.steps_rwlock.specs.RwLockProfiles.{rwlock_profile, before}
-use Rattle.steps_rwlock.specs.RwLockCalls.{MayWait, HasDeadline, EntersAt, WritesAt, SharesAt, ReleasesAt, DowngradesAt, UpgradesAt, StandsAt, RwLockStepsTell, next_row, CallFollowsBy}
+use Rattle.steps_rwlock.specs.RwLockCalls.{WaitsIfBlocked, HasDeadline, EntersAt, WritesAt, SharesAt, ReleasesAt, DowngradesAt, UpgradesAt, StandsAt, RwLockStepsTell, next_row, CallFollowsBy}
 use Rattle.steps_rwlock.proofs.RwLockFit.{knows_all, may_enter}
 use Rattle.steps_rwlock.proofs.RwLockCallRights.{recalls, goes, keeps, loses, replaces, enters, raises}
 use Rattle.spec_locks.specs.Locks.{LockState, Pending, Mutex, Rules, Rights, LockCase, after_case, falling_back, Enter, Settle, Leave, Convert, Rollback, Owns, MayConvert, NoWriter, IsFree, is_recursive, count, readers, standing, rights_of, with_right, without_right, with_owner, without_owner, pending_for}
@@ -121,7 +121,7 @@ module _ (r : Rules) (a : Admission) (s : Site) (t l : ℕ) (op : Op) (admits : 
         by_patience Timed = (is_full, has)
         by_patience Try = (is_full, has)
 
-    waits_tell : (to : RwLockAt) → IsLooking to → (b : Bool) → Tells (place to) (looked_deeds (waits b)) (looked_by (place to) v (waits b))
+    waits_tell : (to : RwLockAt) → IsLooking to → (b : Bool) → Tells (place to) (looked_deeds (park_or_mark b)) (looked_by (place to) v (park_or_mark b))
     waits_tell to is true = looks_on to is v
     waits_tell to is false = looks_on to is v
 
@@ -144,7 +144,7 @@ module _ (r : Rules) (a : Admission) (s : Site) (t l : ℕ) (op : Op) (admits : 
     abbrev Comes : RwLockAt → Access → Type 0
     Comes to y = Tells (of (purpose.Enter y how) again to) (enters_deeds (wanted y)) (came_in (of (purpose.Enter y how) again to))
 
-    can_wait : (y : Patience) → MayWait y → y ≢ Try
+    can_wait : (y : Patience) → WaitsIfBlocked y → y ≢ Try
     can_wait Try may e = may
     can_wait Patient may e = cc
     can_wait Timed may e = cc
@@ -215,7 +215,7 @@ module _ (r : Rules) (a : Admission) (s : Site) (t l : ℕ) (op : Op) (admits : 
     settles (at.Count was) is role false = record { one = tt; may = tt; comes = λ rights e. recalls _ _ (goes l t s.lock s.lock (purpose.Enter access.Exclusive how) (at.Count was) (at.Count v) rights e refl) }
     settles to is role b = absurd is
 
-    sets_aside : (was : ℕ) → s.role t ≡ rwlock_role (writer (at.Count was)) → (b : Bool) → Tells (writer (at.Count was)) (if b then Mark Second ∷ [] else counted_deeds v) (if b then stays (writer (at.Count was)) at.Marked else counted (writer (at.Count was)) v)
+    sets_aside : (was : ℕ) → s.role t ≡ rwlock_role (writer (at.Count was)) → (b : Bool) → Tells (writer (at.Count was)) (if b then Mark Second ∷ [] else counted_deeds v) (if b then stays (writer (at.Count was)) at.Marked else after_count (writer (at.Count was)) v)
     sets_aside was role true = record { one = tt; may = tt; comes = λ rights e. recalls _ _ (goes l t s.lock s.lock (purpose.Enter access.Exclusive how) (at.Count was) at.Marked rights e refl) }
     sets_aside was role false = settles (at.Count was) tt role (count_in v == 0)
 
@@ -391,7 +391,7 @@ module _ (r : Rules) (a : Admission) (s : Site) (t l : ℕ) (op : Op) (admits : 
     settles_up (at.Count was) is role false = record { one = tt; may = tt; comes = λ rights e. recalls _ _ (goes l t s.lock s.lock (purpose.Upgrade how) (at.Count was) (at.Count v) rights e refl) }
     settles_up to is role b = absurd is
 
-    sets_aside_up : (was : ℕ) → s.role t ≡ rwlock_role (raiser (at.Count was)) → (b : Bool) → Tells (raiser (at.Count was)) (if b then Mark Second ∷ [] else counted_deeds v) (if b then stays (raiser (at.Count was)) at.Marked else counted (raiser (at.Count was)) v)
+    sets_aside_up : (was : ℕ) → s.role t ≡ rwlock_role (raiser (at.Count was)) → (b : Bool) → Tells (raiser (at.Count was)) (if b then Mark Second ∷ [] else counted_deeds v) (if b then stays (raiser (at.Count was)) at.Marked else after_count (raiser (at.Count was)) v)
     sets_aside_up was role true = record { one = tt; may = tt; comes = λ rights e. recalls _ _ (goes l t s.lock s.lock (purpose.Upgrade how) (at.Count was) at.Marked rights e refl) }
     sets_aside_up was role false = settles_up (at.Count was) tt role (count_in v == 0)
 

@@ -34,7 +34,7 @@ use Rattle.steps_rwlock.specs.declared.enter.Decision.{Decision}
 use Rattle.steps_rwlock.specs.declared.enter.Decision.TheVariants as decisions
 use Rattle.steps_rwlock.specs.declared.park.ParkAt.TheVariants as parking
 use Rattle.steps_rwlock.specs.declared.release.WakeAt.TheVariants as waking
-use Rattle.steps_rwlock.specs.RwLockSteps.{wanted, from_of, to_of, give_op, token, is_counted, waits, decision_blocked, decision, decided_act, rwlock_act, plus, unparked}
+use Rattle.steps_rwlock.specs.RwLockSteps.{wanted, from_of, to_of, give_op, token, is_counted, park_or_mark, decision_blocked, decision, decided_act, rwlock_act, plus, unparked}
 use Rattle.steps_rwlock.specs.RwLockDeeds.{at_rest, enters_deeds, rwlock_role, missed_deeds, looked_deeds, exchanged_deeds, counted_deeds, does_and_wakes, sees_waiter, rwlock_deeds, AllNeeded, after_all, Admits, AtFits, AtTry, AtPending, AtUpgrade, RwLockStepsCode}
 use Rattle.steps_rwlock.proofs.RwLockFit.{rwlock_steps_follow}
 
@@ -145,7 +145,7 @@ fits_upgradable v limit few e f = grind (arith, nat_tests)
 fits_reader : (v limit : ℕ) → limit < 2 ^ 60 → nat_le limit (count_in v) ≡ false → (v + 16) % 2 ^ 64 ≡ v + 16
 fits_reader v limit few f = grind (arith, nat_tests)
 
-takes_no : (b : Bool) → waits b ≡ decisions.Take → ⊥
+takes_no : (b : Bool) → park_or_mark b ≡ decisions.Take → ⊥
 takes_no true e = cc
 takes_no false e = cc
 
@@ -154,7 +154,7 @@ blocked_takes_no Try v e = cc
 blocked_takes_no Patient v e = takes_no (has_parked v) e
 blocked_takes_no Timed v e = takes_no (has_parked v) e
 
-marks_unset : (b : Bool) → waits b ≡ decisions.Mark → b ≡ false
+marks_unset : (b : Bool) → park_or_mark b ≡ decisions.Mark → b ≡ false
 marks_unset true e = absurd cc
 marks_unset false e = refl
 

@@ -32,7 +32,7 @@ use Rattle.steps_rwlock.specs.declared.enter.Decision.{Decision}
 use Rattle.steps_rwlock.specs.declared.enter.Decision.TheVariants as decisions
 use Rattle.steps_rwlock.specs.declared.park.ParkAt.TheVariants as parking
 use Rattle.steps_rwlock.specs.declared.release.WakeAt.TheVariants as waking
-use Rattle.steps_rwlock.specs.RwLockSteps.{wanted, from_of, to_of, wakes_or_ends, patience_of, is_counted, waits, decision_blocked, decision, decided, decided_act, rwlock_act, missed, looked_by, looked, came_in_for, came_in, exchanged_next, counted, stays, goes as goes_to, plus, wakes, entered, rwlock_next}
+use Rattle.steps_rwlock.specs.RwLockSteps.{wanted, from_of, to_of, wakes_or_ends, patience_of, is_counted, park_or_mark, decision_blocked, decision, decided, decided_act, rwlock_act, missed, looked_by, looked, came_in_for, came_in, exchanged_next, after_count, stays, goes as goes_to, plus, wakes, entered, rwlock_next}
 use Rattle.steps_rwlock.specs.RwLockDeeds.{at_rest, kept_claim, enters_deeds, rwlock_role, role_next, missed_deeds, looked_deeds, exchanged_deeds, counted_deeds, does_and_wakes, rwlock_deeds, Admits, IsFreshTry, AtFits, AtTry, AtPending, AtUpgrade, Follows, RwLockStepsFollow}
 
 pub put_same : {A : Type 0} (f : ℕ → A) (t : ℕ) (x : A) → putting f t x t ≡ x
@@ -177,11 +177,11 @@ module _ (r : Rules) (a : Admission) (s : Site) (t l : ℕ) (op : Op) (admits : 
     abbrev wants : Option Want
     wants = retrying again (wanted x)
 
-    refuses_no : (b : Bool) (answer : Answer) → waits b ≡ decisions.Refuse answer → ⊥
+    refuses_no : (b : Bool) (answer : Answer) → park_or_mark b ≡ decisions.Refuse answer → ⊥
     refuses_no true answer e = cc
     refuses_no false answer e = cc
 
-    takes_no : (b : Bool) → waits b ≡ decisions.Take → ⊥
+    takes_no : (b : Bool) → park_or_mark b ≡ decisions.Take → ⊥
     takes_no true e = cc
     takes_no false e = cc
 
@@ -248,7 +248,7 @@ module _ (r : Rules) (a : Admission) (s : Site) (t l : ℕ) (op : Op) (admits : 
     counts to is false e = goes r s t admits.0 h tells _ is
 
     sets_aside : (expected : ℕ) → s.role t ≡ at_rest wants (Some (Pends false)) → (b : Bool)
-        → Follows r s t (if b then Mark Second ∷ [] else counted_deeds v) (role_next (if b then stays (place (at.Count expected)) at.Marked else counted (place (at.Count expected)) v))
+        → Follows r s t (if b then Mark Second ∷ [] else counted_deeds v) (role_next (if b then stays (place (at.Count expected)) at.Marked else after_count (place (at.Count expected)) v))
     sets_aside expected is true = marks r s t admits.0 h tells Second _ is
     sets_aside expected is false = counts (at.Count expected) is (count_in v == 0) refl
 
@@ -342,7 +342,7 @@ module _ (r : Rules) (a : Admission) (s : Site) (t l : ℕ) (op : Op) (admits : 
       upgrade_counts to is false e = goes r s t admits.0 h tells _ is
 
       upgrade_sets : (expected : ℕ) → s.role t ≡ at_rest upgrading (Some (Pends true)) → (b : Bool)
-          → Follows r s t (if b then Mark Second ∷ [] else counted_deeds v) (role_next (if b then stays (upgrade (at.Count expected)) at.Marked else counted (upgrade (at.Count expected)) v))
+          → Follows r s t (if b then Mark Second ∷ [] else counted_deeds v) (role_next (if b then stays (upgrade (at.Count expected)) at.Marked else after_count (upgrade (at.Count expected)) v))
       upgrade_sets expected is true = marks r s t admits.0 h tells Second _ is
       upgrade_sets expected is false = upgrade_counts (at.Count expected) is (count_in v == 0) refl
 

@@ -15,7 +15,7 @@ use Rattle.steps_base.specs.declared.acts.Act.TheVariants as act
 use Rattle.steps_base.specs.declared.acts.Next.{Next}
 use Rattle.steps_base.specs.declared.acts.Next.TheVariants as next
 use Rattle.steps_base.specs.declared.acts.Reply.TheVariants as reply
-use Rattle.steps_base.specs.Moves.{Move, StaysPut, GoesIn, Moves, Sleeps, IsHeld, Waits, AreOfWord, location_of, AreLeaving, takes_aside, inside_of, row_of}
+use Rattle.steps_base.specs.Moves.{Move, StaysPut, GoesIn, MovesByAct, Sleeps, IsHeld, RowWaits, AreOfWord, location_of, AreLeaving, takes_aside, inside_of, row_of}
 use Rattle.steps_base.specs.Acts.{any_picked}
 use Rattle.steps_base.specs.Profiles.{hand, in_hand}
 use Rattle.steps_base.specs.Locations.{Location, location_by, nowhere}
@@ -35,7 +35,7 @@ use Rattle.steps_rwlock.specs.declared.park.ParkAt.TheVariants as parking
 use Rattle.steps_rwlock.specs.declared.release.WakeAt.{WakeAt}
 use Rattle.steps_rwlock.specs.declared.release.WakeAt.TheVariants as waking
 use Rattle.steps_rwlock.specs.RwLockSteps.{wanted, from_of, to_of, access_of, patience_of, start_of, exchange, decided, decided_for, decided_act, looked_by, looked, missed, stays, goes, came_in, exchanged_next, parks_at, wakes, released, gave_way_by, took, entered, plus, rwlock_act}
-use Rattle.steps_rwlock.specs.RwLockDeeds.{at_rest, claimed, falls_back, missed_deeds, looked_deeds, enters_deeds, exchanged_deeds, does_and_wakes, gives_deeds, sees_waiter, takes, leaves_with}
+use Rattle.steps_rwlock.specs.RwLockDeeds.{at_rest, claimed, falls_back, missed_deeds, looked_deeds, enters_deeds, exchanged_deeds, does_and_wakes, gives_deeds, sees_waiter, take_deed, leaves_with}
 use Rattle.steps_rwlock.specs.RwLockProfiles.{rwlock_profile, late_line_at, wants_for}
 use Rattle.steps_rwlock.specs.RwLockCalls.{StandsAt, next_row}
 use Rattle.steps_rwlock.specs.RwLockMoves.{rwlock_move, rwlock_hears, RwLockActsMove, RwLockSleepersMove, RwLockLateMove}
@@ -45,7 +45,7 @@ module _ (l : ℕ) (a : Admission) where
   of q again to = record { purpose = q; retries = again; at = to }
 
   abbrev MovesAt : RwLockPlace → Type 0
-  MovesAt p = Moves l a.recursive (rwlock_move a p) (rwlock_hears a p) (rwlock_act l a p)
+  MovesAt p = MovesByAct l a.recursive (rwlock_move a p) (rwlock_hears a p) (rwlock_act l a p)
 
   abbrev location_next : Next RwLockPlace → Location
   location_next n = location_by (row_of (next_row a n))
@@ -182,13 +182,13 @@ module _ (l : ℕ) (a : Admission) where
       goes = λ seen. exchanged_rest q again was seen (decided_for a q was);
     }
 
-    decides : (was : ℕ) (d : Decision) → decided_for a q was ≡ d → Moves l a.recursive (rwlock_move a (of q again (at.Decide was))) (rwlock_hears a (of q again (at.Decide was))) (decided_act l q was d)
+    decides : (was : ℕ) (d : Decision) → decided_for a q was ≡ d → MovesByAct l a.recursive (rwlock_move a (of q again (at.Decide was))) (rwlock_hears a (of q again (at.Decide was))) (decided_act l q was d)
     decides was decisions.Take e = (refl, decides_word was)
     decides was decisions.Mark e = (refl, decides_word was)
     decides was decisions.Park e = (Main, refl, record { out = refl; free = refl; deeds = refl; goes = refl; may = λ r s t free. (e, free) })
     decides was (decisions.Refuse answer) e = tt
 
-    counts : (was : ℕ) (b : Bool) → has_aside was ≡ b → Moves l a.recursive (rwlock_move a (of q again (at.Count was))) (rwlock_hears a (of q again (at.Count was))) (if b then act.Enter (One (2 * l + 1)) else exchange l was (plus was 2))
+    counts : (was : ℕ) (b : Bool) → has_aside was ≡ b → MovesByAct l a.recursive (rwlock_move a (of q again (at.Count was))) (rwlock_hears a (of q again (at.Count was))) (if b then act.Enter (One (2 * l + 1)) else exchange l was (plus was 2))
     counts was true e = (Second, refl, record { out = refl; free = refl; deeds = refl; goes = refl; may = λ r s t free. free })
     counts was false e = (
       refl,
@@ -208,7 +208,7 @@ module _ (l : ℕ) (a : Admission) where
     took_main any true = refl
     took_main any false = refl
 
-    aside_taken : (u : Option ℕ) → takes (start_of q) Second u ≡ takes_aside u
+    aside_taken : (u : Option ℕ) → take_deed (start_of q) Second u ≡ takes_aside u
     aside_taken None = refl
     aside_taken (Some u) = refl
 
@@ -574,7 +574,7 @@ module _ (a : Admission) where
   never_released access.Upgradable again to Second fits = fits
   never_released access.Exclusive again to Second fits = fits
 
-  waits_all : (q : RwLockPurpose) (again : Bool) (to : RwLockAt) → StandsAt q again to → Waits (move q again to)
+  waits_all : (q : RwLockPurpose) (again : Bool) (to : RwLockAt) → StandsAt q again to → RowWaits (move q again to)
   waits_all (purpose.Enter x how) again (at.Park to) fits = record { aside = parks_aside (purpose.Enter x how) again refl to; stands = parks_stand (purpose.Enter x how) again refl to; held = parks_held (purpose.Enter x how) again refl refl to }
   waits_all (purpose.Upgrade how) again (at.Park to) fits = absurd (never_parks how again to fits)
   waits_all (purpose.Release x) again (at.Park to) fits = absurd (never_released x again to Main fits)

@@ -18,7 +18,7 @@ use Rattle.spec_locks.proofs.CodeLaws.{words_tell_true}
 use Rattle.steps_base.specs.declared.acts.Reply.{Reply}
 use Rattle.steps_base.specs.declared.acts.Reply.TheVariants as reply
 use Rattle.steps_base.specs.Acts.{any_picked}
-use Rattle.steps_base.specs.Moves.{IsFree}
+use Rattle.steps_base.specs.Moves.{IsSectionFree}
 use Rattle.steps_rwlock.specs.declared.places.Admission.{Admission}
 use Rattle.steps_rwlock.specs.declared.places.RwLockPlace.{RwLockPlace}
 use Rattle.steps_rwlock.specs.declared.purposes.RwLockPurpose.{RwLockPurpose}
@@ -32,12 +32,12 @@ use Rattle.steps_rwlock.specs.declared.park.ParkAt.TheVariants as parking
 use Rattle.steps_rwlock.specs.declared.release.WakeAt.{WakeAt}
 use Rattle.steps_rwlock.specs.declared.release.WakeAt.TheVariants as waking
 use Rattle.steps_rwlock.specs.RwLockSteps.{wanted, to_of, access_of, start_of, patience_of, park_next, wake_next, took}
-use Rattle.steps_rwlock.specs.RwLockDeeds.{MayKeep, kept_claim, again_of, leaves_with, AtTry, AtPending, AtUpgrade, within, finding, pends, parking_role, waking_role, rwlock_role, role_next, IsFreshTry, AtFits, Admits, MayHear, MayHearParking, MayHearWaking, takes, park_deeds, wake_deeds, Follows, FollowsBy, RwLockSectionsFollow}
+use Rattle.steps_rwlock.specs.RwLockDeeds.{MayKeep, kept_claim, retried_want, leaves_with, AtTry, AtPending, AtUpgrade, within, finding, pends, parking_role, waking_role, rwlock_role, role_next, IsFreshTry, AtFits, Admits, MayHear, MayHearParking, MayHearWaking, take_deed, park_deeds, wake_deeds, Follows, FollowsBy, RwLockSectionsFollow}
 use Rattle.steps_rwlock.proofs.RwLockFit.{put_same, knows_all, retrying}
 
 module _ (r : Rules) (s : Site) (t : ℕ) (rw_sort : has_readers r.sort ≡ true) (h : IsSite r s) (tells : TellsTrue r s) where
   -- into a section that is free
-  goes_in : (m : Line) (d : Role) → IsFree s m → s.role t ≡ d → d.empty ≡ None → d.inside ≡ None → Follows r s t (In m ∷ []) (record d { inside = Some m })
+  goes_in : (m : Line) (d : Role) → IsSectionFree s m → s.role t ≡ d → d.empty ≡ None → d.inside ≡ None → Follows r s t (In m ∷ []) (record d { inside = Some m })
   goes_in m d free is found out = record { needed = ((free, ap (λ (x : Role). x.inside) is ∙ out, ap (λ (x : Role). x.empty) is ∙ found), tt); role = put_same s.role t _ ∙ ap (λ (x : Role). record x { inside = Some m }) is }
 
   -- and out of one
@@ -81,7 +81,7 @@ module _ (r : Rules) (s : Site) (t : ℕ) (rw_sort : has_readers r.sort ≡ true
       by_rest free own true e = record { needed = grind (arith, nat_tests); role = grind (arith, nat_tests) }
       by_rest free own false e = record { needed = grind (arith, nat_tests); role = grind (arith, nat_tests) }
 
-  takes_aside : (any : Bool) (whom : Option ℕ) → whom ≡ s.lock.aside → s.role t ≡ waking_role None Second waking.Take → Follows r s t (takes None Second whom ∷ []) (waking_role None Second (waking.Clear any))
+  takes_aside : (any : Bool) (whom : Option ℕ) → whom ≡ s.lock.aside → s.role t ≡ waking_role None Second waking.Take → Follows r s t (take_deed None Second whom ∷ []) (waking_role None Second (waking.Clear any))
   takes_aside any None e is = record { needed = grind (arith, nat_tests); role = grind (arith, nat_tests) }
   takes_aside any (Some u) e is = let free = nobody_taken (grind arith) in record { needed = grind (arith, nat_tests); role = grind (arith, nat_tests) }
 
@@ -127,7 +127,7 @@ module _ (r : Rules) (a : Admission) (s : Site) (t : ℕ) (admits : Admits r a) 
     pending to = record { purpose = q; retries = again; at = to }
 
     abbrev waits : Option Want
-    waits = again_of (pending at.Look)
+    waits = retried_want (pending at.Look)
 
     aside_fit : (to : ParkAt) (told : Reply) → MayHearParking r s t Second (has_aside (code r s) && not (count_in (code r s) == 0)) to told → s.role t ≡ parking_role Second waits (Some (Pends b)) to
         → Follows r s t (park_deeds (Case Aside) Second to told) (role_next (park_next (pending (at.Aside to)) Second to told))

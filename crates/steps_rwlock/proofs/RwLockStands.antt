@@ -30,11 +30,11 @@ use Rattle.steps_rwlock.specs.declared.park.ParkAt.{ParkAt}
 use Rattle.steps_rwlock.specs.declared.park.ParkAt.TheVariants as parking
 use Rattle.steps_rwlock.specs.declared.release.WakeAt.{WakeAt}
 use Rattle.steps_rwlock.specs.declared.release.WakeAt.TheVariants as waking
-use Rattle.steps_rwlock.specs.RwLockSteps.{wanted, access_of, patience_of, is_counted, waits, decision_blocked, decision, decided_for, plus, stays, goes, missed, entered, looked_by, looked, came_in, exchanged_next, counted, wakes, parks_at, released, gave_way_by, park_next, wake_next, rwlock_next}
+use Rattle.steps_rwlock.specs.RwLockSteps.{wanted, access_of, patience_of, is_counted, park_or_mark, decision_blocked, decision, decided_for, plus, stays, goes, missed, entered, looked_by, looked, came_in, exchanged_next, after_count, wakes, parks_at, released, gave_way_by, park_next, wake_next, rwlock_next}
 use Rattle.steps_rwlock.specs.RwLockDeeds.{Admits, AtFits, AtUpgrade, IsAt, IsFreshTry, rwlock_role}
 use Rattle.spec_locks.specs.Locks.{Rules}
 use Rattle.spec_locks.specs.Sites.{Site, IsSite}
-use Rattle.steps_rwlock.specs.RwLockCalls.{MayWait, HasDeadline, ParksBy, StandsAt, UpgradesAt, IsNoRefusal, IsDecided, MayStand, MayBeTold, MayStandNext, RwLockCallsStand}
+use Rattle.steps_rwlock.specs.RwLockCalls.{WaitsIfBlocked, HasDeadline, ParksBy, StandsAt, UpgradesAt, IsNoRefusal, IsDecided, MayStand, MayBeTold, MayStandNext, RwLockCallsStand}
 use Rattle.steps_rwlock.proofs.RwLockCodes.{blocked_unset, fits_even, fits_aside}
 use Rattle.steps_rwlock.proofs.RwLockCallPlaces.{StandsNext, stands_on}
 
@@ -65,7 +65,7 @@ blocked_same b x v few even = ap (is_blocked b x) (fits_even v few even) ∙ by_
 
 -- so who decides to set it, decides to park then
 module _ (a : Admission) where
-  marks_by : (how : Patience) (word : ℕ) (b c : Bool) → (if b then decision_blocked how word else if c then decisions.Refuse ReadersFull else decisions.Take) ≡ decisions.Mark → (b ≡ true) × MayWait how
+  marks_by : (how : Patience) (word : ℕ) (b c : Bool) → (if b then decision_blocked how word else if c then decisions.Refuse ReadersFull else decisions.Take) ≡ decisions.Mark → (b ≡ true) × WaitsIfBlocked how
   marks_by Patient word true c e = (refl, tt)
   marks_by Timed word true c e = (refl, tt)
   marks_by Try word true c e = absurd cc
@@ -87,9 +87,9 @@ module _ (a : Admission) where
       odd : has_parked (plus word 1) ≡ true
       odd = let next : plus word 1 ≡ word + 1 = fits_even word few (is_even x how word e) in let even : has_parked word ≡ false = is_even x how word e in grind (arith, nat_tests)
 
-      by_how : (y : Patience) → MayWait y → decision_blocked y (plus word 1) ≡ decisions.Park
-      by_how Patient w = ap waits odd
-      by_how Timed w = ap waits odd
+      by_how : (y : Patience) → WaitsIfBlocked y → decision_blocked y (plus word 1) ≡ decisions.Park
+      by_how Patient w = ap park_or_mark odd
+      by_how Timed w = ap park_or_mark odd
       by_how Try w = absurd w
 
   -- and it never refuses, whatever its call is for
@@ -113,7 +113,7 @@ aside_set word few unset = (grind (arith, nat_tests), let more : plus word 2 ≡
 -- ---------------------------------------------------------------- patience
 
 -- each thread that may wait may have been woken
-fresh_waits : (how : Patience) → MayWait how → (again : Bool) → IsFreshTry how again
+fresh_waits : (how : Patience) → WaitsIfBlocked how → (again : Bool) → IsFreshTry how again
 fresh_waits Patient w again = tt
 fresh_waits Timed w again = tt
 fresh_waits Try w again = absurd w
@@ -123,18 +123,18 @@ unwoken_fresh Patient = tt
 unwoken_fresh Timed = tt
 unwoken_fresh Try = refl
 
-timed_waits : (how : Patience) → HasDeadline how → MayWait how
+timed_waits : (how : Patience) → HasDeadline how → WaitsIfBlocked how
 timed_waits Timed d = tt
 timed_waits Patient d = absurd d
 timed_waits Try d = absurd d
 
-parks_wait : (how : Patience) (to : ParkAt) → ParksBy how to → MayWait how
+parks_wait : (how : Patience) (to : ParkAt) → ParksBy how to → WaitsIfBlocked how
 parks_wait how parking.Remove by = timed_waits how by
 parks_wait how parking.Clear by = timed_waits how by
 parks_wait how parking.GiveUp by = timed_waits how by
 parks_wait how to by = by
 
-lines_wait : (q : RwLockPurpose) (again : Bool) (m : Line) (to : ParkAt) → StandsAt q again (parks_at m to) → MayWait (patience_of q)
+lines_wait : (q : RwLockPurpose) (again : Bool) (m : Line) (to : ParkAt) → StandsAt q again (parks_at m to) → WaitsIfBlocked (patience_of q)
 lines_wait (purpose.Enter access.Exclusive how) again Main to fits = parks_wait how to fits
 lines_wait (purpose.Enter access.Exclusive how) again Second to fits = parks_wait how to fits
 lines_wait (purpose.Enter access.Shared how) again Main to fits = parks_wait how to fits
@@ -202,7 +202,7 @@ module _ (a : Admission) where
     firsts false ans Patient = (fresh, tt)
     firsts false ans Timed = (fresh, tt)
 
-    counts_again : (was seen : ℕ) (b : Bool) → Keeps (if b then stays (of q again (at.Count was)) at.Marked else counted (of q again (at.Count was)) seen)
+    counts_again : (was seen : ℕ) (b : Bool) → Keeps (if b then stays (of q again (at.Count was)) at.Marked else after_count (of q again (at.Count was)) seen)
     counts_again was seen true = (fresh, tt)
     counts_again was seen false = counts (at.Count was) seen (count_in seen == 0) (entered (patience_of q))
 

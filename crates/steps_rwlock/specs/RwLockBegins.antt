@@ -15,14 +15,14 @@ use Rattle.steps_rwlock.specs.declared.purposes.RwLockPurpose.{RwLockPurpose}
 use Rattle.steps_rwlock.specs.declared.purposes.RwLockPurpose.TheVariants as purpose
 
 -- the settings of a lock of a kind; one that isn't a reader-writer lock admits no reader
-abbrev pub admission_of : Kind → Admission
-admission_of kind.Mutex = record { recursive = false; limit = 0 }
-admission_of kind.Fair = record { recursive = false; limit = 0 }
-admission_of (kind.RwLock limit) = record { recursive = false; limit = limit }
-admission_of (kind.Recursive limit) = record { recursive = true; limit = limit }
-admission_of kind.Condvar = record { recursive = false; limit = 0 }
-admission_of kind.Once = record { recursive = false; limit = 0 }
-admission_of (kind.Semaphore permits) = record { recursive = false; limit = 0 }
+abbrev pub admission_of_kind : Kind → Admission
+admission_of_kind kind.Mutex = record { recursive = false; limit = 0 }
+admission_of_kind kind.Fair = record { recursive = false; limit = 0 }
+admission_of_kind (kind.RwLock limit) = record { recursive = false; limit = limit }
+admission_of_kind (kind.Recursive limit) = record { recursive = true; limit = limit }
+admission_of_kind kind.Condvar = record { recursive = false; limit = 0 }
+admission_of_kind kind.Once = record { recursive = false; limit = 0 }
+admission_of_kind (kind.Semaphore permits) = record { recursive = false; limit = 0 }
 
 -- a writer tries an unlocked word first, and a try to upgrade looks
 abbrev pub first_at : RwLockPurpose → RwLockAt

@@ -27,7 +27,7 @@ use Rattle.steps_rwlock.specs.declared.park.ParkAt.{ParkAt}
 use Rattle.steps_rwlock.specs.declared.park.ParkAt.TheVariants as parking
 use Rattle.steps_rwlock.specs.RwLockSteps.{patience_of, decided, rwlock_act, rwlock_next, decided_for}
 use Rattle.steps_rwlock.specs.RwLockDeeds.{IsAt, MayHear, rwlock_deeds, IsFreshTry}
-use Rattle.steps_rwlock.specs.RwLockProfiles.{rwlock_profile, rwlock_looking, hand_at, late_line_at}
+use Rattle.steps_rwlock.specs.RwLockProfiles.{rwlock_profile, rwlock_looking, parked_hand, late_line_at}
 use Rattle.spec_locks.specs.Locks.{Rules, Rights, standing}
 use Rattle.spec_locks.specs.Codes.{code}
 use Rattle.spec_locks.specs.Runs.{CallState}
@@ -35,9 +35,9 @@ use Rattle.spec_locks.specs.Sites.{Site}
 
 -- ---------------------------------------------------------------- where a call may stand
 
-abbrev pub MayWait : Patience → Type 0
-MayWait Try = ⊥
-MayWait how = Unit {0}
+abbrev pub WaitsIfBlocked : Patience → Type 0
+WaitsIfBlocked Try = ⊥
+WaitsIfBlocked how = Unit {0}
 
 abbrev pub HasDeadline : Patience → Type 0
 HasDeadline Timed = Unit {0}
@@ -48,7 +48,7 @@ abbrev pub ParksBy : Patience → ParkAt → Type 0
 ParksBy how parking.Remove = HasDeadline how
 ParksBy how parking.Clear = HasDeadline how
 ParksBy how parking.GiveUp = HasDeadline how
-ParksBy how to = MayWait how
+ParksBy how to = WaitsIfBlocked how
 
 -- a writer's try looks once; only a writer is pending, and only who has a deadline gives up
 abbrev pub WritesAt : Patience → RwLockAt → Type 0
@@ -59,7 +59,7 @@ WritesAt how at.RollBack = HasDeadline how
 WritesAt how (at.Wake Main to) = HasDeadline how
 WritesAt how (at.Wake Second to) = ⊥
 WritesAt how at.GiveWay = ⊥
-WritesAt how to = MayWait how
+WritesAt how to = WaitsIfBlocked how
 
 abbrev pub SharesAt : Patience → RwLockAt → Type 0
 SharesAt how at.Load = Unit {0}
@@ -185,7 +185,7 @@ CallBecomes a l p told becomes =
 -- where its time is up
 pub record SleepersHear (a : Admission) (l : ℕ) (p : RwLockPlace) : Type 0 where
   pub taken : (u : ℕ) → CallBecomes a l p (reply.TakenBy u) (λ c. c)
-  pub woken : (u : ℕ) → hand_at p.at ≡ hand u false
+  pub woken : (u : ℕ) → parked_hand p.at ≡ hand u false
       → CallBecomes a l p (reply.Woken Normal) (λ c. record c { retries = Some l })
   pub late : late_line_at (patience_of p.purpose) p.at ≢ None
       → CallBecomes a l p reply.Late (λ c. record c { late = true })

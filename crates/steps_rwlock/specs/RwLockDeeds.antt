@@ -32,7 +32,7 @@ use Rattle.steps_rwlock.specs.RwLockSteps.{wanted, from_of, to_of, access_of, st
 use Rattle.steps_base.specs.Acts.{holds}
 use Rattle.steps_base.specs.declared.owners.Owners.{Owners}
 use Rattle.steps_base.specs.Owners.{lock_seen, shares_then}
-use Rattle.steps_base.specs.Moves.{IsFree, StandsAlone, MayTake}
+use Rattle.steps_base.specs.Moves.{IsSectionFree, StandsAlone, MayTake}
 use Rattle.spec_locks.specs.Locks.{Rules, Taken, Enter, Pend, Settle, Leave, Convert, Park, Aside, TakeAside, TakePicked, Late, Rollback, is_recursive, keeps_more, standing}
 use Rattle.spec_locks.specs.Sites.{Claim, Has, Pends, Role, idle, is_main, Site, IsSite, has_readers, Deed, End, In, Out, Mark, Clear, FindNobody, Case}
 pub use Rattle.spec_locks.specs.Deeds.{after_all, AllNeeded}
@@ -126,11 +126,11 @@ role_at again q at.GiveWay = at_rest None (Some (Has (held_of q)))
 role_at again q (at.Wake m to) = waking_role (start_of q) m to
 
 -- its want again since it was woken
-abbrev pub again_of : RwLockPlace → Option Want
-again_of p = if p.retries then Some (want_at p) else None
+abbrev pub retried_want : RwLockPlace → Option Want
+retried_want p = if p.retries then Some (want_at p) else None
 
 abbrev pub rwlock_role : RwLockPlace → Role
-rwlock_role p = role_at (again_of p) p.purpose p.at
+rwlock_role p = role_at (retried_want p) p.purpose p.at
 
 -- the state after a step, at its next place or in no call
 abbrev pub role_next : Next RwLockPlace → Role
@@ -197,10 +197,10 @@ park_deeds parks m parking.GiveUp reply.Done = Out ∷ []
 park_deeds parks m to told = []
 
 -- the waiter taken of the second queue, if any, is no part of a place: `whom`
-abbrev pub takes : Option Want → Line → Option ℕ → Deed
-takes start Main whom = Case (TakePicked start)
-takes start Second None = FindNobody Second
-takes start Second (Some u) = Case (TakeAside u)
+abbrev pub take_deed : Option Want → Line → Option ℕ → Deed
+take_deed start Main whom = Case (TakePicked start)
+take_deed start Second None = FindNobody Second
+take_deed start Second (Some u) = Case (TakeAside u)
 
 -- a thread that keeps a right of its own ends that as its call ends
 abbrev pub leaves_with : Option Want → List Deed
@@ -209,8 +209,8 @@ leaves_with (Some x) = Out ∷ End ∷ []
 
 abbrev pub wake_deeds : Option Want → Line → WakeAt → Option ℕ → Reply → List Deed
 wake_deeds start m waking.Enter whom reply.Done = In m ∷ []
-wake_deeds start m waking.Take whom (reply.Took any none_left) = takes start m whom ∷ []
-wake_deeds start m waking.Take whom (reply.Picked n x none_left) = takes start m whom ∷ []
+wake_deeds start m waking.Take whom (reply.Took any none_left) = take_deed start m whom ∷ []
+wake_deeds start m waking.Take whom (reply.Picked n x none_left) = take_deed start m whom ∷ []
 wake_deeds start m (waking.Clear any) whom (reply.Value seen) = Clear m ∷ []
 wake_deeds start m (waking.Leave any) whom reply.Done = leaves_with start
 wake_deeds start m to whom told = []
@@ -324,14 +324,14 @@ RwLockStepsCode =
 abbrev pub MayHearParking : Rules → Site → ℕ → Line → Bool → ParkAt → Reply → Type 0
 MayHearParking r s t m finds parking.Check (reply.Parked b) = (b ≡ finds) × (standing t s.lock ≡ 0)
 MayHearParking r s t m finds (parking.Leave parked) reply.Done = s.lock.taken t ≡ None
-MayHearParking r s t m finds parking.Asleep reply.Late = IsFree s m
+MayHearParking r s t m finds parking.Asleep reply.Late = IsSectionFree s m
 MayHearParking r s t m finds parking.Remove (reply.Removed none_left) = StandsAlone s t m none_left
 MayHearParking r s t m finds parking.GiveUp reply.Done = s.lock.taken t ≡ None
 MayHearParking r s t m finds to told = ⊥
 
 abbrev pub MayHearWaking : Rules → Site → ℕ → Option Want → Line → WakeAt → Option ℕ → Reply
     → Type 0
-MayHearWaking r s t start m waking.Enter whom reply.Done = IsFree s m
+MayHearWaking r s t start m waking.Enter whom reply.Done = IsSectionFree s m
 MayHearWaking r s t start m waking.Take whom (reply.Took any none_left) =
     MayTake r s start m whom none_left
 MayHearWaking r s t start m waking.Take whom (reply.Picked n x none_left) =
@@ -343,9 +343,9 @@ MayHearWaking r s t start m to whom told = ⊥
 abbrev pub MayHear : Rules → Admission → Site → ℕ → RwLockPlace → RwLockAt → Option ℕ → Reply
     → Type 0
 MayHear r a s t p (at.Decide seen) whom reply.Done =
-    (decided a p seen ≡ decisions.Park) × IsFree s Main
-MayHear r a s t p (at.Count seen) whom reply.Done = IsFree s Second
-MayHear r a s t p at.Marked whom reply.Done = IsFree s Second
+    (decided a p seen ≡ decisions.Park) × IsSectionFree s Main
+MayHear r a s t p (at.Count seen) whom reply.Done = IsSectionFree s Second
+MayHear r a s t p at.Marked whom reply.Done = IsSectionFree s Second
 MayHear r a s t p (at.Park to) whom told =
     MayHearParking r s t Main (holds (park_check a (want_at p) Main) (code r s)) to told
 MayHear r a s t p (at.Aside to) whom told =

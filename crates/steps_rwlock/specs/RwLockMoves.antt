@@ -1,7 +1,7 @@
 -- Where each step of a reader-writer call takes its thread in the machine.
 use Rattle.std.specs.Prelude.{ℕ, Some, ◌≡◌}
 use Rattle.steps_base.specs.declared.acts.Reply.TheVariants.{Late}
-use Rattle.steps_base.specs.Moves.{Move, Hears, GoesIn, Moves, Waits, row_of}
+use Rattle.steps_base.specs.Moves.{Move, Hears, GoesIn, MovesByAct, RowWaits, row_of}
 use Rattle.steps_rwlock.specs.declared.places.Admission.{Admission}
 use Rattle.steps_rwlock.specs.declared.places.RwLockPlace.{RwLockPlace}
 use Rattle.core_base.specs.declared.keys.Line.{Line}
@@ -24,11 +24,11 @@ rwlock_hears a p r s t whom told = MayHear r a s t p p.at whom told
 abbrev pub RwLockActsMove : Type 0
 RwLockActsMove =
     (l : ℕ) (a : Admission) (p : RwLockPlace) → MayStand a p
-    → Moves l a.recursive (rwlock_move a p) (rwlock_hears a p) (rwlock_act l a p)
+    → MovesByAct l a.recursive (rwlock_move a p) (rwlock_hears a p) (rwlock_act l a p)
 
 -- and what befalls it asleep
 abbrev pub RwLockSleepersMove : Type 0
-RwLockSleepersMove = (a : Admission) (p : RwLockPlace) → MayStand a p → Waits (rwlock_move a p)
+RwLockSleepersMove = (a : Admission) (p : RwLockPlace) → MayStand a p → RowWaits (rwlock_move a p)
 
 -- into the section of its line, where its time is up
 abbrev pub RwLockLateMove : Type 0

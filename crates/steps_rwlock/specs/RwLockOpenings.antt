@@ -13,7 +13,7 @@ use Rattle.steps_rwlock.specs.RwLockProfiles.{rwlock_profile}
 use Rattle.steps_rwlock.specs.RwLockCalls.{MayStand}
 
 -- the row of a call that has done nothing yet
-pub record IsOpening (row : Profile) : Type 0 where
+pub record IsOpeningRow (row : Profile) : Type 0 where
   pub claims : Option Claim
   pub role : row.role ≡ record idle { claims = claims }
   pub location : location_by row ≡ nowhere
@@ -25,9 +25,9 @@ pub record IsOpening (row : Profile) : Type 0 where
   pub released : row.released ≡ false
   pub former : (l : ℕ) (rights : ℕ → Rights) → row.former l rights ≡ rights
 
-pub record Opens (a : Admission) (q : RwLockPurpose) : Type 0 where
+pub record PurposeOpens (a : Admission) (q : RwLockPurpose) : Type 0 where
   pub stands : MayStand a (rwlock_first q)
-  pub opening : IsOpening (rwlock_profile a (rwlock_first q))
+  pub opening : IsOpeningRow (rwlock_profile a (rwlock_first q))
 
 abbrev pub RwLockCallsOpen : Type 0
-RwLockCallsOpen = (a : Admission) (q : RwLockPurpose) → Opens a q
+RwLockCallsOpen = (a : Admission) (q : RwLockPurpose) → PurposeOpens a q

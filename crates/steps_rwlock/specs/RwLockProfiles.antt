@@ -66,10 +66,10 @@ stands_at (at.Park to) = stands_parking Main to
 stands_at (at.Aside to) = stands_parking Second to
 stands_at to = None
 
-abbrev pub hand_at : RwLockAt → Option Hand
-hand_at (at.Park to) = hand_parking to
-hand_at (at.Aside to) = hand_parking to
-hand_at to = None
+abbrev pub parked_hand : RwLockAt → Option Hand
+parked_hand (at.Park to) = hand_parking to
+parked_hand (at.Aside to) = hand_parking to
+parked_hand to = None
 
 abbrev pub carries_waking : WakeAt → Option Bool
 carries_waking (waking.Clear any) = in_hand any false
@@ -172,7 +172,7 @@ rwlock_profile a p = record {
   role = rwlock_role p;
   stands = stands_at p.at;
   carries = carries_at p.at;
-  hand = hand_at p.at;
+  hand = parked_hand p.at;
   wants = wants_for p.purpose;
   owes = owes_at p.at;
   retries = p.retries;
@@ -192,7 +192,7 @@ rwlock_profile a p = record {
 -- ---------------------------------------------------------------- the conditions on a place
 
 abbrev pub rwlock_taker : RwLockPlace → Option ℕ
-rwlock_taker p = hand_owner (hand_at p.at)
+rwlock_taker p = hand_owner (parked_hand p.at)
 
 abbrev pub rwlock_wants : RwLockPlace → Option Want
 rwlock_wants p = wants_for p.purpose

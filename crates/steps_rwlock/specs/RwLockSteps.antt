@@ -112,12 +112,12 @@ stays p to = goes p to p.retries
 
 -- ---------------------------------------------------------------- a thread's decision
 
-abbrev pub waits : Bool → Decision
-waits parked = if parked then decisions.Park else decisions.Mark
+abbrev pub park_or_mark : Bool → Decision
+park_or_mark parked = if parked then decisions.Park else decisions.Mark
 
 abbrev pub decision_blocked : Patience → ℕ → Decision
 decision_blocked Try word = decisions.Refuse answer.TheVariants.No
-decision_blocked how word = waits (has_parked word)
+decision_blocked how word = park_or_mark (has_parked word)
 
 -- a thread that is blocked waits, one that counts needs room, and any other takes what it wants
 abbrev pub decision : Admission → Want → Patience → ℕ → Decision
@@ -188,17 +188,17 @@ abbrev pub park_check : Admission → Want → Line → Check
 park_check a x Main = check.TheVariants.Blocked x a.recursive
 park_check a x Second = check.TheVariants.ReadersLeft
 
-abbrev pub leaves : ℕ → Line → Act
-leaves l m = act.TheVariants.Leave (One (key_of l m)) wake_notes.TheVariants.Nobody
+abbrev pub leave_act : ℕ → Line → Act
+leave_act l m = act.TheVariants.Leave (One (key_of l m)) wake_notes.TheVariants.Nobody
 
 abbrev pub park_act : ℕ → Admission → Want → Line → ParkAt → Act
 park_act l a x m parking.Check = act.TheVariants.Park l (key_of l m) (park_check a x m) x
-park_act l a x m (parking.Leave parked) = leaves l m
+park_act l a x m (parking.Leave parked) = leave_act l m
 park_act l a x m parking.Asleep = act.TheVariants.Sleep
 park_act l a x m (parking.Taken by) = act.TheVariants.Sleep
 park_act l a x m parking.Remove = act.TheVariants.Remove (key_of l m)
 park_act l a x m parking.Clear = act.TheVariants.Word l (unparked m)
-park_act l a x m parking.GiveUp = leaves l m
+park_act l a x m parking.GiveUp = leave_act l m
 
 -- the outcome told to a thread that comes to a place of a parking
 abbrev pub IsTold : Outcome → ParkAt → Type 0
@@ -274,13 +274,13 @@ decided_next a p expected Done = stays p (at.Park parking.Check)
 decided_next a p expected reply = stays p (at.Decide expected)
 
 -- a pending writer owns where nobody shares
-abbrev pub counted : RwLockPlace → ℕ → Next RwLockPlace
-counted p seen =
+abbrev pub after_count : RwLockPlace → ℕ → Next RwLockPlace
+after_count p seen =
     if count_in seen == 0 then End (entered (patience_at p)) else stays p (at.Count seen)
 
 abbrev pub count_next : RwLockPlace → ℕ → Reply → Next RwLockPlace
 count_next p expected (Value seen) =
-    if seen == expected then stays p at.Marked else counted p seen
+    if seen == expected then stays p at.Marked else after_count p seen
 count_next p expected Done = stays p (at.Aside parking.Check)
 count_next p expected reply = stays p (at.Count expected)
 
@@ -359,7 +359,7 @@ next_at a p at.First (Value seen) = first_next p seen
 next_at a p at.Load (Value seen) = looked a p seen
 next_at a p (at.Decide expected) reply = decided_next a p expected reply
 next_at a p (at.Park to) reply = park_next p Main to reply
-next_at a p at.Look (Value seen) = counted p seen
+next_at a p at.Look (Value seen) = after_count p seen
 next_at a p (at.Count expected) reply = count_next p expected reply
 next_at a p at.Marked Done = stays p (at.Aside parking.Check)
 next_at a p (at.Aside to) reply = park_next p Second to reply
@@ -398,16 +398,16 @@ rollback_change (purpose.Upgrade how) = changes.RollBack true
 rollback_change q = changes.RollBack false
 
 -- the state of a pending writer that saw this
-abbrev pub settles : ℕ → Change
-settles seen = if count_in seen == 0 then changes.Settle else changes.Nothing
+abbrev pub settle_change : ℕ → Change
+settle_change seen = if count_in seen == 0 then changes.Settle else changes.Nothing
 
 abbrev pub change_at : Admission → RwLockPlace → ℕ → RwLockAt → Change
 change_at a p seen at.First =
     if seen == 0 then changes.Enter access.TheVariants.Exclusive else changes.Nothing
 change_at a p seen (at.Decide expected) =
     if seen == expected then came_change p.purpose (decided a p expected) else changes.Nothing
-change_at a p seen at.Look = settles seen
-change_at a p seen (at.Count expected) = if seen == expected then changes.Nothing else settles seen
+change_at a p seen at.Look = settle_change seen
+change_at a p seen (at.Count expected) = if seen == expected then changes.Nothing else settle_change seen
 change_at a p seen at.RollBack = rollback_change p.purpose
 change_at a p seen at.GiveWay = gives_change p.purpose seen
 change_at a p seen to = changes.Nothing
@@ -416,13 +416,13 @@ change_at a p seen to = changes.Nothing
 abbrev pub change : Admission → RwLockPlace → ℕ → Change
 change a p seen = change_at a p seen p.at
 
-abbrev pub pending : ℕ → Fallback → Option owners.Pending
-pending t fallback = Some (record { thread = t; fallback = fallback })
+abbrev pub pending_with : ℕ → Fallback → Option owners.Pending
+pending_with t fallback = Some (record { thread = t; fallback = fallback })
 
 abbrev pub owners_by : Change → ℕ → Owners → Owners
 owners_by (changes.Enter access.TheVariants.Upgradable) t o = record o { upgradable = Some t }
 owners_by (changes.Enter access.TheVariants.Exclusive) t o = record o { exclusive = Some t }
-owners_by changes.Pend t o = record o { pending = pending t fallbacks.Nothing }
+owners_by changes.Pend t o = record o { pending = pending_with t fallbacks.Nothing }
 owners_by changes.Settle t o = record o { exclusive = Some t; pending = None }
 owners_by (changes.Leave access.TheVariants.Upgradable) t o = record o { upgradable = None }
 owners_by (changes.Leave access.TheVariants.Exclusive) t o = record o { exclusive = None }
@@ -432,7 +432,7 @@ owners_by (changes.Downgrade downgrade.ToUpgradable) t o =
 owners_by (changes.Downgrade downgrade.UpgradableToShared) t o = record o { upgradable = None }
 owners_by (changes.Upgrade true) t o = record o { exclusive = Some t; upgradable = None }
 owners_by (changes.Upgrade false) t o =
-    record o { pending = pending t fallbacks.Upgradable; upgradable = None }
+    record o { pending = pending_with t fallbacks.Upgradable; upgradable = None }
 owners_by (changes.RollBack false) t o = record o { pending = None }
 owners_by (changes.RollBack true) t o = record o { pending = None; upgradable = Some t }
 owners_by change t o = o

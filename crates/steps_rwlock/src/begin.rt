@@ -1,6 +1,6 @@
 //! Where a call of a reader-writer lock begins, and whether a thread has a right.
 ghost use Rattle.std.specs.Prelude.{◌≡◌};
-ghost use Rattle.steps_rwlock.specs.RwLockBegins.{first_at, rwlock_first, has_access, admission_of};
+ghost use Rattle.steps_rwlock.specs.RwLockBegins.{first_at, rwlock_first, has_access, admission_of_kind};
 
 use crate::places::{Admission, RwLockAt, RwLockPlace};
 use crate::purposes::RwLockPurpose;
@@ -11,7 +11,7 @@ impl Admission {
     /// Returns the settings of a lock of this kind. Where the kind is no reader-writer lock, nobody
     /// may share it.
     pub fn of(kind: Kind) -> Admission
-        ensures { result ≡ admission_of kind }
+        ensures { result ≡ admission_of_kind kind }
     {
         match kind {
             Kind::RwLock { limit } => Admission {

@@ -1,6 +1,6 @@
 //! The owners of a reader-writer lock after an operation on its word.
 ghost use Rattle.std.specs.Prelude.{◌≡◌};
-ghost use Rattle.steps_rwlock.specs.RwLockSteps.{came_change, settles, gives_change, rollback_change, change, owners_by, rwlock_owners, rwlock_shares};
+ghost use Rattle.steps_rwlock.specs.RwLockSteps.{came_change, settle_change, gives_change, rollback_change, change, owners_by, rwlock_owners, rwlock_shares};
 
 use crate::enter::Decision;
 use crate::places::{Admission, RwLockAt, RwLockPlace};
@@ -39,7 +39,7 @@ fn came(purpose: RwLockPurpose, decision: Decision) -> Change
 
 /// Returns the change by a pending writer that saw this word.
 fn settles(seen: u64) -> Change
-    ensures { result ≡ settles seen }
+    ensures { result ≡ settle_change seen }
 {
     if count_in(seen) == 0 {
         Change::Settle

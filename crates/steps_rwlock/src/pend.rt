@@ -8,7 +8,7 @@
 //! | `Marked` | enters the second section; it spins no more | `Aside` |
 //! | `RollBack` | subtracts `WRITER`; an upgrade has the upgradable right again | ends with `No`, or wakes those in the main queue first |
 ghost use Rattle.std.specs.Prelude.{◌≡◌, ◌<◌, ◌^◌};
-ghost use Rattle.steps_rwlock.specs.RwLockSteps.{count_act, counted, count_next, rolled_back};
+ghost use Rattle.steps_rwlock.specs.RwLockSteps.{count_act, after_count, count_next, rolled_back};
 
 use crate::enter::exchange;
 use crate::park::ParkAt;
@@ -33,7 +33,7 @@ pub(super) fn count_act(lock: usize, seen: u64) -> Act
 
 /// Where a pending writer goes by a value that it saw.
 pub(super) fn counted(place: RwLockPlace, seen: u64) -> Next<RwLockPlace>
-    ensures { result ≡ counted place seen }
+    ensures { result ≡ after_count place seen }
 {
     if count_in(seen) == 0 {
         Next::End(entered(place.purpose.patience()))

@@ -21,7 +21,7 @@ use Rattle.steps_base.specs.declared.acts.Reply.{Reply}
 use Rattle.steps_base.specs.declared.acts.Reply.TheVariants.{Done, Value, Parked, Took, Picked, Removed, TakenBy, HandedBy, Woken, Late}
 use Rattle.steps_base.specs.declared.acts.Whom as whom
 use Rattle.steps_base.specs.Acts.{any_picked}
-use Rattle.steps_base.specs.Moves.{Move, Hears, StaysPut, GoesIn, Parks, Picks, TakesAside, LeavesLine, GoesOut, Moves, Sleeps, IsHeld, Waits, AreOfWord, AreLeaving, location_of, location_then, inside_of, row_of}
+use Rattle.steps_base.specs.Moves.{Move, Hears, StaysPut, GoesIn, Parks, Picks, TakesAside, LeavesLine, GoesOut, MovesByAct, Sleeps, IsHeld, RowWaits, AreOfWord, AreLeaving, location_of, location_then, inside_of, row_of}
 use Rattle.steps_base.specs.Profiles.{Profile, in_hand}
 use Rattle.steps_base.specs.Locations.{Location, location_by, nowhere}
 use Rattle.spec_locks.specs.Sites.{Deed, Case}
@@ -133,7 +133,7 @@ module _ (x y : Move) (hears : Hears) (alike : IsAs x y) where
   }
 
   -- and a call that hands nothing over moves as one that may
-  moves_as : (l : ℕ) (recursive : Bool) (act : Act) → Moves l recursive y hears act → CallMoves l recursive x hears act
+  moves_as : (l : ℕ) (recursive : Bool) (act : Act) → MovesByAct l recursive y hears act → CallMoves l recursive x hears act
   moves_as l b (act.Word k op) g = (g.0, stays_as g.1)
   moves_as l b (act.Enter keys) g = (g.0, g.1, goes_in_as g.0 Done tt g.2)
   moves_as l b (act.Park k key check x) g = (g.0, g.1, g.2, parks_as g.0 check x g.3)
@@ -353,7 +353,7 @@ module _ (a : Admission) where
   plain_waits : (p : RwLockPlace) → MayStand a p → CallWaits (call_move a (Plain p))
   plain_waits p may = record { aside = w.aside; stands = stands; held = λ u h. held u (w.held u false h).1 }
     where
-      w : Waits (rwlock_move a p)
+      w : RowWaits (rwlock_move a p)
       w = rwlock_sleepers_move a p may
 
       stands : (m : Line) → (rwlock_profile a p).stands ≡ Some m → ((location_of (rwlock_move a p)).inside ≡ Some m) ⊎ Sleeps (call_move a (Plain p)) m
@@ -411,7 +411,7 @@ module _ (a : Admission) where
     again_waits : MayStand a p → CallWaits (call_move a (Bump p))
     again_waits may = record { aside = w.aside; stands = stands; held = λ u h. held u (w.held u false h).1 }
       where
-        w : Waits (rwlock_move a p)
+        w : RowWaits (rwlock_move a p)
         w = rwlock_sleepers_move a p may
 
         stands : (m : Line) → (rwlock_profile a p).stands ≡ Some m → ((location_of (rwlock_move a p)).inside ≡ Some m) ⊎ Sleeps (call_move a (Bump p)) m

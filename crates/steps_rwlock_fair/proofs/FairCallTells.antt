@@ -48,7 +48,7 @@ use Rattle.steps_rwlock_fair.specs.declared.handed.HandedAt.TheVariants as hande
 use Rattle.steps_rwlock_fair.specs.FairSteps.{plain_next, bump_next, gives_way, call_act, hand_over_act}
 use Rattle.steps_rwlock_fair.specs.FairDeeds.{call_role}
 use Rattle.steps_rwlock_fair.specs.FairProfiles.{bumping, call_profile, has_given}
-use Rattle.steps_rwlock_fair.specs.FairCalls.{IsOfBump, WaitsFor, MayHearHanded}
+use Rattle.steps_rwlock_fair.specs.FairCalls.{IsOfBump, WaitsWithPatience, MayHearHanded}
 use Rattle.steps_rwlock_fair.specs.FairLaws.{next_rows, CallTells, FairStepsTell, FairSectionsTell}
 use Rattle.steps_rwlock_fair.proofs.FairSections.{not_given}
 use Rattle.steps_rwlock_fair.proofs.FairStands.{StaysFor, stays_for}
@@ -163,7 +163,7 @@ module _ (r : Rules) (a : Admission) (s : Site) (t l : ℕ) where
     had_before : (k : ℕ) → rights_in v t k ≡ one_more_at l x (one_less_at l x rights) k
     had_before = agree rights l _ _ _ _ has (changed rights l (with_right x) (one_less_at l x rights) _ (changed rights l (without_right x) rights _ (unchanged rights l (rights_of s.lock t) here))) (sym (regained s.lock t x own))
 
-  accepts : (x : Access) (how : Patience) (b : Bool) → Owns s.lock t (wanted x) → WaitsFor b how → CallFollows r s.lock t l (call_profile a (Handed x how b handed.Accept)) (End ∷ []) (next.End (entered how))
+  accepts : (x : Access) (how : Patience) (b : Bool) → Owns s.lock t (wanted x) → WaitsWithPatience b how → CallFollows r s.lock t l (call_profile a (Handed x how b handed.Accept)) (End ∷ []) (next.End (entered how))
   accepts x Patient true own waits = record { one = tt; may = tt; comes = λ v rights ruled now e has. (subst (λ z. Owns z t (wanted x)) (sym now) own, had_before (wanted x) own v rights e has) }
   accepts x Timed true own waits = absurd (let e : Timed ≡ Patient = waits in cc)
   accepts x Try true own waits = absurd (let e : Try ≡ Patient = waits in cc)
@@ -201,11 +201,11 @@ module _ (r : Rules) (a : Admission) (s : Site) (t l : ℕ) where
   bump_sections (purpose.Release access.Shared) true to whom told admits h is stands bump there hears now = absurd (let f : true ≡ false = bump in cc)
   bump_sections q again to whom told admits h is stands bump there hears now = absurd bump
 
-  handed_words : (op : Op) (x : Access) (how : Patience) (b : Bool) (to : HandedAt) → IsSite r s → s.role t ≡ call_role (Handed x how b to) → WaitsFor b how → call_act l a (Handed x how b to) ≡ act.Word l op → CallTells r a s t l (Handed x how b to) None (reply.Value (code r s))
+  handed_words : (op : Op) (x : Access) (how : Patience) (b : Bool) (to : HandedAt) → IsSite r s → s.role t ≡ call_role (Handed x how b to) → WaitsWithPatience b how → call_act l a (Handed x how b to) ≡ act.Word l op → CallTells r a s t l (Handed x how b to) None (reply.Value (code r s))
   handed_words op x how b handed.Accept h is waits e = accepts x how b (h.held t (Has (wanted x)) (ap (λ (d : Role). d.claims) is)) waits
   handed_words op x how b (handed.Asleep by alone) h is waits e = absurd cc
 
-  handed_sections : (x : Access) (how : Patience) (b : Bool) (to : HandedAt) (told : Reply) → IsSite r s → s.role t ≡ call_role (Handed x how b to) → WaitsFor b how → MayHearHanded x to told → CallTells r a s t l (Handed x how b to) None told
+  handed_sections : (x : Access) (how : Patience) (b : Bool) (to : HandedAt) (told : Reply) → IsSite r s → s.role t ≡ call_role (Handed x how b to) → WaitsWithPatience b how → MayHearHanded x to told → CallTells r a s t l (Handed x how b to) None told
   handed_sections access.Shared how b handed.Accept reply.Done h is waits hears = accepts access.Shared how b (h.held t (Has (wanted access.Shared)) (ap (λ (d : Role). d.claims) is)) waits
   handed_sections access.Upgradable how b handed.Accept reply.Done h is waits hears = accepts access.Upgradable how b (h.held t (Has (wanted access.Upgradable)) (ap (λ (d : Role). d.claims) is)) waits
   handed_sections access.Exclusive how b to told h is waits hears = absurd hears

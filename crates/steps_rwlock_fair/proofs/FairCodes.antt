@@ -26,7 +26,7 @@ use Rattle.steps_rwlock_fair.specs.declared.hand_over.Taken.{Taken}
 use Rattle.steps_rwlock_fair.specs.declared.hand_over.HandOverAt.{HandOverAt}
 use Rattle.steps_rwlock_fair.specs.declared.hand_over.HandOverAt.TheVariants as handing
 use Rattle.steps_rwlock_fair.specs.declared.handed.HandedAt.TheVariants as given
-use Rattle.steps_rwlock_fair.specs.FairSteps.{has_room, parked_as, without, with_taken, gives_way, hand_over_act}
+use Rattle.steps_rwlock_fair.specs.FairSteps.{has_room, parked_as, word_without, with_taken, gives_way, hand_over_act}
 use Rattle.steps_rwlock_fair.specs.FairDeeds.{leaves_over, exchanged_deeds, freed_deeds, glance_deeds, call_deeds}
 use Rattle.steps_rwlock_fair.specs.FairCalls.{HandsOverAt}
 use Rattle.steps_rwlock_fair.specs.FairLaws.{behind_call, FairStepsCode}
@@ -70,14 +70,14 @@ module _ (r : Rules) (a : Admission) (s : Site) (t l : ℕ) (op : Op) (rw_sort :
   glanced true e = rw e refl
   glanced false e = rw e (sym behind_end)
 
-  freed : (x : Access) (b : Bool) (expected : ℕ) → (x ≡ access.Exclusive) ⊎ (x ≡ access.Upgradable) → op ≡ operation.Exchange expected (without x expected) → (won : Bool) → (v == expected) ≡ won
+  freed : (x : Access) (b : Bool) (expected : ℕ) → (x ≡ access.Exclusive) ⊎ (x ≡ access.Upgradable) → op ≡ operation.Exchange expected (word_without x expected) → (won : Bool) → (v == expected) ≡ won
       → AllNeeded r (freed_deeds (wanted x) b won) s t → apply op v ≡ code r (after_all r (freed_deeds (wanted x) b won) s t)
   freed x b expected ex e false ew n = rw (e, ew) refl
   freed x b expected ex e true ew n =
       let same = eqb-true v expected ew in
-      rw (e, ew) (ap (without x) (sym same) ∙ gone_word v (token (wanted x)) _ small (gives x b ex n))
+      rw (e, ew) (ap (word_without x) (sym same) ∙ gone_word v (token (wanted x)) _ small (gives x b ex n))
 
-  left : (k : Taken) → AllNeeded r (leaves_over Upgradable k) s t → code r (after_all r (leaves_over Upgradable k) s t) ≡ parked_as k.none_left (without access.Upgradable v)
+  left : (k : Taken) → AllNeeded r (leaves_over Upgradable k) s t → code r (after_all r (leaves_over Upgradable k) s t) ≡ parked_as k.none_left (word_without access.Upgradable v)
   left k n =
       let e = gives access.Upgradable true (inr refl) (n.0, tt) in
       let bits = settles r (after_deed r (Case (Leave Upgradable)) s t) t k.none_left in
@@ -87,14 +87,14 @@ module _ (r : Rules) (a : Admission) (s : Site) (t l : ℕ) (op : Op) (rw_sort :
       (left_words v 20 (bit s.parked) (rw_code (after_deed r (Case (Leave Upgradable)) s t)) _ (if k.none_left then 0 else 1) small (omega arith) refl (omega arith) (omega arith) bits)
 
   exchanged : (k : Taken) (expected : ℕ) → (room : Bool) → (won : Bool) → (v == expected) ≡ won
-      → (if room then act.HandOver l (operation.Exchange expected (with_taken access.Upgradable k expected)) else act.Word l (operation.Exchange expected (parked_as k.none_left (without access.Upgradable expected)))) ≡ act.Word l op
+      → (if room then act.HandOver l (operation.Exchange expected (with_taken access.Upgradable k expected)) else act.Word l (operation.Exchange expected (parked_as k.none_left (word_without access.Upgradable expected)))) ≡ act.Word l op
       → AllNeeded r (exchanged_deeds Upgradable k None won room) s t → apply op v ≡ code r (after_all r (exchanged_deeds Upgradable k None won room) s t)
   exchanged k expected true won ew e n = absurd cc
-  exchanged k expected false false ew e n = let f : op ≡ operation.Exchange expected (parked_as k.none_left (without access.Upgradable expected)) = cc in rw (f, ew) refl
+  exchanged k expected false false ew e n = let f : op ≡ operation.Exchange expected (parked_as k.none_left (word_without access.Upgradable expected)) = cc in rw (f, ew) refl
   exchanged k expected false true ew e n =
-      let f : op ≡ operation.Exchange expected (parked_as k.none_left (without access.Upgradable expected)) = cc in
+      let f : op ≡ operation.Exchange expected (parked_as k.none_left (word_without access.Upgradable expected)) = cc in
       let same = eqb-true v expected ew in
-      rw (f, ew) (ap (λ w. parked_as k.none_left (without access.Upgradable w)) (sym same) ∙ sym (left k n))
+      rw (f, ew) (ap (λ w. parked_as k.none_left (word_without access.Upgradable w)) (sym same) ∙ sym (left k n))
 
   abbrev Leads : RwLockCallPlace → Type 0
   Leads c = AllNeeded r (call_deeds a c None (reply.Value v)) s t → apply op v ≡ code r (behind_call r a s t c None (reply.Value v))
@@ -102,8 +102,8 @@ module _ (r : Rules) (a : Admission) (s : Site) (t l : ℕ) (op : Op) (rw_sort :
   hand_over_code : (x : Access) (b : Bool) (to : HandOverAt) → HandsOverAt x to → hand_over_act l a x to ≡ act.Word l op → Leads (HandOver x b to)
   hand_over_code x b handing.Load fits e n = let f : op ≡ operation.Load = cc in rw f refl
   hand_over_code x b (handing.Look k) fits e n = let f : op ≡ operation.Load = cc in rw f refl
-  hand_over_code access.Exclusive b (handing.Free expected) fits e n = let f : op ≡ operation.Exchange expected (without access.Exclusive expected) = cc in freed access.Exclusive b expected (inl refl) f (v == expected) refl n
-  hand_over_code access.Upgradable b (handing.Free expected) fits e n = let f : op ≡ operation.Exchange expected (without access.Upgradable expected) = cc in freed access.Upgradable b expected (inr refl) f (v == expected) refl n
+  hand_over_code access.Exclusive b (handing.Free expected) fits e n = let f : op ≡ operation.Exchange expected (word_without access.Exclusive expected) = cc in freed access.Exclusive b expected (inl refl) f (v == expected) refl n
+  hand_over_code access.Upgradable b (handing.Free expected) fits e n = let f : op ≡ operation.Exchange expected (word_without access.Upgradable expected) = cc in freed access.Upgradable b expected (inr refl) f (v == expected) refl n
   hand_over_code access.Shared b (handing.Free expected) fits e n = absurd fits
   hand_over_code access.Upgradable b (handing.Exchange k expected) fits e n = exchanged k expected (has_room a.limit k expected) (v == expected) refl e n
   hand_over_code access.Exclusive b (handing.Exchange k expected) fits e n = absurd fits

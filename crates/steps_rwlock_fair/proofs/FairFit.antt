@@ -37,10 +37,10 @@ use Rattle.steps_rwlock_fair.specs.declared.hand_over.HandOverAt.{HandOverAt}
 use Rattle.steps_rwlock_fair.specs.declared.hand_over.HandOverAt.TheVariants as handing
 use Rattle.steps_rwlock_fair.specs.declared.handed.HandedAt.{HandedAt}
 use Rattle.steps_rwlock_fair.specs.declared.handed.HandedAt.TheVariants as given
-use Rattle.steps_rwlock_fair.specs.FairSteps.{any_taken, has_room, with_taken, parked_as, without, looked, released, bump_next, plain_next, enters_again, gives_way, gives_up_at, freed_next, hand_over_act, handed_act}
-use Rattle.steps_rwlock_fair.specs.FairDeeds.{holding, hand_over_role, exchanged_deeds, freed_deeds, glance_deeds, call_deeds, call_role, call_role_next}
+use Rattle.steps_rwlock_fair.specs.FairSteps.{any_taken, has_room, with_taken, parked_as, word_without, looked, released, bump_next, plain_next, enters_again, gives_way, gives_up_at, freed_next, hand_over_act, handed_act}
+use Rattle.steps_rwlock_fair.specs.FairDeeds.{holding_role, hand_over_role, exchanged_deeds, freed_deeds, glance_deeds, call_deeds, call_role, call_role_next}
 use Rattle.steps_rwlock_fair.specs.FairCalls.{HandsOverAt}
-use Rattle.steps_rwlock_fair.specs.FairLaws.{FairStepsFollow, CallFollowsBy}
+use Rattle.steps_rwlock_fair.specs.FairLaws.{FairStepsFollow, FollowsInCall}
 
 -- ---------------------------------------------------------------- a thread's act at the next place
 
@@ -123,7 +123,7 @@ module _ (r : Rules) (a : Admission) (s : Site) (t l : ℕ) (op : Op) (admits : 
   v = code r s
 
   abbrev FollowsAt : RwLockCallPlace → Type 0
-  FollowsAt c = CallFollowsBy r a s t c None (reply.Value v)
+  FollowsAt c = FollowsInCall r a s t c None (reply.Value v)
 
   glances : (x : Access) → s.role t ≡ call_role (Glance x) → FollowsAt (Glance x)
   glances x is = either (gives_way a x v)
@@ -150,9 +150,9 @@ module _ (r : Rules) (a : Admission) (s : Site) (t l : ℕ) (op : Op) (admits : 
   abbrev exchange_as : Bool → Taken → ℕ → Act
   exchange_as room k seen =
       if room then act.HandOver l (operation.Exchange seen (with_taken access.Upgradable k seen))
-      else act.Word l (operation.Exchange seen (parked_as k.none_left (without access.Upgradable seen)))
+      else act.Word l (operation.Exchange seen (parked_as k.none_left (word_without access.Upgradable seen)))
 
-  exchanged : (b : Bool) (k : Taken) (expected : ℕ) → s.role t ≡ holding Upgradable k → (room : Bool) → has_room a.limit k expected ≡ room → (won : Bool) → (v == expected) ≡ won
+  exchanged : (b : Bool) (k : Taken) (expected : ℕ) → s.role t ≡ holding_role Upgradable k → (room : Bool) → has_room a.limit k expected ≡ room → (won : Bool) → (v == expected) ≡ won
       → exchange_as room k expected ≡ act.Word l op
       → Follows r s t (exchanged_deeds Upgradable k None won room)
       (call_role_next (if won then next.At (HandOver access.Upgradable b (handing.Leave (any_taken k) (has_room a.limit k v))) else next.At (HandOver access.Upgradable b (handing.Exchange k v))))

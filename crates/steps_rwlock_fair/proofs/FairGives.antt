@@ -33,11 +33,11 @@ use Rattle.steps_rwlock_fair.specs.declared.hand_over.Taken.{Taken}
 use Rattle.steps_rwlock_fair.specs.declared.hand_over.HandOverAt.{HandOverAt}
 use Rattle.steps_rwlock_fair.specs.declared.hand_over.HandOverAt.TheVariants as handing
 use Rattle.steps_rwlock_fair.specs.declared.handed.HandedAt.{HandedAt}
-use Rattle.steps_rwlock_fair.specs.FairSteps.{counted, has_room, gives_way, with_taken, parked_as, without, tokens, call_act}
-use Rattle.steps_rwlock_fair.specs.FairDeeds.{exchanged_deeds, freed_deeds, glance_deeds, leaves_over, holding}
+use Rattle.steps_rwlock_fair.specs.FairSteps.{count_of_taken, has_room, gives_way, with_taken, parked_as, word_without, tokens, call_act}
+use Rattle.steps_rwlock_fair.specs.FairDeeds.{exchanged_deeds, freed_deeds, glance_deeds, leaves_over, holding_role}
 use Rattle.steps_rwlock_fair.specs.FairProfiles.{call_profile, release_purpose}
 use Rattle.steps_rwlock_fair.specs.FairCalls.{IsInCall, IsOfBump, HasInHand, in_hand_of}
-use Rattle.steps_rwlock_fair.specs.FairLaws.{HandsOver as Over, lock_slow}
+use Rattle.steps_rwlock_fair.specs.FairLaws.{StandsToHandOver as Over, lock_slow}
 use Rattle.steps_rwlock_fair.specs.FairGives.{IsToGive, HasGot, GivesToAll, LetsGo, WakesThem, FairReleasesGive}
 use Rattle.steps_rwlock_fair.proofs.HandOvers.{counts as counts_then, upgradable_gone, wants_more}
 use Rattle.steps_rwlock_fair.proofs.HandOversGive.{hand_overs_give}
@@ -119,16 +119,16 @@ module _ (r : Rules) (a : Admission) (s : Site) (t l : ℕ) (h : IsSite r s) whe
 
   module _ (admits : Admits r a) (k : Taken) (whom : Option ℕ) (hand : HasInHand s.lock t k whom) where
     -- they would pass the limit
-    passes : s.role t ≡ holding Upgradable k → has_room a.limit k (code r s) ≡ false → r.limit < count (handed t Upgradable (heir_of whom k.successor) s.lock)
+    passes : s.role t ≡ holding_role Upgradable k → has_room a.limit k (code r s) ≡ false → r.limit < count (handed t Upgradable (heir_of whom k.successor) s.lock)
     passes is none =
         let tells : TellsTrue r s = words_tell_true r s admits.0 h in
         let gone = upgradable_gone r s t h (ap (λ (d : Role). d.claims) is) in
         let n = counts_then _ gone.0 k.successor whom (wants_more r s t k whom admits.0 h hand) hand.named in
         let all = hand.sharers in let c = tells.count in let m = admits.2 in let one = gone.1 in
-        let many : a.limit < (count_in (code r s) - 1) + counted k = grind (arith, nat_tests) in
+        let many : a.limit < (count_in (code r s) - 1) + count_of_taken k = grind (arith, nat_tests) in
         omega arith
 
-    wakes : s.role t ≡ holding Upgradable k → has_room a.limit k (code r s) ≡ false → Given (after_all r (leaves_over Upgradable k) s t).lock Upgradable
+    wakes : s.role t ≡ holding_role Upgradable k → has_room a.limit k (code r s) ≡ false → Given (after_all r (leaves_over Upgradable k) s t).lock Upgradable
     wakes is none = inr (inr (inr (refl, settled k.none_left, (heir_of whom k.successor, (hand.successor, passes is none)))))
       where
         settled : (b : Bool) → (after_all r (Case (Leave Upgradable) ∷ bit_left b ∷ []) s t).lock.taken ≡ s.lock.taken
@@ -167,7 +167,7 @@ module _ (r : Rules) (a : Admission) (s : Site) (t l : ℕ) (op : Op) (whom : Op
         hands room = by_act acts
           where
             roomy : act.HandOver l (operation.Exchange expected (with_taken access.Upgradable k expected)) ≡ call_act l a (HandOver access.Upgradable b (handing.Exchange k expected))
-            roomy = sym (ap (λ y. if y then act.HandOver l (operation.Exchange expected (with_taken access.Upgradable k expected)) else act.Word l (operation.Exchange expected (parked_as k.none_left (without access.Upgradable expected)))) room)
+            roomy = sym (ap (λ y. if y then act.HandOver l (operation.Exchange expected (with_taken access.Upgradable k expected)) else act.Word l (operation.Exchange expected (parked_as k.none_left (word_without access.Upgradable expected)))) room)
 
             by_act : (call_act l a (HandOver access.Upgradable b (handing.Exchange k expected)) ≡ act.Word l op) ⊎ (call_act l a (HandOver access.Upgradable b (handing.Exchange k expected)) ≡ act.HandOver l op)
                 → act.HandOver l (operation.Exchange expected (with_taken access.Upgradable k expected)) ≡ act.HandOver l op
@@ -180,7 +180,7 @@ module _ (r : Rules) (a : Admission) (s : Site) (t l : ℕ) (op : Op) (whom : Op
             (wakes r a s t l call.site call.admits k whom hand call.role (ap (has_room a.limit k) (eqb-true (code r s) expected ew) ∙ er))
         either true ew true er =
             let same : operation.Exchange expected (with_taken access.Upgradable k expected) ≡ op = (let e = hands er in cc) in
-            inr (inl (gives_all (HandOver access.Upgradable b (handing.Exchange k expected)) (over_of _ k call refl hand) (sym (ap (λ y. if y then act.HandOver l (operation.Exchange expected (with_taken access.Upgradable k expected)) else act.Word l (operation.Exchange expected (parked_as k.none_left (without access.Upgradable expected)))) (sym er)) ∙ hands er)
+            inr (inl (gives_all (HandOver access.Upgradable b (handing.Exchange k expected)) (over_of _ k call refl hand) (sym (ap (λ y. if y then act.HandOver l (operation.Exchange expected (with_taken access.Upgradable k expected)) else act.Word l (operation.Exchange expected (parked_as k.none_left (word_without access.Upgradable expected)))) (sym er)) ∙ hands er)
             (sym (ap (λ o. takes_effect o (code r s)) same) ∙ ew) (ap (λ (d : Role). d.covers) call.role)))
 
     -- an owner that hands its lock over

@@ -28,7 +28,7 @@ use Rattle.steps_rwlock_fair.specs.declared.places.RwLockCallPlace.TheVariants.{
 use Rattle.steps_rwlock_fair.specs.declared.hand_over.Taken.{Taken}
 use Rattle.steps_rwlock_fair.specs.declared.hand_over.HandOverAt.TheVariants as handing
 use Rattle.steps_rwlock_fair.specs.declared.handed.HandedAt.TheVariants as handed
-use Rattle.steps_rwlock_fair.specs.FairSteps.{any_taken, tokens, has_room, with_taken, parked_as, without, handed_woken}
+use Rattle.steps_rwlock_fair.specs.FairSteps.{any_taken, tokens, has_room, with_taken, parked_as, word_without, handed_woken}
 use Rattle.steps_rwlock_fair.specs.FairProfiles.{call_profile}
 use Rattle.steps_rwlock_fair.specs.FairLaws.{next_rows}
 use Rattle.steps_rwlock_fair.specs.FairCalls.{IsOfBump}
@@ -68,7 +68,7 @@ module _ (a : Admission) where
   }
 
   exchange_moves : (l k : ℕ) (op : Op) (b : Bool) (j : Taken) (expected : ℕ) (room : Bool) → has_room a.limit j expected ≡ room
-      → (if room then act.HandOver l (operation.Exchange expected (with_taken access.Upgradable j expected)) else act.Word l (operation.Exchange expected (parked_as j.none_left (without access.Upgradable expected)))) ≡ act.HandOver k op
+      → (if room then act.HandOver l (operation.Exchange expected (with_taken access.Upgradable j expected)) else act.Word l (operation.Exchange expected (parked_as j.none_left (word_without access.Upgradable expected)))) ≡ act.HandOver k op
       → (k ≡ l) × Hands (call_move a (HandOver access.Upgradable b (handing.Exchange j expected))) op
   exchange_moves l k op b j expected false e f = absurd cc
   exchange_moves l k op b j expected true e f =

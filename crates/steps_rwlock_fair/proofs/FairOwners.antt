@@ -25,7 +25,7 @@ use Rattle.steps_rwlock_fair.specs.declared.hand_over.Taken.{Taken}
 use Rattle.steps_rwlock_fair.specs.declared.hand_over.HandOverAt.{HandOverAt}
 use Rattle.steps_rwlock_fair.specs.declared.hand_over.HandOverAt.TheVariants as handing
 use Rattle.steps_rwlock_fair.specs.declared.handed.HandedAt.TheVariants as given
-use Rattle.steps_rwlock_fair.specs.FairSteps.{has_room, with_taken, parked_as, without, without_owned, gives_way, hand_over_act, call_owners}
+use Rattle.steps_rwlock_fair.specs.FairSteps.{has_room, with_taken, parked_as, word_without, without_owned, gives_way, hand_over_act, call_owners}
 use Rattle.steps_rwlock_fair.specs.FairDeeds.{freed_deeds, exchanged_deeds, glance_deeds}
 use Rattle.steps_rwlock_fair.specs.FairCalls.{HandsOverAt}
 use Rattle.steps_rwlock_fair.specs.FairLaws.{behind_call, FairOwnersFollow, GiversKeep}
@@ -54,7 +54,7 @@ module _ (r : Rules) (a : Admission) (s : Site) (t l : ℕ) (op : Op) (shared : 
   freed x b false fits = sym is
 
   exchanged : (k : Taken) (expected : ℕ) (room won : Bool)
-      → (if room then act.HandOver l (operation.Exchange expected (with_taken access.Upgradable k expected)) else act.Word l (operation.Exchange expected (parked_as k.none_left (without access.Upgradable expected)))) ≡ act.Word l op
+      → (if room then act.HandOver l (operation.Exchange expected (with_taken access.Upgradable k expected)) else act.Word l (operation.Exchange expected (parked_as k.none_left (word_without access.Upgradable expected)))) ≡ act.Word l op
       → Seen (if won then without_owned access.Upgradable o else o) (after_all r (exchanged_deeds Upgradable k None won room) s t).lock
   exchanged k expected true won e = absurd cc
   exchanged k expected false true e = gone access.Upgradable tt ∙ sym (settled_lock r _ t k.none_left)

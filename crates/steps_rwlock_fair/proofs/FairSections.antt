@@ -10,7 +10,7 @@ use Rattle.spec_locks.specs.declared.calls.Access.TheVariants as access
 use Rattle.spec_locks.specs.declared.calls.Patience.{Patience}
 use Rattle.steps_base.specs.declared.acts.Reply.{Reply}
 use Rattle.steps_base.specs.declared.acts.Reply.TheVariants as reply
-use Rattle.steps_base.specs.Moves.{IsFree}
+use Rattle.steps_base.specs.Moves.{IsSectionFree}
 use Rattle.spec_locks.specs.Locks.{Rules, Taken as TakenBy, TakePicked, Knows, HasTakenNobody, unpicked, putting}
 use Rattle.spec_locks.specs.Sites.{Has, Role, idle, is_empty, Site, IsSite, End, In, Out, Case, leaves, wakened}
 use Rattle.steps_rwlock.specs.declared.places.Admission.{Admission}
@@ -34,9 +34,9 @@ use Rattle.steps_rwlock_fair.specs.declared.handed.HandedAt.{HandedAt}
 use Rattle.steps_rwlock_fair.specs.declared.handed.HandedAt.TheVariants as handed
 use Rattle.steps_rwlock_fair.specs.declared.hand_over.Taken.{Taken}
 use Rattle.steps_rwlock_fair.specs.FairSteps.{given, took}
-use Rattle.steps_rwlock_fair.specs.FairDeeds.{holding, hand_over_role, call_role}
+use Rattle.steps_rwlock_fair.specs.FairDeeds.{holding_role, hand_over_role, call_role}
 use Rattle.steps_rwlock_fair.specs.FairCalls.{MayHearHanding, MayHearHanded}
-use Rattle.steps_rwlock_fair.specs.FairLaws.{CallFollowsBy, FairSectionsFollow}
+use Rattle.steps_rwlock_fair.specs.FairLaws.{FollowsInCall, FairSectionsFollow}
 use Rattle.steps_rwlock_fair.proofs.FairFit.{plain_role, bump_role, released_role}
 
 -- ---------------------------------------------------------------- notes of a section go to no hand
@@ -86,7 +86,7 @@ module _ (r : Rules) (a : Admission) (s : Site) (t : ℕ) where
 
 module _ (r : Rules) (a : Admission) (s : Site) (t : ℕ) (admits : Admits r a) (h : IsSite r s) where
   -- into a section that is free
-  goes_in : (x : Want) → IsFree s Main → s.role t ≡ at_rest None (Some (Has x)) → Follows r s t (In Main ∷ []) (within Main None (Some (Has x)))
+  goes_in : (x : Want) → IsSectionFree s Main → s.role t ≡ at_rest None (Some (Has x)) → Follows r s t (In Main ∷ []) (within Main None (Some (Has x)))
   goes_in x free is = record { needed = ((free, ap (λ (d : Role). d.inside) is, ap (λ (d : Role). d.empty) is), tt); role = put_same s.role t _ ∙ ap (λ (d : Role). record d { inside = Some Main }) is }
 
   -- and out of one
@@ -101,16 +101,16 @@ module _ (r : Rules) (a : Admission) (s : Site) (t : ℕ) (admits : Admits r a) 
 
   -- an owner takes whom the lock lets in once it has gone
   takes : (x : Want) (n : ℕ) (y : Option Want) (b : Bool) → b ≡ is_empty (unpicked r.sort None s.lock.queue) → s.role t ≡ within Main None (Some (Has x)) → Knows r.sort Upgradable
-      → Follows r s t (Case (TakePicked None) ∷ []) (holding x (record { sharers = n; successor = y; none_left = b }))
+      → Follows r s t (Case (TakePicked None) ∷ []) (holding_role x (record { sharers = n; successor = y; none_left = b }))
   takes x n y true e is knows = let free = nobody_taken (ap (λ (d : Role). d.carries) is) in record { needed = grind (arith, nat_tests); role = grind (arith, nat_tests) }
   takes x n y false e is knows = let free = nobody_taken (ap (λ (d : Role). d.carries) is) in record { needed = grind (arith, nat_tests); role = grind (arith, nat_tests) }
 
-  took_role : (x : Access) (y : Want) (k : Taken) → hand_over_role y (took x k) ≡ holding y k
+  took_role : (x : Access) (y : Want) (k : Taken) → hand_over_role y (took x k) ≡ holding_role y k
   took_role access.Shared y k = refl
   took_role access.Upgradable y k = refl
   took_role access.Exclusive y k = refl
 
-  hand_over_sections : (x : Access) (b : Bool) (to : HandOverAt) (whom : Option ℕ) (told : Reply) → s.role t ≡ call_role (HandOver x b to) → MayHearHanding r s t to whom told → CallFollowsBy r a s t (HandOver x b to) whom told
+  hand_over_sections : (x : Access) (b : Bool) (to : HandOverAt) (whom : Option ℕ) (told : Reply) → s.role t ≡ call_role (HandOver x b to) → MayHearHanding r s t to whom told → FollowsInCall r a s t (HandOver x b to) whom told
   hand_over_sections x b handing.Enter whom reply.Done is hears = goes_in (wanted x) hears is
   hand_over_sections x b handing.Take whom (reply.Picked n y none_left) is hears =
       rw (took_role x (wanted x) (record { sharers = n; successor = y; none_left = none_left })) (takes (wanted x) n y none_left hears is (knows_all r admits.0 access.Upgradable))
@@ -120,7 +120,7 @@ module _ (r : Rules) (a : Admission) (s : Site) (t : ℕ) (admits : Admits r a) 
   ends : (x : Want) → s.role t ≡ at_rest None (Some (Has x)) → Follows r s t (End ∷ []) idle
   ends x is = record { needed = grind (arith, nat_tests); role = grind (arith, nat_tests) }
 
-  handed_sections : (x : Access) (how : Patience) (b : Bool) (to : HandedAt) (told : Reply) → s.role t ≡ call_role (Handed x how b to) → MayHearHanded x to told → CallFollowsBy r a s t (Handed x how b to) None told
+  handed_sections : (x : Access) (how : Patience) (b : Bool) (to : HandedAt) (told : Reply) → s.role t ≡ call_role (Handed x how b to) → MayHearHanded x to told → FollowsInCall r a s t (Handed x how b to) None told
   handed_sections access.Shared how b handed.Accept reply.Done is hears = ends (wanted access.Shared) is
   handed_sections access.Upgradable how b handed.Accept reply.Done is hears = ends (wanted access.Upgradable) is
   handed_sections access.Exclusive how b to told is hears = absurd hears

@@ -31,7 +31,7 @@ use Rattle.steps_rwlock.specs.declared.purposes.RwLockPurpose.TheVariants as pur
 use Rattle.steps_rwlock.specs.declared.release.WakeAt.{WakeAt}
 use Rattle.steps_rwlock.specs.declared.release.WakeAt.TheVariants as waking
 use Rattle.steps_rwlock.specs.RwLockSteps.{wanted, rwlock_next}
-use Rattle.steps_rwlock.specs.RwLockProfiles.{rwlock_profile, rwlock_looking, looking_at, gone_to, hand_at}
+use Rattle.steps_rwlock.specs.RwLockProfiles.{rwlock_profile, rwlock_looking, looking_at, gone_to, parked_hand}
 use Rattle.steps_rwlock.specs.RwLockCalls.{MayStand, StandsAt}
 use Rattle.steps_rwlock.proofs.RwLockCallPlaces.{rwlock_sleepers_hear, rwlock_looks_stand}
 use Rattle.steps_base.specs.Moves.{claim_handed}
@@ -44,7 +44,7 @@ use Rattle.steps_rwlock_fair.specs.declared.handed.HandedAt.TheVariants as hande
 use Rattle.steps_rwlock_fair.specs.FairSteps.{plain_next, bump_next, handed_woken, call_next}
 use Rattle.steps_rwlock_fair.specs.FairProfiles.{call_profile, bumping, without_claim, in_call}
 use Rattle.steps_rwlock_fair.specs.FairCalls.{IsOfBump, CallStands}
-use Rattle.steps_rwlock_fair.specs.FairLaws.{CallBecomes, with_claim, IsGiven, CallHears, FairSleepersHear, FairLooksStand}
+use Rattle.steps_rwlock_fair.specs.FairLaws.{CallBecomes, with_claim, CallIsHanded, CallHears, FairSleepersHear, FairLooksStand}
 use Rattle.steps_rwlock_fair.proofs.FairStands.{StaysFor, stays_for}
 use Rattle.steps_rwlock_fair.proofs.FairTells.{recalls}
 use Rattle.steps_rwlock_fair.proofs.FairRights.{one_more_of, rights_are}
@@ -114,7 +114,7 @@ module _ (a : Admission) (l : ℕ) where
 
   -- ---------------------------------------------------------------- the thread that is handed the lock
 
-  plain_given : (q : RwLockPurpose) (again : Bool) (to : RwLockAt) (u : ℕ) (alone : Bool) → StandsAt q again to → hand_at to ≡ hand u false → (rwlock_profile a (of q again to)).role.claims ≡ None → IsGiven a l (Plain (of q again to)) u alone
+  plain_given : (q : RwLockPurpose) (again : Bool) (to : RwLockAt) (u : ℕ) (alone : Bool) → StandsAt q again to → parked_hand to ≡ hand u false → (rwlock_profile a (of q again to)).role.claims ≡ None → CallIsHanded a l (Plain (of q again to)) u alone
   plain_given (purpose.Enter x how) again (at.Park (parking.Taken v)) u alone stands h none = λ c2 rights y w e.
       subst (λ c. call_by l (call_profile a c) (with_claim (claim_handed alone y) l rights) ≡ record (call_by l (call_profile a (Plain (of (purpose.Enter x how) again (at.Park (parking.Taken v))))) rights) { retries = None }) (let z : Handed x how false (handed.Asleep u alone) ≡ c2 = cc in z)
       (subst (λ z. call_by l (call_profile a (Handed x how false (handed.Asleep u alone))) (with_claim (claim_handed alone z) l rights) ≡ record (call_by l (call_profile a (Plain (of (purpose.Enter x how) again (at.Park (parking.Taken v))))) rights) { retries = None }) (let z : wanted x ≡ y = cc in z)
@@ -134,7 +134,7 @@ module _ (a : Admission) (l : ℕ) where
   plain_given (purpose.Downgrade d) again (at.Aside to) u alone stands h none = absurd stands
   plain_given q again to u alone stands h none = absurd cc
 
-  bump_given : (q : RwLockPurpose) (again : Bool) (to : RwLockAt) (u : ℕ) (alone : Bool) → StandsAt q again to → IsOfBump q again → hand_at to ≡ hand u false → (rwlock_profile a (of q again to)).role.claims ≡ None → IsGiven a l (Bump (of q again to)) u alone
+  bump_given : (q : RwLockPurpose) (again : Bool) (to : RwLockAt) (u : ℕ) (alone : Bool) → StandsAt q again to → IsOfBump q again → parked_hand to ≡ hand u false → (rwlock_profile a (of q again to)).role.claims ≡ None → CallIsHanded a l (Bump (of q again to)) u alone
   bump_given (purpose.Enter x Patient) again (at.Park (parking.Taken v)) u alone stands bump h none = λ c2 rights y w e.
       subst (λ c. call_by l (call_profile a c) (with_claim (claim_handed alone y) l rights) ≡ record (call_by l (call_profile a (Bump (of (purpose.Enter x Patient) again (at.Park (parking.Taken v))))) rights) { retries = None }) (let z : Handed x Patient true (handed.Asleep u alone) ≡ c2 = cc in z)
       (subst (λ z. call_by l (call_profile a (Handed x Patient true (handed.Asleep u alone))) (with_claim (claim_handed alone z) l rights) ≡ record (call_by l (call_profile a (Bump (of (purpose.Enter x Patient) again (at.Park (parking.Taken v))))) rights) { retries = None }) (let z : wanted x ≡ y = cc in z)
@@ -147,7 +147,7 @@ module _ (a : Admission) (l : ℕ) where
   bump_given q again to u alone stands bump h none = absurd bump
 
   -- nobody else was
-  pub never_given : (to : RwLockAt) (u : ℕ) → hand_at to ≡ hand u true → ⊥
+  pub never_given : (to : RwLockAt) (u : ℕ) → parked_hand to ≡ hand u true → ⊥
   never_given (at.Park (parking.Taken v)) u h = cc
   never_given (at.Park to) u h = cc
   never_given (at.Aside (parking.Taken v)) u h = cc

@@ -26,8 +26,8 @@ use Rattle.steps_rwlock.specs.declared.park.ParkAt.{ParkAt}
 use Rattle.steps_rwlock.specs.declared.park.ParkAt.TheVariants as parking
 use Rattle.steps_rwlock.specs.declared.release.WakeAt.{WakeAt}
 use Rattle.steps_rwlock.specs.declared.release.WakeAt.TheVariants as waking
-use Rattle.steps_rwlock.specs.RwLockSteps.{patience_of, plus, stays, wakes, missed, decided, looked_by, looked, goes, came_in, came_in_for, exchanged_next, counted, wakes_or_ends, released, gave_way_by, park_next, wake_next, next_at, rwlock_next, entered}
-use Rattle.steps_rwlock.specs.RwLockCalls.{MayWait, ReleasesAt, StandsAt, MayStand, MayStandNext}
+use Rattle.steps_rwlock.specs.RwLockSteps.{patience_of, plus, stays, wakes, missed, decided, looked_by, looked, goes, came_in, came_in_for, exchanged_next, after_count, wakes_or_ends, released, gave_way_by, park_next, wake_next, next_at, rwlock_next, entered}
+use Rattle.steps_rwlock.specs.RwLockCalls.{WaitsIfBlocked, ReleasesAt, StandsAt, MayStand, MayStandNext}
 use Rattle.steps_rwlock.proofs.RwLockStands.{rwlock_calls_stand, unwoken_fresh}
 use Rattle.steps_rwlock_fair.specs.declared.places.RwLockCallPlace.{RwLockCallPlace}
 use Rattle.steps_rwlock_fair.specs.declared.places.RwLockCallPlace.TheVariants.{Plain, Glance, HandOver, Bump, Handed}
@@ -37,7 +37,7 @@ use Rattle.steps_rwlock_fair.specs.declared.hand_over.HandOverAt.TheVariants as 
 use Rattle.steps_rwlock_fair.specs.declared.handed.HandedAt.{HandedAt}
 use Rattle.steps_rwlock_fair.specs.declared.handed.HandedAt.TheVariants as handed
 use Rattle.steps_rwlock_fair.specs.FairSteps.{any_taken, has_room, entering, enters_again, given, handed_by, woken_with, handed_woken, handed_next, looked as looked_at, freed_next, hand_over_next, gives_way, gives_up_at, plain_next, bump_next, unless_given, released as released_next}
-use Rattle.steps_rwlock_fair.specs.FairCalls.{IsOfBump, HandsOverAt, WaitsFor, CallStands, CallStandsNext}
+use Rattle.steps_rwlock_fair.specs.FairCalls.{IsOfBump, HandsOverAt, WaitsWithPatience, CallStands, CallStandsNext}
 use Rattle.steps_rwlock_fair.specs.FairLaws.{FairCallsStand}
 
 -- in the queue, or taken of it
@@ -99,7 +99,7 @@ module _ (a : Admission) (p : RwLockPlace) where
   firsts_for true answer how = tt
   firsts_for false answer how = misses_for how
 
-  counts_for : (was seen : ℕ) (b : Bool) → StaysFor p.purpose (if b then stays p at.Marked else counted p seen)
+  counts_for : (was seen : ℕ) (b : Bool) → StaysFor p.purpose (if b then stays p at.Marked else after_count p seen)
   counts_for was seen true = refl
   counts_for was seen false = ends_or (count_in seen == 0) (entered (patience_of p.purpose)) (at.Count seen)
 
@@ -169,7 +169,7 @@ module _ (a : Admission) where
   GivenStands None = Unit {0}
   GivenStands (Some c) = CallStands a c
 
-  waits_as : (b : Bool) (x : Access) (how : Patience) → MayWait how → (b ≡ true → IsOfBump (purpose.Enter x how) false) → WaitsFor b how
+  waits_as : (b : Bool) (x : Access) (how : Patience) → WaitsIfBlocked how → (b ≡ true → IsOfBump (purpose.Enter x how) false) → WaitsWithPatience b how
   waits_as true x Patient waits of = refl
   waits_as true x Timed waits of = absurd (of refl)
   waits_as true x Try waits of = absurd waits
@@ -182,7 +182,7 @@ module _ (a : Admission) where
   patient x Try again of = absurd of
 
   -- a thread that is handed the lock waited for it
-  waited : (x : Access) (how : Patience) (again : Bool) (to : ParkAt) → IsAsleep to → StandsAt (purpose.Enter x how) again (at.Park to) → MayWait how
+  waited : (x : Access) (how : Patience) (again : Bool) (to : ParkAt) → IsAsleep to → StandsAt (purpose.Enter x how) again (at.Park to) → WaitsIfBlocked how
   waited access.Exclusive how again parking.Asleep is stands = stands
   waited access.Shared how again parking.Asleep is stands = stands
   waited access.Upgradable how again parking.Asleep is stands = stands
@@ -192,13 +192,13 @@ module _ (a : Admission) where
   waited x how again to is stands = absurd is
 
   -- a writer beside readers looks
-  looks_stand : (b : Bool) (how : Patience) → MayWait how → WaitsFor b how → CallStands a (entering b (record { purpose = purpose.Enter access.Exclusive how; retries = false; at = at.Look }))
+  looks_stand : (b : Bool) (how : Patience) → WaitsIfBlocked how → WaitsWithPatience b how → CallStands a (entering b (record { purpose = purpose.Enter access.Exclusive how; retries = false; at = at.Look }))
   looks_stand false how waits is = record { place = waits; fresh = unwoken_fresh how; decided = tt }
   looks_stand true Patient waits is = (record { place = waits; fresh = tt; decided = tt }, tt)
   looks_stand true Timed waits is = absurd (let e : Timed ≡ Patient = is in cc)
   looks_stand true Try waits is = absurd waits
 
-  waking_stands : (x : Access) (how : Patience) (b alone : Bool) → MayWait how → WaitsFor b how → CallStands a (handed_woken x how b alone)
+  waking_stands : (x : Access) (how : Patience) (b alone : Bool) → WaitsIfBlocked how → WaitsWithPatience b how → CallStands a (handed_woken x how b alone)
   waking_stands access.Shared how b alone waits is = is
   waking_stands access.Upgradable how b alone waits is = is
   waking_stands access.Exclusive how b true waits is = is
@@ -319,11 +319,11 @@ module _ (a : Admission) where
   hand_over_stands x b (handing.Leave any handed) reply.Done stands = released_stands x b
   hand_over_stands x b to told stands = stands
 
-  waits_on : (b : Bool) (how : Patience) → WaitsFor b how → MayWait how
-  waits_on true how is = subst MayWait (sym is) tt
+  waits_on : (b : Bool) (how : Patience) → WaitsWithPatience b how → WaitsIfBlocked how
+  waits_on true how is = subst WaitsIfBlocked (sym is) tt
   waits_on false how is = is
 
-  handed_on : (x : Access) (how : Patience) (b : Bool) (to : HandedAt) (told : Reply) → WaitsFor b how → CallStandsNext a (handed_next x how b to told)
+  handed_on : (x : Access) (how : Patience) (b : Bool) (to : HandedAt) (told : Reply) → WaitsWithPatience b how → CallStandsNext a (handed_next x how b to told)
   handed_on x how b (handed.Asleep by alone) (reply.Woken note.HandOff) is = waking_stands x how b alone (waits_on b how is) is
   handed_on x how b handed.Accept reply.Done is = tt
   handed_on x how b handed.Accept (reply.Value seen) is = tt

@@ -31,8 +31,8 @@ use Rattle.steps_rwlock_fair.specs.declared.places.RwLockCallPlace.TheVariants.{
 use Rattle.steps_rwlock_fair.specs.declared.hand_over.Taken.{Taken}
 use Rattle.steps_rwlock_fair.specs.declared.hand_over.HandOverAt.{HandOverAt}
 use Rattle.steps_rwlock_fair.specs.declared.hand_over.HandOverAt.TheVariants as handing
-use Rattle.steps_rwlock_fair.specs.FairSteps.{any_taken, has_room, with_taken, parked_as, without, released, looked, took, freed_next, gives_up_at, hand_over_act, call_act}
-use Rattle.steps_rwlock_fair.specs.FairDeeds.{holding, freed_deeds, exchanged_deeds, hands_over, leaves_over, glance_deeds, call_role}
+use Rattle.steps_rwlock_fair.specs.FairSteps.{any_taken, has_room, with_taken, parked_as, word_without, released, looked, took, freed_next, gives_up_at, hand_over_act, call_act}
+use Rattle.steps_rwlock_fair.specs.FairDeeds.{holding_role, freed_deeds, exchanged_deeds, handing_deeds, leaves_over, glance_deeds, call_role}
 use Rattle.steps_rwlock_fair.specs.FairProfiles.{call_profile, release_purpose, has_given}
 use Rattle.steps_rwlock_fair.specs.FairCalls.{HandsOverAt, IsInCall, HasInHand, MayHearHanding, in_hand_of}
 use Rattle.steps_rwlock_fair.specs.FairLaws.{next_rows, CallTells, HandOversTell}
@@ -116,7 +116,7 @@ module _ (r : Rules) (a : Admission) (s : Site) (t l : ℕ) where
 
   -- the lock is handed over
   stores : (b : Bool) (k : Taken) (whom : Option ℕ) (any : Bool) → with_right Exclusive (rights_of (handed t Exclusive (heir_of whom k.successor) s.lock) t) ≡ rights_of s.lock t
-      → Tells (HandOver access.Exclusive b (handing.Store k)) (hands_over Exclusive k whom) (next.At (HandOver access.Exclusive b (handing.Leave any true)))
+      → Tells (HandOver access.Exclusive b (handing.Store k)) (handing_deeds Exclusive k whom) (next.At (HandOver access.Exclusive b (handing.Leave any true)))
   stores b k whom any same = record {
     one = keeps_bit k.none_left;
     may = (made_of b Exclusive (HandOff Exclusive (heir_of whom k.successor)) (refl, refl) (refl, refl), tt);
@@ -124,7 +124,7 @@ module _ (r : Rules) (a : Admission) (s : Site) (t l : ℕ) where
   }
 
   exchanges : (b : Bool) (k : Taken) (expected : ℕ) (whom : Option ℕ) (any : Bool) → with_right Upgradable (rights_of (handed t Upgradable (heir_of whom k.successor) s.lock) t) ≡ rights_of s.lock t
-      → Tells (HandOver access.Upgradable b (handing.Exchange k expected)) (hands_over Upgradable k whom) (next.At (HandOver access.Upgradable b (handing.Leave any true)))
+      → Tells (HandOver access.Upgradable b (handing.Exchange k expected)) (handing_deeds Upgradable k whom) (next.At (HandOver access.Upgradable b (handing.Leave any true)))
   exchanges b k expected whom any same = record {
     one = keeps_bit k.none_left;
     may = (made_of b Upgradable (HandOff Upgradable (heir_of whom k.successor)) (refl, refl) (refl, refl), tt);
@@ -156,7 +156,7 @@ module _ (r : Rules) (a : Admission) (s : Site) (t l : ℕ) where
   freed_tells x b expected seen false fits own = rests x b (handing.Free expected) (freed_next x seen) refl (freed_given x seen)
 
   exchanged_tells : (op : Op) (b : Bool) (k : Taken) (expected : ℕ) → Owns s.lock t Upgradable → (room : Bool) → has_room a.limit k expected ≡ room → (won : Bool) → (code r s == expected) ≡ won
-      → (if room then act.HandOver l (operation.Exchange expected (with_taken access.Upgradable k expected)) else act.Word l (operation.Exchange expected (parked_as k.none_left (without access.Upgradable expected)))) ≡ act.Word l op
+      → (if room then act.HandOver l (operation.Exchange expected (with_taken access.Upgradable k expected)) else act.Word l (operation.Exchange expected (parked_as k.none_left (word_without access.Upgradable expected)))) ≡ act.Word l op
       → Tells (HandOver access.Upgradable b (handing.Exchange k expected)) (exchanged_deeds Upgradable k None won room)
       (if won then next.At (HandOver access.Upgradable b (handing.Leave (any_taken k) (has_room a.limit k (code r s)))) else next.At (HandOver access.Upgradable b (handing.Exchange k (code r s))))
   exchanged_tells op b k expected own true er won ew e = absurd cc
@@ -199,14 +199,14 @@ module _ (r : Rules) (a : Admission) (s : Site) (t l : ℕ) (op : Op) (whom : Op
   more : WantsMore j.successor
   more = wants_more r s t j whom call.0 site hand
 
-  gone_exclusive : s.role t ≡ holding Exclusive j → with_right Exclusive (rights_of (handed t Exclusive (heir_of whom j.successor) s.lock) t) ≡ rights_of s.lock t
+  gone_exclusive : s.role t ≡ holding_role Exclusive j → with_right Exclusive (rights_of (handed t Exclusive (heir_of whom j.successor) s.lock) t) ≡ rights_of s.lock t
   gone_exclusive is = gave r s.lock t free j whom hand more Exclusive (λ f. cc) (site.held t (Has Exclusive) (ap (λ (d : Role). d.claims) is)) (exclusive_gone r s t site (ap (λ (d : Role). d.claims) is)).0
 
-  gone_upgradable : s.role t ≡ holding Upgradable j → with_right Upgradable (rights_of (handed t Upgradable (heir_of whom j.successor) s.lock) t) ≡ rights_of s.lock t
+  gone_upgradable : s.role t ≡ holding_role Upgradable j → with_right Upgradable (rights_of (handed t Upgradable (heir_of whom j.successor) s.lock) t) ≡ rights_of s.lock t
   gone_upgradable is = gave r s.lock t free j whom hand more Upgradable (λ f. cc) (site.held t (Has Upgradable) (ap (λ (d : Role). d.claims) is)) (upgradable_gone r s t site (ap (λ (d : Role). d.claims) is)).0
 
-  exchanged : (b : Bool) (expected : ℕ) → s.role t ≡ holding Upgradable j → (room : Bool) → has_room a.limit j expected ≡ room → (won : Bool) → (code r s == expected) ≡ won
-      → (if room then act.HandOver l (operation.Exchange expected (with_taken access.Upgradable j expected)) else act.Word l (operation.Exchange expected (parked_as j.none_left (without access.Upgradable expected)))) ≡ act.HandOver l op
+  exchanged : (b : Bool) (expected : ℕ) → s.role t ≡ holding_role Upgradable j → (room : Bool) → has_room a.limit j expected ≡ room → (won : Bool) → (code r s == expected) ≡ won
+      → (if room then act.HandOver l (operation.Exchange expected (with_taken access.Upgradable j expected)) else act.Word l (operation.Exchange expected (parked_as j.none_left (word_without access.Upgradable expected)))) ≡ act.HandOver l op
       → Tells r a s t l (HandOver access.Upgradable b (handing.Exchange j expected)) (exchanged_deeds Upgradable j whom won room)
       (if won then next.At (HandOver access.Upgradable b (handing.Leave (any_taken j) (has_room a.limit j (code r s)))) else next.At (HandOver access.Upgradable b (handing.Exchange j (code r s))))
   exchanged b expected is false er won ew e = absurd cc

@@ -22,8 +22,8 @@ use Rattle.steps_rwlock_fair.specs.declared.places.RwLockCallPlace.{RwLockCallPl
 use Rattle.steps_rwlock_fair.specs.declared.places.RwLockCallPlace.TheVariants.{HandOver}
 use Rattle.steps_rwlock_fair.specs.declared.hand_over.Taken.{Taken}
 use Rattle.steps_rwlock_fair.specs.declared.hand_over.HandOverAt.TheVariants as handing
-use Rattle.steps_rwlock_fair.specs.FairSteps.{tokens, token_of, counted, is_upgradable, has_room, parked_as, without, with_taken, call_act}
-use Rattle.steps_rwlock_fair.specs.FairDeeds.{holding, exchanged_deeds}
+use Rattle.steps_rwlock_fair.specs.FairSteps.{tokens, token_of, count_of_taken, is_upgradable, has_room, parked_as, word_without, with_taken, call_act}
+use Rattle.steps_rwlock_fair.specs.FairDeeds.{holding_role, exchanged_deeds}
 use Rattle.steps_rwlock_fair.specs.FairCalls.{IsInCall, HasInHand, in_hand_of}
 use Rattle.steps_rwlock_fair.specs.FairLaws.{behind_call, HandOversCode, HandOversKeepLimit}
 use Rattle.steps_rwlock_fair.proofs.HandOvers.{WantsMore, wants_more, adds, counts, lasting, exclusive_gone, upgradable_gone, settles, token_even, token_small, token_top}
@@ -74,7 +74,7 @@ module _ (r : Rules) (s : Site) (t : ℕ) (whom : Option ℕ) (rw_sort : has_rea
   now x = handed t x (heir_of whom k.successor) s.lock
 
   -- tells what an exclusive owner stores
-  pub stored : s.role t ≡ holding Exclusive k → k.sharers < 2 ^ 60 - 1 → code r (after_deed r (bit_left k.none_left) (after_hand Exclusive) t) ≡ parked_as k.none_left (tokens k)
+  pub stored : s.role t ≡ holding_role Exclusive k → k.sharers < 2 ^ 60 - 1 → code r (after_deed r (bit_left k.none_left) (after_hand Exclusive) t) ≡ parked_as k.none_left (tokens k)
   stored is few =
       let gone = exclusive_gone r s t h (ap (λ (d : Role). d.claims) is) in
       let sum_is = adds _ gone.0 k.successor whom more hand.named in
@@ -84,7 +84,7 @@ module _ (r : Rules) (s : Site) (t : ℕ) (whom : Option ℕ) (rw_sort : has_rea
       rw (coded (after_deed r (bit_left k.none_left) (after_hand Exclusive) t), tokens_is) (omega arith)
 
   -- how many are in hand is no more than how many count
-  few_in_hand : (limit n : ℕ) → n + counted k ≤ limit → limit < 2 ^ 60 - 1 → (k.sharers < 2 ^ 60 - 1) × (16 * n + (16 * k.sharers + token_of k.successor) ≤ 16 * limit + 16)
+  few_in_hand : (limit n : ℕ) → n + count_of_taken k ≤ limit → limit < 2 ^ 60 - 1 → (k.sharers < 2 ^ 60 - 1) × (16 * n + (16 * k.sharers + token_of k.successor) ≤ 16 * limit + 16)
   few_in_hand limit n room few = by_bit (is_upgradable k.successor) room (token_small k.successor)
     where
       by_bit : (b : Bool) → n + (k.sharers + (if b then 1 else 0)) ≤ limit → token_of k.successor ≤ 16 * (if b then 1 else 0) + 16 → (k.sharers < 2 ^ 60 - 1) × (16 * n + (16 * k.sharers + token_of k.successor) ≤ 16 * limit + 16)
@@ -95,7 +95,7 @@ module _ (r : Rules) (s : Site) (t : ℕ) (whom : Option ℕ) (rw_sort : has_rea
   now_code = omega arith
 
   -- tells what an upgradable owner exchanges
-  pub exchanged_word : s.role t ≡ holding Upgradable k → code r s < 2 ^ 64 → (count_in (code r s) - 1) + counted k ≤ r.limit → r.limit < 2 ^ 60 - 1
+  pub exchanged_word : s.role t ≡ holding_role Upgradable k → code r s < 2 ^ 64 → (count_in (code r s) - 1) + count_of_taken k ≤ r.limit → r.limit < 2 ^ 60 - 1
       → code r (after_deed r (bit_left k.none_left) (after_hand Upgradable) t) ≡ with_taken access.Upgradable k (code r s)
   exchanged_word is small room few =
       let gone = upgradable_gone r s t h (ap (λ (d : Role). d.claims) is) in
@@ -103,12 +103,12 @@ module _ (r : Rules) (s : Site) (t : ℕ) (whom : Option ℕ) (rw_sort : has_rea
       adds _ gone.0 k.successor whom more hand.named ∙ ap (λ n. 16 * n + token_of k.successor) hand.sharers ∙ (let e : 16 * (readers s.lock + k.sharers) + token_of k.successor ≡ 16 * readers s.lock + (16 * k.sharers + token_of k.successor) = omega arith in e) in
       let bits = settles r (after_hand Upgradable) t k.none_left in
       let others : count_in (code r s) - 1 ≡ readers s.lock = (let c = tells.count in let one = gone.1 in omega arith) in
-      let enough = few_in_hand r.limit (readers s.lock) (subst (λ n. n + counted k ≤ r.limit) others room) few in
+      let enough = few_in_hand r.limit (readers s.lock) (subst (λ n. n + count_of_taken k ≤ r.limit) others room) few in
       rw (coded (after_deed r (bit_left k.none_left) (after_hand Upgradable) t), tokens_are k enough.0)
       (sums (code r s) (readers s.lock) (16 * k.sharers + token_of k.successor) (bit s.aside_parked) (bit s.parked) _ (if k.none_left then 0 else 1) (bit (after_hand Upgradable).parked) (rw_code (after_hand Upgradable)) (coded s ∙ gone.2) (one_bit s.aside_parked) (one_bit s.parked) small (let e = token_even k.successor in omega arith) (omega (arith, enough.1)) (now_code ∙ ap (λ n. n + (2 * bit s.aside_parked + bit (after_hand Upgradable).parked)) sum_is) bits)
 
   -- the limit
-  pub exclusive_limit : s.role t ≡ holding Exclusive k → k.sharers < r.limit → HasLimit r (now Exclusive)
+  pub exclusive_limit : s.role t ≡ holding_role Exclusive k → k.sharers < r.limit → HasLimit r (now Exclusive)
   exclusive_limit is few =
       let gone = exclusive_gone r s t h (ap (λ (d : Role). d.claims) is) in
       let all = hand.sharers in let nobody = gone.1 in
@@ -120,24 +120,24 @@ module _ (r : Rules) (s : Site) (t : ℕ) (whom : Option ℕ) (rw_sort : has_rea
       by_bit true e = omega arith
       by_bit false e = omega arith
 
-  pub upgradable_limit : s.role t ≡ holding Upgradable k → count (now Upgradable) ≤ r.limit → HasLimit r (now Upgradable)
+  pub upgradable_limit : s.role t ≡ holding_role Upgradable k → count (now Upgradable) ≤ r.limit → HasLimit r (now Upgradable)
   upgradable_limit is few =
       let gone = upgradable_gone r s t h (ap (λ (d : Role). d.claims) is) in
       let last = lasting _ gone.0 k.successor whom more hand.named in
       record { top = omega arith; normal = λ e. few; falls = λ p e f. few; falls_normal = λ p e f. absurd (let g : true ≡ false = sym f ∙ last p e in cc) }
 
 module _ (r : Rules) (a : Admission) (s : Site) (t l : ℕ) (op : Op) (whom : Option ℕ) (admits : Admits r a) (h : IsSite r s) (k : Taken) (hand : HasInHand s.lock t k whom) where
-  room_is : (seen : ℕ) → has_room a.limit k seen ≡ true → (count_in seen - 1) + counted k ≤ r.limit
+  room_is : (seen : ℕ) → has_room a.limit k seen ≡ true → (count_in seen - 1) + count_of_taken k ≤ r.limit
   room_is seen e = let m = admits.2 in grind (arith, nat_tests)
 
   abbrev Leads : RwLockCallPlace → Type 0
   Leads c = apply op (code r s) ≡ code r (behind_call r a s t c whom (reply.Value (code r s)))
 
-  stores : s.role t ≡ holding Exclusive k → op ≡ operation.Store (parked_as k.none_left (tokens k)) → k.sharers < 2 ^ 60 - 1 → Leads (HandOver access.Exclusive false (handing.Store k))
+  stores : s.role t ≡ holding_role Exclusive k → op ≡ operation.Store (parked_as k.none_left (tokens k)) → k.sharers < 2 ^ 60 - 1 → Leads (HandOver access.Exclusive false (handing.Store k))
   stores is e few = rw e (sym (stored r s t whom admits.0 h k hand is few))
 
-  exchanges : (expected : ℕ) → s.role t ≡ holding Upgradable k → code r s < 2 ^ 64 → a.limit < 2 ^ 60 - 1 → (room : Bool) → has_room a.limit k expected ≡ room → (won : Bool) → (code r s == expected) ≡ won
-      → (if room then act.HandOver l (operation.Exchange expected (with_taken access.Upgradable k expected)) else act.Word l (operation.Exchange expected (parked_as k.none_left (without access.Upgradable expected)))) ≡ act.HandOver l op
+  exchanges : (expected : ℕ) → s.role t ≡ holding_role Upgradable k → code r s < 2 ^ 64 → a.limit < 2 ^ 60 - 1 → (room : Bool) → has_room a.limit k expected ≡ room → (won : Bool) → (code r s == expected) ≡ won
+      → (if room then act.HandOver l (operation.Exchange expected (with_taken access.Upgradable k expected)) else act.Word l (operation.Exchange expected (parked_as k.none_left (word_without access.Upgradable expected)))) ≡ act.HandOver l op
       → apply op (code r s) ≡ code r (after_all r (exchanged_deeds Upgradable k whom won room) s t)
   exchanges expected is small few false er won ew e = absurd cc
   exchanges expected is small few true er false ew e = let f : op ≡ operation.Exchange expected (with_taken access.Upgradable k expected) = cc in rw (f, ew) refl
@@ -146,8 +146,8 @@ module _ (r : Rules) (a : Admission) (s : Site) (t l : ℕ) (op : Op) (whom : Op
       let same = eqb-true (code r s) expected ew in let m = admits.2 in
       rw (f, ew) (sym (exchanged_word r s t whom admits.0 h k hand is small (room_is (code r s) (ap (has_room a.limit k) same ∙ er)) (omega arith) ∙ ap (with_taken access.Upgradable k) same))
 
-  limited : (expected : ℕ) → s.role t ≡ holding Upgradable k → HasLimit r s.lock → (room : Bool) → has_room a.limit k expected ≡ room → (won : Bool) → (code r s == expected) ≡ won
-      → (if room then act.HandOver l (operation.Exchange expected (with_taken access.Upgradable k expected)) else act.Word l (operation.Exchange expected (parked_as k.none_left (without access.Upgradable expected)))) ≡ act.HandOver l op
+  limited : (expected : ℕ) → s.role t ≡ holding_role Upgradable k → HasLimit r s.lock → (room : Bool) → has_room a.limit k expected ≡ room → (won : Bool) → (code r s == expected) ≡ won
+      → (if room then act.HandOver l (operation.Exchange expected (with_taken access.Upgradable k expected)) else act.Word l (operation.Exchange expected (parked_as k.none_left (word_without access.Upgradable expected)))) ≡ act.HandOver l op
       → HasLimit r (after_all r (exchanged_deeds Upgradable k whom won room) s t).lock
   limited expected is limit false er won ew e = absurd cc
   limited expected is limit true er false ew e = limit

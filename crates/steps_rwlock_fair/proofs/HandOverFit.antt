@@ -22,10 +22,10 @@ use Rattle.steps_rwlock_fair.specs.declared.places.RwLockCallPlace.{RwLockCallPl
 use Rattle.steps_rwlock_fair.specs.declared.places.RwLockCallPlace.TheVariants.{HandOver}
 use Rattle.steps_rwlock_fair.specs.declared.hand_over.Taken.{Taken}
 use Rattle.steps_rwlock_fair.specs.declared.hand_over.HandOverAt.TheVariants as handing
-use Rattle.steps_rwlock_fair.specs.FairSteps.{any_taken, counted, has_room, parked_as, without, with_taken, call_act}
-use Rattle.steps_rwlock_fair.specs.FairDeeds.{holding, exchanged_deeds, call_role_next}
+use Rattle.steps_rwlock_fair.specs.FairSteps.{any_taken, count_of_taken, has_room, parked_as, word_without, with_taken, call_act}
+use Rattle.steps_rwlock_fair.specs.FairDeeds.{holding_role, exchanged_deeds, call_role_next}
 use Rattle.steps_rwlock_fair.specs.FairCalls.{IsInCall, HasInHand, in_hand_of}
-use Rattle.steps_rwlock_fair.specs.FairLaws.{CallFollowsBy, HandOversFollow}
+use Rattle.steps_rwlock_fair.specs.FairLaws.{FollowsInCall, HandOversFollow}
 use Rattle.steps_rwlock_fair.proofs.HandOvers.{WantsMore, wants_more, counts, upgradable_gone}
 
 module _ (r : Rules) (s : Site) (t : ℕ) (rw_sort : has_readers r.sort ≡ true) (h : IsSite r s) where
@@ -51,16 +51,16 @@ module _ (r : Rules) (a : Admission) (s : Site) (t l : ℕ) (op : Op) (whom : Op
     more = wants_more r s t k whom admits.0 h hand
 
     -- after it as many count as there is room for
-    pub fits : s.role t ≡ holding Upgradable k → has_room a.limit k v ≡ true → HandOffFits r Upgradable (handed t Upgradable (heir_of whom k.successor) s.lock)
+    pub fits : s.role t ≡ holding_role Upgradable k → has_room a.limit k v ≡ true → HandOffFits r Upgradable (handed t Upgradable (heir_of whom k.successor) s.lock)
     fits is room =
         let gone = upgradable_gone r s t h (ap (λ (d : Role). d.claims) is) in
         let n = counts _ gone.0 k.successor whom more hand.named in
         let all = hand.sharers in let c = tells.count in let m = admits.2 in let one = gone.1 in
-        let enough : (count_in v - 1) + counted k ≤ a.limit = grind (arith, nat_tests) in
+        let enough : (count_in v - 1) + count_of_taken k ≤ a.limit = grind (arith, nat_tests) in
         omega arith
 
-    exchanged : (b : Bool) (expected : ℕ) → s.role t ≡ holding Upgradable k → (room : Bool) → has_room a.limit k expected ≡ room → (won : Bool) → (v == expected) ≡ won
-        → (if room then act.HandOver l (operation.Exchange expected (with_taken access.Upgradable k expected)) else act.Word l (operation.Exchange expected (parked_as k.none_left (without access.Upgradable expected)))) ≡ act.HandOver l op
+    exchanged : (b : Bool) (expected : ℕ) → s.role t ≡ holding_role Upgradable k → (room : Bool) → has_room a.limit k expected ≡ room → (won : Bool) → (v == expected) ≡ won
+        → (if room then act.HandOver l (operation.Exchange expected (with_taken access.Upgradable k expected)) else act.Word l (operation.Exchange expected (parked_as k.none_left (word_without access.Upgradable expected)))) ≡ act.HandOver l op
         → Follows r s t (exchanged_deeds Upgradable k whom won room)
         (call_role_next (if won then next.At (HandOver access.Upgradable b (handing.Leave (any_taken k) (has_room a.limit k v))) else next.At (HandOver access.Upgradable b (handing.Exchange k v))))
     exchanged b expected is false er won ew e = absurd cc
@@ -75,7 +75,7 @@ hand_overs_follow r a s t l c op whom over e = by_place c over.call over.is e
     k : Taken
     k = over.taken
 
-    by_place : (c : RwLockCallPlace) → IsInCall r a s t c → in_hand_of c ≡ Some k → call_act l a c ≡ act.HandOver l op → CallFollowsBy r a s t c whom (reply.Value (code r s))
+    by_place : (c : RwLockCallPlace) → IsInCall r a s t c → in_hand_of c ≡ Some k → call_act l a c ≡ act.HandOver l op → FollowsInCall r a s t c whom (reply.Value (code r s))
     by_place (HandOver access.Exclusive b (handing.Store j)) call is e = hands r s t call.admits.0 call.site Exclusive j whom j.none_left (inl refl) (subst (λ (i : Taken). HasInHand s.lock t i whom) (sym (cc)) over.in_hand) tt call.role
     by_place (HandOver access.Upgradable b (handing.Exchange j expected)) call is e = exchanged r a s t l op whom call.admits call.site j (subst (λ (i : Taken). HasInHand s.lock t i whom) (sym (cc)) over.in_hand) b expected call.role (has_room a.limit j expected) refl (code r s == expected) refl e
     by_place (HandOver access.Exclusive b (handing.Exchange j expected)) call is e = absurd call.stands

@@ -18,7 +18,7 @@ use Rattle.steps_rwlock_fair.specs.declared.places.RwLockCallPlace.{RwLockCallPl
 use Rattle.steps_rwlock_fair.specs.declared.places.RwLockCallPlace.TheVariants.{HandOver}
 use Rattle.steps_rwlock_fair.specs.declared.hand_over.Taken.{Taken}
 use Rattle.steps_rwlock_fair.specs.declared.hand_over.HandOverAt.TheVariants as handing
-use Rattle.steps_rwlock_fair.specs.FairSteps.{has_room, parked_as, without, with_taken, call_act}
+use Rattle.steps_rwlock_fair.specs.FairSteps.{has_room, parked_as, word_without, with_taken, call_act}
 use Rattle.steps_rwlock_fair.specs.FairDeeds.{exchanged_deeds}
 use Rattle.steps_rwlock_fair.specs.FairCalls.{IsInCall, in_hand_of}
 use Rattle.steps_rwlock_fair.specs.FairLaws.{lock_slow, HandOversGive}
@@ -63,7 +63,7 @@ hand_overs_give r a s t l u c op whom x over e won mine there = by_place c over.
     knows site = site.state.known_taken u _ mine
 
     exchanged : (j : Taken) → k ≡ j → (expected : ℕ) → IsInCall r a s t c → (room : Bool) → (b : Bool) → (code r s == expected) ≡ b
-        → (if room then act.HandOver l (operation.Exchange expected (with_taken access.Upgradable j expected)) else act.Word l (operation.Exchange expected (parked_as j.none_left (without access.Upgradable expected)))) ≡ act.HandOver l op
+        → (if room then act.HandOver l (operation.Exchange expected (with_taken access.Upgradable j expected)) else act.Word l (operation.Exchange expected (parked_as j.none_left (word_without access.Upgradable expected)))) ≡ act.HandOver l op
         → HasClaim (after_all r (exchanged_deeds Upgradable j whom b room) s t).lock u (Some (claim_handed (readers (after_all r (exchanged_deeds Upgradable j whom b room) s t).lock == 0) x))
     exchanged j same expected call false b eb e = absurd cc
     exchanged j same expected call true false eb e = absurd (let f : op ≡ operation.Exchange expected (with_taken access.Upgradable j expected) = cc in let g : (code r s == expected) ≡ true = ap (λ (y : Op). takes_effect y (code r s)) (sym f) ∙ won in let z : true ≡ false = sym g ∙ eb in cc)

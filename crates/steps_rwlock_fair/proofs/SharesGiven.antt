@@ -19,10 +19,10 @@ use Rattle.steps_rwlock_fair.specs.declared.places.RwLockCallPlace.{RwLockCallPl
 use Rattle.steps_rwlock_fair.specs.declared.places.RwLockCallPlace.TheVariants.{HandOver}
 use Rattle.steps_rwlock_fair.specs.declared.hand_over.Taken.{Taken}
 use Rattle.steps_rwlock_fair.specs.declared.hand_over.HandOverAt.TheVariants as handing
-use Rattle.steps_rwlock_fair.specs.FairSteps.{has_room, parked_as, without, with_taken, call_act}
+use Rattle.steps_rwlock_fair.specs.FairSteps.{has_room, parked_as, word_without, with_taken, call_act}
 use Rattle.steps_rwlock_fair.specs.FairDeeds.{exchanged_deeds}
 use Rattle.steps_rwlock_fair.specs.FairCalls.{IsInCall, in_hand_of}
-use Rattle.steps_rwlock_fair.specs.FairLaws.{lock_slow, HandsOver}
+use Rattle.steps_rwlock_fair.specs.FairLaws.{lock_slow, StandsToHandOver}
 use Rattle.steps_rwlock_fair.proofs.HandOverCodes.{settled_lock}
 
 -- a successor that wants more than to share changes no number of shared rights
@@ -70,7 +70,7 @@ module _ (t u : ℕ) (s : LockState) (mine : IsTaken s t u Shared) (there : u < 
       by_right x ne = ap (λ ns. slice_index ns u) (shared_kept successor (sharing_handed t (without_owner t x s)) wants_more) ∙ given_one t s.taken 0 u s.shared there one
 
 -- a fact of the lock behind each hand-over that there is holds behind this one
-module _ (r : Rules) (a : Admission) (s : Site) (t l : ℕ) (c : RwLockCallPlace) (op : Op) (whom : Option ℕ) (over : HandsOver r a s t c whom)
+module _ (r : Rules) (a : Admission) (s : Site) (t l : ℕ) (c : RwLockCallPlace) (op : Op) (whom : Option ℕ) (over : StandsToHandOver r a s t c whom)
     (e : call_act l a c ≡ act.HandOver l op) (won : takes_effect op (code r s) ≡ true) (P : LockState → Type 0)
     (each : (right : Want) (successor : Option Queued) → IsSuccessor s.lock t successor → right ≢ Shared → P (handed t right successor s.lock)) where
   abbrev k : Taken
@@ -80,7 +80,7 @@ module _ (r : Rules) (a : Admission) (s : Site) (t l : ℕ) (c : RwLockCallPlace
   named j same = subst (λ (i : Taken). IsSuccessor s.lock t (heir_of whom i.successor)) same over.in_hand.successor
 
   exchanged : (j : Taken) → k ≡ j → (expected : ℕ) → (room : Bool) → (b : Bool) → (code r s == expected) ≡ b
-      → (if room then act.HandOver l (operation.Exchange expected (with_taken access.Upgradable j expected)) else act.Word l (operation.Exchange expected (parked_as j.none_left (without access.Upgradable expected)))) ≡ act.HandOver l op
+      → (if room then act.HandOver l (operation.Exchange expected (with_taken access.Upgradable j expected)) else act.Word l (operation.Exchange expected (parked_as j.none_left (word_without access.Upgradable expected)))) ≡ act.HandOver l op
       → P (after_all r (exchanged_deeds Upgradable j whom b room) s t).lock
   exchanged j same expected false b eb f = absurd cc
   exchanged j same expected true false eb f = absurd (let g : op ≡ operation.Exchange expected (with_taken access.Upgradable j expected) = cc in let h : (code r s == expected) ≡ true = ap (λ (y : Op). takes_effect y (code r s)) (sym g) ∙ won in let z : true ≡ false = sym h ∙ eb in cc)
@@ -100,7 +100,7 @@ module _ (r : Rules) (a : Admission) (s : Site) (t l : ℕ) (c : RwLockCallPlace
   pub over_leads : P (lock_slow r a s t c whom)
   over_leads = by_place c over.call over.is e
 
-pub shares_given : (r : Rules) (a : Admission) (s : Site) (t l u : ℕ) (c : RwLockCallPlace) (op : Op) (whom : Option ℕ) → HandsOver r a s t c whom
+pub shares_given : (r : Rules) (a : Admission) (s : Site) (t l u : ℕ) (c : RwLockCallPlace) (op : Op) (whom : Option ℕ) → StandsToHandOver r a s t c whom
     → call_act l a c ≡ act.HandOver l op → takes_effect op (code r s) ≡ true → IsTaken s.lock t u Shared → u < length s.lock.shared
     → slice_index (lock_slow r a s t c whom).shared u ≡ slice_index s.lock.shared u + 1
 shares_given r a s t l u c op whom over e won mine there =

@@ -11,7 +11,7 @@ use Rattle.steps_base.specs.declared.acts.Next.{Next}
 use Rattle.steps_base.specs.declared.acts.Next.TheVariants as next
 use Rattle.steps_base.specs.declared.acts.Reply.{Reply}
 use Rattle.steps_base.specs.declared.acts.Reply.TheVariants as reply
-use Rattle.steps_base.specs.Moves.{IsFree, MayTake, heir_of}
+use Rattle.steps_base.specs.Moves.{IsSectionFree, MayTake, heir_of}
 use Rattle.spec_locks.specs.Locks.{LockState, Rules, IsSuccessor, readers, sharing_handed}
 use Rattle.spec_locks.specs.Sites.{Site, IsSite}
 use Rattle.spec_locks.specs.Codes.{has_parked}
@@ -19,7 +19,7 @@ use Rattle.steps_rwlock.specs.declared.places.Admission.{Admission}
 use Rattle.steps_rwlock.specs.declared.purposes.RwLockPurpose.{RwLockPurpose}
 use Rattle.steps_rwlock.specs.declared.purposes.RwLockPurpose.TheVariants as purpose
 use Rattle.steps_rwlock.specs.RwLockDeeds.{Admits, MayHear}
-use Rattle.steps_rwlock.specs.RwLockCalls.{MayStand, MayWait, MayBeTold}
+use Rattle.steps_rwlock.specs.RwLockCalls.{MayStand, WaitsIfBlocked, MayBeTold}
 use Rattle.steps_rwlock_fair.specs.declared.places.RwLockCallPlace.{RwLockCallPlace}
 use Rattle.steps_rwlock_fair.specs.declared.places.RwLockCallPlace.TheVariants.{Plain, Glance, HandOver, Bump, Handed}
 use Rattle.steps_rwlock_fair.specs.declared.hand_over.Taken.{Taken}
@@ -52,16 +52,16 @@ HandsOverAt access.Upgradable (handing.Store k) = ⊥
 HandsOverAt x to = Unit {0}
 
 -- a bump waits for ever
-abbrev pub WaitsFor : Bool → Patience → Type 0
-WaitsFor true how = how ≡ Patient
-WaitsFor false how = MayWait how
+abbrev pub WaitsWithPatience : Bool → Patience → Type 0
+WaitsWithPatience true how = how ≡ Patient
+WaitsWithPatience false how = WaitsIfBlocked how
 
 abbrev pub CallStands : Admission → RwLockCallPlace → Type 0
 CallStands a (Plain p) = MayStand a p
 CallStands a (Bump p) = MayStand a p × IsOfBump p.purpose p.retries
 CallStands a (Glance x) = Unit {0}
 CallStands a (HandOver x b to) = HandsOverAt x to
-CallStands a (Handed x how b to) = WaitsFor b how
+CallStands a (Handed x how b to) = WaitsWithPatience b how
 
 abbrev pub CallStandsNext : Admission → Next RwLockCallPlace → Type 0
 CallStandsNext a (next.At c) = CallStands a c
@@ -96,7 +96,7 @@ pub record HasInHand (s : LockState) (t : ℕ) (k : Taken) (whom : Option ℕ) :
 -- -------------------------------------------- the notes that it may hear of its steps in and out of sections
 
 abbrev pub MayHearHanding : Rules → Site → ℕ → HandOverAt → Option ℕ → Reply → Type 0
-MayHearHanding r s t handing.Enter whom reply.Done = IsFree s Main
+MayHearHanding r s t handing.Enter whom reply.Done = IsSectionFree s Main
 MayHearHanding r s t handing.Take whom (reply.Picked n y none_left) =
     MayTake r s None Main whom none_left
 MayHearHanding r s t (handing.Leave any handed) whom reply.Done = s.lock.taken t ≡ None

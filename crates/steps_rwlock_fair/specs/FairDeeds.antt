@@ -26,8 +26,8 @@ use Rattle.steps_rwlock_fair.specs.FairSteps.{has_room, gives_way}
 -- ---------------------------------------------------------------- the acts of a thread, by its place
 
 -- inside, an owner still, with those in hand whom the lock lets in once it has gone
-abbrev pub holding : Want → Taken → Role
-holding x k = record idle {
+abbrev pub holding_role : Want → Taken → Role
+holding_role x k = record idle {
   inside = Some Main;
   carries = true;
   covers = true;
@@ -37,9 +37,9 @@ holding x k = record idle {
 
 abbrev pub hand_over_role : Want → HandOverAt → Role
 hand_over_role x handing.Take = within Main None (Some (Has x))
-hand_over_role x (handing.Store k) = holding x k
-hand_over_role x (handing.Look k) = holding x k
-hand_over_role x (handing.Exchange k seen) = holding x k
+hand_over_role x (handing.Store k) = holding_role x k
+hand_over_role x (handing.Look k) = holding_role x k
+hand_over_role x (handing.Exchange k seen) = holding_role x k
 hand_over_role x (handing.Leave any handed) =
     record idle { inside = Some Main; carries = true; covers = not handed }
 hand_over_role x to = at_rest None (Some (Has x))
@@ -65,15 +65,15 @@ call_role_next (next.End answer) = idle
 
 -- An operation inside the section sets the parked bit anew. The successor is no part of a place:
 -- `whom`.
-abbrev pub hands_over : Want → Taken → Option ℕ → List Deed
-hands_over x k whom = Case (HandOff x (heir_of whom k.successor)) ∷ bit_left k.none_left ∷ []
+abbrev pub handing_deeds : Want → Taken → Option ℕ → List Deed
+handing_deeds x k whom = Case (HandOff x (heir_of whom k.successor)) ∷ bit_left k.none_left ∷ []
 
 abbrev pub leaves_over : Want → Taken → List Deed
 leaves_over x k = Case (Leave x) ∷ bit_left k.none_left ∷ []
 
 abbrev pub exchanged_deeds : Want → Taken → Option ℕ → (won room : Bool) → List Deed
 exchanged_deeds x k whom false room = []
-exchanged_deeds x k whom true true = hands_over x k whom
+exchanged_deeds x k whom true true = handing_deeds x k whom
 exchanged_deeds x k whom true false = leaves_over x k
 
 abbrev pub freed_deeds : Want → Bool → (won : Bool) → List Deed
@@ -85,7 +85,7 @@ hand_over_deeds a x b (handing.Free expected) whom (reply.Value seen) =
     freed_deeds x b (seen == expected)
 hand_over_deeds a x b handing.Enter whom reply.Done = In Main ∷ []
 hand_over_deeds a x b handing.Take whom (reply.Picked n y none_left) = Case (TakePicked None) ∷ []
-hand_over_deeds a x b (handing.Store k) whom (reply.Value seen) = hands_over x k whom
+hand_over_deeds a x b (handing.Store k) whom (reply.Value seen) = handing_deeds x k whom
 hand_over_deeds a x b (handing.Exchange k expected) whom (reply.Value seen) =
     exchanged_deeds x k whom (seen == expected) (has_room a.limit k expected)
 hand_over_deeds a x b (handing.Leave any handed) whom reply.Done = Out ∷ []

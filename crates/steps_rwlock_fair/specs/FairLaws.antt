@@ -22,7 +22,7 @@ use Rattle.spec_locks.specs.Codes.{code, HasLimit}
 use Rattle.spec_locks.specs.Deeds.{after_all}
 use Rattle.steps_rwlock.specs.declared.places.Admission.{Admission}
 use Rattle.steps_rwlock.specs.RwLockDeeds.{Follows}
-use Rattle.steps_rwlock.specs.RwLockOpenings.{IsOpening}
+use Rattle.steps_rwlock.specs.RwLockOpenings.{IsOpeningRow}
 use Rattle.steps_base.specs.Moves.{claim_handed}
 use Rattle.spec_locks.specs.declared.calls.RwLockCall.{RwLockCall}
 use Rattle.spec_locks.specs.Purposes.{rwlock_purpose}
@@ -34,13 +34,13 @@ use Rattle.steps_rwlock.specs.RwLockSteps.{wanted}
 use Rattle.steps_rwlock_fair.specs.declared.places.RwLockCallPlace.TheVariants.{HandOver}
 use Rattle.steps_rwlock_fair.specs.declared.hand_over.Taken.{Taken}
 use Rattle.steps_rwlock_fair.specs.declared.hand_over.HandOverAt.{HandOverAt}
-use Rattle.steps_rwlock_fair.specs.FairSteps.{call_act, call_next, call_owners, call_shares, gives_up}
+use Rattle.steps_rwlock_fair.specs.FairSteps.{call_act, call_next, call_owners, call_shares, lets_right_go}
 use Rattle.steps_rwlock_fair.specs.FairDeeds.{call_deeds, call_role_next}
 use Rattle.steps_rwlock_fair.specs.FairCalls.{HandsOverAt, CallStands, CallStandsNext, CallMayBeTold, IsInCall, CallMayHear, HasInHand, in_hand_of}
 
-abbrev pub CallFollowsBy : Rules → Admission → Site → ℕ → RwLockCallPlace → Option ℕ → Reply
+abbrev pub FollowsInCall : Rules → Admission → Site → ℕ → RwLockCallPlace → Option ℕ → Reply
     → Type 0
-CallFollowsBy r a s t c whom told =
+FollowsInCall r a s t c whom told =
     Follows r s t (call_deeds a c whom told) (call_role_next (call_next a c told))
 
 abbrev pub behind_call : Rules → Admission → Site → ℕ → RwLockCallPlace → Option ℕ → Reply → Site
@@ -54,7 +54,7 @@ FairStepsFollow =
     (r : Rules) (a : Admission) (s : Site) (t l : ℕ) (c : RwLockCallPlace) (op : Op)
     → IsInCall r a s t c
     → standing t s.lock ≡ 0 → call_act l a c ≡ act.Word l op
-    → CallFollowsBy r a s t c None (reply.Value (code r s))
+    → FollowsInCall r a s t c None (reply.Value (code r s))
 
 -- and the word that it leaves is the word of the lock behind its deeds
 abbrev pub FairStepsCode : Type 0
@@ -68,7 +68,7 @@ FairStepsCode =
 -- ---------------------------------------------------------------- the step that hands over
 
 -- the thread is there, and has in hand whom its place says
-pub record HandsOver (r : Rules) (a : Admission) (s : Site) (t : ℕ) (c : RwLockCallPlace)
+pub record StandsToHandOver (r : Rules) (a : Admission) (s : Site) (t : ℕ) (c : RwLockCallPlace)
     (whom : Option ℕ) : Type 0 where
   pub call : IsInCall r a s t c
   -- nobody has taken it
@@ -81,14 +81,14 @@ pub record HandsOver (r : Rules) (a : Admission) (s : Site) (t : ℕ) (c : RwLoc
 abbrev pub HandOversFollow : Type 0
 HandOversFollow =
     (r : Rules) (a : Admission) (s : Site) (t l : ℕ) (c : RwLockCallPlace) (op : Op)
-    (whom : Option ℕ) → HandsOver r a s t c whom
-    → call_act l a c ≡ act.HandOver l op → CallFollowsBy r a s t c whom (reply.Value (code r s))
+    (whom : Option ℕ) → StandsToHandOver r a s t c whom
+    → call_act l a c ≡ act.HandOver l op → FollowsInCall r a s t c whom (reply.Value (code r s))
 
 -- the word that it leaves is the word of the lock behind it, where fewer are in hand than may share
 abbrev pub HandOversCode : Type 0
 HandOversCode =
     (r : Rules) (a : Admission) (s : Site) (t l : ℕ) (c : RwLockCallPlace) (op : Op)
-    (whom : Option ℕ) (hands : HandsOver r a s t c whom)
+    (whom : Option ℕ) (hands : StandsToHandOver r a s t c whom)
     → call_act l a c ≡ act.HandOver l op → hands.taken.sharers < a.limit
     → code r s < 2 ^ 64 → a.limit < 2 ^ 60 - 1 → HasLimit r s.lock
     → apply op (code r s) ≡ code r (behind_call r a s t c whom (reply.Value (code r s)))
@@ -97,7 +97,7 @@ HandOversCode =
 abbrev pub HandOversKeepLimit : Type 0
 HandOversKeepLimit =
     (r : Rules) (a : Admission) (s : Site) (t l : ℕ) (c : RwLockCallPlace) (op : Op)
-    (whom : Option ℕ) (hands : HandsOver r a s t c whom)
+    (whom : Option ℕ) (hands : StandsToHandOver r a s t c whom)
     → call_act l a c ≡ act.HandOver l op → hands.taken.sharers < a.limit → HasLimit r s.lock
     → HasLimit r (behind_call r a s t c whom (reply.Value (code r s))).lock
 
@@ -111,7 +111,7 @@ abbrev pub FairSectionsFollow : Type 0
 FairSectionsFollow =
     (r : Rules) (a : Admission) (s : Site) (t : ℕ) (c : RwLockCallPlace) (whom : Option ℕ)
     (told : Reply)
-    → IsInCall r a s t c → CallMayHear r a s t c whom told → CallFollowsBy r a s t c whom told
+    → IsInCall r a s t c → CallMayHear r a s t c whom told → FollowsInCall r a s t c whom told
 
 -- ---------------------------------------------------------------- whoever was handed the lock
 
@@ -119,7 +119,7 @@ FairSectionsFollow =
 abbrev pub HandOversGive : Type 0
 HandOversGive =
     (r : Rules) (a : Admission) (s : Site) (t l u : ℕ) (c : RwLockCallPlace) (op : Op)
-    (whom : Option ℕ) (x : Want) → HandsOver r a s t c whom
+    (whom : Option ℕ) (x : Want) → StandsToHandOver r a s t c whom
     → call_act l a c ≡ act.HandOver l op → takes_effect op (code r s) ≡ true → IsTaken s.lock t u x
     → u < length s.lock.shared
     → HasClaim (lock_slow r a s t c whom) u
@@ -137,7 +137,7 @@ FairCallsStand =
 pub record CallOpens (a : Admission) (c : RwLockCall) : Type 0 where
   pub stands : CallStands a (call_first c)
   pub purpose : (l : ℕ) → (call_profile a (call_first c)).purpose l ≡ rwlock_purpose l c
-  pub opening : IsOpening (call_profile a (call_first c))
+  pub opening : IsOpeningRow (call_profile a (call_first c))
   -- a thread with the right has what it claims
   pub has : (t : ℕ) (shared : List ℕ) (o : Owners) (main second : List Waiter)
       (taken : ℕ → Option TakenBy)
@@ -173,7 +173,7 @@ FairStepsTell =
 abbrev pub HandOversTell : Type 0
 HandOversTell =
     (r : Rules) (a : Admission) (s : Site) (t l : ℕ) (c : RwLockCallPlace) (op : Op)
-    (whom : Option ℕ) → HandsOver r a s t c whom
+    (whom : Option ℕ) → StandsToHandOver r a s t c whom
     → call_act l a c ≡ act.HandOver l op → CallTells r a s t l c whom (reply.Value (code r s))
 
 -- and each into a section, in it, and out of it
@@ -199,8 +199,8 @@ with_claim (Pends falls_back) l rights =
 with_claim c l rights = rights
 
 -- it is handed what it wants, and tries no longer
-abbrev pub IsGiven : Admission → ℕ → RwLockCallPlace → ℕ → Bool → Type 0
-IsGiven a l c u alone =
+abbrev pub CallIsHanded : Admission → ℕ → RwLockCallPlace → ℕ → Bool → Type 0
+CallIsHanded a l c u alone =
     (c2 : RwLockCallPlace) (rights : ℕ → Rights) (x : Want) → (call_profile a c).wants ≡ Some x
     → call_next a c (reply.HandedBy u alone) ≡ next.At c2
     → call_by l (call_profile a c2) (with_claim (claim_handed alone x) l rights)
@@ -216,7 +216,7 @@ pub record CallHears (a : Admission) (l : ℕ) (c : RwLockCallPlace) : Type 0 wh
   pub late : (call_profile a c).late_line ≢ None
       → CallBecomes a l c reply.Late (λ x. record x { late = true })
   pub given : (u : ℕ) (alone : Bool) → (call_profile a c).hand ≡ hand u false
-      → (call_profile a c).role.claims ≡ None → IsGiven a l c u alone
+      → (call_profile a c).role.claims ≡ None → CallIsHanded a l c u alone
   pub accepts : (u : ℕ) → (call_profile a c).hand ≡ hand u true
       → CallBecomes a l c (reply.Woken note.HandOff) (λ x. x)
 
@@ -249,6 +249,6 @@ abbrev pub GiversKeep : Type 0
 GiversKeep =
     (a : Admission) (x : Access) (b : Bool) (to : HandOverAt) (t seen : ℕ) (shared : List ℕ)
     (o : Owners) (main second : List Waiter) (taken : ℕ → Option TakenBy)
-    → HandsOverAt x to → gives_up to seen ≡ true
+    → HandsOverAt x to → lets_right_go to seen ≡ true
     → lock_seen shared (call_owners a (HandOver x b to) t seen o) main second taken
     ≡ without_owner t (wanted x) (lock_seen shared o main second taken)

@@ -12,7 +12,7 @@ use Rattle.steps_base.specs.declared.acts.Act.{Act}
 use Rattle.steps_base.specs.declared.acts.Act.TheVariants as act
 use Rattle.steps_base.specs.declared.acts.Reply.TheVariants.{Late}
 use Rattle.spec_locks.specs.Sites.{Pends}
-use Rattle.steps_base.specs.Moves.{Move, Hears, Moves, GoesIn, TellsHanded, Accepts, Sleeps, IsHeld, HandsOver as Hands, IsGiven, WasGiven, row_of, location_of}
+use Rattle.steps_base.specs.Moves.{Move, Hears, MovesByAct, GoesIn, TellsHanded, Accepts, Sleeps, IsHeld, HandsOver as Hands, IsGiven, WasGiven, row_of, location_of}
 use Rattle.steps_base.specs.Profiles.{hand}
 use Rattle.steps_rwlock.specs.declared.places.Admission.{Admission}
 use Rattle.steps_rwlock_fair.specs.declared.places.RwLockCallPlace.{RwLockCallPlace}
@@ -60,10 +60,10 @@ call_hears a c r s t whom told = CallMayHear r a s t c whom told
 abbrev pub CallMoves : ℕ → Bool → Move → Hears → Act → Type 0
 CallMoves l recursive x hears (act.HandOver k op) = (k ≡ l) × Hands x op
 CallMoves l recursive x hears (act.Leave keys wakes) =
-    Moves l recursive x hears (act.Leave keys wakes)
+    MovesByAct l recursive x hears (act.Leave keys wakes)
     ⊎ ((keys ≡ One (key_of l Main)) × TellsHanded x hears wakes)
 CallMoves l recursive x hears act.Accept = Accepts x hears
-CallMoves l recursive x hears act = Moves l recursive x hears act
+CallMoves l recursive x hears act = MovesByAct l recursive x hears act
 
 -- each place moves as its act says
 abbrev pub FairActsMove : Type 0

@@ -9,7 +9,7 @@ use Rattle.spec_locks.specs.Locks.{Rights}
 use Rattle.spec_locks.specs.Purposes.{Purpose, Enters, Releases, Bumps}
 use Rattle.spec_locks.specs.Runs.{one_more_at, one_less_at}
 use Rattle.spec_locks.specs.Sites.{Claim, Has, Pends}
-use Rattle.steps_base.specs.Profiles.{Hand, Profile, blank, hand, hand_owner, in_hand, in_line}
+use Rattle.steps_base.specs.Profiles.{Hand, Profile, blank_row, hand, hand_owner, in_hand, in_line}
 use Rattle.steps_rwlock.specs.declared.places.Admission.{Admission}
 use Rattle.steps_rwlock.specs.declared.places.RwLockPlace.{RwLockPlace}
 use Rattle.steps_rwlock.specs.declared.purposes.RwLockPurpose.{RwLockPurpose}
@@ -103,8 +103,8 @@ abbrev pub call_profile : Admission → RwLockCallPlace → Profile
 call_profile a (Plain p) = rwlock_profile a p
 call_profile a (Bump p) = bumping p.purpose (rwlock_profile a p)
 call_profile a (Glance x) =
-    record blank { role = call_role (Glance x); purpose = λ l. Bumps l (wanted x) }
-call_profile a (HandOver x b to) = record blank {
+    record blank_row { role = call_role (Glance x); purpose = λ l. Bumps l (wanted x) }
+call_profile a (HandOver x b to) = record blank_row {
   role = call_role (HandOver x b to);
   carries = carries_handing to;
   owes = in_line (owes_handing to) Main;
@@ -112,7 +112,7 @@ call_profile a (HandOver x b to) = record blank {
   released = has_given to;
   former = before_release (has_given to) (wanted x);
 }
-call_profile a (Handed x how b to) = record blank {
+call_profile a (Handed x how b to) = record blank_row {
   role = call_role (Handed x how b to);
   hand = hand_handed to;
   wants = Some (wanted x);

@@ -59,22 +59,22 @@ abbrev pub tokens : Taken → ℕ
 tokens k = plus ((k.sharers * 16) % 2 ^ 64) (token_of k.successor)
 
 -- how many of them count
-abbrev pub counted : Taken → ℕ
-counted k = k.sharers + (if is_upgradable k.successor then 1 else 0)
+abbrev pub count_of_taken : Taken → ℕ
+count_of_taken k = k.sharers + (if is_upgradable k.successor then 1 else 0)
 
 -- whether there is room for them once an upgradable owner has gone
 abbrev pub has_room : ℕ → Taken → ℕ → Bool
-has_room limit k seen = nat_le ((count_in seen - 1) + counted k) limit
+has_room limit k seen = nat_le ((count_in seen - 1) + count_of_taken k) limit
 
 -- a word with its parked bit where somebody is left in the queue
 abbrev pub parked_as : Bool → ℕ → ℕ
 parked_as none_left word = (word - word % 2) + (if none_left then 0 else 1)
 
-abbrev pub without : Access → ℕ → ℕ
-without x seen = apply (op.TheVariants.Sub (token (wanted x))) seen
+abbrev pub word_without : Access → ℕ → ℕ
+word_without x seen = apply (op.TheVariants.Sub (token (wanted x))) seen
 
 abbrev pub with_taken : Access → Taken → ℕ → ℕ
-with_taken x k seen = parked_as k.none_left (plus (without x seen) (tokens k))
+with_taken x k seen = parked_as k.none_left (plus (word_without x seen) (tokens k))
 
 -- ---------------------------------------------------------------- a thread that enters
 
@@ -98,14 +98,14 @@ abbrev pub exchange_act : ℕ → ℕ → Access → Taken → ℕ → Act
 exchange_act l limit x k seen =
     if has_room limit k seen
     then act.HandOver l (op.TheVariants.Exchange seen (with_taken x k seen))
-    else act.Word l (op.TheVariants.Exchange seen (parked_as k.none_left (without x seen)))
+    else act.Word l (op.TheVariants.Exchange seen (parked_as k.none_left (word_without x seen)))
 
-abbrev pub note_of : Bool → note.Note
-note_of handed = if handed then note.TheVariants.HandOff else note.TheVariants.Normal
+abbrev pub note_by : Bool → note.Note
+note_by handed = if handed then note.TheVariants.HandOff else note.TheVariants.Normal
 
 abbrev pub hand_over_act : ℕ → Admission → Access → HandOverAt → Act
 hand_over_act l a x handing.Load = act.Word l op.TheVariants.Load
-hand_over_act l a x (handing.Free seen) = exchange l seen (without x seen)
+hand_over_act l a x (handing.Free seen) = exchange l seen (word_without x seen)
 hand_over_act l a x handing.Enter = act.Enter (One (2 * l))
 hand_over_act l a x handing.Take = act.Take (2 * l) (whom.TheVariants.Picked None a.recursive)
 hand_over_act l a x (handing.Store k) =
@@ -113,7 +113,7 @@ hand_over_act l a x (handing.Store k) =
 hand_over_act l a x (handing.Look k) = act.Word l op.TheVariants.Load
 hand_over_act l a x (handing.Exchange k seen) = exchange_act l a.limit x k seen
 hand_over_act l a x (handing.Leave any handed) =
-    act.Leave (One (2 * l)) (wakes_taken any (note_of handed))
+    act.Leave (One (2 * l)) (wakes_taken any (note_by handed))
 
 -- its exchange found another value
 abbrev pub freed_next : Access → ℕ → HandOverAt
@@ -142,11 +142,11 @@ hand_over_next a x b (handing.Leave any handed) Done = released x b
 hand_over_next a x b to reply = At (HandOver x b to)
 
 -- whether an operation on the word, which saw this value, gives the right up
-abbrev pub gives_up : HandOverAt → ℕ → Bool
-gives_up (handing.Free expected) seen = seen == expected
-gives_up (handing.Exchange k expected) seen = seen == expected
-gives_up (handing.Store k) seen = true
-gives_up to seen = false
+abbrev pub lets_right_go : HandOverAt → ℕ → Bool
+lets_right_go (handing.Free expected) seen = seen == expected
+lets_right_go (handing.Exchange k expected) seen = seen == expected
+lets_right_go (handing.Store k) seen = true
+lets_right_go to seen = false
 
 -- ---------------------------------------------------------------- bumps
 
@@ -254,7 +254,7 @@ without_owned access.Exclusive o = record o { exclusive = None }
 abbrev pub call_owners : Admission → RwLockCallPlace → ℕ → ℕ → Owners → Owners
 call_owners a (Plain p) t seen o = rwlock_owners a p t seen o
 call_owners a (Bump p) t seen o = rwlock_owners a p t seen o
-call_owners a (HandOver x b to) t seen o = if gives_up to seen then without_owned x o else o
+call_owners a (HandOver x b to) t seen o = if lets_right_go to seen then without_owned x o else o
 call_owners a c t seen o = o
 
 abbrev pub call_shares : Admission → RwLockCallPlace → ℕ → ℕ → Option ℕ

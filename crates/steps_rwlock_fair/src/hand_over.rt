@@ -11,7 +11,7 @@
 //! | `Exchange` (upgradable) | exchanges the word seen for one in which all whom it has taken own; where there is no room for them, it only releases | `Leave`, or `Exchange` again |
 //! | `Leave` | leaves the section, and wakes whom it has taken: where it handed nothing over, they try again | ends, or enters again as it bumps |
 ghost use Rattle.std.specs.Prelude.{◌≡◌, ◌<◌, ◌^◌};
-ghost use Rattle.steps_rwlock_fair.specs.FairSteps.{token_of, tokens, any_taken, has_room, parked_as, without, with_taken, looked, freed_next, took, exchange_act, hand_over_act, hand_over_next, released, gives_up};
+ghost use Rattle.steps_rwlock_fair.specs.FairSteps.{token_of, tokens, any_taken, has_room, parked_as, word_without, with_taken, looked, freed_next, took, exchange_act, hand_over_act, hand_over_next, released, lets_right_go};
 ghost use Rattle.steps_rwlock_fair.specs.FairProfiles.{owes_handing};
 
 use crate::places::{RwLockCallPlace, enters_again};
@@ -53,7 +53,7 @@ pub enum HandOverAt {
 impl HandOverAt {
     /// Whether the operation on the word, which saw this value, gives the right up.
     pub(super) fn gives_up(self, seen: u64) -> bool
-        ensures { result ≡ gives_up self seen }
+        ensures { result ≡ lets_right_go self seen }
     {
         match self {
             HandOverAt::Free(expected) | HandOverAt::Exchange { seen: expected, .. } => {
@@ -95,7 +95,7 @@ fn parked_as(none_left: bool, word: u64) -> u64
 
 /// The word without a right.
 fn without(access: Access, seen: u64) -> u64
-    ensures { result ≡ without access seen }
+    ensures { result ≡ word_without access seen }
 {
     seen.wrapping_sub(token(access))
 }

@@ -17,7 +17,7 @@ use Rattle.steps_semaphore.specs.declared.tries.TryAt.TheVariants as tries
 use Rattle.steps_semaphore.specs.declared.release.ReleaseAt.TheVariants as release
 use Rattle.steps_semaphore.specs.declared.places.SemaphorePlace.{SemaphorePlace}
 use Rattle.steps_semaphore.specs.declared.places.SemaphorePlace.TheVariants.{Acquire, Try, Release}
-use Rattle.steps_semaphore.specs.SemaphoreDeeds.{enters, takes}
+use Rattle.steps_semaphore.specs.SemaphoreDeeds.{enter_deeds, take_deeds}
 use Rattle.steps_semaphore.specs.SemaphoreLaws.{next_row}
 use Rattle.steps_semaphore.specs.SemaphoreProfiles.{patience, semaphore_profile}
 use Rattle.steps_semaphore.specs.SemaphoreSteps.{acquired, in_acquire, in_release, in_try}
@@ -96,7 +96,7 @@ module _ (limit l t : ℕ) (s : LockState) where
   by_case case at rights = going_on (AtLock l case) (call_by l (semaphore_profile at) rights)
 
   pub exchanges : (timed again : Bool) (was seen : ℕ) (a b : Bool) → t < length s.shared
-      → Tells (Acquire timed again (acquire.Decide was)) (if not a then [] else if b then enters else Mark Main ∷ [])
+      → Tells (Acquire timed again (acquire.Decide was)) (if not a then [] else if b then enter_deeds else Mark Main ∷ [])
       (in_acquire timed again (if not a then next.At (acquire.Decide seen) else if b then next.End (acquired timed) else next.At (acquire.Decide 1)))
   exchanges timed again was seen false b here = quiet (Acquire timed again (acquire.Decide was)) (Acquire timed again (acquire.Decide seen)) [] tt refl (λ rights. refl)
   exchanges timed again was seen true false here = quiet (Acquire timed again (acquire.Decide was)) (Acquire timed again (acquire.Decide 1)) (Mark Main ∷ []) tt refl (λ rights. refl)
@@ -143,7 +143,7 @@ module _ (limit l t : ℕ) (s : LockState) where
   looks at seen false none = record { one = tt; may = tt; comes = λ v rights ruled now is has. (rw (ruled, now) (none refl), stays v rights s is has refl) }
 
   pub attempts : (was seen : ℕ) (a b : Bool) → t < length s.shared → (b ≡ false → IsBlocked r s Shared)
-      → Tells (Try (tries.Decide was)) (if a && b then enters else if b then [] else End ∷ [])
+      → Tells (Try (tries.Decide was)) (if a && b then enter_deeds else if b then [] else End ∷ [])
       (in_try (if a && b then next.End answer.Yes else if b then next.At (tries.Decide seen) else next.End answer.No))
   attempts was seen true true here none = record {
     one = tt;
@@ -166,11 +166,11 @@ module _ (limit l t : ℕ) (s : LockState) where
 
   -- it takes the first of the queue, or finds nobody
   pub takes_one : (o : Option ℕ) (any b : Bool)
-      → Tells (Release release.Take) (takes o) (in_release (if b then next.At (release.Clear any) else next.At (release.Leave any)))
-  takes_one None any true = quiet (Release release.Take) (Release (release.Clear any)) (takes None) tt refl (λ rights. refl)
-  takes_one None any false = quiet (Release release.Take) (Release (release.Leave any)) (takes None) tt refl (λ rights. refl)
-  takes_one (Some u) any true = keeps (Release release.Take) (Release (release.Clear any)) (takes (Some u)) tt ((refl, tt), tt) refl (λ rights. refl)
-  takes_one (Some u) any false = keeps (Release release.Take) (Release (release.Leave any)) (takes (Some u)) tt ((refl, tt), tt) refl (λ rights. refl)
+      → Tells (Release release.Take) (take_deeds o) (in_release (if b then next.At (release.Clear any) else next.At (release.Leave any)))
+  takes_one None any true = quiet (Release release.Take) (Release (release.Clear any)) (take_deeds None) tt refl (λ rights. refl)
+  takes_one None any false = quiet (Release release.Take) (Release (release.Leave any)) (take_deeds None) tt refl (λ rights. refl)
+  takes_one (Some u) any true = keeps (Release release.Take) (Release (release.Clear any)) (take_deeds (Some u)) tt ((refl, tt), tt) refl (λ rights. refl)
+  takes_one (Some u) any false = keeps (Release release.Take) (Release (release.Leave any)) (take_deeds (Some u)) tt ((refl, tt), tt) refl (λ rights. refl)
 
   -- it wakes whom it has taken
   pub wakes_taken : (any : Bool) → Tells (Release (release.Leave any)) (Out ∷ []) (next.End answer.Ok)

@@ -22,9 +22,9 @@ use Rattle.steps_semaphore.specs.declared.release.ReleaseAt.TheVariants as relea
 use Rattle.steps_semaphore.specs.declared.places.SemaphorePlace.{SemaphorePlace}
 use Rattle.steps_semaphore.specs.declared.places.SemaphorePlace.TheVariants.{Acquire, Try, Release}
 use Rattle.steps_semaphore.specs.declared.places.TheConstants.{NOT_PARKED}
-use Rattle.steps_semaphore.specs.SemaphoreDeeds.{enters, semaphore_deeds}
+use Rattle.steps_semaphore.specs.SemaphoreDeeds.{enter_deeds, semaphore_deeds}
 use Rattle.steps_semaphore.specs.SemaphoreLaws.{LeavesWord, MayHear, SemaphoreStepsCode, semaphore_role}
-use Rattle.steps_semaphore.specs.SemaphoreSteps.{decided, is_free, semaphore_act, semaphore_shares, taken_by}
+use Rattle.steps_semaphore.specs.SemaphoreSteps.{decided, is_free, semaphore_act, semaphore_shares, permits_taken}
 use Rattle.steps_semaphore.proofs.SemaphoreWords.{bit_few, cleared, free_in, held_few, one_less, one_more, some_free, word_of}
 
 module _ (limit : ℕ) (s : Site) (t l : ℕ) (h : IsSite (record { sort = Semaphore; limit = limit }) s) (small : limit ≤ 2 ^ 62) (few : readers s.lock ≤ limit) (here : t < length s.lock.shared) where
@@ -45,7 +45,7 @@ module _ (limit : ℕ) (s : Site) (t l : ℕ) (h : IsSite (record { sort = Semap
   Leaves ds w shares = (w ≡ code r (after_all r ds s t)) × (shares_then s.lock.shared t shares ≡ (after_all r ds s t).lock.shared)
 
   -- a permit is taken
-  entered : is_free v ≡ true → Leaves enters (v - 2) (Some (apply (op.Add 1) mine))
+  entered : is_free v ≡ true → Leaves enter_deeds (v - 2) (Some (apply (op.Add 1) mine))
   entered e = let some = some_free n s.parked e in let more = one_more s.lock t here in let fits = held_few s.lock t here in (
     omega (arith, bit_few s.parked),
     ap (λ k. slice_set s.lock.shared t k) (let f : (mine + 1) % 2 ^ 64 ≡ mine + 1 = omega arith in f),
@@ -59,14 +59,14 @@ module _ (limit : ℕ) (s : Site) (t l : ℕ) (h : IsSite (record { sort = Semap
   same_word k = grind (arith, nat_tests)
 
   -- an exchange that finds a free permit takes it, where it found what it expected
-  exchanged : (expected : ℕ) → (v == expected) ≡ true → is_free v ≡ true → Leaves enters (apply (op.Exchange expected (expected - 2)) v) (taken_by expected v mine)
+  exchanged : (expected : ℕ) → (v == expected) ≡ true → is_free v ≡ true → Leaves enter_deeds (apply (op.Exchange expected (expected - 2)) v) (permits_taken expected v mine)
   exchanged expected e free =
       let same : v ≡ expected = eqb-true v expected e in
       let word : apply (op.Exchange expected (expected - 2)) v ≡ v - 2 = ap (λ b. if b then expected - 2 else v) e ∙ ap (λ k. k - 2) (sym same) in
-      let shares : taken_by expected v mine ≡ Some (apply (op.Add 1) mine) = (λ i. if (e i) && (free i) then Some (apply (op.Add 1) mine) else None) in
+      let shares : permits_taken expected v mine ≡ Some (apply (op.Add 1) mine) = (λ i. if (e i) && (free i) then Some (apply (op.Add 1) mine) else None) in
       let d = entered free in (word ∙ d.0, ap (shares_then s.lock.shared t) shares ∙ d.1)
 
-  missed : (expected to : ℕ) → (v == expected) ≡ false → Leaves [] (apply (op.Exchange expected to) v) (taken_by expected v mine)
+  missed : (expected to : ℕ) → (v == expected) ≡ false → Leaves [] (apply (op.Exchange expected to) v) (permits_taken expected v mine)
   missed expected to e = (ap (λ b. if b then to else v) e, ap (shares_then s.lock.shared t) (λ i. if (e i) && is_free v then Some (apply (op.Add 1) mine) else None))
 
   leaves : (p : SemaphorePlace) (whom : Option ℕ) (f : Op) (ds : List Deed) (w : ℕ) (shares : Option ℕ) → semaphore_deeds p whom (Value v) ≡ ds → apply f v ≡ w → semaphore_shares p v mine ≡ shares
@@ -80,7 +80,7 @@ module _ (limit : ℕ) (s : Site) (t l : ℕ) (h : IsSite (record { sort = Semap
 
   -- by whether the exchange found what it expected, and a free permit
   abbrev decides_deeds : Bool → Bool → List Deed
-  decides_deeds same free = if not same then [] else if free then enters else Mark Main ∷ []
+  decides_deeds same free = if not same then [] else if free then enter_deeds else Mark Main ∷ []
 
   abbrev decides_by : ℕ → Bool → Bool → Act
   decides_by x a b =
@@ -96,11 +96,11 @@ module _ (limit : ℕ) (s : Site) (t l : ℕ) (h : IsSite (record { sort = Semap
   never true = refl
   never false = refl
 
-  nobody_free : (expected : ℕ) → is_free v ≡ false → taken_by expected v mine ≡ None
+  nobody_free : (expected : ℕ) → is_free v ≡ false → permits_taken expected v mine ≡ None
   nobody_free expected e = (λ i. if (v == expected) && (e i) then Some (apply (op.Add 1) mine) else None) ∙ never (v == expected)
 
   fresh : (f : Op) (a : Bool) → is_free v ≡ a → (b : Bool) → (v == 0) ≡ b → decides_by v a b ≡ act.Word l f
-      → Leaves (decides_deeds true a) (apply f v) (taken_by v v mine)
+      → Leaves (decides_deeds true a) (apply f v) (permits_taken v v mine)
   fresh f true e b x is = let g : op.Exchange v (v - 2) ≡ f = cc in rw (← g) (exchanged v (same_word v) e)
   fresh f false e true x is = let g : op.Exchange 0 1 ≡ f = cc in rw (← g) (
       let d = marked x in
@@ -108,29 +108,29 @@ module _ (limit : ℕ) (s : Site) (t l : ℕ) (h : IsSite (record { sort = Semap
   fresh f false e false x is = absurd cc
 
   stale : (expected : ℕ) (f : Op) (a b : Bool) → (v == expected) ≡ false → decides_by expected a b ≡ act.Word l f → (b ≡ true → expected ≡ 0)
-      → Leaves [] (apply f v) (taken_by expected v mine)
+      → Leaves [] (apply f v) (permits_taken expected v mine)
   stale expected f true b e is x = let g : op.Exchange expected (expected - 2) ≡ f = cc in rw (← g) (missed expected (expected - 2) e)
   stale expected f false true e is x = let g : op.Exchange 0 1 ≡ f = cc in
-      rw (← g) (subst (λ k. Leaves [] (apply (op.Exchange k 1) v) (taken_by expected v mine)) (x refl) (missed expected 1 e))
+      rw (← g) (subst (λ k. Leaves [] (apply (op.Exchange k 1) v) (permits_taken expected v mine)) (x refl) (missed expected 1 e))
   stale expected f false false e is x = absurd cc
 
   decides : (expected : ℕ) (f : Op) → decided l expected ≡ act.Word l f → (b : Bool) → (v == expected) ≡ b
-      → Leaves (decides_deeds b (is_free v)) (apply f v) (taken_by expected v mine)
+      → Leaves (decides_deeds b (is_free v)) (apply f v) (permits_taken expected v mine)
   decides expected f is true e = let same : v ≡ expected = eqb-true v expected e in
-      subst (λ k. Leaves (decides_deeds true (is_free v)) (apply f v) (taken_by k v mine)) same
+      subst (λ k. Leaves (decides_deeds true (is_free v)) (apply f v) (permits_taken k v mine)) same
       (fresh f (is_free v) refl (v == 0) refl (subst (λ k. decided l k ≡ act.Word l f) (sym same) is))
   decides expected f is false e = stale expected f (is_free expected) (expected == 0) e is (λ x. eqb-true expected 0 x)
 
   -- ---------------------------------------------------------------- tries
 
   abbrev tries_deeds : Bool → Bool → List Deed
-  tries_deeds same free = if same && free then enters else if free then [] else End ∷ []
+  tries_deeds same free = if same && free then enter_deeds else if free then [] else End ∷ []
 
   -- nothing is taken
-  kept : (expected : ℕ) (a b : Bool) → (v == expected) ≡ a → is_free v ≡ b → (a && b) ≡ false → Leaves (tries_deeds a b) v (taken_by expected v mine)
+  kept : (expected : ℕ) (a b : Bool) → (v == expected) ≡ a → is_free v ≡ b → (a && b) ≡ false → Leaves (tries_deeds a b) v (permits_taken expected v mine)
   kept expected a b e free none = (word a b none, ap (shares_then s.lock.shared t) (nothing_taken a b e free none) ∙ permits a b none)
     where
-      nothing_taken : (a b : Bool) → (v == expected) ≡ a → is_free v ≡ b → (a && b) ≡ false → taken_by expected v mine ≡ None
+      nothing_taken : (a b : Bool) → (v == expected) ≡ a → is_free v ≡ b → (a && b) ≡ false → permits_taken expected v mine ≡ None
       nothing_taken a b e free none = (λ i. if (e i) && (free i) then Some (apply (op.Add 1) mine) else None) ∙ ap (λ c. if c then Some (apply (op.Add 1) mine) else None) none
 
       word : (a b : Bool) → (a && b) ≡ false → v ≡ code r (after_all r (tries_deeds a b) s t)
@@ -148,7 +148,7 @@ module _ (limit : ℕ) (s : Site) (t l : ℕ) (h : IsSite (record { sort = Semap
   -- by the act: an exchange where a permit was free as it decided
   attempts : (expected : ℕ) (f : Op) (c a b : Bool) → is_free expected ≡ c → (v == expected) ≡ a → is_free v ≡ b
       → (if c then act.Word l (op.Exchange expected (expected - 2)) else act.Word l op.Load) ≡ act.Word l f
-      → Leaves (tries_deeds a b) (apply f v) (taken_by expected v mine)
+      → Leaves (tries_deeds a b) (apply f v) (permits_taken expected v mine)
   attempts expected f true true true cs e free is = let g : op.Exchange expected (expected - 2) ≡ f = cc in rw (← g) (exchanged expected e free)
   attempts expected f true true false cs e free is = absurd (let same : v ≡ expected = eqb-true v expected e in let g : true ≡ false = sym cs ∙ sym (ap is_free same) ∙ free in cc)
   attempts expected f true false b cs e free is = let g : op.Exchange expected (expected - 2) ≡ f = cc in

@@ -7,7 +7,7 @@ use Rattle.steps_base.specs.declared.acts.Next.{Next}
 use Rattle.steps_base.specs.declared.acts.Next.TheVariants.{At, End as Over}
 use Rattle.steps_base.specs.declared.acts.Reply.{Reply}
 use Rattle.steps_base.specs.declared.acts.Reply.TheVariants.{Done, Value, Parked, Took, Removed, Late}
-use Rattle.steps_base.specs.Moves.{IsFree, StandsAlone}
+use Rattle.steps_base.specs.Moves.{IsSectionFree, StandsAlone}
 use Rattle.spec_locks.specs.Codes.{has_parked}
 use Rattle.spec_locks.specs.Deeds.{AllNeeded, after_all}
 use Rattle.spec_locks.specs.Locks.{Enter, HasTakenNobody, IsSomePending, Late as GivesUp, Leave, Owns, Pending, Rules, Semaphore, aside_without, one_if_some, putting, standing, without}
@@ -20,9 +20,9 @@ use Rattle.steps_semaphore.specs.declared.release.ReleaseAt.{ReleaseAt}
 use Rattle.steps_semaphore.specs.declared.release.ReleaseAt.TheVariants as release
 use Rattle.steps_semaphore.specs.declared.places.SemaphorePlace.{SemaphorePlace}
 use Rattle.steps_semaphore.specs.declared.places.SemaphorePlace.TheVariants.{Acquire, Try, Release}
-use Rattle.steps_semaphore.specs.SemaphoreDeeds.{enters, semaphore_deeds, takes}
+use Rattle.steps_semaphore.specs.SemaphoreDeeds.{enter_deeds, semaphore_deeds, take_deeds}
 use Rattle.steps_semaphore.specs.SemaphoreLaws.{Follows, MayHear, MayHearAcquiring, MayHearReleasing, MayHearTrying, SemaphoreStepsFollow, TakesFirst, role_next, semaphore_role}
-use Rattle.steps_semaphore.specs.SemaphoreProfiles.{again, carrying, holder, inside}
+use Rattle.steps_semaphore.specs.SemaphoreProfiles.{with_retry, carrying, permit_holder, inside}
 use Rattle.steps_semaphore.specs.SemaphoreSteps.{acquired, in_acquire, in_release, in_try, is_free, semaphore_next}
 use Rattle.steps_semaphore.proofs.SemaphoreWords.{first_is, free_in, nobody_first, one, parked_is, put_same, some_free, word_of}
 
@@ -40,14 +40,14 @@ module _ (limit : ℕ) (s : Site) (t : ℕ) (h : IsSite (record { sort = Semapho
   follows : (p : SemaphorePlace) (whom : Option ℕ) (told : Reply) → Does (semaphore_deeds p whom told) (semaphore_next p told) → Follows r s t p whom told
   follows p whom told d = record { needed = d.0; role = d.1 }
 
-  holds : s.role t ≡ holder → Owns s.lock t Shared
+  holds : s.role t ≡ permit_holder → Owns s.lock t Shared
   holds is = h.held t (Has Shared) (ap (λ (d : Role). d.claims) is)
 
   -- a call ends outside of the section, and nothing is owed
   ends : (c : Option _) → s.role t ≡ record idle { claims = c } → AllNeeded r (End ∷ []) s t
   ends c is = ((ap (λ (d : Role). d.inside) is, ap (λ (d : Role). d.wakes) is, ap (λ (d : Role). d.carries) is, λ some. absurd (let g : false ≡ true = sym (ap (λ (d : Role). counts_some Semaphore d.retries) is) ∙ some in cc)), tt)
 
-  goes_in : (d : Role) → s.role t ≡ d → d.inside ≡ None → d.empty ≡ None → IsFree s Main → AllNeeded r (In Main ∷ []) s t × ((after_all r (In Main ∷ []) s t).role t ≡ record d { inside = Some Main })
+  goes_in : (d : Role) → s.role t ≡ d → d.inside ≡ None → d.empty ≡ None → IsSectionFree s Main → AllNeeded r (In Main ∷ []) s t × ((after_all r (In Main ∷ []) s t).role t ≡ record d { inside = Some Main })
   goes_in d is out e free = (((free, ap (λ (d : Role). d.inside) is ∙ out, ap (λ (d : Role). d.empty) is ∙ e), tt), put_same s.role t _ ∙ ap (λ (d : Role). record d { inside = Some Main }) is)
 
   goes_out : (d : Role) → s.role t ≡ d → d.inside ≡ Some Main → d.wakes ≡ None → d.sets ≡ false → s.lock.taken t ≡ None
@@ -67,7 +67,7 @@ module _ (limit : ℕ) (s : Site) (t : ℕ) (h : IsSite (record { sort = Semapho
   wants_it false = inl refl
 
   -- it takes a free permit, and its call ends
-  comes_in : (retries : Bool) (a : _) → s.role t ≡ again retries idle → 1 ≤ free_in limit s → Does enters (Over a)
+  comes_in : (retries : Bool) (a : _) → s.role t ≡ with_retry retries idle → 1 ≤ free_in limit s → Does enter_deeds (Over a)
   comes_in retries a is free =
       let own : (after_deed r (Case (Enter Shared)) s t).role t ≡ record (s.role t) { retries = None; claims = None } = put_same s.role t _ in
       let alone = ap one_if_some (h.state.unpending (λ k. k)).1 in (
@@ -88,13 +88,13 @@ module _ (limit : ℕ) (s : Site) (t : ℕ) (h : IsSite (record { sort = Semapho
 
   module _ (timed retries : Bool) where
     -- an exchange, and whether it saw a free permit
-    decides : s.role t ≡ again retries idle → (seen : ℕ) (same free : Bool) → (free ≡ true → 1 ≤ free_in limit s)
-        → Does (if not same then [] else if free then enters else Mark Main ∷ []) (in_acquire timed retries (if not same then At (acquire.Decide seen) else if free then Over (acquired timed) else At (acquire.Decide 1)))
+    decides : s.role t ≡ with_retry retries idle → (seen : ℕ) (same free : Bool) → (free ≡ true → 1 ≤ free_in limit s)
+        → Does (if not same then [] else if free then enter_deeds else Mark Main ∷ []) (in_acquire timed retries (if not same then At (acquire.Decide seen) else if free then Over (acquired timed) else At (acquire.Decide 1)))
     decides is seen false free some = (tt, is)
     decides is seen true true some = comes_in retries (acquired timed) is (some refl)
     decides is seen true false some = ((tt, tt), is)
 
-    parks : s.role t ≡ again retries inside → (b : Bool) → b ≡ (v == 1) → standing t s.lock ≡ 0
+    parks : s.role t ≡ with_retry retries inside → (b : Bool) → b ≡ (v == 1) → standing t s.lock ≡ 0
         → Follows r s t (Acquire timed retries acquire.Check) None (Parked b)
     parks is true f out = let w = one (free_in limit s) s.parked (sym f) in record {
       needed = (((((tt, λ room. absurd (omega (arith, w.0))), out), (ap (λ (d : Role). d.inside) is, w.1, ap (λ (d : Role). d.wakes) is, ap (λ (d : Role). d.covers) is)), tt));
@@ -106,7 +106,7 @@ module _ (limit : ℕ) (s : Site) (t : ℕ) (h : IsSite (record { sort = Semapho
         unparked false = refl
     parks is false f out = record { needed = tt; role = is ∙ still retries }
       where
-        still : (b : Bool) → again b inside ≡ semaphore_role (Acquire timed (b && true) (acquire.Leave false))
+        still : (b : Bool) → with_retry b inside ≡ semaphore_role (Acquire timed (b && true) (acquire.Leave false))
         still true = refl
         still false = refl
 
@@ -129,22 +129,22 @@ module _ (limit : ℕ) (s : Site) (t : ℕ) (h : IsSite (record { sort = Semapho
             nobody_pends None e p = p
             nobody_pends (Some x) e p = cc
 
-    leaves_section : (parked : Bool) → s.role t ≡ again (if parked then false else retries) inside → s.lock.taken t ≡ None
+    leaves_section : (parked : Bool) → s.role t ≡ with_retry (if parked then false else retries) inside → s.lock.taken t ≡ None
         → Does (Out ∷ []) (in_acquire timed retries (if parked then At acquire.Asleep else At acquire.Load))
     leaves_section true is free = let d = goes_out inside is refl refl refl free in (d.0, d.1)
-    leaves_section false is free = let d = goes_out (again retries inside) is refl refl refl free in (d.0, d.1)
+    leaves_section false is free = let d = goes_out (with_retry retries inside) is refl refl refl free in (d.0, d.1)
 
     acquires : (at : AcquireAt) (whom : Option ℕ) (told : Reply) → s.role t ≡ semaphore_role (Acquire timed retries at) → MayHearAcquiring r s t timed at told
         → Follows r s t (Acquire timed retries at) whom told
     acquires acquire.Load whom (Value seen) is f = record { needed = tt; role = is }
     acquires (acquire.Decide expected) whom (Value seen) is f =
         follows _ whom (Value seen) (decides is seen (seen == expected) (is_free seen) (λ z. some_free (free_in limit s) s.parked (ap is_free (sym f) ∙ z)))
-    acquires (acquire.Decide expected) whom Done is f = follows _ whom Done (goes_in (again retries idle) is refl refl f)
+    acquires (acquire.Decide expected) whom Done is f = follows _ whom Done (goes_in (with_retry retries idle) is refl refl f)
     acquires acquire.Check whom (Parked true) is f = let d = parks is true f.0 f.1 in record { needed = d.needed; role = d.role }
     acquires acquire.Check whom (Parked false) is f = let d = parks is false f.0 f.1 in record { needed = d.needed; role = d.role }
     acquires (acquire.Leave parked) whom Done is f = follows _ whom Done (leaves_section parked (is ∙ leaving parked) f)
       where
-        leaving : (b : Bool) → semaphore_role (Acquire timed retries (acquire.Leave b)) ≡ again (if b then false else retries) inside
+        leaving : (b : Bool) → semaphore_role (Acquire timed retries (acquire.Leave b)) ≡ with_retry (if b then false else retries) inside
         leaving true = refl
         leaving false = refl
     acquires acquire.Asleep whom Late is f = follows _ whom Late (goes_in idle is refl refl f.1)
@@ -160,7 +160,7 @@ module _ (limit : ℕ) (s : Site) (t : ℕ) (h : IsSite (record { sort = Semapho
   looks is seen false = (ends None is, put_same s.role t idle)
 
   attempts : s.role t ≡ idle → (seen : ℕ) (same free : Bool) → (free ≡ true → 1 ≤ free_in limit s)
-      → Does (if same && free then enters else if free then [] else End ∷ []) (in_try (if same && free then Over answer.Yes else if free then At (tries.Decide seen) else Over answer.No))
+      → Does (if same && free then enter_deeds else if free then [] else End ∷ []) (in_try (if same && free then Over answer.Yes else if free then At (tries.Decide seen) else Over answer.No))
   attempts is seen true true some = comes_in false answer.Yes is (some refl)
   attempts is seen true false some = looks is seen false
   attempts is seen false free some = looks is seen free
@@ -174,10 +174,10 @@ module _ (limit : ℕ) (s : Site) (t : ℕ) (h : IsSite (record { sort = Semapho
   -- ---------------------------------------------------------------- releases
 
   -- its permit is given back, by the bit that it saw
-  given_back : s.role t ≡ holder → (b : Bool) → s.parked ≡ b → (after_deed r (Case (Leave Shared)) s t).role t ≡ record idle { wakes = seen_main b }
+  given_back : s.role t ≡ permit_holder → (b : Bool) → s.parked ≡ b → (after_deed r (Case (Leave Shared)) s t).role t ≡ record idle { wakes = seen_main b }
   given_back is b e = put_same s.role t _ ∙ ap (shares_less Semaphore s) is ∙ ap (λ (q : Bool). record idle { wakes = seen_main q }) e
 
-  gives : s.role t ≡ holder → (b : Bool) → s.parked ≡ b
+  gives : s.role t ≡ permit_holder → (b : Bool) → s.parked ≡ b
       → Does (Case (Leave Shared) ∷ (if b then [] else End ∷ [])) (in_release (if b then At release.Enter else Over answer.Ok))
   gives is true e = (((holds is, ap (λ (d : Role). d.wakes) is), tt), given_back is true e)
   gives is false e = let d = given_back is false e in (
@@ -187,7 +187,7 @@ module _ (limit : ℕ) (s : Site) (t : ℕ) (h : IsSite (record { sort = Semapho
 
   -- it takes the first waiter, if there is one
   takes_first : (d : Role) → s.role t ≡ d → d.inside ≡ Some Main → d.carries ≡ false → d.wakes ≡ Some Main → (whom : Option ℕ) (any none_left : Bool) → TakesFirst s whom any none_left → HasTakenNobody s.lock t
-      → AllNeeded r (takes whom) s t × ((after_all r (takes whom) s t).role t ≡ record d { wakes = None; carries = true; covers = true; empty = found Main none_left })
+      → AllNeeded r (take_deeds whom) s t × ((after_all r (take_deeds whom) s t).role t ≡ record d { wakes = None; carries = true; covers = true; empty = found Main none_left })
   takes_first d is i c w None any none_left f nobody =
       let e : s.lock.queue ≡ [] = nobody_first s.lock.queue (sym f.first) in
       let left : none_left ≡ true = f.left ∙ ap (λ q. is_empty (drop 1 q)) e in (

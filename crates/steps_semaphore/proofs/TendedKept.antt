@@ -17,7 +17,7 @@ use Rattle.spec_locks.proofs.PermitKeeps.{permits_kept, looked_after}
 use Rattle.spec_locks.specs.Deeds.{AllNeeded, after_all}
 use Rattle.steps_semaphore.specs.SemaphoreDeeds.{semaphore_deeds}
 use Rattle.steps_semaphore.specs.SemaphoreLaws.{IsAt}
-use Rattle.steps_semaphore.specs.Tended.{semaphore, IsTended, NewOnesAreTended, NobodyIsForgotten, StepsKeepTended, TellsTrue, WordsTellTrue}
+use Rattle.steps_semaphore.specs.Tended.{semaphore, IsTended, NewOnesAreTended, NobodyIsForgotten, StepsKeepTended, TellsPermitsTrue, SemaphoreWordsTellTrue}
 use Rattle.steps_semaphore.proofs.SemaphoreFit.{semaphore_steps_follow}
 
 module _ (permits : ℕ) (s : Site) (t : ℕ) (lt : t < length s.lock.shared) (h : IsTended permits s) where
@@ -132,10 +132,10 @@ steps_keep_tended permits s t p whom told small h lt is hears =
     let at : IsAt (semaphore permits) s t p = record { sort = refl; small = small; site = h.site; few = h.few; here = lt; role = is } in
     all_keep permits (semaphore_deeds p whom told) s t lt h (semaphore_steps_follow (semaphore permits) s t p whom told at hears).needed
 
-pub words_tell : WordsTellTrue
+pub words_tell : SemaphoreWordsTellTrue
 words_tell permits s h = by_bit s.parked refl
   where
-    by_bit : (p : Bool) → s.parked ≡ p → TellsTrue permits s
+    by_bit : (p : Bool) → s.parked ≡ p → TellsPermitsTrue permits s
     by_bit p e = record {
       all = let f = h.few in let k = few p in let g = ap bit e in omega arith;
       parked = parity s.parked;

@@ -16,12 +16,12 @@ use Rattle.steps_semaphore.specs.declared.places.SemaphorePlace.{SemaphorePlace}
 use Rattle.steps_semaphore.specs.declared.places.SemaphorePlace.TheVariants.{Acquire, Try, Release}
 use Rattle.steps_semaphore.specs.SemaphoreSteps.{is_free}
 
-abbrev pub enters : List Deed
-enters = Case (Enter Shared) ∷ End ∷ []
+abbrev pub enter_deeds : List Deed
+enter_deeds = Case (Enter Shared) ∷ End ∷ []
 
 abbrev pub acquire_deeds : AcquireAt → Reply → List Deed
 acquire_deeds (acquire.Decide expected) (Value seen) =
-    if not (seen == expected) then [] else if is_free seen then enters else Mark Main ∷ []
+    if not (seen == expected) then [] else if is_free seen then enter_deeds else Mark Main ∷ []
 acquire_deeds (acquire.Decide expected) Done = In Main ∷ []
 acquire_deeds acquire.Check (Parked true) = Case (Park Shared) ∷ []
 acquire_deeds (acquire.Leave parked) Done = Out ∷ []
@@ -38,22 +38,22 @@ looked_deeds seen = if is_free seen then [] else End ∷ []
 abbrev pub try_deeds : TryAt → Reply → List Deed
 try_deeds tries.Load (Value seen) = looked_deeds seen
 try_deeds (tries.Decide expected) (Value seen) =
-    if (seen == expected) && is_free seen then enters else looked_deeds seen
+    if (seen == expected) && is_free seen then enter_deeds else looked_deeds seen
 try_deeds at reply = []
 
 abbrev pub queued : ℕ → Queued
 queued u = record { thread = u; want = Shared }
 
-abbrev pub takes : Option ℕ → List Deed
-takes None = FindNobody Main ∷ []
-takes (Some u) = Case (TakeFirst (queued u)) ∷ []
+abbrev pub take_deeds : Option ℕ → List Deed
+take_deeds None = FindNobody Main ∷ []
+take_deeds (Some u) = Case (TakeFirst (queued u)) ∷ []
 
 -- the thread that is taken, if any, is no part of a place: `whom`
 abbrev pub release_deeds : ReleaseAt → Option ℕ → Reply → List Deed
 release_deeds release.Add whom (Value seen) =
     Case (Leave Shared) ∷ (if has_parked seen then [] else End ∷ [])
 release_deeds release.Enter whom Done = In Main ∷ []
-release_deeds release.Take whom (Took any none_left) = takes whom
+release_deeds release.Take whom (Took any none_left) = take_deeds whom
 release_deeds (release.Clear any) whom (Value seen) = Clear Main ∷ []
 release_deeds (release.Leave any) whom Done = Out ∷ []
 release_deeds at whom reply = []

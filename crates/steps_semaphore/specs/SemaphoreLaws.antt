@@ -9,7 +9,7 @@ use Rattle.steps_base.specs.declared.acts.Next.TheVariants as next
 use Rattle.steps_base.specs.declared.acts.Reply.{Reply}
 use Rattle.steps_base.specs.declared.acts.Reply.TheVariants.{Done, Value, Parked, Took, Removed, Late}
 use Rattle.steps_base.specs.Calls.{CallFollows}
-use Rattle.steps_base.specs.Moves.{IsFree, StandsAlone}
+use Rattle.steps_base.specs.Moves.{IsSectionFree, StandsAlone}
 use Rattle.steps_base.specs.Owners.{shares_then}
 use Rattle.steps_base.specs.Profiles.{Profile}
 use Rattle.steps_base.specs.Rows.{RowPromises}
@@ -59,11 +59,11 @@ pub record TakesFirst (s : Site) (whom : Option ℕ) (any none_left : Bool) : Ty
 abbrev pub MayHearAcquiring : Rules → Site → ℕ → Bool → AcquireAt → Reply → Type 0
 MayHearAcquiring r s t timed acquire.Load (Value seen) = seen ≡ code r s
 MayHearAcquiring r s t timed (acquire.Decide expected) (Value seen) = seen ≡ code r s
-MayHearAcquiring r s t timed (acquire.Decide expected) Done = IsFree s Main
+MayHearAcquiring r s t timed (acquire.Decide expected) Done = IsSectionFree s Main
 MayHearAcquiring r s t timed acquire.Check (Parked parked) =
     (parked ≡ (code r s == 1)) × (standing t s.lock ≡ 0)
 MayHearAcquiring r s t timed (acquire.Leave parked) Done = s.lock.taken t ≡ None
-MayHearAcquiring r s t timed acquire.Asleep Late = (timed ≡ true) × IsFree s Main
+MayHearAcquiring r s t timed acquire.Asleep Late = (timed ≡ true) × IsSectionFree s Main
 MayHearAcquiring r s t timed acquire.Remove (Removed none_left) =
     (timed ≡ true) × StandsAlone s t Main none_left
 MayHearAcquiring r s t timed acquire.Clear (Value seen) = seen ≡ code r s
@@ -77,7 +77,7 @@ MayHearTrying r s at told = ⊥
 
 abbrev pub MayHearReleasing : Rules → Site → ℕ → ReleaseAt → Option ℕ → Reply → Type 0
 MayHearReleasing r s t release.Add whom (Value seen) = seen ≡ code r s
-MayHearReleasing r s t release.Enter whom Done = IsFree s Main
+MayHearReleasing r s t release.Enter whom Done = IsSectionFree s Main
 MayHearReleasing r s t release.Take whom (Took any none_left) =
     TakesFirst s whom any none_left × HasTakenNobody s.lock t
 MayHearReleasing r s t (release.Clear any) whom (Value seen) = seen ≡ code r s

@@ -2,7 +2,7 @@
 use Rattle.std.specs.Prelude.{ℕ, Bool, true, false, Option, Some, None, if◌then◌else◌}
 use Rattle.core_base.specs.declared.wants.Want.{Want}
 use Rattle.core_base.specs.declared.wants.Want.TheVariants.{Shared}
-use Rattle.steps_base.specs.Profiles.{hand, hand_owner, in_hand, in_line, Profile, blank}
+use Rattle.steps_base.specs.Profiles.{hand, hand_owner, in_hand, in_line, Profile, blank_row}
 use Rattle.spec_locks.specs.Locks.{Rights}
 use Rattle.spec_locks.specs.Purposes.{Enters, Releases}
 use Rattle.spec_locks.specs.declared.calls.Patience.{Patience}
@@ -18,8 +18,8 @@ use Rattle.steps_semaphore.specs.declared.places.SemaphorePlace.TheVariants.{Acq
 
 -- ---------------------------------------------------------------- the role of a thread at the lock
 
-abbrev pub holder : Role
-holder = record idle { claims = Some (Has Shared) }
+abbrev pub permit_holder : Role
+permit_holder = record idle { claims = Some (Has Shared) }
 
 abbrev pub inside : Role
 inside = record idle { inside = Some Main }
@@ -27,8 +27,8 @@ inside = record idle { inside = Some Main }
 abbrev pub carrying : Role
 carrying = record inside { carries = true; covers = true }
 
-abbrev pub again : Bool → Role → Role
-again retries d = record d { retries = if retries then Some Shared else None }
+abbrev pub with_retry : Bool → Role → Role
+with_retry retries d = record d { retries = if retries then Some Shared else None }
 
 -- ---------------------------------------------------------------- waiters for a permit
 
@@ -40,24 +40,24 @@ abbrev pub late_row : Profile → Profile
 late_row row = record row { owes = Some Main; late = true }
 
 abbrev pub acquire_row : Bool → Bool → AcquireAt → Profile
-acquire_row timed retries acquire.Load = record blank { role = again retries idle }
-acquire_row timed retries (acquire.Decide seen) = record blank { role = again retries idle }
+acquire_row timed retries acquire.Load = record blank_row { role = with_retry retries idle }
+acquire_row timed retries (acquire.Decide seen) = record blank_row { role = with_retry retries idle }
 acquire_row timed retries acquire.Check =
-    record blank { role = again retries inside; owes = Some Main }
+    record blank_row { role = with_retry retries inside; owes = Some Main }
 acquire_row timed retries (acquire.Leave parked) =
-    record blank {
-      role = again (if parked then false else retries) inside;
+    record blank_row {
+      role = with_retry (if parked then false else retries) inside;
       stands = in_line parked Main;
       owes = Some Main;
     }
 acquire_row timed retries acquire.Asleep =
-    record blank { stands = Some Main; late_line = in_line timed Main }
-acquire_row timed retries (acquire.Taken by) = record blank { hand = hand by false }
+    record blank_row { stands = Some Main; late_line = in_line timed Main }
+acquire_row timed retries (acquire.Taken by) = record blank_row { hand = hand by false }
 acquire_row timed retries acquire.Remove =
-    late_row (record blank { role = inside; stands = Some Main })
+    late_row (record blank_row { role = inside; stands = Some Main })
 acquire_row timed retries acquire.Clear =
-    late_row (record blank { role = record inside { empty = Some Main }; gave_up = true })
-acquire_row timed retries acquire.GiveUp = late_row (record blank { role = inside; gave_up = true })
+    late_row (record blank_row { role = record inside { empty = Some Main }; gave_up = true })
+acquire_row timed retries acquire.GiveUp = late_row (record blank_row { role = inside; gave_up = true })
 
 abbrev pub acquiring : Bool → Bool → Profile → Profile
 acquiring timed retries row = record row {
@@ -74,20 +74,20 @@ abbrev pub before_release : ℕ → Bool → (ℕ → Rights) → ℕ → Rights
 before_release l released rights = if released then one_more_at l Shared rights else rights
 
 abbrev pub release_row : ReleaseAt → Profile
-release_row release.Add = record blank { role = holder }
+release_row release.Add = record blank_row { role = permit_holder }
 release_row release.Enter =
-    record blank { role = record idle { wakes = Some Main }; owes = Some Main; released = true }
+    record blank_row { role = record idle { wakes = Some Main }; owes = Some Main; released = true }
 release_row release.Take =
-    record blank { role = record inside { wakes = Some Main }; owes = Some Main; released = true }
+    record blank_row { role = record inside { wakes = Some Main }; owes = Some Main; released = true }
 release_row (release.Clear any) =
-    record blank {
+    record blank_row {
       role = record carrying { empty = Some Main };
       carries = in_hand any false;
       owes = Some Main;
       released = true;
     }
 release_row (release.Leave any) =
-    record blank {
+    record blank_row {
       role = carrying;
       carries = in_hand any false;
       owes = Some Main;
@@ -105,7 +105,7 @@ releasing row = record row {
 abbrev pub semaphore_profile : SemaphorePlace → Profile
 semaphore_profile (Acquire timed retries at) =
     acquiring timed retries (acquire_row timed retries at)
-semaphore_profile (Try at) = record blank { purpose = λ l. Enters l Shared OnlyTry }
+semaphore_profile (Try at) = record blank_row { purpose = λ l. Enters l Shared OnlyTry }
 semaphore_profile (Release at) = releasing (release_row at)
 
 -- the thread that took this one and has not left its section yet

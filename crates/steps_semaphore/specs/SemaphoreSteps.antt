@@ -166,16 +166,16 @@ semaphore_looking at = None
 -- ---------------------------------------------------------------- holders of permits
 
 -- an exchange that found a free permit, as it expected, took it
-abbrev pub taken_by : ℕ → ℕ → ℕ → Option ℕ
-taken_by expected seen shares =
+abbrev pub permits_taken : ℕ → ℕ → ℕ → Option ℕ
+permits_taken expected seen shares =
     if (seen == expected) && is_free seen then Some (apply (op.Add 1) shares) else None
 
 abbrev pub acquire_shares : AcquireAt → ℕ → ℕ → Option ℕ
-acquire_shares (acquire.Decide expected) seen shares = taken_by expected seen shares
+acquire_shares (acquire.Decide expected) seen shares = permits_taken expected seen shares
 acquire_shares at seen shares = None
 
 abbrev pub try_shares : TryAt → ℕ → ℕ → Option ℕ
-try_shares (tries.Decide expected) seen shares = taken_by expected seen shares
+try_shares (tries.Decide expected) seen shares = permits_taken expected seen shares
 try_shares at seen shares = None
 
 abbrev pub release_shares : ReleaseAt → ℕ → Option ℕ

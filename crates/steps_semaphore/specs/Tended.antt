@@ -6,7 +6,7 @@ use Rattle.spec_locks.specs.Codes.{code, has_parked}
 use Rattle.spec_locks.specs.Deeds.{after_all}
 use Rattle.spec_locks.specs.Locks.{Semaphore, Rules, readers, MayEnter, IsBlocked}
 use Rattle.spec_locks.specs.Permits.{HasPermits}
-use Rattle.spec_locks.specs.Sites.{Site, IsSite, IsDebtor, opening_site}
+use Rattle.spec_locks.specs.Sites.{Site, IsSite, IsDebtorRole, opening_site}
 use Rattle.steps_semaphore.specs.declared.places.SemaphorePlace.{SemaphorePlace}
 use Rattle.steps_semaphore.specs.SemaphoreDeeds.{semaphore_deeds}
 use Rattle.steps_semaphore.specs.SemaphoreLaws.{MayHear, semaphore_role}
@@ -41,10 +41,10 @@ NewOnesAreTended = (permits threads : ℕ) → IsTended permits (opening_site th
 abbrev pub NobodyIsForgotten : Type 0
 NobodyIsForgotten = (permits : ℕ) (s : Site) → IsTended permits s → s.lock.queue ≢ []
     → readers s.lock < permits
-    → (t : ℕ) × IsDebtor Semaphore (s.role t)
+    → (t : ℕ) × IsDebtorRole Semaphore (s.role t)
 
 -- the word as a thread reads it
-pub record TellsTrue (permits : ℕ) (s : Site) : Type 0 where
+pub record TellsPermitsTrue (permits : ℕ) (s : Site) : Type 0 where
   -- the free permits with those held are all permits
   pub all : code (semaphore permits) s / 2 + readers s.lock ≡ permits
   pub parked : has_parked (code (semaphore permits) s) ≡ s.parked
@@ -53,5 +53,5 @@ pub record TellsTrue (permits : ℕ) (s : Site) : Type 0 where
   -- and no word passes its range
   pub small : permits ≤ 2 ^ 62 → code (semaphore permits) s < 2 ^ 64
 
-abbrev pub WordsTellTrue : Type 0
-WordsTellTrue = (permits : ℕ) (s : Site) → IsTended permits s → TellsTrue permits s
+abbrev pub SemaphoreWordsTellTrue : Type 0
+SemaphoreWordsTellTrue = (permits : ℕ) (s : Site) → IsTended permits s → TellsPermitsTrue permits s

@@ -1,6 +1,6 @@
 //! The laws of the steps of a semaphore.
 ghost use Rattle.steps_semaphore.specs.SemaphoreLaws.{SemaphoreRowsKeep, SemaphoreStepsCode, SemaphoreStepsFollow, SemaphoreStepsTell};
-ghost use Rattle.steps_semaphore.specs.Tended.{NewOnesAreTended, NobodyIsForgotten, StepsKeepTended, WordsTellTrue};
+ghost use Rattle.steps_semaphore.specs.Tended.{NewOnesAreTended, NobodyIsForgotten, StepsKeepTended, SemaphoreWordsTellTrue};
 
 /// Each step of a semaphore may do to it what its deeds say, and its next place says what the
 /// thread does then.
@@ -43,5 +43,5 @@ pub fn nobody_is_forgotten()
 
 /// The word of a semaphore tells a thread the truth.
 pub fn semaphore_words_tell_true()
-    ensures { WordsTellTrue }
+    ensures { SemaphoreWordsTellTrue }
 {}

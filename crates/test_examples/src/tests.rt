@@ -22,12 +22,12 @@ use std::time::Duration;
 
 // Asserts that the thing found is the thing wanted. All tests share this one assertion, since each
 // is proved where it stands.
-fn same<T: PartialEq + Debug + Drop>(rt: &impl Abort, found: T, wanted: T) {
+fn check_eq<T: PartialEq + Debug + Drop>(rt: &impl Abort, found: T, wanted: T) {
     assert_eq!(rt; found, wanted);
 }
 
 // Asserts that a condition holds.
-fn holds(rt: &impl Abort, truth: bool) {
+fn check(rt: &impl Abort, truth: bool) {
     assert!(rt; truth);
 }
 
@@ -55,7 +55,7 @@ fn a_shared_counter(rt: HostRuntime) -> Result<(), Fail> {
             });
         },
     )?;
-    same(&rt, total.into_inner(), 2000);
+    check_eq(&rt, total.into_inner(), 2000);
     Ok(())
 }
 
@@ -79,7 +79,7 @@ fn a_workers_queue(rt: HostRuntime) -> Result<(), Fail> {
     let jobs = [1u32, 2, 3, 4, 5, 6].to_vec(rt.alloc())?;
     let jobs = Mutex::new(team.lot(), &mut token, jobs)?;
     let done = team.run(&rt, &|token: &mut Token| work(&rt, &jobs, token))?;
-    same(&rt, sum_of(&done), 21);
+    check_eq(&rt, sum_of(&done), 21);
     Ok(())
 }
 
@@ -109,7 +109,7 @@ fn a_timed_try(rt: HostRuntime) -> Result<(), Fail> {
         &|token: &mut Token| add_soon(&rt, &counter, token, &clock),
     );
     guard.unlock(&rt, &mut token);
-    holds(&rt, all_are(&beside?, &false));
-    holds(&rt, add_soon(&rt, &counter, &mut token, &clock));
+    check(&rt, all_are(&beside?, &false));
+    check(&rt, add_soon(&rt, &counter, &mut token, &clock));
     Ok(())
 }

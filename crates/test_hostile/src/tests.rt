@@ -9,6 +9,6 @@ use std::process::Abort;
 
 // Compares what was found with what was wanted. All tests share this one assertion, since each is
 // proved where it stands.
-fn same<T: PartialEq + Debug + Drop>(rt: &impl Abort, found: T, wanted: T) {
+fn check_eq<T: PartialEq + Debug + Drop>(rt: &impl Abort, found: T, wanted: T) {
     assert_eq!(rt; found, wanted);
 }

@@ -16,7 +16,7 @@ use std::sync::Arc;
 
 // Asserts that the thing found is the thing wanted. All tests share this one assertion, since each
 // is proved where it stands.
-fn same<T: PartialEq + Debug + Drop>(rt: &impl Abort, found: T, wanted: T) {
+fn check_eq<T: PartialEq + Debug + Drop>(rt: &impl Abort, found: T, wanted: T) {
     assert_eq!(rt; found, wanted);
 }
 

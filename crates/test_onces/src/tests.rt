@@ -20,12 +20,12 @@ use std::sync::{Arc, Wait};
 
 /// Asserts that the thing found is the thing wanted. The tests share this one assertion, since each
 /// is proved where it stands.
-fn same<T: PartialEq + Debug + Drop>(rt: &impl Abort, found: T, wanted: T) {
+fn check_eq<T: PartialEq + Debug + Drop>(rt: &impl Abort, found: T, wanted: T) {
     assert_eq!(rt; found, wanted);
 }
 
 /// The same of what is true.
-fn holds(rt: &impl Abort, truth: bool) {
+fn check(rt: &impl Abort, truth: bool) {
     assert!(rt; truth);
 }
 
@@ -120,7 +120,7 @@ fn answers<R: Wait + Abort>(
     requires { IsTokenOf (lot_of once.now) token.old }
     ensures { IsTokenOf (lot_of once.now) token.new }
 {
-    same(rt, count_run(rt, once, token, runs), wanted);
+    check_eq(rt, count_run(rt, once, token, runs), wanted);
 }
 
 // It stands as it was wanted to, and tells so by both calls that look.
@@ -128,8 +128,8 @@ fn stands(rt: &impl Abort, once: &Once, token: &mut Token, wanted: OnceState)
     requires { IsTokenOf (lot_of once.now) token.old }
     ensures { IsTokenOf (lot_of once.now) token.new }
 {
-    same(rt, once.state(token), wanted);
-    same(rt, once.is_completed(token), wanted == OnceState::Done);
+    check_eq(rt, once.state(token), wanted);
+    check_eq(rt, once.is_completed(token), wanted == OnceState::Done);
 }
 
 #[test]
@@ -140,10 +140,10 @@ fn who_calls_first_runs(rt: HostRuntime) {
     answers(&rt, &once, &mut token, &runs, "ok");
     stands(&rt, &once, &mut token, OnceState::Done);
     answers(&rt, &once, &mut token, &runs, "ok");
-    holds(&rt, once.wait(&rt, &mut token).is_ok());
+    check(&rt, once.wait(&rt, &mut token).is_ok());
     once.wait_force(&rt, &mut token);
     stands(&rt, &once, &mut token, OnceState::Done);
-    same(&rt, runs.load(SeqCst), 1);
+    check_eq(&rt, runs.load(SeqCst), 1);
 }
 
 #[test]
@@ -155,7 +155,7 @@ fn what_is_made_done_runs_nothing(rt: HostRuntime) {
     let runs = AtomicUsize::new(0);
     stands(&rt, &once, &mut token, OnceState::Done);
     answers(&rt, &once, &mut token, &runs, "ok");
-    same(&rt, runs.load(SeqCst), 0);
+    check_eq(&rt, runs.load(SeqCst), 0);
 }
 
 // Its closure fails.
@@ -187,17 +187,17 @@ fn a_failed_run_poisons(rt: HostRuntime) {
     let (once, mut token) = once_alone(&rt, rt.alloc());
     let runs = AtomicUsize::new(0);
     let poisoned = AtomicBool::new(false);
-    same(&rt, fail(&rt, &once, &mut token), "failed");
+    check_eq(&rt, fail(&rt, &once, &mut token), "failed");
     stands(&rt, &once, &mut token, OnceState::Poisoned);
     answers(&rt, &once, &mut token, &runs, "poisoned");
-    same(&rt, runs.load(SeqCst), 0);
-    holds(
+    check_eq(&rt, runs.load(SeqCst), 0);
+    check(
         &rt,
         matches!(once.wait(&rt, &mut token), Err(Fault::Poisoned)),
     );
-    same(&rt, mend(&rt, &once, &mut token, &poisoned), "ok");
-    holds(&rt, poisoned.load(SeqCst));
+    check_eq(&rt, mend(&rt, &once, &mut token, &poisoned), "ok");
+    check(&rt, poisoned.load(SeqCst));
     stands(&rt, &once, &mut token, OnceState::Done);
     answers(&rt, &once, &mut token, &runs, "ok");
-    same(&rt, runs.load(SeqCst), 0);
+    check_eq(&rt, runs.load(SeqCst), 0);
 }

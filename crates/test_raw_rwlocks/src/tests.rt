@@ -20,7 +20,7 @@ use std::sync::Wait;
 use std::test::Fail;
 
 // Asserts that a condition holds.
-fn holds(rt: &impl Abort, truth: bool) {
+fn check(rt: &impl Abort, truth: bool) {
     assert!(rt; truth);
 }
 
@@ -295,8 +295,8 @@ fn sees_all<const RECURSIVE: bool>(rt: &impl Wait, alloc: Global) -> Result<bool
 
 #[test]
 fn rights_keep_out_whom_they_are_to(rt: HostRuntime) -> Result<(), Fail> {
-    holds(&rt, sees_all::<false>(&rt, rt.alloc())?);
-    holds(&rt, sees_all::<true>(&rt, rt.alloc())?);
+    check(&rt, sees_all::<false>(&rt, rt.alloc())?);
+    check(&rt, sees_all::<true>(&rt, rt.alloc())?);
     Ok(())
 }
 
@@ -339,7 +339,7 @@ fn fills<R: Wait>(rt: &R, lock: &RawRwLock<false>, token: &mut Token) -> bool
 #[test]
 fn a_full_lock_refuses_readers(rt: HostRuntime) -> Result<(), Fail> {
     let (lock, mut token) = lock_alone(rt.alloc(), 2)?;
-    holds(&rt, fills(&rt, &lock, &mut token));
-    holds(&rt, look(&rt, &lock, &mut token) == FREE);
+    check(&rt, fills(&rt, &lock, &mut token));
+    check(&rt, look(&rt, &lock, &mut token) == FREE);
     Ok(())
 }

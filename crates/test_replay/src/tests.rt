@@ -21,12 +21,12 @@ use std::test::Fail;
 
 // Asserts that the thing found is the thing wanted. All tests share this one assertion, since each
 // is proved where it stands.
-fn same<T: PartialEq + Debug + Drop>(rt: &impl Abort, found: T, wanted: T) {
+fn check_eq<T: PartialEq + Debug + Drop>(rt: &impl Abort, found: T, wanted: T) {
     assert_eq!(rt; found, wanted);
 }
 
 // Asserts that a condition holds.
-fn holds(rt: &impl Abort, truth: bool) {
+fn check(rt: &impl Abort, truth: bool) {
     assert!(rt; truth);
 }
 
@@ -66,8 +66,8 @@ fn leads_both_to(rt: &impl Abort, alloc: Global, input: &[u8], text: &[u8], stat
 /// An input leads to this text, and to this status.
 fn leads_to(rt: &impl Abort, replayed: (Vec<u8>, u8), text: &[u8], status: u8) {
     let (told, ended) = replayed;
-    same(rt, told.as_slice(), text);
-    same(rt, ended, status);
+    check_eq(rt, told.as_slice(), text);
+    check_eq(rt, ended, status);
 }
 
 /// Each schedule of a table leads to its text and its status, over each kind of queues.
@@ -81,8 +81,8 @@ fn answers(rt: &impl Abort, alloc: Global, table: &[Schedule]) {
 fn answers_over<Q: Queues + Drop>(rt: &impl Abort, alloc: Global, schedule: &Schedule) {
     let name = schedule.name;
     let (text, status) = replayed_over::<Q, _>(alloc, schedule.lines);
-    same(rt, (name, text.as_slice()), (name, schedule.told));
-    same(rt, (name, status), (name, schedule.status));
+    check_eq(rt, (name, text.as_slice()), (name, schedule.told));
+    check_eq(rt, (name, status), (name, schedule.status));
 }
 
 #[test]
@@ -137,8 +137,8 @@ fn reads_pieces(rt: HostRuntime) {
     for schedule in MUTEXES.iter() {
         for len in [1, 2, 3, 127, 128, 129, 130] {
             let (text, ended) = replayed_in_pieces(rt.alloc(), schedule.lines, len, false);
-            same(&rt, (len, ended), (len, schedule.status));
-            same(&rt, (len, text.as_slice()), (len, schedule.told));
+            check_eq(&rt, (len, ended), (len, schedule.status));
+            check_eq(&rt, (len, text.as_slice()), (len, schedule.told));
         }
     }
 }
@@ -269,8 +269,8 @@ fn runs_over<Q: Queues + Drop>(rt: &impl Abort, alloc: Global) -> Result<(), Fai
     let tries = begin(MutexCall::TryLock);
     let steps = [tries, GO, tries, GO, begin(MutexCall::Unlock), GO];
     let mut outcomes = Vec::new(alloc);
-    same(rt, world.run(&steps, &mut outcomes), Ok(()));
-    same(rt, outcomes.as_slice(), TOLD);
+    check_eq(rt, world.run(&steps, &mut outcomes), Ok(()));
+    check_eq(rt, outcomes.as_slice(), TOLD);
     Ok(())
 }
 
@@ -315,8 +315,8 @@ fn a_failing_write_leaves_a_beginning(rt: HostRuntime) -> Result<(), Fail> {
         let beginning = shown.as_bytes().get(..*room);
         for refusal in [Refusal::Fails, Refusal::TakesNothing] {
             let (text, status) = replayed_into(rt.alloc(), input.as_bytes(), *room, refusal);
-            same(&rt, (*room, refusal, status), (*room, refusal, 4));
-            same(&rt, (*room, Some(text.as_slice())), (*room, beginning));
+            check_eq(&rt, (*room, refusal, status), (*room, refusal, 4));
+            check_eq(&rt, (*room, Some(text.as_slice())), (*room, beginning));
         }
     }
     Ok(())
@@ -354,8 +354,8 @@ fn tells_the_usage(rt: HostRuntime) {
             &mut errors,
         );
         let usage = b"usage: lotsim replay | lotsim live\n".as_slice();
-        same(&rt, (*args, errors.as_slice()), (*args, usage));
-        same(&rt, (*args, text.as_slice()), (*args, b"".as_slice()));
-        same(&rt, (*args, status), (*args, 2));
+        check_eq(&rt, (*args, errors.as_slice()), (*args, usage));
+        check_eq(&rt, (*args, text.as_slice()), (*args, b"".as_slice()));
+        check_eq(&rt, (*args, status), (*args, 2));
     }
 }

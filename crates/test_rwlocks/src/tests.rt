@@ -42,12 +42,12 @@ type Writer<'l, const RECURSIVE: bool> = lock_api_rw::RwLockWriteGuard<
 
 // Asserts that the thing found is the thing wanted. All tests share this one assertion, since each
 // is proved where it stands.
-fn same<T: PartialEq + Debug + Drop>(rt: &impl Abort, found: T, wanted: T) {
+fn check_eq<T: PartialEq + Debug + Drop>(rt: &impl Abort, found: T, wanted: T) {
     assert_eq!(rt; found, wanted);
 }
 
 // Asserts that a condition holds.
-fn holds(rt: &impl Abort, truth: bool) {
+fn check(rt: &impl Abort, truth: bool) {
     assert!(rt; truth);
 }
 
@@ -250,10 +250,10 @@ fn replace<const RECURSIVE: bool, R: Wait>(
 #[test]
 fn what_was_written_is_read(rt: HostRuntime) {
     let (mut lock, mut token) = lock_alone::<false, HostRuntime>(&rt, rt.alloc(), 5, false);
-    same(&rt, replace(&rt, &lock, &mut token, 7), 5);
-    same(&rt, value_of(&rt, &lock, &mut token), Some(7));
+    check_eq(&rt, replace(&rt, &lock, &mut token, 7), 5);
+    check_eq(&rt, value_of(&rt, &lock, &mut token), Some(7));
     *lock.get_mut() = 20;
-    same(&rt, lock.into_inner(), 20);
+    check_eq(&rt, lock.into_inner(), 20);
 }
 
 // Whether a try to read comes in.
@@ -348,7 +348,7 @@ const SEEN: [[bool; 3]; 4] = [
 #[test]
 fn a_downgrade_lets_more_in(rt: HostRuntime) {
     let (lock, mut token) = lock_alone::<false, HostRuntime>(&rt, rt.alloc(), 0, false);
-    same(&rt, tries_beside(&rt, &lock, &mut token), SEEN);
+    check_eq(&rt, tries_beside(&rt, &lock, &mut token), SEEN);
 }
 
 // Waits to write beside a reader, whose guard comes back. It gives up in time: that a writer came
@@ -385,5 +385,5 @@ fn reads_again<R: Wait>(rt: &R, lock: &Lock<true>, token: &mut Token) -> bool
 #[test]
 fn a_reader_of_a_recursive_lock_reads_again(rt: HostRuntime) {
     let (lock, mut token) = lock_alone::<true, HostRuntime>(&rt, rt.alloc(), 3, false);
-    holds(&rt, reads_again(&rt, &lock, &mut token));
+    check(&rt, reads_again(&rt, &lock, &mut token));
 }

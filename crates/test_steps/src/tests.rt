@@ -13,16 +13,16 @@ use steps_base::Next;
 
 // Asserts that the thing found is the thing wanted. All tests share this one assertion, since each
 // is proved where it stands.
-fn same<T: PartialEq + Debug + Drop>(rt: &impl Abort, found: T, wanted: T) {
+fn check_eq<T: PartialEq + Debug + Drop>(rt: &impl Abort, found: T, wanted: T) {
     assert_eq!(rt; found, wanted);
 }
 
 // Asserts that a condition holds.
-fn holds(rt: &impl Abort, truth: bool) {
+fn check(rt: &impl Abort, truth: bool) {
     assert!(rt; truth);
 }
 
 // A call ends so.
 fn ends_as<P>(rt: &impl Abort, next: &Next<P>, answer: Answer) {
-    holds(rt, matches!(next, Next::End(found) if *found == answer));
+    check(rt, matches!(next, Next::End(found) if *found == answer));
 }

@@ -12,11 +12,11 @@ use std::process::Abort;
 
 // Asserts that the thing found is the thing wanted. All tests share this one assertion, since each
 // is proved where it stands.
-fn same<T: PartialEq + Debug + Drop>(rt: &impl Abort, found: T, wanted: T) {
+fn check_eq<T: PartialEq + Debug + Drop>(rt: &impl Abort, found: T, wanted: T) {
     assert_eq!(rt; found, wanted);
 }
 
 // Asserts that a condition holds.
-fn holds(rt: &impl Abort, truth: bool) {
+fn check(rt: &impl Abort, truth: bool) {
     assert!(rt; truth);
 }

@@ -41,7 +41,7 @@ use Rattle.spec_locks.specs.Codes.{has_aside}
 use Rattle.lot_steps.specs.declared.places.Place.{Place}
 use Rattle.lot_steps.specs.declared.places.Place.TheVariants.{Idle, RwLock}
 use Rattle.lot_steps.specs.Steps.{act_of, next_act, next_place, rwlock_does, rwlock_goes, shares_after}
-use Rattle.lot_machine.specs.Machine.{Alone as Ran, State, state_after_operation, after, alone_after, can_do, can_go, go_of, go_outcome, held, is_possible, owners_at, place_at, put, queue_at, queues_with_last, reply_to, runs_closure, solo, state_after_act, state_after_go, step_outcome, word_at, going_outcome, state_after_going, kind_at}
+use Rattle.lot_machine.specs.Machine.{SoloEnd as Ran, State, state_after_operation, after, alone_after, can_do, can_go, go_of, go_outcome, held, is_possible, owners_at, place_at, put, queue_at, queues_with_last, reply_to, runs_closure, solo, state_after_act, state_after_go, step_outcome, word_at, going_outcome, state_after_going, kind_at}
 use Rattle.lot_machine.specs.Fits.{IsWellFormed, SameSize, IsOfItsKind}
 use Rattle.lot_machine.proofs.Shape.{after_shaped, after_size, performed_counts, put_shaped}
 use Rattle.lot_laws.proofs.calls.OwnPlace.{goes_from_there, told_from_there}

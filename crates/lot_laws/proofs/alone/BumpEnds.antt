@@ -34,7 +34,7 @@ use Rattle.spec_locks.proofs.Seen.{packed_writer}
 use Rattle.spec_locks.proofs.SiteFacts.{fewer_share}
 use Rattle.lot_steps.specs.declared.places.Place.TheVariants.{RwLock}
 use Rattle.lot_steps.specs.Steps.{act_of}
-use Rattle.lot_machine.specs.Machine.{Alone as Ran, State, after, after_steps, alone_after, go_of, place_at, queue_at, section_at, solo, step_outcome, step_outcomes, word_at}
+use Rattle.lot_machine.specs.Machine.{SoloEnd as Ran, State, after, after_steps, alone_after, go_of, place_at, queue_at, section_at, solo, step_outcome, step_outcomes, word_at}
 use Rattle.lot_laws.specs.Refinement.{call_at, call_state, lock_state, locks_of}
 use Rattle.lot_laws.specs.SitesOf.{IsInductive, IsWorld, key_of, rules_in, site_of}
 use Rattle.lot_laws.specs.Locations.{role_on}

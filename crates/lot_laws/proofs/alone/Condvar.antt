@@ -14,7 +14,7 @@ use Rattle.steps_base.specs.Acts.{outcome_of}
 use Rattle.steps_base.specs.Locations.{Location, location_by}
 use Rattle.steps_condvar.specs.declared.places.CondvarPlace.{CondvarPlace}
 use Rattle.steps_condvar.specs.CondvarCalls.{IsReached}
-use Rattle.steps_condvar.specs.CondvarDeeds.{MayHear, after_all, condvar_deeds}
+use Rattle.steps_condvar.specs.CondvarDeeds.{MayHear, after_condvar_deeds, condvar_deeds}
 use Rattle.steps_condvar.specs.CondvarProfiles.{condvar_profile, mutex_side}
 use Rattle.steps_condvar.specs.CondvarSteps.{condvar_act, condvar_next, mutex_beside}
 use Rattle.lot_steps.specs.declared.places.Place.{Place}
@@ -111,7 +111,7 @@ module _ (t l m : ℕ) (keeps : Keeps t) (w : State) (p : CondvarPlace) (g : Goe
     word_then x beside is = so_then (λ s. word_at s m) (λ q. refl) ∙ ap (λ a. word_at (state_after_act w t (Condvar l p) a) m) is
         ∙ ap (λ y. y.word) (get_or-set_same w.locks m _ (unlocked kind.Mutex) (mutex_there beside))
 
-    pub queue_then : (lock_state (after w (go_of t)) l).queue ≡ (after_all (condvar_deeds p told) (condvar_of w l) t).waiters
+    pub queue_then : (lock_state (after w (go_of t)) l).queue ≡ (after_condvar_deeds (condvar_deeds p told) (condvar_of w l) t).waiters
     queue_then = so_then (λ s. (lock_state s l).queue) (λ q. refl) ∙ (goes_led w t l p g.world.shaped g.world.steady g.place lock_there can).1
 
     pub hears : MayHear (condvar_of w l) t p told

@@ -34,7 +34,7 @@ use Rattle.steps_rwlock_fair.specs.declared.hand_over.Taken.{Taken}
 use Rattle.steps_rwlock_fair.specs.declared.hand_over.HandOverAt.{HandOverAt}
 use Rattle.steps_rwlock_fair.specs.declared.hand_over.HandOverAt.TheVariants as handing
 use Rattle.steps_rwlock_fair.specs.declared.handed.HandedAt.TheVariants as handed
-use Rattle.steps_rwlock_fair.specs.FairSteps.{any_taken, bump_next, enters_again, exchange_act, freed_next, gives_up_at, gives_way, has_room, looked, note_of, parked_as, released, with_taken, without}
+use Rattle.steps_rwlock_fair.specs.FairSteps.{any_taken, bump_next, enters_again, exchange_act, freed_next, gives_up_at, gives_way, has_room, looked, note_by, parked_as, released, with_taken, word_without}
 use Rattle.steps_rwlock_fair.specs.FairCalls.{HandsOverAt}
 use Rattle.spec_locks.specs.Codes.{count_in, has_aside, has_parked}
 use Rattle.spec_locks.specs.Purposes.{rules_of}
@@ -143,7 +143,7 @@ module _ (t l : ℕ) (a : Admission) where
 
     leave_rests : (any told : Bool) (v : ℕ) (w : State) (q : Line → List Waiter) → Shares w
         → Alone w (over (handing.Leave any told)) v q → Leads 12 w t (Ends b x w)
-    leave_rests any told v w q shares f = released_rests x b v w q shares (leave_comes w t l _ v q f Main (wakes_taken any (note_of told)) refl)
+    leave_rests any told v w q shares f = released_rests x b v w q shares (leave_comes w t l _ v q f Main (wakes_taken any (note_by told)) refl)
 
     store_rests : (k : Taken) (v : ℕ) (w : State) (q : Line → List Waiter) → Shares w → Alone w (over (handing.Store k)) v q
         → Leads 13 w t (Ends b x w)
@@ -171,17 +171,17 @@ module _ (t l : ℕ) (a : Admission) where
         either true e = record {
           word = _;
           fails = λ g. ap (λ (b : Bool). if b then with_taken x k seen else v) g;
-          comes = hand_comes w t l _ v q f (op.Exchange seen (with_taken x k seen)) (ap (λ r. exchange_as r seen (with_taken x k seen) (parked_as k.none_left (without x seen))) e);
+          comes = hand_comes w t l _ v q f (op.Exchange seen (with_taken x k seen)) (ap (λ r. exchange_as r seen (with_taken x k seen) (parked_as k.none_left (word_without x seen))) e);
         }
         either false e = record {
           word = _;
-          fails = λ g. ap (λ (b : Bool). if b then parked_as k.none_left (without x seen) else v) g;
-          comes = word_comes w t l _ v q f (op.Exchange seen (parked_as k.none_left (without x seen))) (ap (λ r. exchange_as r seen (with_taken x k seen) (parked_as k.none_left (without x seen))) e);
+          fails = λ g. ap (λ (b : Bool). if b then parked_as k.none_left (word_without x seen) else v) g;
+          comes = word_comes w t l _ v q f (op.Exchange seen (parked_as k.none_left (word_without x seen))) (ap (λ r. exchange_as r seen (with_taken x k seen) (parked_as k.none_left (word_without x seen))) e);
         }
 
     -- an act of an exchange is a step
     exchange_steps : (k : Taken) (v : ℕ) → outcome_of (exchange_act l a.limit x k v) ≡ outcome.Step
-    exchange_steps k v = either (has_room a.limit k v) (with_taken x k v) (parked_as k.none_left (without x v))
+    exchange_steps k v = either (has_room a.limit k v) (with_taken x k v) (parked_as k.none_left (word_without x v))
       where
         either : (r : Bool) (y z : ℕ) → outcome_of (exchange_as r v y z) ≡ outcome.Step
         either true y z = refl
@@ -228,8 +228,8 @@ module _ (t l : ℕ) (a : Admission) where
   -- it tries the word as it is
   free_now : (x : Access) (b : Bool) (v : ℕ) (w : State) (q : Line → List Waiter) → Shares w
       → Alone w (HandOver x b (handing.Free v)) v q → Leads 12 w t (Ends b x w)
-  free_now x b v w q shares f = released_rests x b (apply (op.Exchange v (without x v)) v) w q shares
-      (subst (λ r. Comes w t l (rwlock_goes l a (if r then released x b else At (HandOver x b (freed_next x v)))) (outcome_of (rwlock_does l a (if r then released x b else At (HandOver x b (freed_next x v))))) (apply (op.Exchange v (without x v)) v) q) (same v) (word_comes w t l _ v q f (op.Exchange v (without x v)) refl))
+  free_now x b v w q shares f = released_rests x b (apply (op.Exchange v (word_without x v)) v) w q shares
+      (subst (λ r. Comes w t l (rwlock_goes l a (if r then released x b else At (HandOver x b (freed_next x v)))) (outcome_of (rwlock_does l a (if r then released x b else At (HandOver x b (freed_next x v))))) (apply (op.Exchange v (word_without x v)) v) q) (same v) (word_comes w t l _ v q f (op.Exchange v (word_without x v)) refl))
 
   looked_rests : (b : Bool) (v : ℕ) (w : State) (q : Line → List Waiter) → Shares w
       → Comes w t l (RwLock l a (HandOver access.Upgradable b (looked v)))
@@ -250,18 +250,18 @@ module _ (t l : ℕ) (a : Admission) where
 
   free_rests : (x : Access) (b : Bool) (seen v : ℕ) → HandsOverAt x handing.Take → (w : State) (q : Line → List Waiter) → Shares w
       → Alone w (HandOver x b (handing.Free seen)) v q → Leads 17 w t (Ends b x w)
-  free_rests x b seen v fits w q shares f = either x fits (v == seen) refl (word_comes w t l _ v q f (op.Exchange seen (without x seen)) refl)
+  free_rests x b seen v fits w q shares f = either x fits (v == seen) refl (word_comes w t l _ v q f (op.Exchange seen (word_without x seen)) refl)
     where
       either : (x2 : Access) → HandsOverAt x2 handing.Take → (won : Bool) → (v == seen) ≡ won
           → Comes w t l (rwlock_goes l a (if won then released x2 b else At (HandOver x2 b (freed_next x2 v))))
           (outcome_of (rwlock_does l a (if won then released x2 b else At (HandOver x2 b (freed_next x2 v)))))
-          (if v == seen then without x seen else v) q
+          (if v == seen then word_without x seen else v) q
           → Leads 17 w t (Ends b x2 w)
       either x2 fits true e c = leads_more 12 17 w t (Ends b x2 w) (omega arith) (released_rests x2 b _ w q shares c)
       either access.Shared fits false e c = absurd fits
-      either access.Upgradable fits false e c = looked_rests b v w q shares (subst (λ n. Comes w t l (RwLock l a (HandOver access.Upgradable b (looked v))) (outcome_of (rwlock_does l a (At (HandOver access.Upgradable b (looked v))))) n q) (ap (λ (b : Bool). if b then without x seen else v) e) c)
+      either access.Upgradable fits false e c = looked_rests b v w q shares (subst (λ n. Comes w t l (RwLock l a (HandOver access.Upgradable b (looked v))) (outcome_of (rwlock_does l a (At (HandOver access.Upgradable b (looked v))))) n q) (ap (λ (b : Bool). if b then word_without x seen else v) e) c)
       either access.Exclusive fits false e c = goes b access.Exclusive 16 v w q (HandOver access.Exclusive b handing.Enter) outcome.Step shares refl
-          (subst (λ n. Comes w t l (RwLock l a (HandOver access.Exclusive b handing.Enter)) outcome.Step n q) (ap (λ (b : Bool). if b then without x seen else v) e) c) (λ s g. enters_rest access.Exclusive b tt v _ q s g)
+          (subst (λ n. Comes w t l (RwLock l a (HandOver access.Exclusive b handing.Enter)) outcome.Step n q) (ap (λ (b : Bool). if b then word_without x seen else v) e) c) (λ s g. enters_rest access.Exclusive b tt v _ q s g)
 
   pub hands_over_rest : (x : Access) (b : Bool) (to : HandOverAt) → HandsOverAt x to
       → (v : ℕ) (w : State) (q : Line → List Waiter) → Shares w → Alone w (HandOver x b to) v q → Leads 17 w t (Ends b x w)

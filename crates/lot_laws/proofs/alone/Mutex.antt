@@ -31,7 +31,7 @@ use Rattle.lot_steps.specs.Steps.{act_of, next_place, next_act, mutex_goes, mute
 use Rattle.lot_machine.specs.Machine.{State, place_at, word_at, queue_at, go_of, after, owners_handed_over, is_there}
 use Rattle.lot_laws.specs.MutexPromises.{IsMutexWord}
 use Rattle.spec_locks.specs.Sites.{Site}
-use Rattle.lot_laws.specs.MutexDeeds.{acts, takes, queued}
+use Rattle.lot_laws.specs.MutexDeeds.{acts, take_deeds, queued}
 use Rattle.lot_laws.specs.Locations.{Location, hand}
 use Rattle.lot_laws.specs.SitesOf.{IsInductive, Goes, hand_at}
 use Rattle.lot_laws.proofs.promises.ExclusiveOwners.{by_code, mutex_owner_after}
@@ -323,7 +323,7 @@ module _ (t l : ℕ) where
     abbrev taken_then : State
     taken_then = go_by w t (Mutex l taking) (act.TheVariants.Take (2 * l) whoms.TheVariants.First)
 
-    first_held : (whom : Option ℕ) → Goes w taken_then l (acts t (takes whom))
+    first_held : (whom : Option ℕ) → Goes w taken_then l (acts t (take_deeds whom))
         → hand_at (place_at taken_then x.thread) l ≡ hand t false
     first_held None goes = absurd (let none : map queued_of (queue_at w (2 * l)) ≡ [] = goes.follows.needed.0.2 in let some : map queued_of (queue_at w (2 * l)) ≡ queued_of x ∷ map queued_of rest = ap (map queued_of) f.queue in cc)
     first_held (Some u) goes =
@@ -346,7 +346,7 @@ module _ (t l : ℕ) where
         steady_then : IsInductive (after w (go_of t))
         steady_then = here.steady
 
-        goes : (whom : Option ℕ) × Goes w taken_then l (acts t (takes whom))
+        goes : (whom : Option ℕ) × Goes w taken_then l (acts t (take_deeds whom))
         goes = gone_goes w t f.steady f.shape f.thread l taking f.place f.lock refl
 
         held : hand_at (place_at taken_then x.thread) l ≡ hand t false

@@ -15,7 +15,7 @@ use Rattle.steps_mutex.specs.MutexSteps.{is_locked}
 use Rattle.steps_condvar.specs.declared.notify.NotifyAt.{NotifyAt}
 use Rattle.steps_condvar.specs.declared.notify.NotifyAt.TheVariants as notify
 use Rattle.steps_condvar.specs.declared.places.CondvarPlace.TheVariants.{Notify}
-use Rattle.steps_condvar.specs.CondvarDeeds.{MayHear, after_all, condvar_deeds}
+use Rattle.steps_condvar.specs.CondvarDeeds.{MayHear, after_condvar_deeds, condvar_deeds}
 use Rattle.steps_condvar.specs.CondvarSteps.{condvar_next, is_shown, marks, move_act, moved_one, notified, notify_act}
 use Rattle.lot_steps.specs.declared.places.Place.TheVariants.{Condvar}
 use Rattle.spec_locks.specs.Condvars.{SeeAgain, MissIt}
@@ -58,7 +58,7 @@ module _ (t l m : ℕ) (keeps : Keeps t) where
 
     queue_is : (can : can_do w (notify_act all l m at) ≡ true)
         → (lock_state (after w (go_of t)) l).queue
-        ≡ (after_all (condvar_deeds (Notify all m at) (reply_to w t (notify_act all l m at))) (condvar_of w l) t).waiters
+        ≡ (after_condvar_deeds (condvar_deeds (Notify all m at) (reply_to w t (notify_act all l m at))) (condvar_of w l) t).waiters
     queue_is can = queue_then t l m keeps w (Notify all m at) g can
 
   move_steps : (all locked : Bool) → outcome_of (move_act all locked l m) ≡ outcome.Step
@@ -169,7 +169,7 @@ module _ (t l m : ℕ) (keeps : Keeps t) where
     sees w shown e g = goes w all notify.Again g Moves 6 refl (rw shown (either all refl))
       where
         left : (lock_state (after w (go_of t)) l).queue ≡ q
-        left = queue_is w all notify.Again g refl ∙ ap (λ b. (after_all (if b then SeeAgain m ∷ [] else MissIt m ∷ []) (condvar_of w l) t).waiters) shown ∙ e
+        left = queue_is w all notify.Again g refl ∙ ap (λ b. (after_condvar_deeds (if b then SeeAgain m ∷ [] else MissIt m ∷ []) (condvar_of w l) t).waiters) shown ∙ e
 
         either : (b : Bool) → all ≡ b
             → Behind t l m keeps w (Notify all m notify.Again) g Moves 6
@@ -183,7 +183,7 @@ module _ (t l m : ℕ) (keeps : Keeps t) where
     misses w shown e g = goes w all notify.Again g (Ends all 0 q) 1 refl (rw shown (λ h. inr (refl, leaves (after w (go_of t)) all false 0 q left h)))
       where
         left : (lock_state (after w (go_of t)) l).queue ≡ q
-        left = queue_is w all notify.Again g refl ∙ ap (λ b. (after_all (if b then SeeAgain m ∷ [] else MissIt m ∷ []) (condvar_of w l) t).waiters) shown ∙ e
+        left = queue_is w all notify.Again g refl ∙ ap (λ b. (after_condvar_deeds (if b then SeeAgain m ∷ [] else MissIt m ∷ []) (condvar_of w l) t).waiters) shown ∙ e
 
   -- it enters both sections, or is barred
   module _ (w : State) (all : Bool) (g : Alone w all notify.Enter) where

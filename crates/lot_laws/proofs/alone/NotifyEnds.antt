@@ -7,7 +7,7 @@ use Rattle.spec_locks.specs.declared.outcomes.Outcome.TheVariants as outcome
 use Rattle.steps_base.specs.declared.acts.Next.TheVariants as next
 use Rattle.steps_condvar.specs.declared.notify.NotifyAt.TheVariants as notify
 use Rattle.steps_condvar.specs.declared.places.CondvarPlace.TheVariants.{Look, Notify}
-use Rattle.steps_condvar.specs.CondvarDeeds.{word_of}
+use Rattle.steps_condvar.specs.CondvarDeeds.{word_showing}
 use Rattle.steps_condvar.specs.CondvarSteps.{is_shown, look_next, mutex_shown, notified, shown_as}
 use Rattle.spec_locks.specs.Condvars.{IsAsInside, IsSettledAt}
 use Rattle.spec_locks.specs.Locks.{Queued}
@@ -68,8 +68,8 @@ module _ (t l m : ℕ) (keeps : Keeps t) (w : State) (all : Bool) (g : GoesAlone
       (g.world.condvars l (fits_here w t l (Look all) g.world.steady g.place).sort).inside
 
   -- the word that is shown
-  shows : (o : Option ℕ) → (lock_state w l).shown ≡ o → word_at w l ≡ word_of o
-  shows o e = word_is w t l (Look all) g.world.steady g.place ∙ ap word_of e
+  shows : (o : Option ℕ) → (lock_state w l).shown ≡ o → word_at w l ≡ word_showing o
+  shows o e = word_is w t l (Look all) g.world.steady g.place ∙ ap word_showing e
 
   none_moved : (v : State) (o : Outcome) (q : List Queued) → q ≡ [] → Ends t l m keeps all 0 q v o
       → NotifiesAlone all q o (lock_state v l).queue
@@ -93,9 +93,9 @@ module _ (t l m : ℕ) (keeps : Keeps t) (w : State) (all : Bool) (g : GoesAlone
       (λ v x h. none_moved v x (lock_state w l).queue (subst (λ s. IsSettledAt s (condvar_of w l)) e (settled free)) h) (finds_none (shows None e)))
   notifies_alone free (Some k) e of = leads_so 9 w t (Ends t l m keeps all (moved_number all (lock_state w l).queue) (left_then all (lock_state w l).queue)) (λ v x. NotifiesAlone all (lock_state w l).queue x (lock_state v l).queue)
       (λ v x h. some_moved v x all (lock_state w l).queue (subst (λ s. IsSettledAt s (condvar_of w l)) e (settled free)).0 h)
-      (finds_some (shows (Some k) e ∙ ap word_of (of (λ f. cc))))
+      (finds_some (shows (Some k) e ∙ ap word_showing (of (λ f. cc))))
 
   pub look_rests : (o : Option ℕ) → (lock_state w l).shown ≡ o → (o ≢ None → o ≡ Some m) → Leads 9 w t (λ v x. Rests x)
   look_rests None e of = leads_more 1 9 w t (λ v x. Rests x) (omega arith) (leads_so 1 w t (Ends t l m keeps all 0 (lock_state w l).queue) (λ v x. Rests x) (λ v x h. subst Rests (sym h.0) tt) (finds_none (shows None e)))
   look_rests (Some k) e of = leads_so 9 w t (Ends t l m keeps all (moved_number all (lock_state w l).queue) (left_then all (lock_state w l).queue)) (λ v x. Rests x) (λ v x h. subst Rests (sym h.0) tt)
-      (finds_some (shows (Some k) e ∙ ap word_of (of (λ f. cc))))
+      (finds_some (shows (Some k) e ∙ ap word_showing (of (λ f. cc))))

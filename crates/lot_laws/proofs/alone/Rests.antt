@@ -65,7 +65,7 @@ use Rattle.lot_laws.proofs.alone.RwLock.{word_small}
 use Rattle.lot_laws.proofs.alone.BumpEnds.{rwlock_alone}
 use Rattle.lot_laws.proofs.alone.CondvarEnds.{condvar_alone, condvar_rests}
 use Rattle.lot_laws.proofs.alone.WorldRuns.{runs_alone, world_after}
-use Rattle.steps_rwlock.specs.RwLockBegins.{admission_of}
+use Rattle.steps_rwlock.specs.RwLockBegins.{admission_of_kind}
 use Rattle.steps_rwlock_fair.specs.declared.places.RwLockCallPlace.{RwLockCallPlace}
 use Rattle.steps_rwlock_fair.specs.FairBegins.{call_first}
 use Rattle.lot_laws.proofs.rwlock.Kept.{admits_by}
@@ -274,7 +274,7 @@ module _ (w : State) (t : ℕ) (shape : IsWellFormed w) (steady : IsInductive w)
       fits : PlaceFits (length w.locks) (Mutex l (mutex_first (is_fair (kind_at w l)) c))
       fits = subst (PlaceFits (length w.locks)) is (shape.places t)
 
-  rwlock_ends : (l : ℕ) (c : RwLockCall) → place_at w t ≡ RwLock l (admission_of (kind_at w l)) (call_first c)
+  rwlock_ends : (l : ℕ) (c : RwLockCall) → place_at w t ≡ RwLock l (admission_of_kind (kind_at w l)) (call_first c)
       → Ends (purpose_at (locks_of w) (call.TheVariants.RwLock l c))
   rwlock_ends l c is = by_kind (kind_at w l) refl
     where
@@ -282,7 +282,7 @@ module _ (w : State) (t : ℕ) (shape : IsWellFormed w) (steady : IsInductive w)
       fits = subst (PlaceFits (length w.locks)) is (shape.places t)
 
       ends : has_readers (rules_in w l).sort ≡ true → Ends (Some (rwlock_purpose l c))
-      ends readers reads = rwlock_alone w t l (admission_of (kind_at w l)) c 64 outcome.TheVariants.NotNow (omega arith) steady (admits_by (kind_at w l) readers) is (steps_alone l (RwLock l (admission_of (kind_at w l)) (call_first c)) tt is fits) (runs_alone 64 w t world) reads
+      ends readers reads = rwlock_alone w t l (admission_of_kind (kind_at w l)) c 64 outcome.TheVariants.NotNow (omega arith) steady (admits_by (kind_at w l) readers) is (steps_alone l (RwLock l (admission_of_kind (kind_at w l)) (call_first c)) tt is fits) (runs_alone 64 w t world) reads
 
       by_kind : (k : Kind) → kind_at w l ≡ k → Ends (purpose_of k (call.TheVariants.RwLock l c))
       by_kind kinds.Mutex e = λ reads. inl tt

@@ -35,7 +35,7 @@ use Rattle.steps_rwlock.specs.declared.park.ParkAt.{ParkAt}
 use Rattle.steps_rwlock.specs.declared.park.ParkAt.TheVariants as parking
 use Rattle.steps_rwlock.specs.declared.release.WakeAt.{WakeAt}
 use Rattle.steps_rwlock.specs.declared.release.WakeAt.TheVariants as waking
-use Rattle.steps_rwlock.specs.RwLockSteps.{act_at, park_act, wanted, access_of, patience_of, want_at, start_of, ends_with, entered, is_counted, decision, decided, decided_for, decided_act, exchanged_next, decision_blocked, waits, exchange, plus, word_taken, rwlock_act, rwlock_next, park_check, unparked, whom, counted, looked, looked_by, came_in, gave_way, parks_at, missed, took, clears, rollback_op, give_op}
+use Rattle.steps_rwlock.specs.RwLockSteps.{act_at, park_act, wanted, access_of, patience_of, want_at, start_of, ends_with, entered, is_counted, decision, decided, decided_for, decided_act, exchanged_next, decision_blocked, park_or_mark, exchange, plus, word_taken, rwlock_act, rwlock_next, park_check, unparked, whom, after_count, looked, looked_by, came_in, gave_way, parks_at, missed, took, clears, rollback_op, give_op}
 use Rattle.spec_locks.specs.Codes.{bit, code, code_of, rw_code, writers, count_in, has_aside, has_parked, is_blocked, bars, leaves_readers}
 use Rattle.spec_locks.specs.Sites.{Site, IsSite, has_readers, Line, Main, Second}
 use Rattle.lot_steps.specs.declared.places.Place.TheVariants.{Idle, RwLock}
@@ -109,7 +109,7 @@ module _ (t l : ℕ) (a : Admission) where
     pub blocked : is_blocked a.recursive x v ≡ true
     pub bit : has_parked v ≡ parked
 
-  waits_by : (b parked : Bool) → waits b ≡ waiting parked → b ≡ parked
+  waits_by : (b parked : Bool) → park_or_mark b ≡ waiting parked → b ≡ parked
   waits_by true true h = refl
   waits_by true false h = absurd cc
   waits_by false true h = absurd cc
@@ -177,7 +177,7 @@ module _ (t l : ℕ) (a : Admission) where
   count_marks : (p : RwLockPlace) (v : ℕ) (w : State) (q : Line → List Waiter) → v < 2 ^ 64 → has_aside v ≡ false → (count_in v == 0) ≡ false → Alone w (to p (at.Count v)) v q → Leads 4 w t (Sleeps Second p q)
   count_marks p v w q small bit left f = let c = word_comes w t l _ v q f (op.Exchange v (plus v 2)) (ap (λ (b : Bool). if b then act.Enter (One (2 * l + 1)) else exchange l v (plus v 2)) bit) in
       let m = aside_set v small bit in
-      goes w (Sleeps Second p q) 3 _ q (again p at.Marked p.retries) _ (ap (λ (b : Bool). if b then At (again p at.Marked p.retries) else counted (to p (at.Count v)) v) (same v))
+      goes w (Sleeps Second p q) 3 _ q (again p at.Marked p.retries) _ (ap (λ (b : Bool). if b then At (again p at.Marked p.retries) else after_count (to p (at.Count v)) v) (same v))
       refl c
       (λ g. marked_aside p (plus v 2) _ q m.0 (ap (λ n. n == 0) m.1 ∙ left) (subst (λ y. Alone (after w (go_of t)) (again p at.Marked p.retries) y q) (ap (λ (b : Bool). if b then plus v 2 else v) (same v)) g))
 
@@ -515,7 +515,7 @@ module _ (t l : ℕ) (a : Admission) where
       counted_rests false e c = leads_more 5 11 w t Resting (omega arith) (leads_step w t Resting 4 (c.0 ∙ counts_step v (has_aside v)) (leads_so 4 _ t (Sleeps Second p q) Resting (sleeps_so Second p q) (count_leads p v _ q small e c.1)))
 
       marked_next : Bool → Next RwLockPlace
-      marked_next b = if b then At (again p at.Marked p.retries) else counted (to p (at.Count x)) v
+      marked_next b = if b then At (again p at.Marked p.retries) else after_count (to p (at.Count x)) v
 
       by_word : (b : Bool) → (v == x) ≡ b → has_aside x ≡ false → Comes w t l (plain_goes l a (marked_next b)) (outcome_of (plain_does l a (marked_next b))) (if v == x then plus x 2 else v) q → Leads 11 w t Resting
       by_word false ne e c = counted_rests (count_in v == 0) refl (subst (λ z. Comes w t l (plain_goes l a (marked_next false)) (outcome_of (plain_does l a (marked_next false))) z q) (ap (λ (b : Bool). if b then plus x 2 else v) ne) c)
@@ -591,17 +591,17 @@ is_ready t l a p stands up = by_at p.purpose p.at stands.place stands.decided up
     by_parking q m parking.Clear up = tt
     by_parking q m parking.GiveUp up = tt
 
-    waits : (m : Line) (x : ParkAt) (q : RwLockPurpose) → StandsAt q p.retries (parks_at m x) → IsWaiting t l a q
-    waits m x (purpose.Enter y how) h = tt
-    waits m x (purpose.Upgrade how) h = tt
-    waits Main x (purpose.Release access.Shared) h = absurd h
-    waits Second x (purpose.Release access.Shared) h = absurd h
-    waits Main x (purpose.Release access.Upgradable) h = absurd h
-    waits Second x (purpose.Release access.Upgradable) h = absurd h
-    waits Main x (purpose.Release access.Exclusive) h = absurd h
-    waits Second x (purpose.Release access.Exclusive) h = absurd h
-    waits Main x (purpose.Downgrade d) h = absurd h
-    waits Second x (purpose.Downgrade d) h = absurd h
+    park_or_mark : (m : Line) (x : ParkAt) (q : RwLockPurpose) → StandsAt q p.retries (parks_at m x) → IsWaiting t l a q
+    park_or_mark m x (purpose.Enter y how) h = tt
+    park_or_mark m x (purpose.Upgrade how) h = tt
+    park_or_mark Main x (purpose.Release access.Shared) h = absurd h
+    park_or_mark Second x (purpose.Release access.Shared) h = absurd h
+    park_or_mark Main x (purpose.Release access.Upgradable) h = absurd h
+    park_or_mark Second x (purpose.Release access.Upgradable) h = absurd h
+    park_or_mark Main x (purpose.Release access.Exclusive) h = absurd h
+    park_or_mark Second x (purpose.Release access.Exclusive) h = absurd h
+    park_or_mark Main x (purpose.Downgrade d) h = absurd h
+    park_or_mark Second x (purpose.Downgrade d) h = absurd h
 
     rolls_back : (q : RwLockPurpose) → StandsAt q p.retries at.RollBack → IsWaiting t l a q
     rolls_back (purpose.Enter y how) h = tt
@@ -623,11 +623,11 @@ is_ready t l a p stands up = by_at p.purpose p.at stands.place stands.decided up
     by_at q at.First s h up = tt
     by_at q at.Load s h up = tt
     by_at q (at.Decide seen) s h up = h
-    by_at q (at.Park x) s h up = (by_parking q Main x up, waits Main x q s)
+    by_at q (at.Park x) s h up = (by_parking q Main x up, park_or_mark Main x q s)
     by_at q at.Look s h up = tt
     by_at q (at.Count seen) s h up = tt
     by_at q at.Marked s h up = tt
-    by_at q (at.Aside x) s h up = (by_parking q Second x up, waits Second x q s)
+    by_at q (at.Aside x) s h up = (by_parking q Second x up, park_or_mark Second x q s)
     by_at q at.RollBack s h up = rolls_back q s
     by_at q at.GiveWay s h up = gives q s
     by_at q (at.Wake m x) s h up = tt

@@ -35,7 +35,7 @@ use Rattle.steps_rwlock_fair.specs.declared.hand_over.HandOverAt.TheVariants as 
 use Rattle.steps_rwlock_fair.specs.FairProfiles.{call_profile}
 use Rattle.steps_rwlock_fair.specs.FairBegins.{call_first}
 use Rattle.steps_rwlock.specs.RwLockDeeds.{Admits, role_at, rwlock_role}
-use Rattle.spec_locks.specs.Locks.{LockState, Pending, Rights, with_right, is_thread, Sort, Mutex, Normal, Recursive, Semaphore, Once, Rules, NoWriter, IsFreeAt, IsSomePending, one_if_some, IsFree, IsBlocked, MayEnter, Owns, is_recursive, count, readers, rights_of, Condvar}
+use Rattle.spec_locks.specs.Locks.{LockState, Pending, Rights, with_right, one_if_thread, Sort, Mutex, Normal, Recursive, Semaphore, Once, Rules, NoWriter, IsFreeAt, IsSomePending, one_if_some, IsFree, IsBlocked, MayEnter, Owns, is_recursive, count, readers, rights_of, Condvar}
 use Rattle.spec_locks.specs.Codes.{code, count_in, has_parked, is_blocked, TellsTrue}
 use Rattle.spec_locks.specs.Picks.{queued_of}
 use Rattle.spec_locks.specs.Purposes.{Enters, Releases, Converts}
@@ -331,7 +331,7 @@ module _ (w : State) (t l : ℕ) (a : Admission) (steady : IsInductive w) (admit
       → ((rights : ℕ → Rights) → before q at l rights ≡ rights) → (call_at w t).former ≡ (λ k. rights_of (lock_state w k) t)
   began q at is same_rights = ap (λ p. (call_state p (λ k. rights_of (lock_state w k) t)).former) is ∙ same_rights (λ k. rights_of (lock_state w k) t)
 
-  is_owner : (o : Option ℕ) → 1 ≤ is_thread t o → o ≡ Some t
+  is_owner : (o : Option ℕ) → 1 ≤ one_if_thread t o → o ≡ Some t
   is_owner None h = absurd (omega arith)
   is_owner (Some u) h = either (u == t) refl h
     where
@@ -339,10 +339,10 @@ module _ (w : State) (t l : ℕ) (a : Admission) (steady : IsInductive w) (admit
       either true e h = ap Some (eqb-true u t e)
       either false e h = absurd (omega arith)
 
-  owner_is : (o : Option ℕ) → o ≡ Some t → is_thread t o ≡ 1
-  owner_is o e = ap (is_thread t) e ∙ ap (λ (b : Bool). if b then 1 else 0) (same t)
+  owner_is : (o : Option ℕ) → o ≡ Some t → one_if_thread t o ≡ 1
+  owner_is o e = ap (one_if_thread t) e ∙ ap (λ (b : Bool). if b then 1 else 0) (same t)
 
-  at_most : (o : Option ℕ) → is_thread t o ≤ 1
+  at_most : (o : Option ℕ) → one_if_thread t o ≤ 1
   at_most None = omega arith
   at_most (Some u) = either (u == t)
     where
@@ -362,7 +362,7 @@ module _ (w : State) (t l : ℕ) (a : Admission) (steady : IsInductive w) (admit
   releases_alone access.Exclusive is told = (told, gone, λ mutex. absurd (let f : has_readers Mutex ≡ true = sym (ap has_readers mutex) ∙ admits.0 in cc))
     where
       gone : (lock_state v2 l).exclusive ≡ Some t → ⊥
-      gone own = let e : is_thread t (lock_state v2 l).exclusive + 1 ≡ is_thread t (lock_state w l).exclusive = ap (λ (z : Rights). z.exclusive) (lost_one access.Exclusive is told) in
+      gone own = let e : one_if_thread t (lock_state v2 l).exclusive + 1 ≡ one_if_thread t (lock_state w l).exclusive = ap (λ (z : Rights). z.exclusive) (lost_one access.Exclusive is told) in
           let one = owner_is (lock_state v2 l).exclusive own in let most = at_most (lock_state w l).exclusive in omega arith
 
   -- a fair release, from any place where it has its right
@@ -391,7 +391,7 @@ module _ (w : State) (t l : ℕ) (a : Admission) (steady : IsInductive w) (admit
   exclusive_released is told = (told, gone, λ mutex. no_mutex mutex)
     where
       gone : (lock_state v2 l).exclusive ≡ Some t → ⊥
-      gone own = let e : is_thread t (lock_state v2 l).exclusive + 1 ≡ is_thread t (lock_state w l).exclusive = ap (λ (z : Rights). z.exclusive) (lost_from (HandOver access.Exclusive false (handing.Free 8)) Exclusive true is refl (λ rights. refl) told) in
+      gone own = let e : one_if_thread t (lock_state v2 l).exclusive + 1 ≡ one_if_thread t (lock_state w l).exclusive = ap (λ (z : Rights). z.exclusive) (lost_from (HandOver access.Exclusive false (handing.Free 8)) Exclusive true is refl (λ rights. refl) told) in
           let one = owner_is (lock_state v2 l).exclusive own in let most = at_most (lock_state w l).exclusive in omega arith
 
   -- tells what a conversion has made of its thread's rights

@@ -9,7 +9,7 @@ use Rattle.spec_locks.specs.declared.outcomes.Outcome.{Outcome}
 use Rattle.spec_locks.specs.declared.outcomes.Outcome as outcome
 use Rattle.steps_base.specs.Acts.{outcome_of}
 use Rattle.lot_steps.specs.Steps.{act_of, next_act, looking}
-use Rattle.lot_machine.specs.Machine.{State, Alone, alone_after, solo, after, step_outcome, is_possible, state_after_turn, turn_outcome, go_of, reply_to, closed_place, place_at, put, can_turn, going_outcome, look_outcome, state_after_act}
+use Rattle.lot_machine.specs.Machine.{State, SoloEnd, alone_after, solo, after, step_outcome, is_possible, state_after_turn, turn_outcome, go_of, reply_to, closed_place, place_at, put, can_turn, going_outcome, look_outcome, state_after_act}
 use Rattle.lot_steps.specs.declared.places.Place.{Place}
 use Rattle.lot_machine.proofs.Shape.{both}
 
@@ -62,7 +62,7 @@ solo_next : (counter : ℕ) (w : State) (t : ℕ) (last : Outcome) → counter <
     (solo (64 - (counter + 1)) (after w (go_of t)) t outcome.TheVariants.Step)
 solo_next counter w t last h = let e : 64 - counter ≡ suc (64 - (counter + 1)) = omega arith in ap (λ n. solo n w t last) e ∙ solo_more (64 - (counter + 1)) w t last
 
-pub rests_after : (o : Outcome) (w v : State) (last : Outcome) (more : Alone) → o ≢ outcome.TheVariants.NotNow → o ≢ outcome.TheVariants.Step → alone_after o w v last more ≡ record { state = v; outcome = o }
+pub rests_after : (o : Outcome) (w v : State) (last : Outcome) (more : SoloEnd) → o ≢ outcome.TheVariants.NotNow → o ≢ outcome.TheVariants.Step → alone_after o w v last more ≡ record { state = v; outcome = o }
 rests_after outcome.TheVariants.NotNow w v last more h k = absurd (h refl)
 rests_after outcome.TheVariants.Step w v last more h k = absurd (k refl)
 rests_after o w v last more h k = refl

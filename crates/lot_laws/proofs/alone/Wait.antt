@@ -22,7 +22,7 @@ use Rattle.steps_condvar.specs.declared.wait.Stands.TheVariants as stands
 use Rattle.steps_condvar.specs.declared.wait.WaitAt.{WaitAt}
 use Rattle.steps_condvar.specs.declared.wait.WaitAt.TheVariants as wait
 use Rattle.steps_condvar.specs.CondvarCalls.{IsReached}
-use Rattle.steps_condvar.specs.CondvarSteps.{stands_after, behind, condvar_next, first_lock, in_wait, is_shown, released, wait_act}
+use Rattle.steps_condvar.specs.CondvarSteps.{stands_after, behind_release, condvar_next, first_lock, in_wait, is_shown, released, wait_act}
 use Rattle.lot_steps.specs.declared.places.Place.{Place}
 use Rattle.lot_steps.specs.declared.places.Place.TheVariants.{Condvar}
 use Rattle.lot_steps.specs.Steps.{next_place}
@@ -81,8 +81,8 @@ module _ (t l m : ℕ) (keeps : Keeps t) (timed : Bool) where
   -- tells what holds of a state from the release on, and what it comes to behind it
   module _ (P : State → Outcome → Type 0) (J : State → Type 0)
       (kept : (w : State) (s : Stands) (at : UnlockAt) → Alone w (releasing s at) → at ≢ unlock.Subtract → can_do w (unlock_act m at) ≡ true → J w → J (after w (go_of t)))
-      (finish : (w : State) (s : Stands) → J w → Alone w (behind s)
-      → ((outcome_of (wait_act l m (behind s)) ≡ outcome.Sleep) × P w outcome.Sleep) ⊎ ((outcome_of (wait_act l m (behind s)) ≡ outcome.Step) × Leads 8 w t P)) where
+      (finish : (w : State) (s : Stands) → J w → Alone w (behind_release s)
+      → ((outcome_of (wait_act l m (behind_release s)) ≡ outcome.Sleep) × P w outcome.Sleep) ⊎ ((outcome_of (wait_act l m (behind_release s)) ≡ outcome.Step) × Leads 8 w t P)) where
     wakes : (w : State) (s : Stands) (any : Bool) → J w → Alone w (releasing s (unlock.Leave any)) → Leads 9 w t P
     wakes w s any j g = goes_there w s (unlock.Leave any) g P 8 refl (λ s2 h. finish (after w (go_of t)) s2 (kept w s (unlock.Leave any) g (λ e. cc) refl j) h)
 
@@ -138,9 +138,9 @@ module _ (t l m : ℕ) (keeps : Keeps t) (timed : Bool) where
   relocks_first : (w : State) (late again : Bool) → Alone w (wait.Lock late (first_lock again)) → RestsIn 8 w
   relocks_first w late again g = relock_rests t l m keeps timed late w again lock.First tt (λ e. cc) g
 
-  released_rests : (w : State) (s : Stands) → Unit {0} → Alone w (behind s)
-      → ((outcome_of (wait_act l m (behind s)) ≡ outcome.Sleep) × Rests outcome.Sleep)
-      ⊎ ((outcome_of (wait_act l m (behind s)) ≡ outcome.Step) × RestsIn 8 w)
+  released_rests : (w : State) (s : Stands) → Unit {0} → Alone w (behind_release s)
+      → ((outcome_of (wait_act l m (behind_release s)) ≡ outcome.Sleep) × Rests outcome.Sleep)
+      ⊎ ((outcome_of (wait_act l m (behind_release s)) ≡ outcome.Step) × RestsIn 8 w)
   released_rests w (stands.Noted note.Normal) j g = inr (refl, relocks_first w false true g)
   released_rests w (stands.Noted note.HandOff) j g = inr (refl, relock_rests t l m keeps timed false w false lock.Accept tt (λ e. cc) g)
   released_rests w stands.Listed j g = inl (refl, tt)

@@ -18,9 +18,9 @@ use Rattle.steps_condvar.specs.declared.wait.Stands.{Stands}
 use Rattle.steps_condvar.specs.declared.wait.Stands.TheVariants as stands
 use Rattle.steps_condvar.specs.declared.wait.WaitAt.{WaitAt}
 use Rattle.steps_condvar.specs.declared.wait.WaitAt.TheVariants as wait
-use Rattle.steps_condvar.specs.CondvarDeeds.{IsListed, after_all, condvar_deeds, word_of}
+use Rattle.steps_condvar.specs.CondvarDeeds.{IsListed, after_condvar_deeds, condvar_deeds, word_showing}
 use Rattle.steps_condvar.specs.CondvarProfiles.{wait_row}
-use Rattle.steps_condvar.specs.CondvarSteps.{behind, in_wait, is_shown, shown_as, wait_act}
+use Rattle.steps_condvar.specs.CondvarSteps.{behind_release, in_wait, is_shown, shown_as, wait_act}
 use Rattle.lot_steps.specs.declared.places.Place.TheVariants.{Condvar}
 use Rattle.spec_locks.specs.Condvars.{SeeOther, Show}
 use Rattle.spec_locks.specs.Locks.{Queued, times}
@@ -38,7 +38,7 @@ module _ (t l m : ℕ) (keeps : Keeps t) (timed : Bool) where
   Alone w at = GoesAlone w t l m (Wait m timed at)
 
   queue_is : (w : State) (at : WaitAt) (g : Alone w at) (can : can_do w (wait_act l m at) ≡ true) (q : List Queued)
-      → (after_all (condvar_deeds (Wait m timed at) (reply_to w t (wait_act l m at))) (condvar_of w l) t).waiters ≡ q
+      → (after_condvar_deeds (condvar_deeds (Wait m timed at) (reply_to w t (wait_act l m at))) (condvar_of w l) t).waiters ≡ q
       → (lock_state (after w (go_of t)) l).queue ≡ q
   queue_is w at g can q e = queue_then t l m keeps w (Wait m timed at) g can ∙ e
 
@@ -87,11 +87,11 @@ module _ (t l m : ℕ) (keeps : Keeps t) (timed : Bool) where
       listed v at g j none = let here : times t (lock_state v l).queue ≡ 0 = subst (IsListed (condvar_of v l) t) none (at_it v t l (Wait m timed at) g.world.steady g.place).listed in
           let same : times t (lock_state v l).queue ≡ times t q = ap (times t) j.0 in omega arith
 
-      finish : (v : State) (s : Stands) → LetGo v → Alone v (behind s)
-          → ((outcome_of (wait_act l m (behind s)) ≡ outcome.Sleep) × Sleeps v outcome.Sleep)
-          ⊎ ((outcome_of (wait_act l m (behind s)) ≡ outcome.Step) × Leads 8 v t Sleeps)
-      finish v (stands.Noted note.Normal) j g = absurd (listed v (behind (stands.Noted note.Normal)) g j refl)
-      finish v (stands.Noted note.HandOff) j g = absurd (listed v (behind (stands.Noted note.HandOff)) g j refl)
+      finish : (v : State) (s : Stands) → LetGo v → Alone v (behind_release s)
+          → ((outcome_of (wait_act l m (behind_release s)) ≡ outcome.Sleep) × Sleeps v outcome.Sleep)
+          ⊎ ((outcome_of (wait_act l m (behind_release s)) ≡ outcome.Step) × Leads 8 v t Sleeps)
+      finish v (stands.Noted note.Normal) j g = absurd (listed v (behind_release (stands.Noted note.Normal)) g j refl)
+      finish v (stands.Noted note.HandOff) j g = absurd (listed v (behind_release (stands.Noted note.HandOff)) g j refl)
       finish v stands.Listed j g = inl (refl, (refl, j))
       finish v stands.Moved j g = inl (refl, (refl, j))
       finish v (stands.InHand by) j g = inl (refl, (refl, j))
@@ -143,7 +143,7 @@ module _ (t l m : ℕ) (keeps : Keeps t) (timed : Bool) where
     shows q e may = shows_by (Sleeps (behind_last q)) true may (λ h. inr (
       refl,
       stands_last q (after w (go_of t))
-          (queue_is w wait.Show g refl q (ap (λ b. (after_all (if b then Show m ∷ [] else SeeOther m ∷ []) (condvar_of w l) t).waiters) may ∙ e)) h,
+          (queue_is w wait.Show g refl q (ap (λ b. (after_condvar_deeds (if b then Show m ∷ [] else SeeOther m ∷ []) (condvar_of w l) t).waiters) may ∙ e)) h,
     ))
 
     sees_other : may_show (word_at w l) ≡ false → Leads 16 w t Refused
@@ -155,11 +155,11 @@ module _ (t l m : ℕ) (keeps : Keeps t) (timed : Bool) where
   refused_one : (k : ℕ) → k ≡ m → may_show (shown_as k) ≡ false → ⊥
   refused_one k same e = grind (arith, nat_tests)
 
-  refused_by : (o : Option ℕ) → may_show (word_of o) ≡ false → (o ≢ None) × (o ≢ Some m)
+  refused_by : (o : Option ℕ) → may_show (word_showing o) ≡ false → (o ≢ None) × (o ≢ Some m)
   refused_by None e = absurd cc
   refused_by (Some k) e = ((λ f. cc), λ f. refused_one k (let g : k ≡ m = cc in g) e)
 
-  shows_other : (o : Option ℕ) → (o ≢ None) × (o ≢ Some m) → may_show (word_of o) ≡ false
+  shows_other : (o : Option ℕ) → (o ≢ None) × (o ≢ Some m) → may_show (word_showing o) ≡ false
   shows_other None h = absurd (h.0 refl)
   shows_other (Some k) h = other_one k (λ e. h.1 (ap Some e))
 
@@ -168,7 +168,7 @@ module _ (t l m : ℕ) (keeps : Keeps t) (timed : Bool) where
     shown = (lock_state w l).shown
 
     -- inside it finds the condition variable as it was
-    same_word : can_do w (wait_act l m wait.Enter) ≡ true → word_at (after w (go_of t)) l ≡ word_of shown
+    same_word : can_do w (wait_act l m wait.Enter) ≡ true → word_at (after w (go_of t)) l ≡ word_showing shown
     same_word can = so_then t l m keeps w (Wait m timed wait.Enter) g can (λ s. word_at s l) (λ q. refl) ∙ word_is w t l (Wait m timed wait.Enter) g.world.steady g.place
 
     enters : (P : State → Outcome → Type 0)
@@ -178,11 +178,11 @@ module _ (t l m : ℕ) (keeps : Keeps t) (timed : Bool) where
 
     -- tells what it comes to
     pub wait_alone : Leads 17 w t (λ v o. CondvarWaitsAlone (locks_of w) t l m o (locks_of v))
-    wait_alone = either (may_show (word_of shown)) refl
+    wait_alone = either (may_show (word_showing shown)) refl
       where
-        either : (b : Bool) → may_show (word_of shown) ≡ b → Leads 17 w t (λ v o. CondvarWaitsAlone (locks_of w) t l m o (locks_of v))
+        either : (b : Bool) → may_show (word_showing shown) ≡ b → Leads 17 w t (λ v o. CondvarWaitsAlone (locks_of w) t l m o (locks_of v))
         either true e = enters (λ v o. CondvarWaitsAlone (locks_of w) t l m o (locks_of v)) (λ can h. leads_so 16 (after w (go_of t)) t (Sleeps (behind_last (lock_state w l).queue)) (λ v o. CondvarWaitsAlone (locks_of w) t l m o (locks_of v))
-            (λ v o x. record { other = λ other. absurd (let no : may_show (word_of shown) ≡ false = shows_other shown other in cc); own = λ own. ((x.0, x.1.0), x.1.1) })
+            (λ v o x. record { other = λ other. absurd (let no : may_show (word_showing shown) ≡ false = shows_other shown other in cc); own = λ own. ((x.0, x.1.0), x.1.1) })
             (shows (after w (go_of t)) h (lock_state w l).queue (queue_is w wait.Enter g can (lock_state w l).queue refl) (ap may_show (same_word can) ∙ e)))
         either false e = enters (λ v o. CondvarWaitsAlone (locks_of w) t l m o (locks_of v)) (λ can h. leads_so 16 (after w (go_of t)) t Refused (λ v o. CondvarWaitsAlone (locks_of w) t l m o (locks_of v))
             (λ v o x. record { other = λ other. x; own = λ own. absurd (own (refused_by shown e)) })

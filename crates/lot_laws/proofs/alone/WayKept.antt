@@ -22,11 +22,11 @@ use Rattle.steps_condvar.specs.declared.places.CondvarPlace.TheVariants.{Wait, L
 use Rattle.steps_condvar.specs.declared.notify.NotifyAt.{NotifyAt}
 use Rattle.steps_condvar.specs.declared.notify.NotifyAt.TheVariants as notifies
 use Rattle.steps_condvar.specs.declared.wait.WaitAt.{WaitAt}
-use Rattle.steps_condvar.specs.CondvarDeeds.{word_of}
+use Rattle.steps_condvar.specs.CondvarDeeds.{word_showing}
 use Rattle.steps_condvar.specs.CondvarSteps.{in_notify, in_wait, look_next, mutex_shown, notified, shown_as}
 use Rattle.lot_steps.specs.declared.places.Place.{Place}
 use Rattle.lot_steps.specs.declared.places.Place.TheVariants.{Idle, Mutex, RwLock, Once, Condvar, Semaphore}
-use Rattle.lot_steps.specs.Steps.{act_of, beside_of, condvar_goes, lock_of, mutex_goes, next_place, once_goes, rwlock_goes, semaphore_goes}
+use Rattle.lot_steps.specs.Steps.{act_of, beside_of, condvar_goes, called_lock, mutex_goes, next_place, once_goes, rwlock_goes, semaphore_goes}
 use Rattle.spec_locks.specs.Purposes.{rules_of}
 use Rattle.lot_machine.specs.Machine.{State, after, alone_after, can_go, go_of, is_possible, place_at, put, queue_at, queues_with_last, queues_without_first, reply_to, section_at, solo, state_after_act, state_after_go, state_after_hand_over_by, state_after_taking, state_with_sections, step_outcome, word_at}
 use Rattle.lot_machine.proofs.Acted.{acted_keeps}
@@ -96,7 +96,7 @@ module _ (w : State) (t k : ℕ) (only : IsOnly t (section_at w k)) where
 
 -- the lock that it calls, or the mutex beside
 abbrev Names : Place → ℕ → Type 0
-Names p k = (lock_of p ≡ Some k) ⊎ (beside_of p ≡ Some k)
+Names p k = (called_lock p ≡ Some k) ⊎ (beside_of p ≡ Some k)
 
 abbrev IsLook : Place → Type 0
 IsLook (Condvar c (Look all)) = Unit {0}
@@ -176,15 +176,15 @@ module _ (w : State) (t : ℕ) (world : IsWorld w) (way : IsUnobstructed w t) wh
       by_word m true e = idle_names Named
       by_word m false e = (
         (λ k h. elim h [
-          | inl own ↦ inl (ap lock_of is ∙ own)
+          | inl own ↦ inl (ap called_lock is ∙ own)
           | inr beside ↦ inr (inr (ap (mutex_to_come w) is ∙ e ∙ ap Some (sym (shown_again m)) ∙ beside))
         ]),
         λ h. h,
       )
 
       by_shown : (o : Option ℕ) → (lock_state w c).shown ≡ o → NamesOnly Named (condvar_goes c (look_next all (word_at w c)))
-      by_shown None e = subst (λ v. NamesOnly Named (condvar_goes c (look_next all v))) (sym (word_is w t c (Look all) world.steady is ∙ ap word_of e)) (idle_names Named)
-      by_shown (Some m) e = subst (λ v. NamesOnly Named (condvar_goes c (look_next all v))) (sym (word_is w t c (Look all) world.steady is ∙ ap word_of e)) (by_word m (shown_as m == 0) e)
+      by_shown None e = subst (λ v. NamesOnly Named (condvar_goes c (look_next all v))) (sym (word_is w t c (Look all) world.steady is ∙ ap word_showing e)) (idle_names Named)
+      by_shown (Some m) e = subst (λ v. NamesOnly Named (condvar_goes c (look_next all v))) (sym (word_is w t c (Look all) world.steady is ∙ ap word_showing e)) (by_word m (shown_as m == 0) e)
 
   -- from any other place
   acted_names : (IsLook (place_at w t) → ⊥) → NamesOnly Named (place_at acted t)
@@ -232,7 +232,7 @@ module _ (w : State) (t : ℕ) (world : IsWorld w) (way : IsUnobstructed w t) wh
           stands = ap (λ (v : State). place_at v t) led ∙ get_or-set_same acted.places t _ Idle there
 
           before : (k : ℕ) → MayEnterOf (after w (go_of t)) (place_at (after w (go_of t)) t) k → Named k
-          before k (inl own) = gone_names.0 k (inl (sym (ap lock_of stands) ∙ own))
+          before k (inl own) = gone_names.0 k (inl (sym (ap called_lock stands) ∙ own))
           before k (inr (inl beside)) = gone_names.0 k (inr (sym (ap beside_of stands) ∙ beside))
           before k (inr (inr shown)) = absurd (gone_names.1 (subst IsLook stands (looks_to_come (after w (go_of t)) (place_at (after w (go_of t)) t) k shown)))
 

@@ -38,7 +38,7 @@ use Rattle.lot_laws.proofs.machine.KindsStay.{calls_mutex, calls_readers, calls_
 use Rattle.lot_laws.proofs.condvar.Begins.{condvar_begun, condvar_may}
 use Rattle.lot_laws.proofs.machine.PlacesAlone.{placed}
 use Rattle.lot_laws.proofs.rwlock.Events.{rwlock_begins_with, rwlock_purpose_is, rwlock_right_held, rwlock_right_needed, rwlock_untaken_first}
-use Rattle.steps_rwlock.specs.RwLockBegins.{admission_of}
+use Rattle.steps_rwlock.specs.RwLockBegins.{admission_of_kind}
 use Rattle.steps_rwlock_fair.specs.FairBegins.{call_first, call_right}
 use Rattle.steps_condvar.specs.declared.places.CondvarPlace.TheVariants as condvars
 use Rattle.lot_laws.proofs.machine.Parts.{is_owner, thread_is}
@@ -161,8 +161,8 @@ pub begin_goes : (w : State) (t : ℕ) (c : Call) → IsWellFormed w → IsInduc
     (locks_of (state_after_begin w t c))
 begin_goes w t (call.TheVariants.RwLock l c) shape steady there can = (
   record { thread = there; idle = rw idle refl; lock = ltb-true l (length w.locks) open_to.0; right = rw (rwlock_purpose_is (kind_at w l) l c is_kind) (rwlock_right_held w t l c held.1) },
-  placed w t there w.sections Idle (RwLock l (admission_of (kind_at w l)) (call_first c)) idle (rwlock_untaken_first l (admission_of (kind_at w l)) c) _
-      (λ r e. rwlock_begins_with l (admission_of (kind_at w l)) c r ∙ (λ i. new_call (sym (rwlock_purpose_is (kind_at w l) l c is_kind) i) (e i))),
+  placed w t there w.sections Idle (RwLock l (admission_of_kind (kind_at w l)) (call_first c)) idle (rwlock_untaken_first l (admission_of_kind (kind_at w l)) c) _
+      (λ r e. rwlock_begins_with l (admission_of_kind (kind_at w l)) c r ∙ (λ i. new_call (sym (rwlock_purpose_is (kind_at w l) l c is_kind) i) (e i))),
 )
   where
     idle : place_at w t ≡ Idle

@@ -18,7 +18,7 @@ use Rattle.steps_base.specs.declared.acts.Next.{Next}
 use Rattle.steps_base.specs.declared.acts.Next.TheVariants as next
 use Rattle.steps_base.specs.Profiles.{Profile}
 use Rattle.steps_base.specs.Calls.{call_by, MayCome, ComesTo, rights_where}
-use Rattle.lot_steps.specs.Steps.{lock_of, profile}
+use Rattle.lot_steps.specs.Steps.{called_lock, profile}
 use Rattle.lot_steps.specs.declared.places.Place.{Place}
 use Rattle.lot_steps.specs.declared.places.Place.TheVariants.{Idle}
 use Rattle.spec_locks.specs.Purposes.{Purpose, IsMadeOf, rules_of}
@@ -170,7 +170,7 @@ GoesAs v t l o =
 
 -- the call of a thread goes on by an event as its rows say, or it has ended
 abbrev pub LeadsTo : State → ℕ → ℕ → Next Profile → Outcome → Type 0
-LeadsTo v t l (next.At row) o = (lock_of (place_at v t) ≡ Some l) × (profile (place_at v t) ≡ row)
+LeadsTo v t l (next.At row) o = (called_lock (place_at v t) ≡ Some l) × (profile (place_at v t) ≡ row)
     × GoesAs v t l o × IsSingle (place_at v t)
 LeadsTo v t l (next.End a) o = (place_at v t ≡ Idle) × (o ≡ outcome.TheVariants.End a)
 
@@ -368,7 +368,7 @@ module _ (w v : State) (t l : ℕ) (c : Option LockCase) (h : Happens w v t (eve
   others_follow plain others u ne = ap (call_state (place_at v u)) (λ i k. rights_stay plain u ne k i) ∙ others u ne (rights w u)
 
   -- a thread at a place of a call of this lock alone
-  module _ (p : Place) (is : place_at w t ≡ p) (of : lock_of p ≡ Some l) (single : IsSingle p) where
+  module _ (p : Place) (is : place_at w t ≡ p) (of : called_lock p ≡ Some l) (single : IsSingle p) where
     abbrev call_then : CallState
     call_then = call_by l (profile p) (rights w t)
 

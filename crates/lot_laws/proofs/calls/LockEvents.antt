@@ -13,7 +13,7 @@ use Rattle.steps_mutex.specs.declared.lock.LockAt.TheVariants.{First, Taken}
 use Rattle.lot_steps.specs.Steps.{next_place, profile, calls}
 use Rattle.lot_steps.specs.declared.places.Place.{Place}
 use Rattle.lot_steps.specs.declared.places.Place.TheVariants.{Idle, Mutex, RwLock, Once, Condvar, Semaphore}
-use Rattle.spec_locks.specs.Locks.{LockState, Queued, Taken as LockTaken, Rights, Wake, HandOff as HandsOff, IsTaken, IsLockState, Knows, rights_of, with_right, without_right, is_thread, putting}
+use Rattle.spec_locks.specs.Locks.{LockState, Queued, Taken as LockTaken, Rights, Wake, HandOff as HandsOff, IsTaken, IsLockState, Knows, rights_of, with_right, without_right, one_if_thread, putting}
 use Rattle.spec_locks.specs.Locks as locks
 use Rattle.spec_locks.specs.Purposes.{Blank}
 use Rattle.spec_locks.specs.Runs.{CallState, behind_wake, is_taken_by, AtLock, one_more_at, one_less_at}
@@ -177,7 +177,7 @@ module _ (w v : State) (t l : ℕ) (to : Option ℕ) (h : Happens w v t (AtLock 
         (λ ne. sym (ap (λ s. rights_of s u) (led_elsewhere w v t l (Some (HandsOff Exclusive (heir to))) h k ne))))
       where
         one_less : without_right Exclusive (with_right Exclusive (rights w u l)) ≡ rights w u l
-        one_less = λ i. record (rights w u l) { exclusive = (let n : (is_thread u (owner_at w l) + 1) - 1 ≡ is_thread u (owner_at w l) = omega arith in n) i }
+        one_less = λ i. record (rights w u l) { exclusive = (let n : (one_if_thread u (owner_at w l) + 1) - 1 ≡ one_if_thread u (owner_at w l) = omega arith in n) i }
 
     former_same : (b : Bool) → before_entry l b true (rights v u) ≡ before_entry l b false (rights w u)
     former_same true = λ i k. has k i

@@ -14,7 +14,7 @@ use Rattle.lot_laws.proofs.calls.Closures.{RunsOne}
 use Rattle.lot_laws.proofs.calls.Closings.{closing}
 use Rattle.lot_machine.specs.Machine.{can_close, close_outcome, closed_place, runs_closure, state_after_close, state_after_going, can_go}
 use Rattle.steps_once.specs.declared.run.RunAt.TheVariants as run
-use Rattle.steps_once.specs.OnceDeeds.{end_of}
+use Rattle.steps_once.specs.OnceDeeds.{run_ending}
 use Rattle.spec_locks.specs.Runs.{Closes}
 use Rattle.spec_locks.specs.Locks.{Rules}
 use Rattle.spec_locks.specs.Locks as locks
@@ -83,7 +83,7 @@ use Rattle.lot_laws.specs.SitesOf.{site_of, AreCondvars, AreCounted, FitsCondvar
 use Rattle.spec_locks.specs.Sites.{IsSite, Deed, Main, Mark, End, Case}
 use Rattle.spec_locks.specs.Locks.{LockCase, Wake, Leave as GivesBack, HandOff as HandsOff, Rights, rights_of, standing}
 use Rattle.spec_locks.specs.Runs.{GoesOn, Stays, Looks, IsOfMutex, Does, SectionChanges, MayTurn, Turned, IsStep, Nothing}
-use Rattle.lot_laws.specs.MutexDeeds.{mutex_row, mutex_location, mutex_deeds, lock_deeds, enters, hands_over, acts}
+use Rattle.lot_laws.specs.MutexDeeds.{mutex_row, mutex_location, mutex_deeds, lock_deeds, enter_deeds, handing_deeds, acts}
 use Rattle.lot_laws.specs.MutexDeeds as of_mutex
 use Rattle.steps_base.specs.Calls.{ComesTo}
 use Rattle.spec_locks.specs.Deeds.{AllNeeded, case_of, event_by, after_event}
@@ -263,7 +263,7 @@ module _ (w : State) (t : ℕ) (shape : IsWellFormed w) (steady : IsInductive w)
     lonely_decided x true false = tt
 
     calm_word : (x v : ℕ) → IsCalm (case_of None (lock_deeds (Decide x) (Value v)))
-    calm_word x v = if_calm None (not (v == x)) [] (if is_locked v then Mark Main ∷ [] else enters) tt (if_calm None (is_locked v) (Mark Main ∷ []) enters tt tt)
+    calm_word x v = if_calm None (not (v == x)) [] (if is_locked v then Mark Main ∷ [] else enter_deeds) tt (if_calm None (is_locked v) (Mark Main ∷ []) enter_deeds tt tt)
 
     calm_decided : (x : ℕ) (a b : Bool) → IsCalm (case_of None (lock_deeds (Decide x) (reply_to w t (decided_by x a b))))
     calm_decided x false b = calm_word x (word_at w l)
@@ -274,7 +274,7 @@ module _ (w : State) (t : ℕ) (shape : IsWellFormed w) (steady : IsInductive w)
     calm_parked true = tt
     calm_parked false = tt
 
-    calm_takes : (o : Option ℕ) → IsCalm (case_of None (of_mutex.takes o))
+    calm_takes : (o : Option ℕ) → IsCalm (case_of None (of_mutex.take_deeds o))
     calm_takes None = tt
     calm_takes (Some u) = tt
 
@@ -290,7 +290,7 @@ module _ (w : State) (t : ℕ) (shape : IsWellFormed w) (steady : IsInductive w)
         → GivesUpTimed (Lock e again a)
         → GoesOn (locks_of w) t (outcome_of (next_act (Mutex l (Lock e again a)) (reply_to w t (lock_act l a))))
         (locks_of (go_by w t (Mutex l (Lock e again a)) (lock_act l a)))
-    lock_goes e again First is can timed = alone (Lock e again First) is can timed tt (if_calm None (word_at w l == 0) enters [] tt tt)
+    lock_goes e again First is can timed = alone (Lock e again First) is can timed tt (if_calm None (word_at w l == 0) enter_deeds [] tt tt)
     lock_goes e again Load is can timed = alone (Lock e again Load) is can timed tt tt
     lock_goes e again (Decide x) is can timed = alone (Lock e again (Decide x)) is can timed (lonely_decided x (is_locked x) (x == 1)) (calm_decided x (is_locked x) (x == 1))
     lock_goes e again Check is can timed = alone (Lock e again Check) is can timed tt (calm_parked (word_at w l == 3))
@@ -315,7 +315,7 @@ module _ (w : State) (t : ℕ) (shape : IsWellFormed w) (steady : IsInductive w)
         (wakes_others w (behind (Unlock (unlock.Leave true)) is can tt) t l (befalls w t l steady (rw is refl) Idle (state_with_sections w (One (2 * l)) None) (Woken note.Normal) refl (carries (Unlock (unlock.Leave true)) is can tt))))
 
     hands_case : (bumping any b : Bool) (o : Option ℕ)
-        → case_of (mutex_row (HandOff bumping (hand_off.Store any b))).carries (hands_over o b)
+        → case_of (mutex_row (HandOff bumping (hand_off.Store any b))).carries (handing_deeds o b)
         ≡ Some (HandsOff Exclusive (heir o))
     hands_case bumping any b None = refl
     hands_case bumping any b (Some u) = refl
@@ -337,7 +337,7 @@ module _ (w : State) (t : ℕ) (shape : IsWellFormed w) (steady : IsInductive w)
         → GoesOn (locks_of w) t (outcome_of (next_act (Mutex l at) (reply_to w t (mutex_act l at))))
         (locks_of (go_by w t (Mutex l at) (mutex_act l at)))
     mutex_goes_on (Lock e again a) is can timed = lock_goes e again a is can timed
-    mutex_goes_on TryLock is can timed = alone TryLock is can tt tt (if_calm None (is_locked (word_at w l)) (End ∷ []) enters tt tt)
+    mutex_goes_on TryLock is can timed = alone TryLock is can tt tt (if_calm None (is_locked (word_at w l)) (End ∷ []) enter_deeds tt tt)
     mutex_goes_on (Unlock a) is can timed = unlock_goes a is can
     mutex_goes_on UnlockFair is can timed = alone UnlockFair is can tt tt (if_calm None (word_at w l == 1) (Case (GivesBack Exclusive) ∷ End ∷ []) [] tt tt)
     mutex_goes_on Bump is can timed = alone Bump is can tt tt (if_calm None (is_parked (word_at w l)) [] (End ∷ []) tt tt)
@@ -526,7 +526,7 @@ module _ (w : State) (t : ℕ) (shape : IsWellFormed w) (steady : IsInductive w)
   -- its closure has answered, and its run ends by the next act
   closed_does : (succeeded : Bool) → can_close w t succeeded ≡ true
       → (((locks_of w).stances t).in_closure ≡ true)
-      × Closes (locks_of w) t (end_of succeeded) (close_outcome w t succeeded) (locks_of (state_after_close w t succeeded))
+      × Closes (locks_of w) t (run_ending succeeded) (close_outcome w t succeeded) (locks_of (state_after_close w t succeeded))
   closed_does succeeded can = (
     (both (runs_closure (act_of (place_at w t))) (can_do w (act_of (closed_place w t succeeded))) can).0,
     record { goes = ended.0; lock = one.lock; ends = ended.1 },
@@ -542,10 +542,10 @@ module _ (w : State) (t : ℕ) (shape : IsWellFormed w) (steady : IsInductive w)
       v = closing w t there succeeded one
 
       ended : (g : GoesOn (locks_of w) t (close_outcome w t succeeded) (locks_of (state_after_close w t succeeded)))
-          × (g.event ≡ AtLock one.lock (OfOnce (end_of succeeded)))
-      ended = subst (λ x. (g : GoesOn (locks_of w) t (close_outcome w t succeeded) (locks_of x)) × (g.event ≡ AtLock one.lock (OfOnce (end_of succeeded)))) (sym (goes_there w t there succeeded one ∙ goes_from_there v t (Once one.lock at) is_v tt))
-          (subst (λ o. (g : GoesOn (locks_of w) t o (locks_of (go_by v t (Once one.lock at) (act_of (Once one.lock at))))) × (g.event ≡ AtLock one.lock (OfOnce (end_of succeeded)))) (sym (told_there w t there succeeded one ∙ told_from_there v t (Once one.lock at) is_v tt))
-          (alike_event w t there (closed_place w t succeeded) (like w t there succeeded one) _ _ (AtLock one.lock (OfOnce (end_of succeeded)))
+          × (g.event ≡ AtLock one.lock (OfOnce (run_ending succeeded)))
+      ended = subst (λ x. (g : GoesOn (locks_of w) t (close_outcome w t succeeded) (locks_of x)) × (g.event ≡ AtLock one.lock (OfOnce (run_ending succeeded)))) (sym (goes_there w t there succeeded one ∙ goes_from_there v t (Once one.lock at) is_v tt))
+          (subst (λ o. (g : GoesOn (locks_of w) t o (locks_of (go_by v t (Once one.lock at) (act_of (Once one.lock at))))) × (g.event ≡ AtLock one.lock (OfOnce (run_ending succeeded)))) (sym (told_there w t there succeeded one ∙ told_from_there v t (Once one.lock at) is_v tt))
+          (alike_event w t there (closed_place w t succeeded) (like w t there succeeded one) _ _ (AtLock one.lock (OfOnce (run_ending succeeded)))
           (once_step v t one.lock at steady_v shape_v there_v lt is_v refl, step_event v t one.lock at steady_v shape_v there_v lt is_v refl ∙ closes_event one.lock succeeded (is_marked (word_at v one.lock)))))
         where
           steady_v : IsInductive v

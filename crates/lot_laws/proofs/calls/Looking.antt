@@ -35,7 +35,7 @@ use Rattle.steps_base.specs.Profiles.{taken_from}
 use Rattle.steps_mutex.specs.declared.places.MutexPlace.{MutexPlace}
 use Rattle.lot_steps.specs.declared.places.Place.{Place}
 use Rattle.lot_steps.specs.declared.places.Place.TheVariants.{Idle, Mutex, RwLock, Once, Condvar, Semaphore}
-use Rattle.lot_steps.specs.Steps.{act_of, looking, lock_of, profile, in_mutex, is_lock, in_semaphore}
+use Rattle.lot_steps.specs.Steps.{act_of, looking, called_lock, profile, in_mutex, is_lock, in_semaphore}
 use Rattle.steps_mutex.specs.MutexSteps.{mutex_looking}
 use Rattle.lot_machine.specs.Machine.{State, unlocked, place_at, put, can_go, state_after_act, state_after_go}
 use Rattle.lot_machine.proofs.Looks.{IsLook, look}
@@ -45,7 +45,7 @@ use Rattle.spec_locks.specs.Runs.{LocksState, GoesOn, Stays}
 use Rattle.spec_locks.specs.Sites.{idle}
 use Rattle.lot_laws.specs.Refinement.{lock_state, locks_of, call_on_both, stance_of}
 use Rattle.lot_laws.specs.Locations.{nowhere, location_by}
-use Rattle.lot_laws.specs.WorldRuns.{IsUntouched}
+use Rattle.lot_laws.specs.WorldRuns.{LeavesWordsAndQueues}
 use Rattle.lot_laws.specs.SitesOf.{FitsCondvar, FitsItsLock, Goes, IsInductive, rules_in}
 use Rattle.lot_laws.proofs.calls.Beside.{looks_beside}
 use Rattle.lot_laws.proofs.machine.Parts.{parts_at}
@@ -64,8 +64,8 @@ set_keeps f (x ∷ xs) (suc i) zero y d e = refl
 set_keeps f (x ∷ xs) (suc i) (suc k) y d e = set_keeps f xs i k y d e
 
 -- a load changes no word
-load_untouched : (w : State) (t l : ℕ) (p : Place) (a : Act) → a ≡ Word l Load → IsUntouched w (state_after_act w t p a)
-load_untouched w t l p a loads = subst (λ x. IsUntouched w (state_after_act w t p x)) (sym loads)
+load_untouched : (w : State) (t l : ℕ) (p : Place) (a : Act) → a ≡ Word l Load → LeavesWordsAndQueues w (state_after_act w t p a)
+load_untouched w t l p a loads = subst (λ x. LeavesWordsAndQueues w (state_after_act w t p x)) (sym loads)
     ((λ k. set_keeps (λ x. x.word) w.locks l k _ (unlocked kind.TheVariants.Mutex) refl), λ key. refl)
 
 -- it has come on in the same call, beside the same mutex
@@ -123,8 +123,8 @@ calls_on w (Mutex l at) q is calls = by_place (mutex_looking at) is
 -- a place of the same call, of which its row says the same
 pub record IsAlike (p q : Place) : Type 0 where
   pub lock : ℕ
-  pub before : lock_of p ≡ Some lock
-  pub now : lock_of q ≡ Some lock
+  pub before : called_lock p ≡ Some lock
+  pub now : called_lock q ≡ Some lock
   pub row : profile q ≡ profile p
   pub beside : beside_of q ≡ beside_of p
   pub row_beside : profile_beside q ≡ profile_beside p
@@ -152,10 +152,10 @@ module _ (w : State) (t : ℕ) (there : t < length w.places) (q : Place) (it : I
     | inr ne ↦ let same_place = get_or-set_other w.places t u q Idle ne in (ap beside_of same_place, ap profile_beside same_place)
   ]
 
-  lock_same : (u : ℕ) → lock_of (place_at moved u) ≡ lock_of (place_at w u)
+  lock_same : (u : ℕ) → called_lock (place_at moved u) ≡ called_lock (place_at w u)
   lock_same u = elim (cases_eq u t) [
     | inl e ↦ rw (e, stands_here) (it.now ∙ sym it.before)
-    | inr ne ↦ ap lock_of (get_or-set_other w.places t u q Idle ne)
+    | inr ne ↦ ap called_lock (get_or-set_other w.places t u q Idle ne)
   ]
 
   pub alike_locks : (k : ℕ) → lock_state moved k ≡ lock_state w k
@@ -208,7 +208,7 @@ module _ (w : State) (t : ℕ) (there : t < length w.places) (q : Place) (it : I
   alike_stays o v s = let h = subst (λ x. Stays x t (x.calls t) o v) (sym sees) s in
       record { told = h.told; locks = h.locks; calls = h.calls }
 
-  lock_stays : lock_of q ≡ lock_of (place_at w t)
+  lock_stays : called_lock q ≡ called_lock (place_at w t)
   lock_stays = it.now ∙ sym it.before
 
   -- each lock sees of it what it saw
@@ -247,7 +247,7 @@ module _ (w : State) (t : ℕ) (there : t < length w.places) (q : Place) (is : l
   pub looks_now : can_go looked t ≡ true
   looks_now = rw (here, looks.loads) refl
 
-  pub looks_untouched : IsUntouched w (state_after_go looked t)
+  pub looks_untouched : LeavesWordsAndQueues w (state_after_go looked t)
   looks_untouched = load_untouched looked t looks.loaded (place_at looked t) (act_of (place_at looked t)) (ap act_of here ∙ looks.loads)
 
   pub locks_same : (k : ℕ) → lock_state looked k ≡ lock_state w k

@@ -19,7 +19,7 @@ use Rattle.spec_locks.specs.Codes.{count_in, is_blocked}
 use Rattle.spec_locks.specs.Locks.{Rights}
 use Rattle.steps_rwlock_fair.specs.declared.places.RwLockCallPlace.{RwLockCallPlace}
 use Rattle.steps_rwlock_fair.specs.declared.places.RwLockCallPlace.TheVariants as fair
-use Rattle.steps_rwlock_fair.specs.FairCalls.{CallStands, WaitsFor}
+use Rattle.steps_rwlock_fair.specs.FairCalls.{CallStands, WaitsWithPatience}
 use Rattle.steps_rwlock_fair.specs.declared.handed.HandedAt.{HandedAt}
 use Rattle.steps_condvar.specs.declared.places.CondvarPlace.TheVariants as condvar
 use Rattle.lot_steps.specs.declared.places.Place.{Place}
@@ -95,7 +95,7 @@ plain_free l a (purpose.Upgrade how) again to stands decided rights h = absurd c
 plain_free l a (purpose.Release x) again to stands decided rights h = absurd h
 plain_free l a (purpose.Downgrade d) again to stands decided rights h = absurd cc
 
-handed_free : (l : ℕ) (a : Admission) (x : Access) (how : Patience) (b : Bool) (to : HandedAt) → WaitsFor b how → (rights : ℕ → Rights)
+handed_free : (l : ℕ) (a : Admission) (x : Access) (how : Patience) (b : Bool) (to : HandedAt) → WaitsWithPatience b how → (rights : ℕ → Rights)
     → IsTry (call_state (RwLock l a (fair.Handed x how b to)) rights).purpose → IsFree (act_of (RwLock l a (fair.Handed x how b to)))
 handed_free l a x how true to waits rights h = absurd h
 handed_free l a x Patient false to waits rights h = absurd cc

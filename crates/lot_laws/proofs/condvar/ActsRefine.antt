@@ -28,7 +28,7 @@ use Rattle.steps_condvar.specs.declared.wait.Stands.{Stands}
 use Rattle.steps_condvar.specs.declared.wait.Stands.TheVariants as stands
 use Rattle.steps_condvar.specs.declared.wait.WaitAt.{WaitAt}
 use Rattle.steps_condvar.specs.declared.wait.WaitAt.TheVariants as wait
-use Rattle.steps_condvar.specs.CondvarCalls.{IsReachedNext, call_at, look_event, notify_event}
+use Rattle.steps_condvar.specs.CondvarCalls.{IsReachedNext, condvar_call_by, look_event, notify_event}
 use Rattle.steps_condvar.specs.CondvarDeeds.{notify_deeds, wait_deeds}
 use Rattle.steps_condvar.specs.CondvarMutex.{beside_deeds}
 use Rattle.steps_condvar.specs.CondvarProfiles.{condvar_profile, hand_of, taker_of, want_of, wants_beside}
@@ -40,7 +40,7 @@ use Rattle.spec_locks.specs.Locks as locks
 use Rattle.spec_locks.specs.Locks.{OfCondvar, Rights, Rules}
 use Rattle.spec_locks.specs.Runs.{AtLock, CallState, GoesOn, Nothing, behind_wake, going_on, is_taken_by, woken}
 use Rattle.spec_locks.specs.Sites.{Main}
-use Rattle.lot_machine.specs.Fits.{IsOfItsKind, IsWellFormed, IsThere, PlaceFits, Shows}
+use Rattle.lot_machine.specs.Fits.{IsOfItsKind, IsWellFormed, IsThere, PlaceFits, ShowsPlainMutex}
 use Rattle.lot_machine.specs.Machine.{State, can_do, going_outcome, kind_at, place_at, put, reply_to, state_after_act, state_after_going, word_at}
 use Rattle.lot_machine.proofs.Shape.{performed_counts}
 use Rattle.lot_laws.specs.MutexDeeds.{acts}
@@ -240,7 +240,7 @@ module _ (w : State) (t l : ℕ) (shape : IsWellFormed w) (steady : IsInductive 
       waits_told : (q q2 : WaitAt) → condvar_next waits heard ≡ At (Wait m timed q)
           → next_place stood heard ≡ Condvar l (Wait m timed q2)
           → going_outcome w t (Condvar l waits) ≡ outcome_of (wait_act l m q2) → IsSettled q2 → (makes : CallState → CallState)
-          → ((r : ℕ → Rights) → call_at l m (Wait m timed q2) r ≡ makes (call_at l m (Wait m timed q) r))
+          → ((r : ℕ → Rights) → condvar_call_by l m (Wait m timed q2) r ≡ makes (condvar_call_by l m (Wait m timed q) r))
           → woken (locks_of w) t (own_event w t l m p) t (going_on (own_event w t l m p) (own_call w t l m timed p))
           ≡ makes (going_on (own_event w t l m p) (own_call w t l m timed p))
           → GoesOn (locks_of w) t (going_outcome w t (Condvar l waits)) (locks_of waited)
@@ -445,7 +445,7 @@ module _ (w : State) (t l : ℕ) (shape : IsWellFormed w) (steady : IsInductive 
     looked_fits : FitsItsLock w (condvar_goes l (condvar_next (Look all) (Value (word_at w l))))
     looked_fits = by_word (word_at w l == 0) refl
       where
-        shows : Shows (length w.locks) (kind_at w) (word_at w l)
+        shows : ShowsPlainMutex (length w.locks) (kind_at w) (word_at w l)
         shows = shape.shown l (let k = subst (IsOfItsKind (kind_at w)) is (shape.kinds t) in k.0)
 
         by_word : (b : Bool) → (word_at w l == 0) ≡ b

@@ -20,7 +20,7 @@ use Rattle.steps_mutex.specs.declared.unlock.UnlockAt.TheVariants as unlock
 use Rattle.steps_mutex.specs.MutexSteps.{is_locked}
 use Rattle.steps_condvar.specs.CondvarSteps.{condvar_act, move_act, mutex_beside, notify_act}
 use Rattle.steps_condvar.specs.CondvarCalls.{IsReached}
-use Rattle.steps_condvar.specs.CondvarProfiles.{carries_beside, condvar_purpose, mutex_side}
+use Rattle.steps_condvar.specs.CondvarProfiles.{carries_beside, condvar_place_purpose, mutex_side}
 use Rattle.spec_locks.specs.Locks.{Taken}
 use Rattle.spec_locks.specs.Purposes.{MayWait}
 use Rattle.spec_locks.specs.Sites.{Has, Line, Main}
@@ -38,7 +38,7 @@ pub record WasHandedBeside (k : ℕ) (at : CondvarPlace) : Type 0 where
   pub beside : mutex_beside at ≡ Some mutex
   pub in_hand : (mutex_side at).hand ≡ hand by true
   pub claims : (mutex_side at).role.claims ≡ Some (Has Exclusive)
-  pub waited : MayWait (Some (condvar_purpose at k)) mutex × (want_of (Some (condvar_purpose at k)) ≡ Some Exclusive)
+  pub waited : MayWait (Some (condvar_place_purpose at k)) mutex × (want_of (Some (condvar_place_purpose at k)) ≡ Some Exclusive)
 
 abbrev pub IsAsleep : ℕ → CondvarPlace → Type 0
 IsAsleep k at = ((l : ℕ) × StandsAt (Condvar k at) l) ⊎ WasHandedBeside k at

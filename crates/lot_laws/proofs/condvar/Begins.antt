@@ -25,7 +25,7 @@ use Rattle.spec_locks.specs.Locks.{Rights, Taken}
 use Rattle.spec_locks.specs.Purposes.{condvar_purpose, purpose_of, rules_of}
 use Rattle.spec_locks.specs.Runs.{HasRight, MayBegin, Stays, new_call, purpose_at}
 use Rattle.spec_locks.specs.Sites.{Main}
-use Rattle.lot_machine.specs.Machine.{State, can_begin, has_mutex, holds_right, is_free_under, is_open_to, kind_at, owners_at, place_at, state_after_begin, state_after_late_on, state_with_sections, unlocked}
+use Rattle.lot_machine.specs.Machine.{State, can_begin, names_mutex_there, holds_right, is_free_under, is_open_to, kind_at, owners_at, place_at, state_after_begin, state_after_late_on, state_with_sections, unlocked}
 use Rattle.lot_machine.proofs.Shape.{both}
 use Rattle.lot_laws.specs.Refinement.{call_state, locks_of, taken_at}
 use Rattle.lot_laws.specs.SitesOf.{key_of}
@@ -56,11 +56,11 @@ untaken_first l (condvar_call.Notify all) k = refl
 
 module _ (w : State) (t l : ℕ) where
   -- its thread has the right that it needs
-  right_held : (c : CondvarCall) → (has_mutex w (mutex_named c) && holds_right w t (call.Condvar l c)) ≡ true
+  right_held : (c : CondvarCall) → (names_mutex_there w (mutex_named c) && holds_right w t (call.Condvar l c)) ≡ true
       → HasRight (locks_of w) t (Some (condvar_purpose l c))
   right_held (condvar_call.Notify all) h = tt
   right_held (condvar_call.Wait m timed) h =
-      let parts = both (has_mutex w (Some m)) (holds_right w t (call.Condvar l (condvar_call.Wait m timed))) h in
+      let parts = both (names_mutex_there w (Some m)) (holds_right w t (call.Condvar l (condvar_call.Wait m timed))) h in
       ((both (nat_lt m (length w.locks)) (is_plain_mutex (kind_at w m)) parts.0).1, thread_is t (owners_at w m).exclusive parts.1)
 
   -- each thread that owns a lock owns one that is there
@@ -71,7 +71,7 @@ module _ (w : State) (t l : ℕ) where
   ]
 
   right_needed : (c : CondvarCall) → HasRight (locks_of w) t (Some (condvar_purpose l c))
-      → (has_mutex w (mutex_named c) && holds_right w t (call.Condvar l c)) ≡ true
+      → (names_mutex_there w (mutex_named c) && holds_right w t (call.Condvar l c)) ≡ true
   right_needed (condvar_call.Notify all) h = refl
   right_needed (condvar_call.Wait m timed) h = rw (lt-ltb m (length w.locks) (owned_there m h.1), h.0, is_owner t (owners_at w m).exclusive h.1) refl
 
@@ -80,7 +80,7 @@ module _ (w : State) (t l : ℕ) where
 
   abbrev parts_of : (c : CondvarCall) → can_begin w t (begun c) ≡ true
       → (nat_lt l (length w.locks) ≡ true)
-      × ((has_call (kind_at w l) (begun c) && (has_mutex w (mutex_named c) && holds_right w t (begun c))) ≡ true)
+      × ((has_call (kind_at w l) (begun c) && (names_mutex_there w (mutex_named c) && holds_right w t (begun c))) ≡ true)
   parts_of c can = both (nat_lt l (length w.locks)) _ (both (is_idle (place_at w t)) (is_open_to w t (begun c)) can).1
 
   -- where it can it may, and no lock changes
@@ -93,7 +93,7 @@ module _ (w : State) (t l : ℕ) where
     placed w t there w.sections Idle (Condvar l (condvar_first c)) idle (untaken_first l c) _ (λ r e. begins_with l c r ∙ (λ i. new_call (sym purpose i) (e i))),
   )
     where
-      rest : (has_call (kind_at w l) (begun c) ≡ true) × ((has_mutex w (mutex_named c) && holds_right w t (begun c)) ≡ true)
+      rest : (has_call (kind_at w l) (begun c) ≡ true) × ((names_mutex_there w (mutex_named c) && holds_right w t (begun c)) ≡ true)
       rest = both (has_call (kind_at w l) (begun c)) _ (parts_of c can).1
 
       purpose : purpose_of (kind_at w l) (begun c) ≡ Some (condvar_purpose l c)

@@ -24,7 +24,7 @@ use Rattle.steps_condvar.specs.CondvarSteps.{mutex_beside}
 use Rattle.spec_locks.specs.Locks as locks
 use Rattle.spec_locks.specs.Purposes.{rules_of}
 use Rattle.spec_locks.specs.Sites.{Begin, Deed, Role, Has, In, Main, idle}
-use Rattle.lot_machine.specs.Machine.{State, has_mutex, holds_right, is_free_under, is_open_to, kind_at, owners_at, place_at, put, section_at, state_after_begin, state_after_late_on, state_with_sections}
+use Rattle.lot_machine.specs.Machine.{State, names_mutex_there, holds_right, is_free_under, is_open_to, kind_at, owners_at, place_at, put, section_at, state_after_begin, state_after_late_on, state_with_sections}
 use Rattle.lot_machine.proofs.Suits.{Suits, both, call_suits}
 use Rattle.lot_machine.specs.Fits.{IsWellFormed, PlaceFits}
 use Rattle.lot_laws.specs.Refinement.{taken_at}
@@ -117,8 +117,8 @@ module _ (w : State) (t l : ℕ) (steady : IsInductive w) (there : t < length w.
 
       right : holds_right w t (call.Condvar l (condvar_call.Wait m timed)) ≡ true
       right = let named = call.Condvar l (condvar_call.Wait m timed) in
-          (both (has_mutex w (Some m)) (holds_right w t named) (both (has_call (kind_at w l) named) (has_mutex w (Some m) && holds_right w t named)
-          (both (nat_lt l (length w.locks)) (has_call (kind_at w l) named && (has_mutex w (Some m) && holds_right w t named)) may).1).1).1
+          (both (names_mutex_there w (Some m)) (holds_right w t named) (both (has_call (kind_at w l) named) (names_mutex_there w (Some m) && holds_right w t named)
+          (both (nat_lt l (length w.locks)) (has_call (kind_at w l) named && (names_mutex_there w (Some m) && holds_right w t named)) may).1).1).1
 
 -- ---------------------------------------------------------------- its time is up
 

@@ -13,7 +13,7 @@ use Rattle.steps_condvar.specs.CondvarProfiles.{condvar_profile, condvar_row, mu
 use Rattle.steps_condvar.specs.CondvarSteps.{mutex_beside}
 use Rattle.lot_steps.specs.declared.places.Place.{Place}
 use Rattle.lot_steps.specs.declared.places.Place.TheVariants.{Idle, Mutex, RwLock, Once, Condvar, Semaphore}
-use Rattle.lot_steps.specs.Steps.{is_lock, lock_of, profile}
+use Rattle.lot_steps.specs.Steps.{is_lock, called_lock, profile}
 use Rattle.spec_locks.specs.Condvars.{moved_of}
 use Rattle.spec_locks.specs.Locks as locks
 use Rattle.spec_locks.specs.Locks.{LockCase, LockState, Rules, SeeOwner, Wake, after_case, left_behind}
@@ -50,13 +50,13 @@ module _ (w : State) (steady : IsInductive w) (t : ℕ) where
   fits_at l at is = subst (FitsItsLock w) is (steady.stands.calls t)
 
   -- its lock is that of the place
-  pub call_lock : of_purpose (call_at w t).purpose ≡ lock_of (place_at w t)
+  pub call_lock : of_purpose (call_at w t).purpose ≡ called_lock (place_at w t)
   call_lock = by_place (place_at w t) refl
     where
-      here : (l : ℕ) (p : Place) → place_at w t ≡ p → IsSingle p → lock_of p ≡ Some l → of_purpose (call_at w t).purpose ≡ Some l
-      here l p is single own = ap (λ (c : CallState). of_purpose c.purpose) (call_here (place_at w t) l (subst IsSingle (sym is) single) (ap lock_of is ∙ own) (rights w t)) ∙ ap Some (row_promises w t steady l (subst IsSingle (sym is) single) (ap lock_of is ∙ own)).own
+      here : (l : ℕ) (p : Place) → place_at w t ≡ p → IsSingle p → called_lock p ≡ Some l → of_purpose (call_at w t).purpose ≡ Some l
+      here l p is single own = ap (λ (c : CallState). of_purpose c.purpose) (call_here (place_at w t) l (subst IsSingle (sym is) single) (ap called_lock is ∙ own) (rights w t)) ∙ ap Some (row_promises w t steady l (subst IsSingle (sym is) single) (ap called_lock is ∙ own)).own
 
-      by_place : (p : Place) → place_at w t ≡ p → of_purpose (call_at w t).purpose ≡ lock_of p
+      by_place : (p : Place) → place_at w t ≡ p → of_purpose (call_at w t).purpose ≡ called_lock p
       by_place Idle is = ap (λ q. of_purpose (call_state q (rights w t)).purpose) is
       by_place (Mutex l at) is = here l (Mutex l at) is tt refl
       by_place (RwLock l a c) is = here l (RwLock l a c) is tt refl
@@ -73,8 +73,8 @@ module _ (w : State) (steady : IsInductive w) (t : ℕ) where
       Knowing : CallState → Type 0
       Knowing c = KnowsRights (λ l. (rules_in w l).sort) c.purpose
 
-      here : (l : ℕ) (p : Place) → place_at w t ≡ p → IsSingle p → lock_of p ≡ Some l → Knowing (call_at w t)
-      here l p is single own = subst Knowing (sym (call_here (place_at w t) l (subst IsSingle (sym is) single) (ap lock_of is ∙ own) (rights w t))) ((row_promises w t steady l (subst IsSingle (sym is) single) (ap lock_of is ∙ own)).known (λ l. (rules_in w l).sort) refl)
+      here : (l : ℕ) (p : Place) → place_at w t ≡ p → IsSingle p → called_lock p ≡ Some l → Knowing (call_at w t)
+      here l p is single own = subst Knowing (sym (call_here (place_at w t) l (subst IsSingle (sym is) single) (ap called_lock is ∙ own) (rights w t))) ((row_promises w t steady l (subst IsSingle (sym is) single) (ap called_lock is ∙ own)).known (λ l. (rules_in w l).sort) refl)
 
       by_place : (p : Place) → place_at w t ≡ p → Knowing (call_at w t)
       by_place Idle is = subst (λ q. Knowing (call_state q (rights w t))) (sym is) tt
@@ -87,8 +87,8 @@ module _ (w : State) (steady : IsInductive w) (t : ℕ) where
       by_place (Condvar l (Notify all m at)) is = subst (λ q. Knowing (call_state q (rights w t))) (sym is) (fits_at l (Notify all m at) is).sort
 
   -- at a condition variable that its call is not of, it is not inside, about to do nothing, and names no mutex
-  module _ (k : ℕ) (sort : (rules_in w k).sort ≡ locks.Condvar) (other : lock_of (place_at w t) ≢ Some k) where
-    other_lock : (l : ℕ) → lock_of (place_at w t) ≡ Some l → (l == k) ≡ false
+  module _ (k : ℕ) (sort : (rules_in w k).sort ≡ locks.Condvar) (other : called_lock (place_at w t) ≢ Some k) where
+    other_lock : (l : ℕ) → called_lock (place_at w t) ≡ Some l → (l == k) ≡ false
     other_lock l own = either (l == k) refl
       where
         either : (b : Bool) → (l == k) ≡ b → b ≡ false
@@ -98,9 +98,9 @@ module _ (w : State) (steady : IsInductive w) (t : ℕ) where
     pub not_inside : (location_at (place_at w t) k).inside ≡ None
     not_inside = by_place (place_at w t) refl
       where
-        single : (l : ℕ) (p : Place) → place_at w t ≡ p → IsSingle p → lock_of p ≡ Some l → (location_at p k).inside ≡ None
+        single : (l : ℕ) (p : Place) → place_at w t ≡ p → IsSingle p → called_lock p ≡ Some l → (location_at p k).inside ≡ None
         single l p is one own = ap (λ (x : Location). x.inside) (single_location p k one) ∙ ap (λ o. (if is_lock k o then location_by (profile p) else nowhere).inside) own
-            ∙ ap (λ (b : Bool). (if b then location_by (profile p) else nowhere).inside) (other_lock l (ap lock_of is ∙ own))
+            ∙ ap (λ (b : Bool). (if b then location_by (profile p) else nowhere).inside) (other_lock l (ap called_lock is ∙ own))
 
         beside : (at : CondvarPlace) (o : Option ℕ) → ((m : ℕ) → o ≡ Some m → (rules_in w m).sort ≡ locks.Mutex)
             → (if is_lock k o then location_by (mutex_side at) else nowhere).inside ≡ None
@@ -118,7 +118,7 @@ module _ (w : State) (steady : IsInductive w) (t : ℕ) where
         by_place (Once l at) is = single l (Once l at) is tt refl
         by_place (Semaphore l at) is = single l (Semaphore l at) is tt refl
         by_place (Condvar l at) is =
-            ap (λ (b : Bool). (if b then location_by (condvar_profile at) else if is_lock k (mutex_beside at) then location_by (mutex_side at) else nowhere).inside) (other_lock l (ap lock_of is))
+            ap (λ (b : Bool). (if b then location_by (condvar_profile at) else if is_lock k (mutex_beside at) then location_by (mutex_side at) else nowhere).inside) (other_lock l (ap called_lock is))
             ∙ beside at (mutex_beside at) (λ m e. plain_sort (kind_at w m) ((fits_at l at is).mutex m e))
 
     pub says_nothing : (stage_of (place_at w t) k ≡ None) × (names_of (place_at w t) k ≡ None)
@@ -130,7 +130,7 @@ module _ (w : State) (steady : IsInductive w) (t : ℕ) where
         by_place (RwLock l a c) is = (refl, refl)
         by_place (Once l at) is = (refl, refl)
         by_place (Semaphore l at) is = (refl, refl)
-        by_place (Condvar l at) is = let out = other_lock l (ap lock_of is) in
+        by_place (Condvar l at) is = let out = other_lock l (ap called_lock is) in
             (ap (λ (b : Bool). if b then (condvar_row at).stage else None) out, ap (λ (b : Bool). if b then (condvar_row at).waits_with else None) out)
 
 -- ---------------------------------------------------------------- an event of another lock
@@ -212,7 +212,7 @@ module _ (w : State) (s : Step) (shape : IsWellFormed w) (steady : IsInductive w
 
   -- its call is of the lock that it was of, or it has ended
   abbrev pub StaysOf : Type 0
-  StaysOf = (lock_of (place_at v t) ≡ lock_of (place_at w t)) ⊎ (lock_of (place_at v t) ≡ None)
+  StaysOf = (called_lock (place_at v t) ≡ called_lock (place_at w t)) ⊎ (called_lock (place_at v t) ≡ None)
 
   same_purpose : (call_at v t).purpose ≡ (call_at w t).purpose → StaysOf
   same_purpose e = inl (sym (call_lock v steady_then t) ∙ ap of_purpose e ∙ call_lock w steady t)
@@ -228,14 +228,14 @@ module _ (w : State) (s : Step) (shape : IsWellFormed w) (steady : IsInductive w
       by_outcome o e = same_purpose (ap (λ (c : CallState). c.purpose) e ∙ woken_purpose (locks_of w) t g.event (going_on g.event (call_at w t)) ∙ purpose_stays g.event (call_at w t))
 
   -- or begun
-  pub moved_on : StaysOf ⊎ (lock_of (place_at w t) ≡ None)
+  pub moved_on : StaysOf ⊎ (called_lock (place_at w t) ≡ None)
   moved_on = elim step.1 [
     | inl now ↦ by_turn s.turn now.0 now.1
     | inr refused ↦ inl (same_purpose (ap (λ (x : LocksState). (x.calls t).purpose) refused.1.1))
   ]
     where
       by_turn : (x : Turn) → MayTurn (locks_of w) t x → Does (locks_of w) t x (step_outcome w s) (locks_of v)
-          → StaysOf ⊎ (lock_of (place_at w t) ≡ None)
+          → StaysOf ⊎ (called_lock (place_at w t) ≡ None)
       by_turn (turn.TheVariants.Begin c) may does = inr (sym (call_lock w steady t) ∙ ap of_purpose may.idle)
       by_turn turn.TheVariants.Late may does = inl (same_purpose (ap (λ (c : CallState). c.purpose) (does.calls t ∙ put_here (call_at w) t (record (call_at w t) { late = true }))))
       by_turn turn.TheVariants.Go may does = inl (goes_of does)
@@ -243,7 +243,7 @@ module _ (w : State) (s : Step) (shape : IsWellFormed w) (steady : IsInductive w
       by_turn turn.TheVariants.Ok may does = inl (goes_of does.goes)
       by_turn turn.TheVariants.Err may does = inl (goes_of does.goes)
 
-  module _ (k : ℕ) (sort : (rules_in w k).sort ≡ locks.Condvar) (other : lock_of (place_at w t) ≢ Some k) where
+  module _ (k : ℕ) (sort : (rules_in w k).sort ≡ locks.Condvar) (other : called_lock (place_at w t) ≢ Some k) where
     sort_then : (rules_in v k).sort ≡ locks.Condvar
     sort_then = ap (λ x. (rules_of x).sort) (after_kinds w s k) ∙ sort
 
@@ -275,7 +275,7 @@ module _ (w : State) (s : Step) (shape : IsWellFormed w) (steady : IsInductive w
     says_kept u ne = (others_keep_it (λ p. stage_of p k) (stage_unmoved k) w s u ne, others_keep_it (λ p. names_of p k) (names_unmoved k) w s u ne)
 
     -- so a condition variable is as it was, where the thread is in no call of it before or behind the step
-    pub condvar_kept : lock_of (place_at v t) ≢ Some k → condvar_of v k ≡ condvar_of w k
+    pub condvar_kept : called_lock (place_at v t) ≢ Some k → condvar_of v k ≡ condvar_of w k
     condvar_kept other_then = same_condvar w v k lock_kept (by_change (step.0.sections (key_of k Main))) says
       where
         by_change : SectionChanges (section_at w (key_of k Main)) t (section_at v (key_of k Main))

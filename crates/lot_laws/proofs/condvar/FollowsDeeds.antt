@@ -7,11 +7,11 @@ use Rattle.steps_base.specs.declared.acts.Reply.{Reply}
 use Rattle.steps_condvar.specs.declared.places.CondvarPlace.{CondvarPlace}
 use Rattle.steps_condvar.specs.CondvarProfiles.{condvar_row}
 use Rattle.steps_condvar.specs.CondvarSteps.{condvar_next}
-use Rattle.steps_condvar.specs.CondvarDeeds.{AllNeeded, Follows, IsAtNext, IsAtStage, MayHear, after_all, condvar_deeds}
+use Rattle.steps_condvar.specs.CondvarDeeds.{AllCondvarNeeded, Follows, IsAtNext, IsAtStage, MayHear, after_condvar_deeds, condvar_deeds}
 use Rattle.steps_condvar.proofs.CondvarFit.{condvar_steps_follow}
 use Rattle.lot_steps.specs.declared.places.Place.TheVariants.{Idle, Condvar}
 use Rattle.lot_steps.specs.Steps.{condvar_goes, profile_at}
-use Rattle.spec_locks.specs.Condvars.{CondvarDeed, BeginsWait, EndsWait, GoesIn, GoesOut, Show, SeeOther, StandLast, SeeAgain, MissIt, Hide, MoveFirst, MoveAll, LeaveList, Clear, CondvarNeeded, CondvarSite, Inside, IsCondvar, IsInsideNot, MayGoOut, Stage, condvar_leads}
+use Rattle.spec_locks.specs.Condvars.{CondvarDeed, BeginsWait, EndsWait, GoIn, GoOut, Show, SeeOther, StandLast, SeeAgain, MissIt, HideAndTakeAll, MoveFirst, MoveAll, LeaveList, ShowNone, CondvarNeeded, CondvarSite, Inside, IsCondvar, IsInsideNot, MayGoOut, CondvarStage, condvar_leads}
 use Rattle.spec_locks.specs.Runs.{SectionChanges}
 use Rattle.spec_locks.specs.Sites.{Line, Main}
 use Rattle.spec_locks.proofs.CondvarKeeps.{condvar_deed_keeps}
@@ -26,7 +26,7 @@ use Rattle.lot_laws.proofs.machine.Parts.{put_other}
 -- ---------------------------------------------------------------- deeds of one thread
 
 -- deeds that may be done keep what holds of it
-pub deeds_keep : (ds : List CondvarDeed) (c : CondvarSite) (t : ℕ) → IsCondvar c → AllNeeded ds c t → IsCondvar (after_all ds c t)
+pub deeds_keep : (ds : List CondvarDeed) (c : CondvarSite) (t : ℕ) → IsCondvar c → AllCondvarNeeded ds c t → IsCondvar (after_condvar_deeds ds c t)
 deeds_keep [] c t h needed = h
 deeds_keep (d ∷ ds) c t h needed = deeds_keep ds (condvar_leads d c t) t (condvar_deed_keeps d c t h needed.0) needed.1
 
@@ -42,7 +42,7 @@ module _ (t : ℕ) where
   both_own : (x y : Option Inside) → IsOwn x → IsOwn y → SameOthers x y
   both_own x y a b i ne = (λ e. absurd (ne (a i e)), λ e. absurd (ne (b i e)))
 
-  within : (x : Option Inside) (stage : Stage) → x ≡ Some (record { thread = t; stage = stage }) → IsOwn x
+  within : (x : Option Inside) (stage : CondvarStage) → x ≡ Some (record { thread = t; stage = stage }) → IsOwn x
   within x stage e i f = let both : Some (record { thread = t; stage = stage }) ≡ Some i = sym e ∙ f in let one : record { thread = t; stage = stage } ≡ i = cc in sym (ap (λ (j : Inside). j.thread) one)
 
   nobody : (x : Option Inside) → x ≡ None → IsOwn x
@@ -55,20 +55,20 @@ module _ (t : ℕ) where
   deed_others : (d : CondvarDeed) (c : CondvarSite) → CondvarNeeded d c t → SameOthers c.inside (condvar_leads d c t).inside
   deed_others (BeginsWait m) c n i ne = (λ e. e, λ e. e)
   deed_others EndsWait c n i ne = (λ e. e, λ e. e)
-  deed_others GoesIn c n i ne = both_own _ _ (nobody c.inside n) (within _ _ refl) i ne
-  deed_others GoesOut c n i ne = both_own _ _ (leaving c.inside n) (nobody _ refl) i ne
+  deed_others GoIn c n i ne = both_own _ _ (nobody c.inside n) (within _ _ refl) i ne
+  deed_others GoOut c n i ne = both_own _ _ (leaving c.inside n) (nobody _ refl) i ne
   deed_others (Show m) c n i ne = both_own _ _ (within c.inside _ n.0) (within _ _ refl) i ne
   deed_others (SeeOther m) c n i ne = both_own _ _ (within c.inside _ n.0) (within _ _ refl) i ne
   deed_others StandLast c n i ne = both_own _ _ (within c.inside _ n.0.1) (within _ _ refl) i ne
   deed_others (SeeAgain m) c n i ne = both_own _ _ (within c.inside _ n.0) (within _ _ refl) i ne
   deed_others (MissIt m) c n i ne = both_own _ _ (within c.inside _ n.0) (within _ _ refl) i ne
-  deed_others Hide c n i ne = both_own _ _ (within c.inside _ n.1) (within _ _ refl) i ne
+  deed_others HideAndTakeAll c n i ne = both_own _ _ (within c.inside _ n.1) (within _ _ refl) i ne
   deed_others MoveFirst c n i ne = both_own _ _ (within c.inside _ n.1) (within _ _ refl) i ne
   deed_others MoveAll c n i ne = both_own _ _ (within c.inside _ n.1) (within _ _ refl) i ne
   deed_others LeaveList c n i ne = both_own _ _ (within c.inside _ n.0) (within _ _ refl) i ne
-  deed_others Clear c n i ne = both_own _ _ (within c.inside _ n) (within _ _ refl) i ne
+  deed_others ShowNone c n i ne = both_own _ _ (within c.inside _ n) (within _ _ refl) i ne
 
-  deeds_others : (ds : List CondvarDeed) (c : CondvarSite) → AllNeeded ds c t → SameOthers c.inside (after_all ds c t).inside
+  deeds_others : (ds : List CondvarDeed) (c : CondvarSite) → AllCondvarNeeded ds c t → SameOthers c.inside (after_condvar_deeds ds c t).inside
   deeds_others [] c n i ne = (λ e. e, λ e. e)
   deeds_others (d ∷ ds) c n i ne =
       let a = deed_others d c n.0 i ne in
@@ -81,7 +81,7 @@ module _ (t : ℕ) where
   deed_names EndsWait c u ne = put_other c.waits_with t None u ne
   deed_names d c u ne = refl
 
-  deeds_names : (ds : List CondvarDeed) (c : CondvarSite) (u : ℕ) → u ≢ t → (after_all ds c t).waits_with u ≡ c.waits_with u
+  deeds_names : (ds : List CondvarDeed) (c : CondvarSite) (u : ℕ) → u ≢ t → (after_condvar_deeds ds c t).waits_with u ≡ c.waits_with u
   deeds_names [] c u ne = refl
   deeds_names (d ∷ ds) c u ne = deeds_names ds (condvar_leads d c t) u ne ∙ deed_names d c u ne
 
@@ -105,7 +105,7 @@ module _ (w v : State) (t l : ℕ) (at : CondvarPlace) (told : Reply) (stands : 
     (says : (u : ℕ) → u ≢ t → (stage_of (place_at v u) l ≡ stage_of (place_at w u) l) × (names_of (place_at v u) l ≡ names_of (place_at w u) l))
     (section : SectionChanges (section_at w (key_of l Main)) t (section_at v (key_of l Main))) where
   abbrev led : CondvarSite
-  led = after_all (condvar_deeds at told) (condvar_of w l) t
+  led = after_condvar_deeds (condvar_deeds at told) (condvar_of w l) t
 
   follows : Follows (condvar_of w l) t at told
   follows = condvar_steps_follow (condvar_of w l) t at told condvar (at_place w stands t l at is) hears
@@ -121,7 +121,7 @@ module _ (w v : State) (t l : ℕ) (at : CondvarPlace) (told : Reply) (stands : 
     abbrev Both : Option ℕ → Option ℕ → Type 0
     Both o p = (inside_as o (λ u. (profile_at (place_at w u) l).stage) ≡ Some i) ↔ (inside_as p (λ u. (profile_at (place_at v u) l).stage) ≡ Some i)
 
-    not_own : (o : Option Stage) → Some (record { thread = t; stage = stage_or o }) ≡ Some i → ⊥
+    not_own : (o : Option CondvarStage) → Some (record { thread = t; stage = stage_or o }) ≡ Some i → ⊥
     not_own o e = let one : record { thread = t; stage = stage_or o } ≡ i = cc in ne (sym (ap (λ (j : Inside). j.thread) one))
 
     same_section : (o : Option ℕ) → Both o o
@@ -160,7 +160,7 @@ module _ (w v : State) (t l : ℕ) (at : CondvarPlace) (told : Reply) (stands : 
       others : IsInsideNot (condvar_of v l).inside t → IsInsideNot led.inside t → (condvar_of v l).inside ≡ led.inside
       others a b = same_inside t (condvar_of w l).inside (condvar_of v l).inside led.inside others_inside (deeds_others t (condvar_deeds at told) (condvar_of w l) follows.needed) a b
 
-      by_stage : (o : Option Stage) → IsAtStage (condvar_of v l) t o → IsAtStage led t o → (condvar_of v l).inside ≡ led.inside
+      by_stage : (o : Option CondvarStage) → IsAtStage (condvar_of v l) t o → IsAtStage led t o → (condvar_of v l).inside ≡ led.inside
       by_stage None a b = others a b
       by_stage (Some stage) a b = a ∙ sym b
 

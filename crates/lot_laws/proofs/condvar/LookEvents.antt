@@ -7,8 +7,8 @@ use Rattle.steps_base.specs.declared.acts.Reply.TheVariants.{Value}
 use Rattle.steps_condvar.specs.declared.notify.NotifyAt.TheVariants as notify
 use Rattle.steps_condvar.specs.declared.places.CondvarPlace.TheVariants as places
 use Rattle.steps_condvar.specs.CondvarCalls as calls
-use Rattle.steps_condvar.specs.CondvarCalls.{CallFollows, look_event}
-use Rattle.steps_condvar.specs.CondvarDeeds.{word_of}
+use Rattle.steps_condvar.specs.CondvarCalls.{CallOfTwoFollows, look_event}
+use Rattle.steps_condvar.specs.CondvarDeeds.{word_showing}
 use Rattle.steps_condvar.specs.CondvarSteps.{condvar_next, mutex_shown, notified}
 use Rattle.steps_condvar.proofs.NotifyTells.{looks_tell}
 use Rattle.lot_steps.specs.declared.places.Place.TheVariants.{Condvar}
@@ -30,7 +30,7 @@ module _ (w v : State) (t l : ℕ) (all : Bool) (steady : IsInductive w) (after 
     (is : place_at w t ≡ Condvar l (places.Look all)) (done : ℕ → List deeds.Act) (f : FollowAll w v done)
     (nothing : (k : ℕ) → done k ≡ []) where
   abbrev seen : ℕ
-  seen = word_of (lock_state w l).shown
+  seen = word_showing (lock_state w l).shown
 
   abbrev mutex : ℕ
   mutex = mutex_shown seen
@@ -44,7 +44,7 @@ module _ (w v : State) (t l : ℕ) (all : Bool) (steady : IsInductive w) (after 
   pub look_happened : Happens w v t event
   look_happened = by_word (lock_state w l).shown refl
     where
-      by_word : (o : Option ℕ) → (lock_state w l).shown ≡ o → Happens w v t (look_event l (word_of o))
+      by_word : (o : Option ℕ) → (lock_state w l).shown ≡ o → Happens w v t (look_event l (word_showing o))
       by_word None e = happens_at w v t l None steady after f.kinds (stays l) (λ k ne. stays k) tt
       by_word (Some m) e = subst (Happens w v t) (sym sees) (happens_at w v t l (Some (OfCondvar (locks.Look (Some m)))) steady after f.kinds (stays l) (λ k ne. stays k) ((fits_here w t l (places.Look all) steady is).sort, sym e))
         where
@@ -52,7 +52,7 @@ module _ (w v : State) (t l : ℕ) (all : Bool) (steady : IsInductive w) (after 
           sees = let some : (m + 1 == 0) ≡ false = differ (m + 1) 0 (λ h. omega arith) in let same_mutex : m + 1 - 1 ≡ m = omega arith in
               ap (λ (b : Bool). if b then Nothing else AtLock l (OfCondvar (locks.Look (Some (m + 1 - 1))))) some ∙ ap (λ j. AtLock l (OfCondvar (locks.Look (Some j)))) same_mutex
 
-  follows : CallFollows l mutex (places.Look all) (Value seen) event (lock_state w l).shown (lock_state w mutex)
+  follows : CallOfTwoFollows l mutex (places.Look all) (Value seen) event (lock_state w l).shown (lock_state w mutex)
       (lock_state w mutex) t (condvar_next (places.Look all) (Value seen))
   follows = looks_tell (condvar_of w l) (lock_state w mutex) t l all
 
@@ -85,5 +85,5 @@ module _ (w v : State) (t l : ℕ) (all : Bool) (steady : IsInductive w) (after 
       follows.becomes there (names (seen == 0)) (ap (λ (s : LockState). s.shown) (stays l)) rights_led (told_so (seen == 0)))
       others_follow (begins_two (locks_of w) l (places.Look all) event _ follows.may (no_closure l (condvar_next (places.Look all) (Value seen))))
     where
-      call_is : call_at w t ≡ calls.call_at l mutex (places.Look all) (rights w t)
+      call_is : call_at w t ≡ calls.condvar_call_by l mutex (places.Look all) (rights w t)
       call_is = ap (λ q. call_state q (rights w t)) is

@@ -41,7 +41,7 @@ use Rattle.steps_condvar.specs.declared.places.CondvarPlace.TheVariants.{Wait, L
 use Rattle.steps_condvar.specs.declared.wait.WaitAt.{WaitAt}
 use Rattle.steps_condvar.specs.declared.wait.WaitAt.TheVariants as wait
 use Rattle.steps_condvar.specs.CondvarCalls.{IsLockOf, IsReached}
-use Rattle.steps_condvar.specs.CondvarDeeds.{IsListed, after_all, condvar_deeds, relocked_deeds}
+use Rattle.steps_condvar.specs.CondvarDeeds.{IsListed, after_condvar_deeds, condvar_deeds, relocked_deeds}
 use Rattle.steps_condvar.specs.CondvarProfiles.{condvar_row}
 use Rattle.steps_condvar.specs.CondvarSteps.{condvar_act, condvar_owners, is_shown, move_act, mutex_beside, notify_act, wait_act}
 use Rattle.steps_condvar.proofs.CondvarFit.{condvar_owners_follow}
@@ -53,7 +53,7 @@ use Rattle.spec_locks.specs.Picks.{queued_of}
 use Rattle.lot_machine.specs.declared.locks.Lock.{Lock}
 use Rattle.lot_machine.proofs.Shape.{main_line_there}
 use Rattle.lot_machine.specs.Fits.{IsWellFormed}
-use Rattle.lot_machine.specs.Machine.{State, can_do, kind_at, left_behind, owners_at, place_at, queue_at, queues_with_last, queues_without, queues_without_first, reply_to, state_after_act, state_after_operation, state_after_park, state_after_requeue, state_after_take_first, state_after_taking, state_after_wake, state_with_sections, unlocked, word_at}
+use Rattle.lot_machine.specs.Machine.{State, can_do, kind_at, left_in_line, owners_at, place_at, queue_at, queues_with_last, queues_without, queues_without_first, reply_to, state_after_act, state_after_operation, state_after_park, state_after_requeue, state_after_take_first, state_after_taking, state_after_wake, state_with_sections, unlocked, word_at}
 use Rattle.lot_laws.specs.SitesOf.{FitsCondvar, IsInductive, condvar_of, rules_in}
 use Rattle.lot_laws.proofs.condvar.Replies.{at_it, fits_here, word_is}
 use Rattle.lot_laws.proofs.hands.Counts.{without_absent}
@@ -81,7 +81,7 @@ module _ (w : State) (t l : ℕ) (at : CondvarPlace) (shape : IsWellFormed w) (s
 
   -- tells what its deeds make of it
   abbrev Led : CondvarPlace → Act → Type 0
-  Led p a = Is (state_after_act w t (Condvar l p) a) (after_all (condvar_deeds p (reply_to w t a)) here t).shown (after_all (condvar_deeds p (reply_to w t a)) here t).waiters
+  Led p a = Is (state_after_act w t (Condvar l p) a) (after_condvar_deeds (condvar_deeds p (reply_to w t a)) here t).shown (after_condvar_deeds (condvar_deeds p (reply_to w t a)) here t).waiters
 
   abbrev Same : State → Type 0
   Same b = Is b here.shown here.waiters
@@ -133,18 +133,18 @@ module _ (w : State) (t l : ℕ) (at : CondvarPlace) (shape : IsWellFormed w) (s
   -- ---------------------------------------------------------------- and on its own word
 
   at_own_word : (p : CondvarPlace) (f : Op) → condvar_act l p ≡ act.Word l f → mutex_beside p ≢ Some l
-      → (after_all (condvar_deeds p (Value (word_at w l))) here t).waiters ≡ here.waiters → Led p (act.Word l f)
+      → (after_condvar_deeds (condvar_deeds p (Value (word_at w l))) here t).waiters ≡ here.waiters → Led p (act.Word l f)
   at_own_word p f acts other waiters = (ap (λ (x : Lock). x.owners.shown) (get_or-set_same w.locks l _ (unlocked kind.Mutex) lt) ∙ shown, sym waiters)
     where
       shown : (condvar_owners p t (word_at w l) (owners_at w l)).shown
-          ≡ (after_all (condvar_deeds p (Value (word_at w l))) here t).shown
-      shown = subst (λ v. (condvar_owners p t v (owners_at w l)).shown ≡ (after_all (condvar_deeds p (Value v)) here t).shown) (sym (word_is w t l at steady is))
+          ≡ (after_condvar_deeds (condvar_deeds p (Value (word_at w l))) here t).shown
+      shown = subst (λ v. (condvar_owners p t v (owners_at w l)).shown ≡ (after_condvar_deeds (condvar_deeds p (Value v)) here t).shown) (sym (word_is w t l at steady is))
           (ap (λ (o : Owners). o.shown) (condvar_owners_follow here t l p f (owners_at w l) acts other refl))
 
   -- ---------------------------------------------------------------- each place
 
   relocked : (n : Next MutexPlace) (b : State) → Same b
-      → Is b (after_all (relocked_deeds n) here t).shown (after_all (relocked_deeds n) here t).waiters
+      → Is b (after_condvar_deeds (relocked_deeds n) here t).shown (after_condvar_deeds (relocked_deeds n) here t).waiters
   relocked (next.At q) b h = h
   relocked (next.End answer) b h = h
 
@@ -155,7 +155,7 @@ module _ (w : State) (t l : ℕ) (at : CondvarPlace) (shape : IsWellFormed w) (s
     named : Some m ≢ Some l
     named e = apart cc
 
-    shows : (b : Bool) → (after_all (if b then Show m ∷ [] else SeeOther m ∷ []) here t).waiters ≡ here.waiters
+    shows : (b : Bool) → (after_condvar_deeds (if b then Show m ∷ [] else SeeOther m ∷ []) here t).waiters ≡ here.waiters
     shows true = refl
     shows false = refl
 
@@ -219,13 +219,13 @@ module _ (w : State) (t l : ℕ) (at : CondvarPlace) (shape : IsWellFormed w) (s
     named_it : Some m ≢ Some l
     named_it e = apart cc
 
-    sees : (b : Bool) → (after_all (if b then SeeAgain m ∷ [] else MissIt m ∷ []) here t).waiters ≡ here.waiters
+    sees : (b : Bool) → (after_condvar_deeds (if b then SeeAgain m ∷ [] else MissIt m ∷ []) here t).waiters ≡ here.waiters
     sees true = refl
     sees false = refl
 
     -- tells what a requeue leaves
-    left : (how : Requeue) → queue_at (state_after_requeue w t (2 * l) (2 * m) how) (2 * l) ≡ left_behind how (queue_at w (2 * l))
-    left how = get_or-set_other (set w.queues (2 * l) (left_behind how (queue_at w (2 * l)))) (2 * m) (2 * l) _ [] (other_key m apart) ∙ get_or-set_same w.queues (2 * l) (left_behind how (queue_at w (2 * l))) [] line
+    left : (how : Requeue) → queue_at (state_after_requeue w t (2 * l) (2 * m) how) (2 * l) ≡ left_in_line how (queue_at w (2 * l))
+    left how = get_or-set_other (set w.queues (2 * l) (left_in_line how (queue_at w (2 * l)))) (2 * m) (2 * l) _ [] (other_key m apart) ∙ get_or-set_same w.queues (2 * l) (left_in_line how (queue_at w (2 * l))) [] line
 
     moves_led : (all locked : Bool) → Led (Notify all m (notify.Move locked)) (move_act all locked l m)
     moves_led true true = (refl, ap (map queued_of) (left requeue.All))

@@ -117,7 +117,7 @@ module _ (w : State) (t l m : ℕ) (steady : IsInductive w) (apart : m ≢ l) (s
   all_of : AllOf (condvar_of w l) m
   all_of = by_stage all (subst (λ i. condvars.IsAsInside (condvar_of w l) i) (at_place w steady.stands t l this is).stage kept.inside)
     where
-      by_stage : (b : Bool) → condvars.IsAt (condvar_of w l) t (moving b m) → AllOf (condvar_of w l) m
+      by_stage : (b : Bool) → condvars.StageHolds (condvar_of w l) t (moving b m) → AllOf (condvar_of w l) m
       by_stage true h = h.2
       by_stage false h = h.2
 

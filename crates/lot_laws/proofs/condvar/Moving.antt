@@ -14,7 +14,7 @@ use Rattle.spec_locks.specs.Sites.{Line, Main, Second}
 use Rattle.lot_machine.specs.Machine.{State, moved_under, place_at, queue_at, section_at}
 use Rattle.lot_laws.specs.Refinement.{taken_at}
 use Rattle.lot_laws.specs.Locations.{Hand, Location, hand, role_on, location_at}
-use Rattle.lot_laws.specs.SitesOf.{AreWaiting, FitsItsLock, Hands, IsInductive, Lines, Sections, TakesOne, Waits, carried_at, hand_at, key_of, locations_of, stood_in}
+use Rattle.lot_laws.specs.SitesOf.{AreWaiting, FitsItsLock, Hands, IsInductive, Lines, Sections, TakesOne, AllAreWaiting, carried_at, hand_at, key_of, locations_of, stood_in}
 use Rattle.lot_laws.proofs.machine.Parts.{differ, put_here, put_other, same}
 use Rattle.lot_laws.proofs.sites.StandsKept.{Alike, hands_taken, other_key, other_line, sections_same, waiting_same}
 use Rattle.lot_laws.proofs.sites.StandsMoved.{AreThere}
@@ -335,7 +335,7 @@ module _ (w : State) (t c m : ℕ) (apart : m ≢ c) (steady : IsInductive w) (p
         by (inr e) = e
         by (inl e) = absurd (let a : times u (queue_at w (key_of c Second)) ≡ stood_in (location_at (place_at w u) c).stands Second = steady.stands.lines u c Second in omega arith)
 
-    waits_across : Waits (locations_of places_across) queue
+    waits_across : AllAreWaiting (locations_of places_across) queue
     waits_across k n = elim (cases_eq k c) [
       | inl e ↦ rw e (at_c n)
       | inr nc ↦ elim (cases_eq k m) [

@@ -22,7 +22,7 @@ use Rattle.steps_condvar.specs.declared.wait.Stands.TheVariants as stands
 use Rattle.steps_condvar.specs.declared.wait.WaitAt.{WaitAt}
 use Rattle.steps_condvar.specs.declared.wait.WaitAt.TheVariants as wait
 use Rattle.steps_condvar.specs.CondvarCalls.{IsLockOf, IsReached}
-use Rattle.steps_condvar.specs.CondvarProfiles.{condvar_profile, condvar_purpose, condvar_recalls, condvar_released, condvar_row, has_moved, has_mutex, is_main}
+use Rattle.steps_condvar.specs.CondvarProfiles.{condvar_profile, condvar_place_purpose, condvar_recalls, condvar_released, condvar_row, has_moved, has_mutex, is_main_line}
 use Rattle.steps_condvar.specs.CondvarSteps.{condvar_act, mutex_beside}
 use Rattle.lot_steps.specs.declared.places.Place.TheVariants.{Condvar}
 use Rattle.lot_steps.specs.Steps.{is_lock, line_owed, or_else}
@@ -30,7 +30,7 @@ use Rattle.spec_locks.specs.Locks.{Rights, Sort}
 use Rattle.spec_locks.specs.Locks as sorts
 use Rattle.spec_locks.specs.Purposes.{HasMoved, Saw}
 use Rattle.spec_locks.specs.Sites.{Role, Has, Line, Main, Second, counts_some, idle}
-use Rattle.lot_laws.specs.Promises.{HasReleased, WakesWaiters, mutex_seen, want_of}
+use Rattle.lot_laws.specs.Promises.{WaitHasReleased, WakesWaiters, mutex_seen, want_of}
 use Rattle.lot_laws.specs.Refinement.{call_state}
 use Rattle.lot_laws.specs.Locations.{role_on}
 use Rattle.lot_laws.proofs.condvar.Promises.{StandsAt, neither_nowhere, notifier_nowhere}
@@ -74,11 +74,11 @@ debtor_beside sort c at l m debt = by_lock (c == l) (mutex_beside at) refl debt
 
 -- it has the debt at its mutex, is awake, and stands nowhere, or is a wait that has released the mutex and owes there
 pub record LooksBeside (c : ℕ) (at : CondvarPlace) (m : ℕ) : Type 0 where
-  pub debt : (((condvar_row at).owes_mutex ≡ true) × ((sort : Sort) (gave_up : Option ℕ) → WakesWaiters sort (Some (condvar_purpose at c)) gave_up (condvar_recalls at) m))
-      ⊎ (((condvar_row at).retries ≡ true) × (want_of (Some (condvar_purpose at c)) ≡ Some Exclusive))
+  pub debt : (((condvar_row at).owes_mutex ≡ true) × ((sort : Sort) (gave_up : Option ℕ) → WakesWaiters sort (Some (condvar_place_purpose at c)) gave_up (condvar_recalls at) m))
+      ⊎ (((condvar_row at).retries ≡ true) × (want_of (Some (condvar_place_purpose at c)) ≡ Some Exclusive))
   pub awake : condvar_act c at ≢ Sleep
   pub stands : ((l : ℕ) → StandsAt (Condvar c at) l → ⊥)
-      ⊎ (HasReleased (Some (condvar_purpose at c)) (condvar_released at) m Main × ((condvar_row at).owes_mutex ≡ true))
+      ⊎ (WaitHasReleased (Some (condvar_place_purpose at c)) (condvar_released at) m Main × ((condvar_row at).owes_mutex ≡ true))
 
 module _ (c m : ℕ) where
   abbrev IsDebtorHere : CondvarPlace → Type 0
@@ -88,7 +88,7 @@ module _ (c m : ℕ) where
   tries_nowhere : (timed late : Bool) (a : LockAt) → (mutex_profile (mutex.Lock entry.Lock true a)).stands ≡ None
       → (mutex_profile (mutex.Lock entry.Lock true a)).hand ≡ None
       → (l : ℕ) → StandsAt (Condvar c (Wait m timed (wait.Lock late (mutex.Lock entry.Lock true a)))) l → ⊥
-  tries_nowhere timed late a stands hand l = neither_nowhere c (Wait m timed (wait.Lock late (mutex.Lock entry.Lock true a))) l refl (ap is_main stands) hand
+  tries_nowhere timed late a stands hand l = neither_nowhere c (Wait m timed (wait.Lock late (mutex.Lock entry.Lock true a))) l refl (ap is_main_line stands) hand
 
   -- a wait that was woken to lock its mutex again
   relock_looks : (timed late r : Bool) (a : LockAt) → IsLockOf a

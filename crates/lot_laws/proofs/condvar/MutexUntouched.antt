@@ -20,7 +20,7 @@ use Rattle.lot_steps.specs.declared.places.Place.TheVariants.{Condvar}
 use Rattle.lot_steps.specs.Steps.{condvar_goes}
 use Rattle.steps_condvar.specs.declared.places.CondvarPlace.{CondvarPlace}
 use Rattle.steps_condvar.specs.CondvarSteps.{condvar_act, condvar_next, condvar_owners, mutex_beside}
-use Rattle.steps_condvar.specs.CondvarDeeds.{Follows, condvar_deeds, word_of}
+use Rattle.steps_condvar.specs.CondvarDeeds.{Follows, condvar_deeds, word_showing}
 use Rattle.steps_condvar.specs.CondvarDeeds as condvar
 use Rattle.steps_condvar.specs.CondvarMoves.{there, there_then}
 use Rattle.spec_locks.specs.Codes.{shown_code, word_by, parked_in, aside_in, count_in}
@@ -51,12 +51,12 @@ use Rattle.lot_laws.proofs.hands.Counts.{first_out, aside_kept}
 
 abbrev pub there_deeds : List CondvarDeed → List Deed
 there_deeds (condvars.Show m ∷ ds) = Case (OfCondvar (locks.Show m)) ∷ []
-there_deeds (condvars.Hide ∷ ds) = Case (OfCondvar locks.Hide) ∷ []
-there_deeds (condvars.Clear ∷ ds) = Case (OfCondvar locks.Hide) ∷ []
+there_deeds (condvars.HideAndTakeAll ∷ ds) = Case (OfCondvar locks.Hide) ∷ []
+there_deeds (condvars.ShowNone ∷ ds) = Case (OfCondvar locks.Hide) ∷ []
 there_deeds (condvars.StandLast ∷ ds) = Case (Park WaitHere) ∷ []
 there_deeds (condvars.LeaveList ∷ ds) = LeaveLine ∷ []
-there_deeds (condvars.GoesIn ∷ ds) = In Main ∷ []
-there_deeds (condvars.GoesOut ∷ ds) = Out ∷ []
+there_deeds (condvars.GoIn ∷ ds) = In Main ∷ []
+there_deeds (condvars.GoOut ∷ ds) = Out ∷ []
 there_deeds (condvars.MoveFirst ∷ ds) = Send false ∷ []
 there_deeds (condvars.MoveAll ∷ ds) = Send true ∷ []
 there_deeds ds = []
@@ -68,8 +68,8 @@ IsOfWord (condvars.Show m ∷ []) = Unit {0}
 IsOfWord (condvars.SeeOther m ∷ []) = Unit {0}
 IsOfWord (condvars.SeeAgain m ∷ []) = Unit {0}
 IsOfWord (condvars.MissIt m ∷ []) = Unit {0}
-IsOfWord (condvars.Hide ∷ []) = Unit {0}
-IsOfWord (condvars.Clear ∷ []) = Unit {0}
+IsOfWord (condvars.HideAndTakeAll ∷ []) = Unit {0}
+IsOfWord (condvars.ShowNone ∷ []) = Unit {0}
 IsOfWord ds = ⊥
 
 module _ (w : State) (t l m : ℕ) (at : CondvarPlace) (steady : IsInductive w) (is_there : t < length w.places) (apart : m ≢ l)
@@ -181,7 +181,7 @@ module _ (w : State) (t l m : ℕ) (at : CondvarPlace) (steady : IsInductive w) 
 
           alone : standing t here.lock ≡ 0
           alone = let main : locks.times t (map queued_of (queue_at w (2 * l))) ≡ 0 = queued_times t (queue_at w (2 * l)) ∙ stood Main in
-              let aside : locks.is_thread t (first_of (queue_at w (2 * l + 1))) ≡ 0 = first_out t (queue_at w (2 * l + 1)) (stood Second) in
+              let aside : locks.one_if_thread t (first_of (queue_at w (2 * l + 1))) ≡ 0 = first_out t (queue_at w (2 * l + 1)) (stood Second) in
               let taken : one_if_some (taken_at (place_at w t) l) ≡ 0 = ap one_if_some untaken in
               omega arith
 
@@ -196,15 +196,15 @@ module _ (w : State) (t l m : ℕ) (at : CondvarPlace) (steady : IsInductive w) 
           stood : (n : Line) → times t (queue_at w (key_of l n)) ≡ stood_in (Some Main) n
           stood n = steady.stands.lines t l n ∙ ap (λ (y : Location). stood_in y.stands n) (was ∙ was_in)
 
-          no_first : locks.is_thread t (first_of (queue_at w (2 * l + 1))) ≡ 0
+          no_first : locks.one_if_thread t (first_of (queue_at w (2 * l + 1))) ≡ 0
           no_first = first_out t (queue_at w (2 * l + 1)) (stood Second)
 
-          listed : 1 ≤ locks.times t (map queued_of (queue_at w (2 * l))) + locks.is_thread t (first_of (queue_at w (2 * l + 1)))
+          listed : 1 ≤ locks.times t (map queued_of (queue_at w (2 * l))) + locks.one_if_thread t (first_of (queue_at w (2 * l + 1)))
           listed = let a : locks.times t (map queued_of (queue_at w (2 * l))) ≡ 1 = queued_times t (queue_at w (2 * l)) ∙ stood Main in omega arith
 
           not_second : first_of (queue_at w (2 * l + 1)) ≢ Some t
-          not_second e = let a : locks.is_thread t (Some t) ≡ 0 = subst (λ o. locks.is_thread t o ≡ 0) e no_first in
-              let b : locks.is_thread t (Some t) ≡ 1 = ap (λ (c : Bool). if c then 1 else 0) (same t) in omega arith
+          not_second e = let a : locks.one_if_thread t (Some t) ≡ 0 = subst (λ o. locks.one_if_thread t o ≡ 0) e no_first in
+              let b : locks.one_if_thread t (Some t) ≡ 1 = ap (λ (c : Bool). if c then 1 else 0) (same t) in omega arith
 
           still_aside : first_of (queue_at w (2 * l + 1)) ≡ locks.aside_without t (first_of (queue_at w (2 * l + 1)))
           still_aside = sym (aside_kept t (first_of (queue_at w (2 * l + 1))) no_first)
@@ -214,7 +214,7 @@ module _ (w : State) (t l m : ℕ) (at : CondvarPlace) (steady : IsInductive w) 
     -- tells what is shown behind it
     module _ (shown : Option ℕ) (op : Op) (lt : l < length w.locks) (ds : List Deed)
         (owners : condvar_owners at t (word_at w l) (owners_at w l) ≡ record (owners_at w l) { shown = shown })
-        (coded : apply op (word_at w l) ≡ word_of shown) (stays_in : there_then at told ≡ there at)
+        (coded : apply op (word_at w l) ≡ word_showing shown) (stays_in : there_then at told ≡ there at)
         (needed : ActsNeeded r (acts t ds) here) (single : AreSingle ds) (led : (after_acts r (acts t ds) here).lock ≡ record here.lock { shown = shown }) (bits : (after_acts r (acts t ds) here).parked ≡ here.parked) (bits_aside : (after_acts r (acts t ds) here).aside_parked ≡ here.aside_parked)
         (role : (after_acts r (acts t ds) here).role t ≡ here.role t) (plain_deeds : NoHandOff ds) where
       abbrev before : Place
@@ -233,7 +233,7 @@ module _ (w : State) (t l m : ℕ) (at : CondvarPlace) (steady : IsInductive w) 
           filled_then
           (does ∙ ap (λ (y : Location). record idle { inside = y.inside }) stays_in ∙ sym did ∙ sym role)
 
-      shows : (o : Option ℕ) → word_of o ≡ shown_code o
+      shows : (o : Option ℕ) → word_showing o ≡ shown_code o
       shows None = refl
       shows (Some n) = refl
 
@@ -245,7 +245,7 @@ module _ (w : State) (t l m : ℕ) (at : CondvarPlace) (steady : IsInductive w) 
 
     -- by the deeds of its place
     pub works_there : (op : Op) → l < length w.locks → condvar_act l at ≡ act.Word l op → told ≡ Value (word_at w l)
-        → word_at w l ≡ word_of (condvar_of w l).shown → there_then at told ≡ there at → IsOfWord (condvar_deeds at told)
+        → word_at w l ≡ word_showing (condvar_of w l).shown → there_then at told ≡ there at → IsOfWord (condvar_deeds at told)
         → Follows (condvar_of w l) t at told
         → Goes w (put (state_after_operation w t (Condvar l at) l op) t p2) l (acts t (there_deeds (condvar_deeds at told)))
     works_there op lt acts_so told_so word_is stays_in of_word follows = by_deeds (condvar_deeds at told) of_word follows.needed shown_then coded_then
@@ -253,27 +253,27 @@ module _ (w : State) (t l m : ℕ) (at : CondvarPlace) (steady : IsInductive w) 
         c : CondvarSite
         c = condvar_of w l
 
-        told_is : told ≡ Value (word_of c.shown)
+        told_is : told ≡ Value (word_showing c.shown)
         told_is = told_so ∙ ap Value word_is
 
         other_word : mutex_beside at ≢ Some l
         other_word e = apart (let f : Some m ≡ Some l = sym of ∙ e in cc)
 
-        shown_then : condvar_owners at t (word_at w l) (owners_at w l) ≡ record (owners_at w l) { shown = (condvar.after_all (condvar_deeds at told) c t).shown }
+        shown_then : condvar_owners at t (word_at w l) (owners_at w l) ≡ record (owners_at w l) { shown = (condvar.after_condvar_deeds (condvar_deeds at told) c t).shown }
         shown_then = ap (λ v. condvar_owners at t v (owners_at w l)) word_is ∙ condvar_owners_follow c t l at op (owners_at w l) acts_so other_word refl
-            ∙ sym (ap (λ x. record (owners_at w l) { shown = (condvar.after_all (condvar_deeds at x) c t).shown }) told_is)
+            ∙ sym (ap (λ x. record (owners_at w l) { shown = (condvar.after_condvar_deeds (condvar_deeds at x) c t).shown }) told_is)
 
-        coded_then : apply op (word_at w l) ≡ word_of (condvar.after_all (condvar_deeds at told) c t).shown
-        coded_then = ap (apply op) word_is ∙ condvar_steps_code c t l at op acts_so other_word ∙ sym (ap (λ x. word_of (condvar.after_all (condvar_deeds at x) c t).shown) told_is)
+        coded_then : apply op (word_at w l) ≡ word_showing (condvar.after_condvar_deeds (condvar_deeds at told) c t).shown
+        coded_then = ap (apply op) word_is ∙ condvar_steps_code c t l at op acts_so other_word ∙ sym (ap (λ x. word_showing (condvar.after_condvar_deeds (condvar_deeds at x) c t).shown) told_is)
 
-        by_deeds : (ds : List CondvarDeed) → IsOfWord ds → condvar.AllNeeded ds c t → condvar_owners at t (word_at w l) (owners_at w l) ≡ record (owners_at w l) { shown = (condvar.after_all ds c t).shown }
-            → apply op (word_at w l) ≡ word_of (condvar.after_all ds c t).shown
+        by_deeds : (ds : List CondvarDeed) → IsOfWord ds → condvar.AllCondvarNeeded ds c t → condvar_owners at t (word_at w l) (owners_at w l) ≡ record (owners_at w l) { shown = (condvar.after_condvar_deeds ds c t).shown }
+            → apply op (word_at w l) ≡ word_showing (condvar.after_condvar_deeds ds c t).shown
             → Goes w (put (state_after_operation w t (Condvar l at) l op) t p2) l (acts t (there_deeds ds))
         by_deeds [] h n o e = works_by c.shown op lt [] o e stays_in tt tt refl refl refl refl tt
         by_deeds (condvars.SeeOther k ∷ []) h n o e = works_by c.shown op lt [] o e stays_in tt tt refl refl refl refl tt
         by_deeds (condvars.SeeAgain k ∷ []) h n o e = works_by c.shown op lt [] o e stays_in tt tt refl refl refl refl tt
         by_deeds (condvars.MissIt k ∷ []) h n o e = works_by c.shown op lt [] o e stays_in tt tt refl refl refl refl tt
         by_deeds (condvars.Show k ∷ []) h n o e = works_by (Some k) op lt (Case (OfCondvar (locks.Show k)) ∷ []) o e stays_in (((sort, n.0.2), tt), tt) (tt, tt) refl refl refl (put_here here.role t (here.role t)) ((λ f. f), tt)
-        by_deeds (condvars.Hide ∷ []) h n o e = works_by None op lt (Case (OfCondvar locks.Hide) ∷ []) o e stays_in (((sort, tt), tt), tt) (tt, tt) refl refl refl (put_here here.role t (here.role t)) ((λ f. f), tt)
-        by_deeds (condvars.Clear ∷ []) h n o e = works_by None op lt (Case (OfCondvar locks.Hide) ∷ []) o e stays_in (((sort, tt), tt), tt) (tt, tt) refl refl refl (put_here here.role t (here.role t)) ((λ f. f), tt)
+        by_deeds (condvars.HideAndTakeAll ∷ []) h n o e = works_by None op lt (Case (OfCondvar locks.Hide) ∷ []) o e stays_in (((sort, tt), tt), tt) (tt, tt) refl refl refl (put_here here.role t (here.role t)) ((λ f. f), tt)
+        by_deeds (condvars.ShowNone ∷ []) h n o e = works_by None op lt (Case (OfCondvar locks.Hide) ∷ []) o e stays_in (((sort, tt), tt), tt) (tt, tt) refl refl refl (put_here here.role t (here.role t)) ((λ f. f), tt)
         by_deeds ds h n o e = absurd h

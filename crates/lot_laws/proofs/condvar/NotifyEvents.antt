@@ -8,7 +8,7 @@ use Rattle.spec_locks.specs.declared.outcomes.Outcome as outcome
 use Rattle.steps_base.specs.Acts.{outcome_of}
 use Rattle.steps_base.specs.Calls.{rights_where}
 use Rattle.steps_base.specs.Locations.{Location}
-use Rattle.steps_base.specs.Profiles.{blank, in_hand}
+use Rattle.steps_base.specs.Profiles.{blank_row, in_hand}
 use Rattle.steps_base.specs.declared.acts.Next.{Next}
 use Rattle.steps_base.specs.declared.acts.Next.TheVariants as next
 use Rattle.steps_base.specs.declared.acts.Reply.{Reply}
@@ -17,7 +17,7 @@ use Rattle.steps_condvar.specs.declared.notify.NotifyAt.{NotifyAt}
 use Rattle.steps_condvar.specs.declared.notify.NotifyAt.TheVariants as notify
 use Rattle.steps_condvar.specs.declared.places.CondvarPlace.{CondvarPlace}
 use Rattle.steps_condvar.specs.declared.places.CondvarPlace.TheVariants.{Wait, Look, Notify}
-use Rattle.steps_condvar.specs.CondvarCalls.{CallFollows, IsReached, MayComeOfTwo, marked_event, notify_event, or_else}
+use Rattle.steps_condvar.specs.CondvarCalls.{CallOfTwoFollows, IsReached, MayComeOfTwo, marked_event, notify_event, or_else}
 use Rattle.steps_condvar.specs.CondvarDeeds.{IsListed, condvar_deeds, notify_deeds}
 use Rattle.steps_condvar.specs.CondvarDeeds as condvar
 use Rattle.steps_condvar.specs.CondvarMutex.{beside_deeds}
@@ -239,7 +239,7 @@ module _ (w : State) (t l m : ℕ) (all : Bool) (p : NotifyAt) (steady : IsInduc
           by_at (Look every) there h = absurd cc
           by_at (Notify every k at) there h = absurd (let none : false ≡ true = sym (unlisted every k at) ∙ h in cc)
           by_at (Wait k timed at) there h =
-              let own : (profile_at (place_at w u) l).names ≡ Some k = ap (λ (q : Place). (profile_at q l).names) there ∙ ap (λ (b : Bool). (if b then condvar_profile (Wait k timed at) else if is_lock l (Some k) then mutex_side (Wait k timed at) else blank).names) (same l) in
+              let own : (profile_at (place_at w u) l).names ≡ Some k = ap (λ (q : Place). (profile_at q l).names) there ∙ ap (λ (b : Bool). (if b then condvar_profile (Wait k timed at) else if is_lock l (Some k) then mutex_side (Wait k timed at) else blank_row).names) (same l) in
               let both : Some k ≡ Some m = sym own ∙ named in
               let same_mutex : k ≡ m = cc in
               (timed, ap (λ q. (call_state q (rights w u)).purpose) there ∙ ap (λ j. Some (Waits l j timed)) same_mutex)
@@ -286,9 +286,9 @@ module _ (w v : State) (t l m : ℕ) (all : Bool) (p : NotifyAt) (steady : IsInd
   ])
 
   abbrev shown_then : Option ℕ
-  shown_then = (condvar.after_all (condvar_deeds (Notify all m p) told) (condvar_of w l) t).shown
+  shown_then = (condvar.after_condvar_deeds (condvar_deeds (Notify all m p) told) (condvar_of w l) t).shown
 
-  follows : CallFollows l m (Notify all m p) told event shown_then (lock_state w m) behind t (condvar_next (Notify all m p) told)
+  follows : CallOfTwoFollows l m (Notify all m p) told event shown_then (lock_state w m) behind t (condvar_next (Notify all m p) told)
   follows = notifies_tell (condvar_of w l) (rules_in w m) (site_of w m) t l m all p told (rules_beside w t l (Notify all m p) steady is m refl) condvar_holds (at_it w t l (Notify all m p) steady is)
       (role_beside w t l (Notify all m p) steady is m refl) (may_hear w t l (Notify all m p) steady is can) (notifier_hears w t l m all p steady condvar_holds aside is can) reached
 

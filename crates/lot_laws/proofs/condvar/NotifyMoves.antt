@@ -25,13 +25,13 @@ use Rattle.steps_condvar.specs.CondvarMoves.{MovesWaiters, row_beside, there}
 use Rattle.steps_condvar.specs.CondvarMutex.{FollowsBeside, MayHearBeside, beside_deeds, role_next}
 use Rattle.steps_condvar.specs.CondvarSteps.{condvar_next, in_notify, move_act, next_notify}
 use Rattle.steps_condvar.proofs.NotifierFit.{notifiers_follow}
-use Rattle.spec_locks.specs.Condvars.{IsCondvar, WaitsAside, in_line, line_of, moved_of, taken_of}
+use Rattle.spec_locks.specs.Condvars.{IsCondvar, WaitsAside, wanting_mutex, line_of, moved_of, taken_of}
 use Rattle.spec_locks.specs.Deeds as laws
 use Rattle.spec_locks.specs.Locks as locks
 use Rattle.spec_locks.specs.Locks.{putting, Rights}
 use Rattle.spec_locks.specs.Picks.{queued_of}
 use Rattle.spec_locks.specs.Sites.{Bring, Deed, Role, bringing, Main, Send, has_readers, idle}
-use Rattle.lot_machine.specs.Machine.{State, left_behind, listed, moved_threads, moved_under, place_at, places_told, put, queue_at, state_after_requeue, queues_without_first, state_after_taking, reply_to, state_after_act}
+use Rattle.lot_machine.specs.Machine.{State, left_in_line, listed, moved_threads, moved_under, place_at, places_told, put, queue_at, state_after_requeue, queues_without_first, state_after_taking, reply_to, state_after_act}
 use Rattle.lot_laws.specs.MutexDeeds.{acts}
 use Rattle.lot_laws.specs.Refinement.{taken_at, call_state}
 use Rattle.lot_laws.specs.Locations.{role_on, location_at}
@@ -76,7 +76,7 @@ threads_moved requeue.TakeOneMoveRest (x ∷ q) = refl
 
 -- each is taken, moved, or left
 all_counted : (how : Requeue) (q : List Waiter) (u : ℕ)
-    → times u (gone_by how q) + times u (moved_by how q) + times u (left_behind how q) ≡ times u q
+    → times u (gone_by how q) + times u (moved_by how q) + times u (left_in_line how q) ≡ times u q
 all_counted requeue.All q u = omega arith
 all_counted requeue.One [] u = refl
 all_counted requeue.One (x ∷ q) u = one_more (x.thread == u) (times u q)
@@ -92,7 +92,7 @@ all_counted requeue.TakeOneMoveRest (x ∷ q) u = one_more (x.thread == u) (time
     one_more false n = omega arith
 
 left_waits : (at : ℕ → ℕ → Location) (l : ℕ) (how : Requeue) (q : List Waiter) → AreWaiting at l Main q
-    → AreWaiting at l Main (left_behind how q)
+    → AreWaiting at l Main (left_in_line how q)
 left_waits at l requeue.All q h = tt
 left_waits at l requeue.TakeOneMoveRest q h = tt
 left_waits at l requeue.One [] h = tt
@@ -106,19 +106,19 @@ one_taken requeue.TakeOneMoveRest [] u v h g = absurd cc
 one_taken requeue.TakeOneMoveRest (x ∷ q) u v h g = sym (only_member x u h) ∙ only_member x v g
 
 -- as the abstract locks have them
-under_lined : (key : ℕ) (q : List Waiter) → map queued_of (moved_under key q) ≡ map in_line (map queued_of q)
+under_lined : (key : ℕ) (q : List Waiter) → map queued_of (moved_under key q) ≡ map wanting_mutex (map queued_of q)
 under_lined key [] = refl
 under_lined key (x ∷ q) = ap (λ (ys : List locks.Queued). record { thread = x.thread; want = Exclusive } ∷ ys) (under_lined key q)
 
-first_lined : (key : ℕ) (q : List Waiter) → map queued_of (moved_under key (take 1 q)) ≡ map in_line (take 1 (map queued_of q))
+first_lined : (key : ℕ) (q : List Waiter) → map queued_of (moved_under key (take 1 q)) ≡ map wanting_mutex (take 1 (map queued_of q))
 first_lined key [] = refl
 first_lined key (x ∷ q) = refl
 
-rest_lined : (key : ℕ) (q : List Waiter) → map queued_of (moved_under key (drop 1 q)) ≡ drop 1 (map in_line (map queued_of q))
+rest_lined : (key : ℕ) (q : List Waiter) → map queued_of (moved_under key (drop 1 q)) ≡ drop 1 (map wanting_mutex (map queued_of q))
 rest_lined key [] = refl
 rest_lined key (x ∷ q) = under_lined key q
 
-taken_lined : (key : ℕ) (q : List Waiter) → map queued_of (moved_under key (take 1 q)) ≡ take 1 (map in_line (map queued_of q))
+taken_lined : (key : ℕ) (q : List Waiter) → map queued_of (moved_under key (take 1 q)) ≡ take 1 (map wanting_mutex (map queued_of q))
 taken_lined key [] = refl
 taken_lined key (x ∷ q) = refl
 
@@ -269,7 +269,7 @@ module _ (w : State) (t l m : ℕ) (all locked : Bool) (steady : IsInductive w) 
     module _ (how : Requeue) (line_l : key_of l Main < length w.queues) (line_m : key_of m Main < length w.queues)
         (none_gone : locked ≡ true → gone_by how line ≡ [])
         (some_gone : locked ≡ false → (u : ℕ) × (member u (gone_by how line) ≡ true))
-        (left_is : map queued_of (left_behind how line) ≡ (if all then [] else drop 1 (map queued_of line))) (gone_is : map queued_of (moved_under (key_of m Main) (gone_by how line)) ≡ taken_of locked (moved_of all (map queued_of line))) (moved_is : map queued_of (moved_under (key_of m Main) (moved_by how line)) ≡ line_of locked (moved_of all (map queued_of line))) where
+        (left_is : map queued_of (left_in_line how line) ≡ (if all then [] else drop 1 (map queued_of line))) (gone_is : map queued_of (moved_under (key_of m Main) (gone_by how line)) ≡ taken_of locked (moved_of all (map queued_of line))) (moved_is : map queued_of (moved_under (key_of m Main) (moved_by how line)) ≡ line_of locked (moved_of all (map queued_of line))) where
       abbrev gone : List Waiter
       gone = gone_by how line
 
@@ -283,7 +283,7 @@ module _ (w : State) (t l m : ℕ) (all locked : Bool) (steady : IsInductive w) 
       keys = other_key l m Main Main apart
 
       at_most : (u : ℕ) → times u gone + times u moved ≤ 1
-      at_most u = let a : times u gone + times u moved + times u (left_behind how line) ≡ times u line = all_counted how line u in let b : times u line ≡ stood_in (location_at (place_at w u) l).stands Main = steady.stands.lines u l Main in
+      at_most u = let a : times u gone + times u moved + times u (left_in_line how line) ≡ times u line = all_counted how line u in let b : times u line ≡ stood_in (location_at (place_at w u) l).stands Main = steady.stands.lines u l Main in
           let c : stood_in (location_at (place_at w u) l).stands Main ≤ 1 = at_most_one (location_at (place_at w u) l).stands Main in omega arith
 
       -- first those are told whom it takes
@@ -326,19 +326,19 @@ module _ (w : State) (t l m : ℕ) (all locked : Bool) (steady : IsInductive w) 
           → u ≢ t → (r : ℕ → Rights)
           → call_state (place_at v u) r ≡ if_moved u (moved_of all (map queued_of line)) (call_state (place_at w u) r)
       requeued_calls counted u ne r = ap (λ (f : ℕ → Place). call_state (f u) r) places_now
-          ∙ knows gone moved (left_behind how line) (all_counted how line) (left_waits (locations_of (place_at w)) l how line (steady.stands.waits l Main)) (one_taken how line) none_gone some_gone left_is gone_is moved_is counted u ne r
+          ∙ knows gone moved (left_in_line how line) (all_counted how line) (left_waits (locations_of (place_at w)) l how line (steady.stands.waits l Main)) (one_taken how line) none_gone some_gone left_is gone_is moved_is counted u ne r
 
       abbrev others_left : List (List Waiter)
-      others_left = set w.queues (2 * l) (left_behind how line)
+      others_left = set w.queues (2 * l) (left_in_line how line)
 
       pub requeues : GoesAll w v
           (two_at l m (acts t (Send all ∷ [])) (acts t (Bring (taken_of locked (moved_of all (map queued_of line))) (line_of locked (moved_of all (map queued_of line))) ∷ [])))
-      requeues = moves_so gone moved (left_behind how line) (all_counted how line) (left_waits (locations_of (place_at w)) l how line (steady.stands.waits l Main)) (one_taken how line) none_gone some_gone left_is gone_is moved_is v refl refl refl
+      requeues = moves_so gone moved (left_in_line how line) (all_counted how line) (left_waits (locations_of (place_at w)) l how line (steady.stands.waits l Main)) (one_taken how line) none_gone some_gone left_is gone_is moved_is v refl refl refl
           (length-set requeued.places t p2 ∙ told_length)
           places_now
-          (get_or-set_other others_left (2 * m) (2 * l) _ [] (λ e. keys (sym e)) ∙ get_or-set_same w.queues (2 * l) (left_behind how line) [] line_l)
-          (get_or-set_same others_left (2 * m) _ [] (rw (length-set w.queues (2 * l) (left_behind how line)) line_m) ∙ ap (λ q. q ++ moved_under (key_of m Main) moved) (get_or-set_other w.queues (2 * l) (2 * m) (left_behind how line) [] keys))
-          (λ key nl nm. get_or-set_other others_left (2 * m) key _ [] nm ∙ get_or-set_other w.queues (2 * l) key (left_behind how line) [] nl)
+          (get_or-set_other others_left (2 * m) (2 * l) _ [] (λ e. keys (sym e)) ∙ get_or-set_same w.queues (2 * l) (left_in_line how line) [] line_l)
+          (get_or-set_same others_left (2 * m) _ [] (rw (length-set w.queues (2 * l) (left_in_line how line)) line_m) ∙ ap (λ q. q ++ moved_under (key_of m Main) moved) (get_or-set_other w.queues (2 * l) (2 * m) (left_in_line how line) [] keys))
+          (λ key nl nm. get_or-set_other others_left (2 * m) key _ [] nm ∙ get_or-set_other w.queues (2 * l) key (left_in_line how line) [] nl)
 
     -- ---------------------------------------------------------------- by a take of the first
 

@@ -14,7 +14,7 @@ use Rattle.steps_mutex.specs.declared.lock.LockAt.TheVariants as lock
 use Rattle.steps_mutex.specs.declared.places.MutexPlace.{MutexPlace}
 use Rattle.steps_mutex.specs.declared.places.MutexPlace.TheVariants as mutex
 use Rattle.steps_mutex.specs.declared.unlock.UnlockAt.TheVariants as unlock
-use Rattle.steps_mutex.specs.MutexDeeds.{enters, takes as takes_deeds, lock_deeds}
+use Rattle.steps_mutex.specs.MutexDeeds.{enter_deeds, take_deeds as takes_deeds, lock_deeds}
 use Rattle.steps_mutex.specs.MutexSteps.{is_locked, is_parked, lock_act, mutex_next}
 use Rattle.steps_condvar.specs.declared.places.CondvarPlace.{CondvarPlace}
 use Rattle.steps_condvar.specs.declared.places.CondvarPlace.TheVariants.{Wait}
@@ -151,11 +151,11 @@ module _ (w : State) (t l m : ℕ) (timed : Bool) (steady : IsInductive w) (plai
   taken None = tt
   taken (Some u) = tt
 
-  entered : (b : Bool) → IsCalm (case_of None (if b then enters else []))
+  entered : (b : Bool) → IsCalm (case_of None (if b then enter_deeds else []))
   entered true = tt
   entered false = tt
 
-  word_seen : (a b : Bool) → IsCalm (case_of None (if not a then [] else if b then Mark Main ∷ [] else enters))
+  word_seen : (a b : Bool) → IsCalm (case_of None (if not a then [] else if b then Mark Main ∷ [] else enter_deeds))
   word_seen false b = tt
   word_seen true true = tt
   word_seen true false = tt

@@ -27,7 +27,7 @@ use Rattle.steps_condvar.specs.declared.wait.WaitAt.{WaitAt}
 use Rattle.steps_condvar.specs.declared.wait.WaitAt.TheVariants as wait
 use Rattle.steps_condvar.specs.CondvarCalls.{IsReached}
 use Rattle.steps_condvar.specs.CondvarProfiles.{has_given_up, has_released}
-use Rattle.steps_condvar.specs.CondvarSteps.{behind, condvar_act, condvar_first, condvar_next, in_notify, in_wait, is_shown, mutex_beside, mutex_shown, next_notify, notified, notify_act, released, relocked}
+use Rattle.steps_condvar.specs.CondvarSteps.{behind_release, condvar_act, condvar_first, condvar_next, in_notify, in_wait, is_shown, mutex_beside, mutex_shown, next_notify, notified, notify_act, released, relocked}
 use Rattle.lot_steps.specs.declared.places.Place.TheVariants.{Condvar}
 use Rattle.lot_steps.specs.Steps.{act_of, condvar_does, condvar_goes, late_key, line_owed, next_act}
 use Rattle.spec_locks.specs.Locks as locks
@@ -73,7 +73,7 @@ locker_stays : (n : ℕ) (timed late : Bool) (x : Next MutexPlace) (l : ℕ) (m 
 locker_stays n timed late (At at) l m e = e.2
 locker_stays n timed late (Over answer) l m e = e
 
-sleeper_stays : (n : ℕ) (timed : Bool) (s : Stands) → IsEntering (Wait n timed (behind s)) → ⊥
+sleeper_stays : (n : ℕ) (timed : Bool) (s : Stands) → IsEntering (Wait n timed (behind_release s)) → ⊥
 sleeper_stays n timed (stands.Noted note.Normal) e = e
 sleeper_stays n timed (stands.Noted note.HandOff) e = e
 sleeper_stays n timed s e = e

@@ -19,7 +19,7 @@ use Rattle.steps_condvar.specs.declared.wait.Stands.{Stands}
 use Rattle.steps_condvar.specs.declared.wait.WaitAt.{WaitAt}
 use Rattle.steps_condvar.specs.declared.wait.WaitAt.TheVariants as wait
 use Rattle.steps_condvar.specs.CondvarSteps.{in_wait, relocked}
-use Rattle.steps_condvar.specs.CondvarProfiles.{is_main}
+use Rattle.steps_condvar.specs.CondvarProfiles.{is_main_line}
 use Rattle.spec_locks.specs.Sites.{Main}
 use Rattle.lot_laws.proofs.machine.Parts.{same}
 use Rattle.lot_laws.proofs.mutex.Owing.{mutex_befallen}
@@ -27,7 +27,7 @@ use Rattle.lot_laws.proofs.promises.RowPromises.{Befalls}
 
 -- while it locks its mutex again, it owes there what such a call owes
 abbrev owed_beside : ℕ → ℕ → Option Line → ℕ → Option Line
-owed_beside c m owes k = or_else (if m == k then in_line (is_main owes) Main else None) (if c == k then None else None)
+owed_beside c m owes k = or_else (if m == k then in_line (is_main_line owes) Main else None) (if c == k then None else None)
 
 owes_none : (c m k : ℕ) → ◌≡◌ {A = Option Line} None (owed_beside c m None k)
 owes_none c m k = either (m == k) (c == k)

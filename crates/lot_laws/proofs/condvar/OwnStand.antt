@@ -24,7 +24,7 @@ use Rattle.steps_condvar.specs.declared.wait.WaitAt.{WaitAt}
 use Rattle.steps_condvar.specs.declared.wait.WaitAt.TheVariants as wait
 use Rattle.steps_condvar.specs.CondvarCalls.{IsLockOf, IsReached}
 use Rattle.steps_condvar.specs.CondvarProfiles.{wait_row}
-use Rattle.steps_condvar.specs.CondvarSteps.{stands_after, befalls, behind, condvar_act, condvar_next, release_next, released}
+use Rattle.steps_condvar.specs.CondvarSteps.{stands_after, comes_from_another, behind_release, condvar_act, condvar_next, release_next, released}
 use Rattle.lot_steps.specs.declared.places.Place.{Place}
 use Rattle.lot_steps.specs.declared.places.Place.TheVariants.{Idle, Condvar}
 use Rattle.lot_steps.specs.Steps.{condvar_goes, next_place}
@@ -106,9 +106,9 @@ alike_same (next.At q) = (refl, refl)
 alike_same (next.End answer) = tt
 
 release_stage : (m : ℕ) (s : Stands) (a : MutexPlace) (r : Reply) → (wait_row m (release_next s a r)).stage ≡ None
-release_stage m s a r = by_reply (befalls r)
+release_stage m s a r = by_reply (comes_from_another r)
   where
-    by_behind : (s : Stands) → (wait_row m (behind s)).stage ≡ None
+    by_behind : (s : Stands) → (wait_row m (behind_release s)).stage ≡ None
     by_behind (stands.Noted note.Normal) = refl
     by_behind (stands.Noted note.HandOff) = refl
     by_behind s = refl

@@ -16,7 +16,7 @@ use Rattle.steps_condvar.specs.declared.wait.Stands.TheVariants as stands
 use Rattle.steps_condvar.specs.declared.wait.WaitAt.TheVariants as wait
 use Rattle.steps_mutex.specs.declared.places.MutexPlace.TheVariants as mutex
 use Rattle.steps_mutex.specs.declared.unlock.UnlockAt.TheVariants as unlock
-use Rattle.steps_condvar.specs.CondvarProfiles.{condvar_row, condvar_purpose, mutex_side, notify_row, wait_row}
+use Rattle.steps_condvar.specs.CondvarProfiles.{condvar_row, condvar_place_purpose, mutex_side, notify_row, wait_row}
 use Rattle.spec_locks.specs.Locks.{Rights, Rules}
 use Rattle.spec_locks.specs.Purposes.{MayWait}
 use Rattle.spec_locks.specs.Sites.{Main, Second}
@@ -160,7 +160,7 @@ module _ (k : ℕ) where
   pub notifier_nowhere : (all : Bool) (m : ℕ) (at : NotifyAt) (l : ℕ) → StandsAt (Condvar k (Notify all m at)) l → ⊥
   notifier_nowhere all m at l = neither_nowhere (Notify all m at) l (unlisted all m at) (notifier_stands all m at).0 (notifier_stands all m at).1
 
-  pub two_wait : (at : CondvarPlace) (l : ℕ) → StandsAt (Condvar k at) l → MayWait (Some (condvar_purpose at k)) l
+  pub two_wait : (at : CondvarPlace) (l : ℕ) → StandsAt (Condvar k at) l → MayWait (Some (condvar_place_purpose at k)) l
   two_wait (Wait m timed at) l s = wait_waits m timed at l s
   two_wait (Notify all m at) l s = absurd (notifier_nowhere all m at l s)
   two_wait (Look all) l (inl stands) = absurd (stands (stands_at (Look all) l ∙ by_lock (k == l)))
@@ -172,14 +172,14 @@ module _ (k : ℕ) where
 
 -- tells what its call is for
 pub two_purpose : (k : ℕ) (at : CondvarPlace) (r : ℕ → Rights)
-    → (call_state (Condvar k at) r).purpose ≡ Some (condvar_purpose at k)
+    → (call_state (Condvar k at) r).purpose ≡ Some (condvar_place_purpose at k)
 two_purpose k (Wait m timed at) r = refl
 two_purpose k (Notify all m at) r = refl
 two_purpose k (Look all) r = refl
 
 -- and its call is for rights that both locks know
 pub two_know : (w : State) (k : ℕ) (at : CondvarPlace) → FitsItsLock w (Condvar k at)
-    → KnowsRights (sort_at w) (Some (condvar_purpose at k))
+    → KnowsRights (sort_at w) (Some (condvar_place_purpose at k))
 two_know w k (Wait m timed at) fits = (fits.sort, ap (λ (r : Rules). r.sort) (plain_rules (kind_at w m) (fits.mutex m refl)))
 two_know w k (Notify all m at) fits = fits.sort
 two_know w k (Look all) fits = fits.sort

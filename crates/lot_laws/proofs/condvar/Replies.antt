@@ -29,10 +29,10 @@ use Rattle.steps_condvar.specs.declared.places.CondvarPlace.TheVariants.{Wait, L
 use Rattle.steps_condvar.specs.declared.wait.Stands.{Stands}
 use Rattle.steps_condvar.specs.declared.wait.WaitAt.{WaitAt}
 use Rattle.steps_condvar.specs.declared.wait.WaitAt.TheVariants as wait
-use Rattle.steps_condvar.specs.CondvarSteps.{befalls, condvar_act, move_act, mutex_beside, notify_act, wait_act}
+use Rattle.steps_condvar.specs.CondvarSteps.{comes_from_another, condvar_act, move_act, mutex_beside, notify_act, wait_act}
 use Rattle.steps_condvar.specs.CondvarProfiles.{condvar_row, has_mutex, mutex_side, notify_row}
 use Rattle.steps_condvar.specs.CondvarCalls.{IsLockOf, IsReached}
-use Rattle.steps_condvar.specs.CondvarDeeds.{IsAt, MayHear, MayHearNotifying, MayHearWaiting, word_of}
+use Rattle.steps_condvar.specs.CondvarDeeds.{IsAt, MayHear, MayHearNotifying, MayHearWaiting, word_showing}
 use Rattle.steps_condvar.specs.CondvarMutex.{MayHearBeside}
 use Rattle.steps_condvar.specs.CondvarWaits.{MayHearLocking, MayHearReleasing, MayHearWaiter, TakesFirst}
 use Rattle.steps_condvar.proofs.CondvarFit.{condvar_moves_fit}
@@ -42,8 +42,8 @@ use Rattle.spec_locks.specs.Locks as locks
 use Rattle.spec_locks.specs.Locks.{HasTakenNobody, one_if_some, Taken, keep_from, Rules, first_thread, standing}
 use Rattle.spec_locks.specs.Picks.{queued_of}
 use Rattle.spec_locks.specs.Sites.{Line, Main, Second, Site, is_empty}
-use Rattle.steps_base.specs.Moves.{IsFree}
-use Rattle.lot_machine.specs.Machine.{State, is_there, kind_at, listed, can_do, is_free, place_at, queue_at, reply_to, section_at, word_at}
+use Rattle.steps_base.specs.Moves.{IsSectionFree}
+use Rattle.lot_machine.specs.Machine.{State, is_there, kind_at, listed, can_do, section_is_free, place_at, queue_at, reply_to, section_at, word_at}
 use Rattle.lot_laws.specs.Refinement.{lock_state, taken_at}
 use Rattle.lot_laws.specs.Locations.{location_at}
 use Rattle.lot_laws.specs.SitesOf.{carried_at, FitsCondvar, FitsItsLock, IsInductive, condvar_of, inside_as, key_of, rules_in, site_of, stood_in}
@@ -109,20 +109,20 @@ module _ (w : State) (t l : ℕ) (at : CondvarPlace) (steady : IsInductive w) (i
   at_it = at_place w steady.stands t l at is
 
   -- the word shows the mutex that is shown
-  pub word_is : word_at w l ≡ word_of here.shown
+  pub word_is : word_at w l ≡ word_showing here.shown
   word_is = steady.sites.word l ∙ ap (λ sort. word_by sort (rules_in w l).limit (lock_state w l) (site_of w l).aside_parked (site_of w l).parked) fits_here.sort ∙ shows here.shown
     where
-      shows : (o : Option ℕ) → shown_code o ≡ word_of o
+      shows : (o : Option ℕ) → shown_code o ≡ word_showing o
       shows None = refl
       shows (Some m) = refl
 
-  pub free_inside : is_free w (2 * l) ≡ true → here.inside ≡ None
+  pub free_inside : section_is_free w (2 * l) ≡ true → here.inside ≡ None
   free_inside free = ap (λ o. inside_as o (λ u. (profile_at (place_at w u) l).stage)) (none_so (section_at w (2 * l)) free)
 
   left_waiters : (length (without t (queue_at w (2 * l))) == 0) ≡ is_empty (locks.without t here.waiters)
   left_waiters = sym (empty_line (without t (queue_at w (2 * l)))) ∙ ap is_empty (queued_without t (queue_at w (2 * l)))
 
-  releasing : (m : ℕ) (at : UnlockAt) → befalls (reply_to w t (unlock_act m at)) ≡ false
+  releasing : (m : ℕ) (at : UnlockAt) → comes_from_another (reply_to w t (unlock_act m at)) ≡ false
   releasing m unlock.Subtract = refl
   releasing m unlock.Enter = refl
   releasing m unlock.Take = refl
@@ -155,7 +155,7 @@ module _ (w : State) (t l : ℕ) (at : CondvarPlace) (steady : IsInductive w) (i
 
   notifying_hears : (all : Bool) (m : ℕ) (p : NotifyAt) → IsReached (Notify all m p) → can_do w (notify_act all l m p) ≡ true
       → MayHearNotifying here all p (reply_to w t (notify_act all l m p))
-  notifying_hears all m notify.Enter reached can = free_inside (both (is_free w (2 * l)) (is_free w (2 * m)) can).0
+  notifying_hears all m notify.Enter reached can = free_inside (both (section_is_free w (2 * l)) (section_is_free w (2 * m)) can).0
   notifying_hears all m notify.Again reached can = word_is
   notifying_hears all m notify.Hide reached can = reached
   notifying_hears all m notify.Mark reached can = tt
@@ -203,7 +203,7 @@ module _ (w : State) (t l : ℕ) (at : CondvarPlace) (steady : IsInductive w) (i
     word_beside : word_at w m ≡ code rules there
     word_beside = steady.sites.word m
 
-    free_beside : is_free w (2 * m) ≡ true → IsFree there Main
+    free_beside : section_is_free w (2 * m) ≡ true → IsSectionFree there Main
     free_beside free u h = let a : section_at w (2 * m) ≡ Some u = (steady.stands.sections u m Main).0 (sym (inside_is (place_at w u) m) ∙ h) in
         let none : section_at w (2 * m) ≡ None = none_so (section_at w (2 * m)) free in let b : ◌≡◌ {A = Option ℕ} None (Some u) = sym none ∙ a in cc
 
@@ -225,7 +225,7 @@ module _ (w : State) (t l : ℕ) (at : CondvarPlace) (steady : IsInductive w) (i
     nowhere_beside : (mutex_side at).stands ≡ None → (mutex_side at).hand ≡ None → standing t there.lock ≡ 0
     nowhere_beside out free =
         let main : locks.times t (map queued_of (queue_at w (2 * m))) ≡ 0 = queued_times t (queue_at w (2 * m)) ∙ stood Main in
-        let aside : locks.is_thread t (first_of (queue_at w (2 * m + 1))) ≡ 0 = first_out t (queue_at w (2 * m + 1)) (stood Second) in
+        let aside : locks.one_if_thread t (first_of (queue_at w (2 * m + 1))) ≡ 0 = first_out t (queue_at w (2 * m + 1)) (stood Second) in
         let taken : one_if_some (taken_at (place_at w t) m) ≡ 0 = ap one_if_some (taken_beside ∙ ap (λ h. taken_from h (mutex_side at).wants true) free) in
         omega arith
       where
@@ -359,7 +359,7 @@ module _ (w : State) (t l m : ℕ) (all : Bool) (at : NotifyAt) (steady : IsIndu
 
       by_place : (p : NotifyAt) → at ≡ p
           → MayHearBeside (rules_in w m) beside_site (condvar_of w l) t m all p (reply_to w t (notify_act all l m p))
-      by_place notify.Enter e = free_beside w t l this steady is m refl (both (is_free w (2 * l)) (is_free w (2 * m)) (subst (λ q. can_do w (notify_act all l m q) ≡ true) e can)).1
+      by_place notify.Enter e = free_beside w t l this steady is m refl (both (section_is_free w (2 * l)) (section_is_free w (2 * m)) (subst (λ q. can_do w (notify_act all l m q) ≡ true) e can)).1
       by_place notify.Again e = tt
       by_place notify.Hide e = tt
       by_place notify.Mark e = steady.sites.word m

@@ -9,7 +9,7 @@ use Rattle.steps_base.specs.declared.acts.Next.{Next}
 use Rattle.steps_base.specs.declared.acts.Next.TheVariants as next
 use Rattle.steps_base.specs.declared.acts.Reply.{Reply}
 use Rattle.steps_base.specs.declared.acts.Reply.TheVariants.{TakenBy, MovedTo, HandedBy, Woken}
-use Rattle.steps_base.specs.Profiles.{Profile, blank}
+use Rattle.steps_base.specs.Profiles.{Profile, blank_row}
 use Rattle.steps_mutex.specs.declared.places.MutexPlace.{MutexPlace}
 use Rattle.steps_mutex.specs.declared.places.MutexPlace.TheVariants as mutex
 use Rattle.steps_mutex.specs.declared.lock.LockAt.{LockAt}
@@ -34,13 +34,13 @@ use Rattle.steps_condvar.specs.CondvarSteps.{condvar_next, in_wait, mutex_beside
 use Rattle.lot_steps.specs.declared.places.Place.{Place}
 use Rattle.lot_steps.specs.declared.places.Place.TheVariants.{Idle, Mutex, RwLock, Once, Condvar, Semaphore}
 use Rattle.lot_steps.specs.Steps.{condvar_goes, is_lock, mutex_goes, profile, next_place, once_goes, profile_at, rwlock_goes, semaphore_goes}
-use Rattle.spec_locks.specs.Condvars.{Stage}
+use Rattle.spec_locks.specs.Condvars.{CondvarStage}
 use Rattle.lot_laws.proofs.machine.PlaceTest.{IsSilent, call_facts, mutex_row_facts, once_facts, semaphore_facts}
 use Rattle.lot_laws.proofs.promises.RowPromises.{Befalls}
 
 -- ---------------------------------------------------------------- by the place
 
-abbrev pub stage_of : Place → ℕ → Option Stage
+abbrev pub stage_of : Place → ℕ → Option CondvarStage
 stage_of (Condvar c at) k = if c == k then (condvar_row at).stage else None
 stage_of p k = None
 
@@ -49,7 +49,7 @@ names_of (Condvar c at) k = if c == k then (condvar_row at).waits_with else None
 names_of p k = None
 
 -- a call of another lock says nothing of either
-nothing : (row : Profile) → IsSilent row → (b : Bool) → ((if b then row else blank).stage ≡ None) × ((if b then row else blank).names ≡ None)
+nothing : (row : Profile) → IsSilent row → (b : Bool) → ((if b then row else blank_row).stage ≡ None) × ((if b then row else blank_row).names ≡ None)
 nothing row says true = (says.stage, says.names)
 nothing row says false = (refl, refl)
 
@@ -62,8 +62,8 @@ row_says (Semaphore l at) k = nothing (profile (Semaphore l at)) (semaphore_fact
 row_says (Condvar c at) k = either (c == k) (is_lock k (mutex_beside at))
   where
     either : (here there : Bool)
-        → (((if here then condvar_profile at else if there then mutex_side at else blank)).stage ≡ (if here then (condvar_row at).stage else None))
-        × (((if here then condvar_profile at else if there then mutex_side at else blank)).names ≡ (if here then (condvar_row at).waits_with else None))
+        → (((if here then condvar_profile at else if there then mutex_side at else blank_row)).stage ≡ (if here then (condvar_row at).stage else None))
+        × (((if here then condvar_profile at else if there then mutex_side at else blank_row)).names ≡ (if here then (condvar_row at).waits_with else None))
     either true there = (refl, refl)
     either false true = (refl, refl)
     either false false = (refl, refl)

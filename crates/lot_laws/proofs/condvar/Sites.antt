@@ -7,7 +7,7 @@ use Rattle.lot_steps.specs.Steps.{profile_at}
 use Rattle.steps_condvar.specs.declared.places.CondvarPlace.{CondvarPlace}
 use Rattle.steps_condvar.specs.CondvarProfiles.{condvar_profile, condvar_row, section_in}
 use Rattle.steps_condvar.specs.CondvarDeeds.{IsAt, IsAtStage, IsListed}
-use Rattle.spec_locks.specs.Condvars.{IsInsideNot, Stage}
+use Rattle.spec_locks.specs.Condvars.{IsInsideNot, CondvarStage}
 use Rattle.spec_locks.specs.Sites.{Line, Main}
 use Rattle.lot_machine.specs.Machine.{State, place_at, queue_at, section_at}
 use Rattle.lot_laws.specs.Locations.{location_at}
@@ -23,7 +23,7 @@ module _ (w : State) (stands : Stands w) (t l : ℕ) (at : CondvarPlace) (is : p
   location_there = rw (is, same l) refl
 
   -- inside the section, about to do what its row says
-  within : (stage : Stage) → (condvar_row at).stage ≡ Some stage → inside_as (section_at w (key_of l Main)) (λ u. (profile_at (place_at w u) l).stage) ≡ Some (record { thread = t; stage = stage })
+  within : (stage : CondvarStage) → (condvar_row at).stage ≡ Some stage → inside_as (section_at w (key_of l Main)) (λ u. (profile_at (place_at w u) l).stage) ≡ Some (record { thread = t; stage = stage })
   within stage e = ap (λ o. inside_as o (λ u. (profile_at (place_at w u) l).stage)) held ∙ ap (λ o. Some (record { thread = t; stage = stage_or o })) (ap (λ (y : Profile). y.stage) row_there ∙ e)
     where
       held : section_at w (key_of l Main) ≡ Some t
@@ -38,7 +38,7 @@ module _ (w : State) (stands : Stands w) (t l : ℕ) (at : CondvarPlace) (is : p
       let not_in : (location_at (place_at w t) l).inside ≡ None = ap (λ (y : Location). y.inside) location_there ∙ ap section_in none in
       let both : ◌≡◌ {A = Option Line} None (Some Main) = sym not_in ∙ in_it in cc
 
-  stage_is : (o : Option Stage) → (condvar_row at).stage ≡ o → IsAtStage (condvar_of w l) t o
+  stage_is : (o : Option CondvarStage) → (condvar_row at).stage ≡ o → IsAtStage (condvar_of w l) t o
   stage_is None e = outside e (section_at w (key_of l Main)) refl
   stage_is (Some stage) e = within stage e
 

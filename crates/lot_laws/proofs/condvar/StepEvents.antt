@@ -58,12 +58,12 @@ module _ (w v : State) (t c m : ℕ) (apart : m ≢ c) (before : IsInductive w) 
 there_case : (ds : List CondvarDeed) → case_of None (there_deeds ds) ≡ case_there ds
 there_case [] = refl
 there_case (condvars.Show m ∷ ds) = refl
-there_case (condvars.Hide ∷ ds) = refl
-there_case (condvars.Clear ∷ ds) = refl
+there_case (condvars.HideAndTakeAll ∷ ds) = refl
+there_case (condvars.ShowNone ∷ ds) = refl
 there_case (condvars.StandLast ∷ ds) = refl
 there_case (condvars.LeaveList ∷ ds) = refl
-there_case (condvars.GoesIn ∷ ds) = refl
-there_case (condvars.GoesOut ∷ ds) = refl
+there_case (condvars.GoIn ∷ ds) = refl
+there_case (condvars.GoOut ∷ ds) = refl
 there_case (condvars.MoveFirst ∷ ds) = refl
 there_case (condvars.MoveAll ∷ ds) = refl
 there_case (d ∷ ds) = refl
@@ -112,16 +112,16 @@ ToldSo v t (next.End answer) o = o ≡ outcome.TheVariants.End answer
 
 -- its call is that of its place at both locks
 pub call_named : (w : State) (t l m : ℕ) (p : CondvarPlace) → place_at w t ≡ Condvar l p → mutex_beside p ≡ Some m
-    → call_at w t ≡ calls.call_at l m p (rights w t)
+    → call_at w t ≡ calls.condvar_call_by l m p (rights w t)
 call_named w t l m p is names = ap (λ q. call_state q (rights w t)) is ∙ ap (λ o. call_on_both o (Some l) (condvar_profile p) (mutex_side p) (rights w t)) names
 
-module _ (w v : State) (t l m : ℕ) (p : CondvarPlace) (call_is : call_at w t ≡ calls.call_at l m p (rights w t)) (told : Reply)
+module _ (w v : State) (t l m : ℕ) (p : CondvarPlace) (call_is : call_at w t ≡ calls.condvar_call_by l m p (rights w t)) (told : Reply)
     (e : Event) (h : Happens w v t e) (shown : Option ℕ) (s2 : LockState) where
   abbrev call : CallState
-  call = calls.call_at l m p (rights w t)
+  call = calls.condvar_call_by l m p (rights w t)
 
   pub call_then : (q : CondvarPlace) → place_at v t ≡ Condvar l q → mutex_beside q ≡ Some m
-      → call_state (place_at v t) (rights v t) ≡ calls.call_at l m q (rights v t)
+      → call_state (place_at v t) (rights v t) ≡ calls.condvar_call_by l m q (rights v t)
   call_then q there named = ap (λ x. call_state x (rights v t)) there ∙ ap (λ o. call_on_both o (Some l) (condvar_profile q) (mutex_side q) (rights v t)) named
 
   -- tells what it is made of
@@ -144,7 +144,7 @@ module _ (w v : State) (t l m : ℕ) (p : CondvarPlace) (call_is : call_at w t �
       → place_at v t ≡ condvar_goes l n → NamesStill m n → (lock_state v l).shown ≡ shown
       → ((k : ℕ) → rights v t k ≡ rights_where m s2 t (rights w t) k) → ToldSo v t n o → CallLed w v t e call o
   call_led (next.At q) o unheard unwoken becomes there named shown_is led so = inl (
-    call_then q there named ∙ ap (calls.call_at l m q) (λ i k. led k i) ∙ becomes (rights w t) refl ∙ ap (going_on e) unheard ∙ sym unwoken,
+    call_then q there named ∙ ap (calls.condvar_call_by l m q) (λ i k. led k i) ∙ becomes (rights w t) refl ∙ ap (going_on e) unheard ∙ sym unwoken,
     so,
   )
   call_led (next.End a) o unheard unwoken becomes there named shown_is led so = inr (

@@ -9,8 +9,8 @@ use Rattle.steps_condvar.specs.declared.notify.NotifyAt.{NotifyAt}
 use Rattle.steps_condvar.specs.declared.notify.NotifyAt.TheVariants as notify
 use Rattle.steps_condvar.specs.declared.places.CondvarPlace.TheVariants.{Wait, Look, Notify}
 use Rattle.steps_condvar.specs.declared.wait.WaitAt.{WaitAt}
-use Rattle.steps_condvar.specs.CondvarCalls.{call_at, look_event, notify_event, wait_event}
-use Rattle.steps_condvar.specs.CondvarDeeds.{notify_deeds, wait_deeds, word_of}
+use Rattle.steps_condvar.specs.CondvarCalls.{condvar_call_by, look_event, notify_event, wait_event}
+use Rattle.steps_condvar.specs.CondvarDeeds.{notify_deeds, wait_deeds, word_showing}
 use Rattle.steps_condvar.specs.CondvarMutex.{beside_deeds}
 use Rattle.steps_condvar.specs.CondvarProfiles.{condvar_profile, mutex_side, notify_row}
 use Rattle.steps_condvar.specs.CondvarSteps.{condvar_act, condvar_next, next_wait, notify_act, wait_act}
@@ -56,7 +56,7 @@ abbrev pub own_event : State → ℕ → ℕ → ℕ → WaitAt → Event
 own_event w t l m p = wait_event l m p (taken_by_wait w m p) (reply_to w t (wait_act l m p))
 
 abbrev pub own_call : State → ℕ → ℕ → ℕ → Bool → WaitAt → CallState
-own_call w t l m timed p = call_at l m (Wait m timed p) (rights w t)
+own_call w t l m timed p = condvar_call_by l m (Wait m timed p) (rights w t)
 
 -- its act does not wake it
 abbrev pub IsUnwoken : State → ℕ → ℕ → ℕ → Bool → WaitAt → Type 0
@@ -90,7 +90,7 @@ module _ (w v : State) (t l : ℕ) (shape : IsWellFormed w) (steady : IsInductiv
       → all_deeds m ≡ acts t (waiter_deeds p (taken_by_wait w m p) (reply_to w t (wait_act l m p)))
       → condvar_next (Wait m timed p) (reply_to w t (wait_act l m p)) ≡ next.At (Wait m timed q)
       → place_at v t ≡ Condvar l (Wait m timed q2) → IsSettled q2 → (makes : CallState → CallState)
-      → ((r : ℕ → Rights) → call_at l m (Wait m timed q2) r ≡ makes (call_at l m (Wait m timed q) r))
+      → ((r : ℕ → Rights) → condvar_call_by l m (Wait m timed q2) r ≡ makes (condvar_call_by l m (Wait m timed q) r))
       → woken (locks_of w) t (own_event w t l m p) t (going_on (own_event w t l m p) (own_call w t l m timed p))
       ≡ makes (going_on (own_event w t l m p) (own_call w t l m timed p))
       → OthersFollow w v t (own_event w t l m p) → GoesOn (locks_of w) t (outcome_of (wait_act l m q2)) (locks_of v)
@@ -128,10 +128,10 @@ module _ (w v : State) (t l : ℕ) (shape : IsWellFormed w) (steady : IsInductiv
   look_step all is led nothing others = subst (λ n. GoesOn (locks_of w) t (outcome_of (condvar_does l (condvar_next (Look all) (Value n)))) (locks_of v)) (sym shows)
       (look_goes w v t l all steady after is all_deeds goes.follows nothing stands_so free (subst (λ n. OthersFollow w v t (look_event l n)) shows others))
     where
-      shows : word_at w l ≡ word_of (lock_state w l).shown
+      shows : word_at w l ≡ word_showing (lock_state w l).shown
       shows = word_is w t l (Look all) steady is
 
-      stands_so : place_at v t ≡ condvar_goes l (condvar_next (Look all) (Value (word_of (lock_state w l).shown)))
+      stands_so : place_at v t ≡ condvar_goes l (condvar_next (Look all) (Value (word_showing (lock_state w l).shown)))
       stands_so = ap (λ (x : State). place_at x t) led ∙ look_place w t l all is there ∙ ap (λ n. condvar_goes l (condvar_next (Look all) (Value n))) shows
 
       either : (b : Bool) → is_taken_by t (taken_from None (condvar_profile (Look all)).wants b) ≡ false

@@ -17,11 +17,11 @@ use Rattle.steps_condvar.specs.declared.places.CondvarPlace.TheVariants.{Wait, L
 use Rattle.steps_condvar.specs.declared.wait.Stands.TheVariants as stands
 use Rattle.steps_condvar.specs.declared.wait.WaitAt.{WaitAt}
 use Rattle.steps_condvar.specs.declared.wait.WaitAt.TheVariants as wait
-use Rattle.steps_condvar.specs.CondvarDeeds.{MayHear, after_all, condvar_deeds}
+use Rattle.steps_condvar.specs.CondvarDeeds.{MayHear, after_condvar_deeds, condvar_deeds}
 use Rattle.steps_condvar.specs.CondvarSteps.{condvar_act, condvar_first, condvar_next, in_lock}
 use Rattle.lot_steps.specs.declared.places.Place.{Place}
 use Rattle.lot_steps.specs.declared.places.Place.TheVariants.{Idle, Mutex, RwLock, Once, Condvar, Semaphore}
-use Rattle.lot_steps.specs.Steps.{act_of, first_place, in_condvar, is_idle, late_key, lock_of, looking, next_place, profile_at}
+use Rattle.lot_steps.specs.Steps.{act_of, first_place, in_condvar, is_idle, late_key, called_lock, looking, next_place, profile_at}
 use Rattle.spec_locks.specs.Condvars.{BeginsWait, IsCondvar, IsInsideNot, condvar_leads}
 use Rattle.spec_locks.specs.Locks as locks
 use Rattle.spec_locks.specs.Locks.{Rules, putting, times}
@@ -70,8 +70,8 @@ module _ (w v : State) (t l : ℕ) (at : CondvarPlace) (shape : IsWellFormed w) 
 
   -- it goes into the section of the queue where it slept
   slept : (p : CondvarPlace) (key : ℕ) → at ≡ p → v ≡ state_after_late_on w t (Some key) → MayHear (condvar_of w l) t p Late
-      → (lock_state v l).shown ≡ (after_all (condvar_deeds p Late) (condvar_of w l) t).shown
-      → (lock_state v l).queue ≡ (after_all (condvar_deeds p Late) (condvar_of w l) t).waiters → IsCondvar (condvar_of v l)
+      → (lock_state v l).shown ≡ (after_condvar_deeds (condvar_deeds p Late) (condvar_of w l) t).shown
+      → (lock_state v l).queue ≡ (after_condvar_deeds (condvar_deeds p Late) (condvar_of w l) t).waiters → IsCondvar (condvar_of v l)
   slept p key e led hears shown waiters = condvar_stays w v t l p Late steady.stands stands_then (is ∙ ap (Condvar l) e) (condvar_next p Late)
       (ap (λ (x : State). place_at x t) led ∙ get_or-set_same w.places t (next_place (place_at w t) Late) Idle there ∙ ap (λ q. next_place q Late) (is ∙ ap (Condvar l) e))
       (alike_same (condvar_next p Late)) condvar hears says section shown waiters
@@ -248,11 +248,11 @@ is_or_not None k = inr (λ e. cc)
 is_or_not (Some j) k = elim (cases_eq j k) [ inl e ↦ inl (ap Some e) | inr ne ↦ inr (λ e. ne cc) ]
 
 -- a thread that calls a condition variable is at a place of its calls
-condvar_place : (w : State) → IsInductive w → (t l : ℕ) → (rules_in w l).sort ≡ locks.Condvar → lock_of (place_at w t) ≡ Some l
+condvar_place : (w : State) → IsInductive w → (t l : ℕ) → (rules_in w l).sort ≡ locks.Condvar → called_lock (place_at w t) ≡ Some l
     → (at : CondvarPlace) × (place_at w t ≡ Condvar l at)
 condvar_place w steady t l sort own = by_place (place_at w t) refl (steady.stands.calls t) own
   where
-    by_place : (p : Place) → place_at w t ≡ p → FitsItsLock w p → lock_of p ≡ Some l
+    by_place : (p : Place) → place_at w t ≡ p → FitsItsLock w p → called_lock p ≡ Some l
         → (at : CondvarPlace) × (place_at w t ≡ Condvar l at)
     by_place Idle is fits own = absurd cc
     by_place (Mutex k at) is fits own = absurd (let here : k ≡ l = cc in let both : locks.Mutex ≡ locks.Condvar = sym (ap (λ (r : Rules). r.sort) (mutex_rules (kind_at w k) fits)) ∙ ap (λ j. (rules_in w j).sort) here ∙ sort in cc)
@@ -262,13 +262,13 @@ condvar_place w steady t l sort own = by_place (place_at w t) refl (steady.stand
     by_place (Condvar k at) is fits own = (at, is ∙ ap (λ j. Condvar j at) (let here : k ≡ l = cc in here))
 
 pub after_condvars : (w : State) (s : Step) → IsWellFormed w → IsInductive w → AreCounted w → AreCondvars w → AreCondvars (after w s)
-after_condvars w s shape steady counted condvars l sort_then = by_lock (is_or_not (lock_of (place_at w s.thread)) l) (is_or_not (lock_of (place_at (after w s) s.thread)) l)
+after_condvars w s shape steady counted condvars l sort_then = by_lock (is_or_not (called_lock (place_at w s.thread)) l) (is_or_not (called_lock (place_at (after w s) s.thread)) l)
   where
     sort : (rules_in w l).sort ≡ locks.Condvar
     sort = sym (ap (λ x. (rules_of x).sort) (after_kinds w s l)) ∙ sort_then
 
     -- the thread has begun a call of it
-    begins : (at : CondvarPlace) → place_at (after w s) s.thread ≡ Condvar l at → lock_of (place_at w s.thread) ≡ None
+    begins : (at : CondvarPlace) → place_at (after w s) s.thread ≡ Condvar l at → called_lock (place_at w s.thread) ≡ None
         → IsCondvar (condvar_of (after w s) l)
     begins at there_then none = either (is_possible w s) refl
       where
@@ -302,8 +302,8 @@ after_condvars w s shape steady counted condvars l sort_then = by_lock (is_or_no
             turned_idle (ltb-true s.thread (length w.places) parts.0) s.turn parts.1 (ap (λ (b : Bool). if b then state_after_turn w s.thread s.turn else w) can)
         either false cannot = subst (λ (x : State). IsCondvar (condvar_of x l)) (sym (ap (λ (b : Bool). if b then state_after_turn w s.thread s.turn else w) cannot)) (condvars l sort)
 
-    by_lock : (lock_of (place_at w s.thread) ≡ Some l) ⊎ (lock_of (place_at w s.thread) ≢ Some l)
-        → (lock_of (place_at (after w s) s.thread) ≡ Some l) ⊎ (lock_of (place_at (after w s) s.thread) ≢ Some l)
+    by_lock : (called_lock (place_at w s.thread) ≡ Some l) ⊎ (called_lock (place_at w s.thread) ≢ Some l)
+        → (called_lock (place_at (after w s) s.thread) ≡ Some l) ⊎ (called_lock (place_at (after w s) s.thread) ≢ Some l)
         → IsCondvar (condvar_of (after w s) l)
     by_lock (inl own) behind =
         let at = condvar_place w steady s.thread l sort own in

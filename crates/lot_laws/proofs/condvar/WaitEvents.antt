@@ -17,13 +17,13 @@ use Rattle.steps_mutex.specs.declared.lock.Entry.TheVariants as entry
 use Rattle.steps_mutex.specs.declared.lock.LockAt.{LockAt}
 use Rattle.steps_mutex.specs.declared.lock.LockAt.TheVariants as lock
 use Rattle.steps_mutex.specs.declared.unlock.UnlockAt.TheVariants as unlock
-use Rattle.steps_mutex.specs.MutexDeeds.{enters, takes}
+use Rattle.steps_mutex.specs.MutexDeeds.{enter_deeds, take_deeds}
 use Rattle.steps_mutex.specs.MutexSteps.{is_locked, is_parked, lock_act, mutex_next}
 use Rattle.steps_condvar.specs.declared.places.CondvarPlace.TheVariants.{Wait}
 use Rattle.steps_condvar.specs.declared.wait.WaitAt.{WaitAt}
 use Rattle.steps_condvar.specs.declared.wait.WaitAt.TheVariants as wait
 use Rattle.steps_condvar.specs.CondvarCalls as calls
-use Rattle.steps_condvar.specs.CondvarCalls.{BecomesOfTwo, CallFollows, IsLockOf, IsReached, case_there, heard, or_else, wait_event}
+use Rattle.steps_condvar.specs.CondvarCalls.{BecomesOfTwo, CallOfTwoFollows, IsLockOf, IsReached, case_there, heard, or_else, wait_event}
 use Rattle.steps_condvar.specs.CondvarDeeds.{condvar_deeds, relocked_deeds, wait_deeds}
 use Rattle.steps_condvar.specs.CondvarDeeds as condvar
 use Rattle.steps_condvar.proofs.WaitTells.{waits_tell}
@@ -80,11 +80,11 @@ module _ (w : State) (t l m : ℕ) where
   shows true = tt
   shows false = tt
 
-  entered : (b : Bool) → AreOneCase (if b then enters else [])
+  entered : (b : Bool) → AreOneCase (if b then enter_deeds else [])
   entered true = tt
   entered false = tt
 
-  taken : (o : Option ℕ) → AreOneCase (unended (takes o))
+  taken : (o : Option ℕ) → AreOneCase (unended (take_deeds o))
   taken None = tt
   taken (Some u) = tt
 
@@ -92,7 +92,7 @@ module _ (w : State) (t l m : ℕ) where
   left_word true = tt
   left_word false = tt
 
-  word_seen : (a b : Bool) → AreOneCase (if not a then [] else if b then Mark Main ∷ [] else enters)
+  word_seen : (a b : Bool) → AreOneCase (if not a then [] else if b then Mark Main ∷ [] else enter_deeds)
   word_seen false b = tt
   word_seen true true = tt
   word_seen true false = tt
@@ -214,15 +214,15 @@ module _ (w v : State) (t l m : ℕ) (timed : Bool) (p : WaitAt) (steady : IsInd
 
   -- which mutex its deeds leave shown
   abbrev shown_then : Option ℕ
-  shown_then = (condvar.after_all (condvar_deeds (Wait m timed p) told) (condvar_of w l) t).shown
+  shown_then = (condvar.after_condvar_deeds (condvar_deeds (Wait m timed p) told) (condvar_of w l) t).shown
 
-  follows : CallFollows l m (Wait m timed p) told event shown_then (lock_state w m) behind t (condvar_next (Wait m timed p) told)
+  follows : CallOfTwoFollows l m (Wait m timed p) told event shown_then (lock_state w m) behind t (condvar_next (Wait m timed p) told)
   follows = waits_tell (condvar_of w l) (rules_in w m) (site_of w m) t l m timed p whom told (rules_beside w t l (Wait m timed p) steady is m refl) condvar_holds (at_it w t l (Wait m timed p) steady is) (steady.sites.site m)
       (role_beside w t l (Wait m timed p) steady is m refl) (may_hear w t l (Wait m timed p) steady is can) (waiter_hears w t l m timed p steady is can) reached
 
   -- its call
   abbrev pub call : CallState
-  call = calls.call_at l m (Wait m timed p) (rights w t)
+  call = calls.condvar_call_by l m (Wait m timed p) (rights w t)
 
   call_is : call_at w t ≡ call
   call_is = call_named w t l m (Wait m timed p) is refl
@@ -244,15 +244,15 @@ module _ (w v : State) (t l m : ℕ) (timed : Bool) (p : WaitAt) (steady : IsInd
   -- or where its own act has befallen it: its call is then what that makes of the one that its reply says
   pub wait_goes_told : (q q2 : WaitAt) → condvar_next (Wait m timed p) told ≡ next.At (Wait m timed q)
       → place_at v t ≡ Condvar l (Wait m timed q2) → (makes : CallState → CallState)
-      → ((r : ℕ → Rights) → calls.call_at l m (Wait m timed q2) r ≡ makes (calls.call_at l m (Wait m timed q) r))
+      → ((r : ℕ → Rights) → calls.condvar_call_by l m (Wait m timed q2) r ≡ makes (calls.condvar_call_by l m (Wait m timed q) r))
       → woken (locks_of w) t event t (going_on event call) ≡ makes (going_on event call)
       → (k : ℕ) × GoesAs v t k (outcome_of (wait_act l m q2)) → OthersFollow w v t event
       → GoesOn (locks_of w) t (outcome_of (wait_act l m q2)) (locks_of v)
   wait_goes_told q q2 says there makes made woken_so goes_as others_follow = condvar_goes_on w v t l m (Wait m timed p) call_is told event wait_happened shown_then behind (next.At (Wait m timed q2)) _ may
-      (inl (call_now ∙ made (rights v t) ∙ ap makes (ap (calls.call_at l m (Wait m timed q)) (λ i k. rights_led k i) ∙ becomes (rights w t) refl ∙ ap (going_on event) (unheard w t (wait_act l m p) call)) ∙ sym woken_so, goes_as))
+      (inl (call_now ∙ made (rights v t) ∙ ap makes (ap (calls.condvar_call_by l m (Wait m timed q)) (λ i k. rights_led k i) ∙ becomes (rights w t) refl ∙ ap (going_on event) (unheard w t (wait_act l m p) call)) ∙ sym woken_so, goes_as))
       others_follow (begins_two (locks_of w) l (Wait m timed p) event _ follows.may (no_closure l (next.At (Wait m timed q2))))
     where
-      call_now : call_state (place_at v t) (rights v t) ≡ calls.call_at l m (Wait m timed q2) (rights v t)
+      call_now : call_state (place_at v t) (rights v t) ≡ calls.condvar_call_by l m (Wait m timed q2) (rights v t)
       call_now = call_then w v t l m (Wait m timed p) call_is told event wait_happened shown_then behind (Wait m timed q2) there refl
 
       becomes : BecomesOfTwo l m (Wait m timed p) told event shown_then (lock_state w m) behind t (next.At (Wait m timed q))

@@ -28,7 +28,7 @@ use Rattle.steps_condvar.specs.declared.wait.WaitAt.{WaitAt}
 use Rattle.steps_condvar.specs.declared.wait.WaitAt.TheVariants as wait
 use Rattle.steps_condvar.specs.CondvarCalls.{IsLockOf, IsReached}
 use Rattle.steps_condvar.specs.CondvarProfiles.{has_mutex, carries_beside, condvar_profile, mutex_side}
-use Rattle.steps_condvar.specs.CondvarSteps.{behind, mutex_beside, next_wait, released, relocked, wait_act}
+use Rattle.steps_condvar.specs.CondvarSteps.{behind_release, mutex_beside, next_wait, released, relocked, wait_act}
 use Rattle.lot_steps.specs.declared.places.Place.{Place}
 use Rattle.lot_steps.specs.declared.places.Place.TheVariants.{Idle, Mutex, RwLock, Once, Condvar, Semaphore}
 use Rattle.lot_steps.specs.Steps.{is_lock}
@@ -136,7 +136,7 @@ module _ (w : State) (t l m : ℕ) (timed : Bool) (steady : IsInductive w) where
       let one : u ≡ t = cc in
       let places : Mutex m (mutex.HandOff giver.0 (hand_off.Leave true)) ≡ Condvar l (Wait m timed (wait.Release (stands.Handed u) (mutex.Unlock (unlock.Leave any)))) = sym giver.1 ∙ ap (place_at w) one ∙ is in cc
 
-  settled_behind : (s : Stands) → ((u : ℕ) → s ≡ stands.Handed u → ⊥) → IsSettled (behind s)
+  settled_behind : (s : Stands) → ((u : ℕ) → s ≡ stands.Handed u → ⊥) → IsSettled (behind_release s)
   settled_behind stands.Listed free = tt
   settled_behind stands.Moved free = tt
   settled_behind (stands.InHand u) free = tt

@@ -24,7 +24,7 @@ use Rattle.steps_condvar.specs.declared.wait.Stands.{Stands}
 use Rattle.steps_condvar.specs.declared.wait.Stands.TheVariants as stands
 use Rattle.steps_condvar.specs.declared.wait.WaitAt.{WaitAt}
 use Rattle.steps_condvar.specs.declared.wait.WaitAt.TheVariants as wait
-use Rattle.steps_condvar.specs.CondvarSteps.{behind}
+use Rattle.steps_condvar.specs.CondvarSteps.{behind_release}
 use Rattle.steps_condvar.specs.CondvarMoves.{row_beside, row_there, there}
 use Rattle.steps_condvar.specs.CondvarProfiles.{hand_of, taker_of, wait_row}
 use Rattle.steps_condvar.specs.CondvarWaits.{WaiterFollows}
@@ -89,12 +89,12 @@ module _ (w : State) (t l m : ℕ) (timed : Bool) (steady : IsInductive w) (is_t
 
   -- tells what leaving makes of how it stands
   record GoesOn (any : Bool) (s s2 : Stands) : Type 0 where
-    stays : location_by (row_there (At (waits (behind s2)))) ≡ there (waits (leaving any s))
-    side : beside_of (behind s2) ≡ record (beside_of (leaving any s)) { inside = None; carries = None; hand = (if is_thread t (taker_of s) then None else hand_of s) }
-    taken : taken_of (behind s2) ≡ keep_from t (taken_of (leaving any s))
-    role : (wait_row m (behind s2)).role ≡ wakened t (taken_of (leaving any s)) (wait_row m (behind s)).role
+    stays : location_by (row_there (At (waits (behind_release s2)))) ≡ there (waits (leaving any s))
+    side : beside_of (behind_release s2) ≡ record (beside_of (leaving any s)) { inside = None; carries = None; hand = (if is_thread t (taker_of s) then None else hand_of s) }
+    taken : taken_of (behind_release s2) ≡ keep_from t (taken_of (leaving any s))
+    role : (wait_row m (behind_release s2)).role ≡ wakened t (taken_of (leaving any s)) (wait_row m (behind_release s)).role
     told : next_place (place_after_telling t (Woken note.Normal) (Condvar l (waits (leaving any s)))) Done
-        ≡ Condvar l (waits (behind s2))
+        ≡ Condvar l (waits (behind_release s2))
 
   goes_on : (any : Bool) (s : Stands) → (hand_of s ≡ hand t true → ⊥) → (s2 : Stands) × GoesOn any s s2
   goes_on any stands.Listed h = (stands.Listed, record { stays = refl; side = refl; taken = refl; role = refl; told = refl })
@@ -143,16 +143,16 @@ module _ (w : State) (t l m : ℕ) (timed : Bool) (steady : IsInductive w) (is_t
     goes = goes_on any s not_given
 
     abbrev p2 : Place
-    p2 = Condvar l (waits (behind goes.0))
+    p2 = Condvar l (waits (behind_release goes.0))
 
-    stays : StaysThere w t l m timed steady is_there apart sort (leaving any s) (At (waits (behind goes.0)))
+    stays : StaysThere w t l m timed steady is_there apart sort (leaving any s) (At (waits (behind_release goes.0)))
     stays = (refl, goes.1.stays)
 
     abbrev alike : AlikeBeside m (place_at w t) p2
-    alike = beside.alike w t l m timed steady is_there apart sort (leaving any s) is (At (waits (behind goes.0))) stays
+    alike = beside.alike w t l m timed steady is_there apart sort (leaving any s) is (At (waits (behind_release goes.0))) stays
 
-    location_then : location_at p2 m ≡ beside_of (behind goes.0)
-    location_then = location_beside l m apart (At (waits (behind goes.0))) refl
+    location_then : location_at p2 m ≡ beside_of (behind_release goes.0)
+    location_then = location_beside l m apart (At (waits (behind_release goes.0))) refl
 
     -- how it stands then, but for whom it has in hand
     side : location_at p2 m ≡ record (location_at (place_at w t) m) { inside = None; carries = None; hand = (if is_thread t (taker_of s) then None else hand_of s) }
@@ -160,15 +160,15 @@ module _ (w : State) (t l m : ℕ) (timed : Bool) (steady : IsInductive w) (is_t
 
     -- tells what it does then
     role : (laws.after_all (rules_in w m) (Out ∷ []) here t).role t ≡ role_on p2 m
-    role = follows.role ∙ ap (λ o. wakened t o (wait_row m (behind s)).role) taken_was ∙ sym goes.1.role ∙ sym (beside.does_next w t l m timed steady is_there apart sort (At (behind goes.0)) refl)
+    role = follows.role ∙ ap (λ o. wakened t o (wait_row m (behind_release s)).role) taken_was ∙ sym goes.1.role ∙ sym (beside.does_next w t l m timed steady is_there apart sort (At (behind_release goes.0)) refl)
 
     taken_then : taken_at p2 m ≡ keep_from t (taken_at (place_at w t) m)
-    taken_then = taken_beside l m apart (At (waits (behind goes.0))) refl ∙ goes.1.taken ∙ sym (ap (keep_from t) taken_was)
+    taken_then = taken_beside l m apart (At (waits (behind_release goes.0))) refl ∙ goes.1.taken ∙ sym (ap (keep_from t) taken_was)
 
   -- a thread that it has in hand tries again
   module _ (s : Stands) (is : place_at w t ≡ Condvar l (waits (leaving true s))) where
     abbrev then_at : Place
-    then_at = Condvar l (waits (behind (goes true s is).0))
+    then_at = Condvar l (waits (behind_release (goes true s is).0))
 
     woken : (u : ℕ) (b : Bool) → hand_at (place_at w u) m ≡ hand t b → IsWokenAt w t m note.Normal (place_at w u)
     woken u b held = by_hand b held taken_only
@@ -210,9 +210,9 @@ module _ (w : State) (t l m : ℕ) (timed : Bool) (steady : IsInductive w) (is_t
 
   module _ (s : Stands) (is : place_at w t ≡ Condvar l (waits (leaving false s))) where
     abbrev out_at : Place
-    out_at = Condvar l (waits (behind s))
+    out_at = Condvar l (waits (behind_release s))
 
-    out_there : (s : Stands) → location_by (row_there (At (waits (behind s)))) ≡ there (waits (leaving false s))
+    out_there : (s : Stands) → location_by (row_there (At (waits (behind_release s)))) ≡ there (waits (leaving false s))
     out_there stands.Listed = refl
     out_there stands.Moved = refl
     out_there (stands.InHand by) = refl
@@ -220,7 +220,7 @@ module _ (w : State) (t l m : ℕ) (timed : Bool) (steady : IsInductive w) (is_t
     out_there (stands.Noted note.Normal) = refl
     out_there (stands.Noted note.HandOff) = refl
 
-    out_beside : (s : Stands) → beside_of (behind s) ≡ record (beside_of (leaving false s)) { inside = None }
+    out_beside : (s : Stands) → beside_of (behind_release s) ≡ record (beside_of (leaving false s)) { inside = None }
     out_beside stands.Listed = refl
     out_beside stands.Moved = refl
     out_beside (stands.InHand by) = refl
@@ -228,7 +228,7 @@ module _ (w : State) (t l m : ℕ) (timed : Bool) (steady : IsInductive w) (is_t
     out_beside (stands.Noted note.Normal) = refl
     out_beside (stands.Noted note.HandOff) = refl
 
-    out_taken : (s : Stands) → taken_of (behind s) ≡ taken_of (leaving false s)
+    out_taken : (s : Stands) → taken_of (behind_release s) ≡ taken_of (leaving false s)
     out_taken stands.Listed = refl
     out_taken stands.Moved = refl
     out_taken (stands.InHand by) = refl
@@ -236,7 +236,7 @@ module _ (w : State) (t l m : ℕ) (timed : Bool) (steady : IsInductive w) (is_t
     out_taken (stands.Noted note.Normal) = refl
     out_taken (stands.Noted note.HandOff) = refl
 
-    abbrev out_stays : StaysThere w t l m timed steady is_there apart sort (leaving false s) (At (waits (behind s)))
+    abbrev out_stays : StaysThere w t l m timed steady is_there apart sort (leaving false s) (At (waits (behind_release s)))
     out_stays = (refl, out_there s)
 
     -- nor is it in its own
@@ -246,8 +246,8 @@ module _ (w : State) (t l m : ℕ) (timed : Bool) (steady : IsInductive w) (is_t
 
     pub leaves_nobody : FitsNext false s → Kept false s
     leaves_nobody fits = subst (λ p. FitsItsLock w (next_place p Done) → Goes w (put (state_with_sections w (One (2 * m)) None) t (next_place p Done)) m (acts t (Out ∷ []))) (sym is)
-        (λ fits. goes_out_at w t m steady is_there sort out_at (beside.alike w t l m timed steady is_there apart sort (leaving false s) is (At (waits (behind s))) out_stays) fits section
+        (λ fits. goes_out_at w t m steady is_there sort out_at (beside.alike w t l m timed steady is_there apart sort (leaving false s) is (At (waits (behind_release s))) out_stays) fits section
         (ap (λ (y : Location). y.inside) (location_was false s is)) (ap (λ (y : Location). y.carries) (location_was false s is)) (Out ∷ []) tt (follows false s is).needed
-        ((follows false s is).role ∙ unwoken t (taken_at (place_at w t) m) (wait_row m (behind s)).role unheld ∙ sym (beside.does_next w t l m timed steady is_there apart sort (At (behind s)) refl))
-        (location_beside l m apart (At (waits (behind s))) refl ∙ out_beside s ∙ sym (ap (λ (y : Location). record y { inside = None }) (location_was false s is)))
-        (taken_was false s is ∙ sym (out_taken s) ∙ sym (taken_beside l m apart (At (waits (behind s))) refl)) unheld) fits
+        ((follows false s is).role ∙ unwoken t (taken_at (place_at w t) m) (wait_row m (behind_release s)).role unheld ∙ sym (beside.does_next w t l m timed steady is_there apart sort (At (behind_release s)) refl))
+        (location_beside l m apart (At (waits (behind_release s))) refl ∙ out_beside s ∙ sym (ap (λ (y : Location). record y { inside = None }) (location_was false s is)))
+        (taken_was false s is ∙ sym (out_taken s) ∙ sym (taken_beside l m apart (At (waits (behind_release s))) refl)) unheld) fits

@@ -23,7 +23,7 @@ use Rattle.steps_mutex.specs.declared.lock.LockAt.TheVariants as lock
 use Rattle.steps_mutex.specs.declared.places.MutexPlace.TheVariants as mutex
 use Rattle.steps_mutex.specs.declared.unlock.UnlockAt.{UnlockAt}
 use Rattle.steps_mutex.specs.declared.unlock.UnlockAt.TheVariants as unlock
-use Rattle.steps_mutex.specs.MutexDeeds.{enters}
+use Rattle.steps_mutex.specs.MutexDeeds.{enter_deeds}
 use Rattle.steps_mutex.specs.MutexSteps.{is_locked, is_parked, in_lock, in_unlock, unlock_act}
 use Rattle.steps_condvar.specs.declared.places.CondvarPlace.{CondvarPlace}
 use Rattle.steps_condvar.specs.declared.places.CondvarPlace.TheVariants.{Wait}
@@ -31,7 +31,7 @@ use Rattle.steps_condvar.specs.declared.wait.Stands.{Stands}
 use Rattle.steps_condvar.specs.declared.wait.Stands.TheVariants as stands
 use Rattle.steps_condvar.specs.declared.wait.WaitAt.{WaitAt}
 use Rattle.steps_condvar.specs.declared.wait.WaitAt.TheVariants as wait
-use Rattle.steps_condvar.specs.CondvarSteps.{condvar_next, condvar_owners, in_wait, next_wait, relocked, released, wait_act, behind}
+use Rattle.steps_condvar.specs.CondvarSteps.{condvar_next, condvar_owners, in_wait, next_wait, relocked, released, wait_act, behind_release}
 use Rattle.steps_condvar.specs.CondvarMoves.{row_beside, row_there, there}
 use Rattle.steps_condvar.specs.CondvarWaits.{LeavesMutex, MayHearWaiter, WaiterFollows, itself_woken, unended, waiter_deeds, waiter_next}
 use Rattle.steps_condvar.proofs.WaiterFit.{waiters_code, waiters_follow}
@@ -184,7 +184,7 @@ module _ (w : State) (t l m : ℕ) (timed : Bool) (steady : IsInductive w) (is_t
       subtracted_there true = (refl, refl)
       subtracted_there false = ended s
         where
-          ended : (s : Stands) → StaysThere (releasing s unlock.Subtract) (At (waits (behind s)))
+          ended : (s : Stands) → StaysThere (releasing s unlock.Subtract) (At (waits (behind_release s)))
           ended stands.Listed = (refl, refl)
           ended stands.Moved = (refl, refl)
           ended (stands.InHand by) = (refl, refl)
@@ -196,7 +196,7 @@ module _ (w : State) (t l m : ℕ) (timed : Bool) (steady : IsInductive w) (is_t
       subtracted_beside true = (refl, refl)
       subtracted_beside false = ended s
         where
-          ended : (s : Stands) → StaysBeside (releasing s unlock.Subtract) (At (waits (behind s)))
+          ended : (s : Stands) → StaysBeside (releasing s unlock.Subtract) (At (waits (behind_release s)))
           ended stands.Listed = (refl, refl)
           ended stands.Moved = (refl, refl)
           ended (stands.InHand by) = (refl, refl)
@@ -233,7 +233,7 @@ module _ (w : State) (t l m : ℕ) (timed : Bool) (steady : IsInductive w) (is_t
       tries_beside true = (refl, refl)
       tries_beside false = (refl, refl)
 
-      tries_word : (b : Bool) → IsOfWord (if b then enters else [])
+      tries_word : (b : Bool) → IsOfWord (if b then enter_deeds else [])
       tries_word true = tt
       tries_word false = tt
 
@@ -267,7 +267,7 @@ module _ (w : State) (t l m : ℕ) (timed : Bool) (steady : IsInductive w) (is_t
       decided_beside x true true = (refl, refl)
       decided_beside x true false = (refl, refl)
 
-      decides_word : (same locked : Bool) → IsOfWord (if not same then [] else if locked then Mark Main ∷ [] else enters)
+      decides_word : (same locked : Bool) → IsOfWord (if not same then [] else if locked then Mark Main ∷ [] else enter_deeds)
       decides_word false locked = tt
       decides_word true true = tt
       decides_word true false = tt

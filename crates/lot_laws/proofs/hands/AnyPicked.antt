@@ -9,11 +9,11 @@ use Rattle.lot_steps.specs.declared.places.Place.TheVariants.{Idle}
 use Rattle.lot_steps.specs.Steps.{taker, wants}
 use Rattle.spec_locks.specs.Locks.{wants_shared}
 use Rattle.lot_machine.specs.declared.hands.Successor.{Successor}
-use Rattle.lot_machine.specs.Machine.{held, held_by, shares_in_hand, sharers, wants_more_in_hand, successor_or, successor_from, want_of_successor}
+use Rattle.lot_machine.specs.Machine.{held, held_by, shares_in_hand, sharers_in_hand, wants_more_in_hand, successor_or, successor_from, want_of_successor}
 use Rattle.lot_laws.proofs.machine.Parts.{differ}
 
 abbrev pub any_in : ℕ → ℕ → List Place → Bool
-any_in t k ps = any_picked (sharers t ps) (want_of_successor (successor_from t k ps))
+any_in t k ps = any_picked (sharers_in_hand t ps) (want_of_successor (successor_from t k ps))
 
 -- the first, or another
 joined : (shares : Bool) (more : Option Want) (u : ℕ) (p : Place) (qs : List Place) (later : Option Successor)

@@ -45,12 +45,12 @@ none_some None h = refl
 none_some (Some x) h = absurd (omega arith)
 
 -- a thread that stands in a line is in no hand
-in_line_free : (r : Rules) (s : LockState) (u : ℕ) → IsLockState r s → 1 ≤ times u s.queue + locks.is_thread u s.aside
+in_line_free : (r : Rules) (s : LockState) (u : ℕ) → IsLockState r s → 1 ≤ times u s.queue + locks.one_if_thread u s.aside
     → s.taken u ≡ None
 in_line_free r s u is h = let once : standing u s ≤ 1 = is.once u in none_some (s.taken u) (omega arith)
 
 -- a thread that is aside alone
-counts_one : (v u : ℕ) → u ≡ v → locks.is_thread u (Some v) ≡ 1
+counts_one : (v u : ℕ) → u ≡ v → locks.one_if_thread u (Some v) ≡ 1
 counts_one v u e = grind (arith, nat_tests)
 
 aside_holds : (t a u v : ℕ) (taken : ℕ → Option Taken) → t ≢ a → (u ≡ v → taken u ≡ None) → wanted_of t (putting taken v (Some (record { by = a; want = Exclusive })) u) ≡ wanted_of t (taken u)
@@ -85,7 +85,7 @@ others_hold r s t a u is ne (Convert right x) n = ap (wanted_of t) (let e : (loc
 others_hold r s t a u is ne (Park x) n = refl
 others_hold r s t a u is ne Aside n = refl
 others_hold r s t a u is ne (TakeFirst x) n = taken_holds t a u (x ∷ []) s.taken ne (λ h. in_line_free r s u is (let first : times u s.queue ≡ times u (x ∷ n.0.0) = ap (times u) n.0.1 in omega arith))
-others_hold r s t a u is ne (TakeAside v) n = aside_holds t a u v s.taken ne (λ h. in_line_free r s u is (let here : locks.is_thread u s.aside ≡ 1 = ap (locks.is_thread u) n.0 ∙ counts_one v u h in omega arith))
+others_hold r s t a u is ne (TakeAside v) n = aside_holds t a u v s.taken ne (λ h. in_line_free r s u is (let here : locks.one_if_thread u s.aside ≡ 1 = ap (locks.one_if_thread u) n.0 ∙ counts_one v u h in omega arith))
 others_hold r s t a u is ne (TakePicked start) n = taken_holds t a u (picked r.sort start s.queue) s.taken ne (λ h. in_line_free r s u is (let parts : times u (picked r.sort start s.queue) + times u (unpicked r.sort start s.queue) ≡ times u s.queue = times_picked r.sort start u s.queue in omega arith))
 others_hold r s t a u is ne Wake n = kept_holds t a (s.taken u) ne
 others_hold r s t a u is ne (HandOff right x) n = ap (wanted_of t) ((is_handed a right x s).taken u) ∙ kept_holds t a (s.taken u) ne

@@ -15,10 +15,10 @@ use Rattle.lot_steps.specs.declared.places.Place.TheVariants.{Idle, Mutex, RwLoc
 use Rattle.lot_steps.specs.Steps.{calls, is_lock, or_else, profile, taker}
 use Rattle.spec_locks.specs.Locks.{IsSuccessor, Queued, Taken, readers, shares_handed, sharing_handed, wants_shared}
 use Rattle.lot_machine.specs.declared.hands.Successor.{Successor}
-use Rattle.lot_machine.specs.Machine.{State, held, held_by, place_at, shares_at, shares_in_hand, sharers, successor_from, successor_or, want_of_successor, wants_more_in_hand}
+use Rattle.lot_machine.specs.Machine.{State, held, held_by, place_at, shares_at, shares_in_hand, sharers_in_hand, successor_from, successor_or, want_of_successor, wants_more_in_hand}
 use Rattle.lot_laws.specs.Refinement.{lock_state, taken_at}
 use Rattle.lot_laws.specs.Locations.{Location, nowhere, location, location_by}
-use Rattle.lot_laws.specs.SitesOf.{IsCounted, IsInductive, carried_at, hand_at}
+use Rattle.lot_laws.specs.SitesOf.{IsCountOfHand, IsInductive, carried_at, hand_at}
 use Rattle.lot_laws.proofs.machine.Parts.{IsOf, same, IsSingle, single_held, single_location, single_taken, single_taker, taken_out, IsInHandOf, in_hand_where, aparts}
 use Rattle.lot_laws.proofs.hands.Handed.{in_hand_here, of_carries}
 use Rattle.lot_laws.proofs.mutex.Waiters.{side_wanted}
@@ -170,7 +170,7 @@ is_more t (Some h) x e = either (h.by == t) e
 -- ---------------------------------------------------------------- the rights that the lock hands over
 
 module _ (w : State) (t l : ℕ) (steady : IsInductive w) (own : IsOf l (place_at w t)) (any : Bool)
-    (carries : carried_at (place_at w t) l ≡ in_hand any false) (k : Counted) (count : IsCounted w t k) where
+    (carries : carried_at (place_at w t) l ≡ in_hand any false) (k : Counted) (count : IsCountOfHand w t k) where
   abbrev taken : ℕ → Option Taken
   taken u = taken_at (place_at w u) l
 
@@ -249,7 +249,7 @@ filter_less f (p ∷ ps) (suc i) lt e = let h : length (filter f ps) < length ps
 
 -- a thread that is in nobody's hand isn't in its own
 pub few_sharers : (w : State) (t : ℕ) → t < length w.places → IsSingle (place_at w t) → (profile (place_at w t)).hand ≡ None
-    → sharers t w.places < length w.places
+    → sharers_in_hand t w.places < length w.places
 few_sharers w t lt single free = filter_less (λ (p : Place). shares_in_hand t (held p)) w.places t lt (ap (shares_in_hand t) (single_held (place_at w t) single) ∙ ap (λ h. shares_in_hand t (held_by (hand_owner h) (profile (place_at w t)).wants)) free)
 
 -- ---------------------------------------------------------------- as long as nobody comes into the hand, or leaves it
@@ -275,7 +275,7 @@ successor_same t i [] (q ∷ qs) len each = absurd (omega arith)
 successor_same t i (p ∷ ps) (q ∷ qs) len each =
     let rest = successor_same t (suc i) ps qs (omega arith) (λ u. each (suc u)) in λ j. successor_or i (each 0 j) (rest j)
 
-counts_own : (t : ℕ) (ps : List Place) → sharers t ps ≡ sharers_from t (λ u. held (get_or ps u Idle)) 0 (length ps)
+counts_own : (t : ℕ) (ps : List Place) → sharers_in_hand t ps ≡ sharers_from t (λ u. held (get_or ps u Idle)) 0 (length ps)
 counts_own t ps = counted t 0 (λ u. held (get_or ps u Idle)) ps (λ j. subst (λ i. shares_handed t (held (get_or ps i Idle)) ≡ (if shares_in_hand t (held (get_or ps j Idle)) then 1 else 0)) (let z : j ≡ 0 + j = omega arith in z) (share_counts t (held (get_or ps j Idle))))
 
 -- the counts are as they were
@@ -284,13 +284,13 @@ module _ (w v : State) (t : ℕ) (len : length v.places ≡ length w.places)
   more_same : (u : ℕ) → wants_more_in_hand t (held (place_at v u)) ≡ wants_more_in_hand t (held (place_at w u))
   more_same u = more_by t (held (place_at v u)) ∙ ap more_wanted (each u) ∙ sym (more_by t (held (place_at w u)))
 
-  pub same_sharers : sharers t v.places ≡ sharers t w.places
+  pub same_sharers : sharers_in_hand t v.places ≡ sharers_in_hand t w.places
   same_sharers = counts_own t v.places ∙ ap (sharers_from t (λ u. held (place_at v u)) 0) len ∙ sharers_same t (λ u. held (place_at w u)) (λ u. held (place_at v u)) each 0 (length w.places) ∙ sym (counts_own t w.places)
 
   pub same_successor : successor_from t 0 v.places ≡ successor_from t 0 w.places
   same_successor = successor_same t 0 w.places v.places len more_same
 
-  pub counted_stays : (k : Counted) → IsCounted w t k → IsCounted v t k
+  pub counted_stays : (k : Counted) → IsCountOfHand w t k → IsCountOfHand v t k
   counted_stays k count = record {
     number = same_sharers ∙ count.number;
     more = ap want_of_successor same_successor ∙ count.more;

@@ -48,7 +48,7 @@ use Rattle.lot_steps.specs.declared.places.Place.{Place}
 use Rattle.lot_steps.specs.declared.places.Place.TheVariants.{Idle, Mutex, RwLock, Once, Condvar, Semaphore}
 use Rattle.lot_steps.specs.Steps.{first_place, in_mutex, in_once, in_rwlock, late_key, looking, mutex_goes, next_place, once_goes, rwlock_goes, condvar_goes, in_condvar, in_semaphore, semaphore_goes}
 use Rattle.lot_machine.specs.Machine.{State, held, place_at}
-use Rattle.lot_laws.specs.SitesOf.{AreCounted, IsCounted, carried_at}
+use Rattle.lot_laws.specs.SitesOf.{AreCounted, IsCountOfHand, carried_at}
 use Rattle.lot_laws.specs.Locations.{nowhere, location}
 use Rattle.lot_laws.proofs.machine.Parts.{IsOf, same}
 use Rattle.lot_laws.proofs.promises.RowPromises.{Befalls}
@@ -111,10 +111,10 @@ counting l k (RwLock j a c) e = either (j == l) refl e
     either true here f = record { admission = a; call = c; is = ap (λ n. RwLock n a c) (eqb-true j l here); counted = f }
     either false here f = absurd cc
 
-pub counts_there : (w : State) (t l : ℕ) (k : Counted) → AreCounted w → counted_on (place_at w t) l ≡ Some k → IsCounted w t k
+pub counts_there : (w : State) (t l : ℕ) (k : Counted) → AreCounted w → counted_on (place_at w t) l ≡ Some k → IsCountOfHand w t k
 counts_there w t l k counted e = let h = counting l k (place_at w t) e in counted t l h.admission h.call k h.is h.counted
 
-pub are_counted : (w : State) → ((t l : ℕ) (k : Counted) → counted_on (place_at w t) l ≡ Some k → IsCounted w t k) → AreCounted w
+pub are_counted : (w : State) → ((t l : ℕ) (k : Counted) → counted_on (place_at w t) l ≡ Some k → IsCountOfHand w t k) → AreCounted w
 are_counted w each t l a c k is counted = each t l k (ap (λ p. counted_on p l) is ∙ ap (λ b. if b then in_hand_of c else None) (same l) ∙ counted)
 
 pub none_is : (k : Counted) (o : Option Counted) → o ≡ None → o ≡ Some k → ⊥

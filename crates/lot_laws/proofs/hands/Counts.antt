@@ -18,11 +18,11 @@ none_first [] h = refl
 none_first (y ∷ q) h = absurd cc
 
 -- a thread that stands in no line is no first
-pub first_out : (t : ℕ) (q : List Waiter) → times t q ≡ 0 → locks.is_thread t (first_of q) ≡ 0
+pub first_out : (t : ℕ) (q : List Waiter) → times t q ≡ 0 → locks.one_if_thread t (first_of q) ≡ 0
 first_out t [] h = refl
 first_out t (y ∷ q) h = omega arith
 
-pub aside_kept : (t : ℕ) (o : Option ℕ) → locks.is_thread t o ≡ 0 → locks.aside_without t o ≡ o
+pub aside_kept : (t : ℕ) (o : Option ℕ) → locks.one_if_thread t o ≡ 0 → locks.aside_without t o ≡ o
 aside_kept t None h = refl
 aside_kept t (Some u) h = either (u == t) h
   where

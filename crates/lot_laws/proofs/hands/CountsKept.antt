@@ -36,7 +36,7 @@ use Rattle.steps_rwlock_fair.specs.declared.hand_over.Taken.{Taken as Counted}
 use Rattle.steps_rwlock_fair.specs.declared.hand_over.HandOverAt.{HandOverAt}
 use Rattle.steps_rwlock_fair.specs.declared.hand_over.HandOverAt.TheVariants as handing
 use Rattle.steps_rwlock_fair.specs.FairCalls.{in_hand_of}
-use Rattle.steps_rwlock_fair.specs.FairSteps.{any_taken, call_act, call_next, freed_next, has_room, hand_over_act, hand_over_next, looked, parked_as, released, with_taken, without}
+use Rattle.steps_rwlock_fair.specs.FairSteps.{any_taken, call_act, call_next, freed_next, has_room, hand_over_act, hand_over_next, looked, parked_as, released, with_taken, word_without}
 use Rattle.spec_locks.specs.Codes.{has_parked}
 use Rattle.steps_once.specs.OnceSteps.{once_act, once_next}
 use Rattle.steps_condvar.specs.CondvarSteps.{condvar_act, condvar_next}
@@ -49,7 +49,7 @@ use Rattle.lot_machine.specs.Machine.{State, after, can_turn, go_reply, held, is
 use Rattle.lot_machine.specs.Fits.{IsWellFormed}
 use Rattle.lot_machine.proofs.Shape.{after_size, both}
 use Rattle.lot_laws.specs.Refinement.{lock_state, locks_of}
-use Rattle.lot_laws.specs.SitesOf.{AreCondvars, AreCounted, FitsItsLock, IsCounted, IsInductive, rules_in}
+use Rattle.lot_laws.specs.SitesOf.{AreCondvars, AreCounted, FitsItsLock, IsCountOfHand, IsInductive, rules_in}
 use Rattle.lot_laws.proofs.machine.Befallen.{others_keep_it}
 use Rattle.lot_laws.proofs.hands.Counting.{HasCounted, IsHandOver, are_counted, begins_bare, counted_befallen, counted_next, counted_on, counting, counting_row, counts_there, goes_counted, late_bare, looks_bare, mutex_counted, none_is, nothing, once_counted, others_bare, semaphore_counted}
 use Rattle.lot_laws.proofs.hands.CountsTaken.{picked_now, take_counts, took_is}
@@ -86,7 +86,7 @@ module _ (w v : State) (a : ℕ) (steady : IsInductive w) (behind : IsInductive 
         (λ c needs. others_hold (rules_in w l) (lock_state w l) t a u (steady.sites.site l).state ne c needs) x o turned
         ∙ sym (same_hand w t l steady before.of before.any before.carries u)
 
-    pub another_counts : t ≢ a → (x : Turn) (o : Outcome) → Turned (locks_of w) a x o (locks_of v) → IsCounted v t k
+    pub another_counts : t ≢ a → (x : Turn) (o : Outcome) → Turned (locks_of w) a x o (locks_of v) → IsCountOfHand v t k
     another_counts ne x o turned = counted_stays w v t size (same_wanted ne x o turned) k (counts_there w t l k counted was)
 
 -- ---------------------------------------------------------------- the thread itself goes on
@@ -97,7 +97,7 @@ module _ (w : State) (t : ℕ) (steady : IsInductive w) (counted : AreCounted w)
 
   -- no place changes but its own, and that is in no hand
   alone_counts : (b : State) (l : ℕ) (k : Counted) (q : Place) → b.places ≡ w.places → counted_on (place_at w t) l ≡ Some k
-      → counted_on q l ≡ Some k → IsCounted (put b t q) t k
+      → counted_on q l ≡ Some k → IsCountOfHand (put b t q) t k
   alone_counts b l k q same_places was now = counted_stays w (put b t q) t (length-set b.places t q ∙ ap (λ ps. length ps) same_places) same_wants k (counts_there w t l k counted was)
     where
       same_wants : (u : ℕ) → wanted_of t (held (place_at (put b t q) u)) ≡ wanted_of t (held (place_at w u))
@@ -112,13 +112,13 @@ module _ (w : State) (t : ℕ) (steady : IsInductive w) (counted : AreCounted w)
     told to = reply_to w t (hand_over_act l a x to)
 
     abbrev Counts : HandOverAt → Type 0
-    Counts to = (k : Counted) → counted_next (hand_over_next a x b to (told to)) ≡ Some k → IsCounted (goes_to (at to)) t k
+    Counts to = (k : Counted) → counted_next (hand_over_next a x b to (told to)) ≡ Some k → IsCountOfHand (goes_to (at to)) t k
 
     -- the place says of the hand what it said
     keeps_count : (v : State) (m k : Counted) (to now : HandOverAt) → v.places ≡ w.places → place_at w t ≡ at to
         → in_hand_of (HandOver x b to) ≡ Some m → in_hand_of (HandOver x b now) ≡ Some m → m ≡ k
-        → IsCounted (put v t (at now)) t k
-    keeps_count v m k to now same_places is was then_so same_count = subst (IsCounted (put v t (at now)) t) same_count
+        → IsCountOfHand (put v t (at now)) t k
+    keeps_count v m k to now same_places is was then_so same_count = subst (IsCountOfHand (put v t (at now)) t) same_count
         (alone_counts v l m (at now) same_places (ap (λ p. counted_on p l) is ∙ here to ∙ was) (here now ∙ then_so))
       where
         here : (to : HandOverAt) → counted_on (at to) l ≡ in_hand_of (HandOver x b to)
@@ -163,7 +163,7 @@ module _ (w : State) (t : ℕ) (steady : IsInductive w) (counted : AreCounted w)
         over = operation.Exchange expected (with_taken x m expected)
 
         away : Op
-        away = operation.Exchange expected (parked_as m.none_left (without x expected))
+        away = operation.Exchange expected (parked_as m.none_left (word_without x expected))
 
         acts_by : Bool → Act
         acts_by room = if room then act.HandOver l over else act.Word l away
@@ -172,20 +172,20 @@ module _ (w : State) (t : ℕ) (steady : IsInductive w) (counted : AreCounted w)
         goes_by found = if found then next.At (HandOver x b (handing.Leave (any_taken m) (has_room a.limit m seen))) else next.At (HandOver x b (handing.Exchange m seen))
 
         handed : (found : Bool) → counted_next (goes_by found) ≡ Some k
-            → IsCounted
+            → IsCountOfHand
             (put (state_after_hand_over_by found w t (at (handing.Exchange m expected)) l over) t (rwlock_goes l a (goes_by found))) t k
         handed true e = absurd cc
         handed false e = keeps_count (state_after_operation w t (at (handing.Exchange m expected)) l over) m k (handing.Exchange m expected) (handing.Exchange m seen) refl is refl refl (let z : m ≡ k = cc in z)
 
         let_go : (found : Bool) → counted_next (goes_by found) ≡ Some k
-            → IsCounted
+            → IsCountOfHand
             (put (state_after_operation w t (at (handing.Exchange m expected)) l away) t (rwlock_goes l a (goes_by found))) t k
         let_go true e = absurd cc
         let_go false e = keeps_count (state_after_operation w t (at (handing.Exchange m expected)) l away) m k (handing.Exchange m expected) (handing.Exchange m seen) refl is refl refl (let z : m ≡ k = cc in z)
 
         by_room : (room : Bool)
             → counted_next (hand_over_next a x b (handing.Exchange m expected) (reply_to w t (acts_by room))) ≡ Some k
-            → IsCounted
+            → IsCountOfHand
             (put (state_after_act w t (at (handing.Exchange m expected)) (acts_by room)) t (rwlock_goes l a (hand_over_next a x b (handing.Exchange m expected) (reply_to w t (acts_by room))))) t k
         by_room true e = handed (seen == expected) e
         by_room false e = let_go (seen == expected) e
@@ -198,7 +198,7 @@ module _ (w : State) (t : ℕ) (steady : IsInductive w) (counted : AreCounted w)
     hand_over_counts handing.Take is behind turned k e =
         let so : Some (picked_now w t l a x b steady there is) ≡ Some k = sym (took_is x b (picked_now w t l a x b steady there is)) ∙ e in
         let same_count : picked_now w t l a x b steady there is ≡ k = cc in
-        subst (IsCounted (goes_to (at handing.Take)) t) same_count (take_counts w t l a x b steady there is behind y o turned)
+        subst (IsCountOfHand (goes_to (at handing.Take)) t) same_count (take_counts w t l a x b steady there is behind y o turned)
     hand_over_counts (handing.Store m) is behind turned k e = absurd cc
     hand_over_counts (handing.Look m) is behind turned k e = keeps_count (state_after_operation w t (at (handing.Look m)) l operation.Load) m k (handing.Look m) (handing.Exchange m (word_at w l)) refl is refl refl (let z : m ≡ k = cc in z)
     hand_over_counts (handing.Exchange m expected) is behind turned k e = exchange_counts m expected is k e
@@ -207,7 +207,7 @@ module _ (w : State) (t : ℕ) (steady : IsInductive w) (counted : AreCounted w)
   -- by the reply to the act of its place
   module _ (y : Turn) (o : Outcome) where
     abbrev Goes : Place → Type 0
-    Goes p = place_at w t ≡ p → IsInductive (goes_to p) → Turned (locks_of w) t y o (locks_of (goes_to p)) → (l : ℕ) (k : Counted) → counted_on (next_place p (reply_to w t (act_of p))) l ≡ Some k → IsCounted (goes_to p) t k
+    Goes p = place_at w t ≡ p → IsInductive (goes_to p) → Turned (locks_of w) t y o (locks_of (goes_to p)) → (l : ℕ) (k : Counted) → counted_on (next_place p (reply_to w t (act_of p))) l ≡ Some k → IsCountOfHand (goes_to p) t k
 
     bare_goes : (j : ℕ) (a : Admission) (c : RwLockCallPlace) → (IsHandOver c → ⊥) → Goes (RwLock j a c)
     bare_goes j a c other is behind turned l k e = absurd (none_is k _ (goes_counted l j a n ∙ ap (λ z. if j == l then z else None) (others_bare a c (reply_to w t (call_act j a c)) other) ∙ nothing (j == l)) e)
@@ -227,7 +227,7 @@ module _ (w : State) (t : ℕ) (steady : IsInductive w) (counted : AreCounted w)
         n = call_next a (HandOver x b to) (reply_to w t (call_act j a (HandOver x b to)))
 
         either : (c : Bool) → (if c then counted_next n else None) ≡ Some k
-            → IsCounted (goes_to (RwLock j a (HandOver x b to))) t k
+            → IsCountOfHand (goes_to (RwLock j a (HandOver x b to))) t k
         either true f = hand_over_counts j a x b y o to is behind turned k f
         either false f = absurd cc
     going_counts (RwLock j a (Plain p)) is behind turned l k e = bare_goes j a (Plain p) (λ no. no) is behind turned l k e
@@ -244,7 +244,7 @@ two_bare w t steady there two l = ap (λ p. counted_on (place_at (state_after_go
 module _ (w : State) (t : ℕ) (steady : IsInductive w) (counted : AreCounted w) (there : t < length w.places) where
   -- it looks at the word once more
   spun_counts : (p : Option Place) → looking (place_at w t) ≡ p → (l : ℕ) (k : Counted)
-      → counted_on (place_at (state_after_look w t p) t) l ≡ Some k → IsCounted (state_after_look w t p) t k
+      → counted_on (place_at (state_after_look w t p) t) l ≡ Some k → IsCountOfHand (state_after_look w t p) t k
   spun_counts None is l k e = counts_there w t l k counted e
   spun_counts (Some q) is l k e = absurd (none_is k _ (elim (single_or_two (place_at moved t)) [
     | inl single ↦ ap (λ p. counted_on p l) (gone_place moved t single there_moved ∙ ap (λ p. next_place p (go_reply moved t)) (get_or-set_same w.places t q Idle there)) ∙ (looks_bare (place_at w t) q is).goes_on (go_reply moved t) l
@@ -258,7 +258,7 @@ module _ (w : State) (t : ℕ) (steady : IsInductive w) (counted : AreCounted w)
       there_moved = rw (length-set w.places t q) there
 
   late_counts : (key : Option ℕ) → late_key (place_at w t) ≡ key → (l : ℕ) (k : Counted)
-      → counted_on (place_at (state_after_late_on w t key) t) l ≡ Some k → IsCounted (state_after_late_on w t key) t k
+      → counted_on (place_at (state_after_late_on w t key) t) l ≡ Some k → IsCountOfHand (state_after_late_on w t key) t k
   late_counts None is l k e = counts_there w t l k counted e
   late_counts (Some key) is l k e = absurd (none_is k _ (ap (λ p. counted_on p l) (get_or-set_same w.places t (next_place (place_at w t) Late) Idle there) ∙ late_bare (place_at w t) key is l) e)
 
@@ -273,11 +273,11 @@ module _ (w : State) (t : ℕ) (steady : IsInductive w) (counted : AreCounted w)
 
   turned_counts : (x : Turn) → can_turn w t x ≡ true → IsInductive (state_after_turn w t x) → (o : Outcome)
       → Turned (locks_of w) t x o (locks_of (state_after_turn w t x)) → (l : ℕ) (k : Counted)
-      → counted_on (place_at (state_after_turn w t x) t) l ≡ Some k → IsCounted (state_after_turn w t x) t k
+      → counted_on (place_at (state_after_turn w t x) t) l ≡ Some k → IsCountOfHand (state_after_turn w t x) t k
   turned_counts (turn.TheVariants.Begin c) can behind o turned l k e = absurd (none_is k _ (ap (λ p. counted_on p l) (get_or-set_same w.places t (first_place (kind_at w (lock_in c)) c) Idle there) ∙ begins_bare l (kind_at w (lock_in c)) c) e)
   turned_counts turn.TheVariants.Go can behind o turned l k e = elim (single_or_two (place_at w t)) [
     | inl single ↦ (let same = gone w t single in
-        subst (λ (v : State). IsCounted v t k) (sym same) (going_counts w t steady counted there turn.TheVariants.Go o (place_at w t) refl
+        subst (λ (v : State). IsCountOfHand v t k) (sym same) (going_counts w t steady counted there turn.TheVariants.Go o (place_at w t) refl
         (subst IsInductive same behind) (subst (λ (v : State). Turned (locks_of w) t turn.TheVariants.Go o (locks_of v)) same turned) l k
         (ap (λ p. counted_on p l) (sym (gone_place w t single there)) ∙ e)))
     | inr two ↦ absurd (none_is k _ (two_bare w t steady there two l) e)
@@ -301,13 +301,13 @@ counted_after w s shape steady counted condvars = are_counted (after w s) each
     own : (b : Bool) → is_possible w s ≡ b → IsInductive (if b then state_after_turn w s.thread s.turn else w)
         → Turned (locks_of w) s.thread s.turn (step_outcome w s) (locks_of (if b then state_after_turn w s.thread s.turn else w))
         → (l : ℕ) (k : Counted) → counted_on (place_at (if b then state_after_turn w s.thread s.turn else w) s.thread) l ≡ Some k
-        → IsCounted (if b then state_after_turn w s.thread s.turn else w) s.thread k
+        → IsCountOfHand (if b then state_after_turn w s.thread s.turn else w) s.thread k
     own true can behind turned l k e = let h = both (nat_lt s.thread (length w.places)) (can_turn w s.thread s.turn) can in
         turned_counts w s.thread steady counted (ltb-true s.thread (length w.places) h.0) s.turn h.1 behind (step_outcome w s) turned l k e
     own false cannot behind turned l k e = counts_there w s.thread l k counted e
 
-    each : (t l : ℕ) (k : Counted) → counted_on (place_at (after w s) t) l ≡ Some k → IsCounted (after w s) t k
+    each : (t l : ℕ) (k : Counted) → counted_on (place_at (after w s) t) l ≡ Some k → IsCountOfHand (after w s) t k
     each t l k e = elim (cases_eq t s.thread) [
-      | inl mine ↦ subst (λ u. IsCounted (after w s) u k) (sym mine) (own (is_possible w s) refl behind stepped.1 l k (ap (λ u. counted_on (place_at (after w s) u) l) (sym mine) ∙ e))
+      | inl mine ↦ subst (λ u. IsCountOfHand (after w s) u k) (sym mine) (own (is_possible w s) refl behind stepped.1 l k (ap (λ u. counted_on (place_at (after w s) u) l) (sym mine) ∙ e))
       | inr ne ↦ another_counts w (after w s) s.thread steady behind counted (after_size w s).threads t l k (sym (others_keep_it (λ p. counted_on p l) (counted_befallen l) w s t ne) ∙ e) e ne s.turn (step_outcome w s) stepped.1
     ]

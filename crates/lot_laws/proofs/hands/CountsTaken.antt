@@ -26,13 +26,13 @@ use Rattle.spec_locks.specs.Locks.{HasTakenNobody, LockState, Once, is_recursive
 use Rattle.spec_locks.specs.Picks.{queued_of}
 use Rattle.spec_locks.specs.Runs.{Turned}
 use Rattle.spec_locks.specs.Sites.{Main, has_readers}
-use Rattle.lot_machine.specs.Machine.{State, held, place_at, places_told, put, queue_at, sharers, state_after_take, successor_from, want_of_successor, wants_more_in_hand}
+use Rattle.lot_machine.specs.Machine.{State, held, place_at, places_told, put, queue_at, sharers_in_hand, state_after_take, successor_from, want_of_successor, wants_more_in_hand}
 use Rattle.lot_machine.proofs.QueueLemmas.{told_count}
 use Rattle.lot_laws.proofs.calls.EachLock.{moves_nobody, turned_so}
 use Rattle.lot_laws.proofs.machine.Parts.{IsSingle}
 use Rattle.lot_laws.proofs.promises.PlacePromises.{calls_one_lock}
 use Rattle.lot_laws.specs.Refinement.{lock_state, locks_of}
-use Rattle.lot_laws.specs.SitesOf.{locations_of, FitsItsLock, IsCounted, IsInductive, carried_at, rules_in}
+use Rattle.lot_laws.specs.SitesOf.{locations_of, FitsItsLock, IsCountOfHand, IsInductive, carried_at, rules_in}
 use Rattle.lot_laws.specs.Locations.{nowhere, location}
 use Rattle.lot_laws.proofs.machine.AtPlaces.{in_no_hand}
 use Rattle.lot_laws.proofs.hands.Counting.{HasCounted, counting_row, counted_on}
@@ -101,7 +101,7 @@ module _ (w : State) (t l : ℕ) (a : Admission) (x : Access) (b : Bool) (steady
   -- tells what it is told
   abbrev pub picked_now : Counted
   picked_now = record {
-    sharers = sharers t taken_all.places;
+    sharers = sharers_in_hand t taken_all.places;
     successor = want_of_successor (successor_from t 0 taken_all.places);
     none_left = length (without_lock_picked None a.recursive (2 * l) (queue_at w (2 * l))) == 0;
   }
@@ -139,7 +139,7 @@ module _ (w : State) (t l : ℕ) (a : Admission) (x : Access) (b : Bool) (steady
       let f : has_readers Once ≡ true = subst (λ sort. has_readers sort ≡ true) once fits.0.0 in cc
 
   pub take_counts : IsInductive state_then → (y : Turn) (o : Outcome) → Turned (locks_of w) t y o (locks_of state_then)
-      → IsCounted state_then t picked_now
+      → IsCountOfHand state_then t picked_now
   take_counts behind y o turned = record {
     number = same_sharers taken_all state_then t (length-set taken_all.places t place_then) same_wants;
     more = ap want_of_successor (same_successor taken_all state_then t (length-set taken_all.places t place_then) same_wants);

@@ -14,7 +14,7 @@ use Rattle.spec_locks.specs.Locks.{let_go, putting}
 use Rattle.std.specs.Prelude.{sum}
 use Rattle.steps_base.specs.Owners.{is_thread, with_exclusive}
 use Rattle.spec_locks.specs.Locks as locks
-use Rattle.lot_machine.specs.Machine.{State, place_at, shares_at, state_after_telling, held, pending_for, owners_of_successor, shares_handed_over, owners_handed_over, state_after_reply}
+use Rattle.lot_machine.specs.Machine.{State, place_at, shares_at, state_after_telling, held, owners_with_pending, owners_of_successor, shares_handed_over, owners_handed_over, state_after_reply}
 use Rattle.lot_laws.specs.Refinement.{lock_seen, taken_at}
 pub use Rattle.steps_mutex.specs.MutexLaws.{heir}
 use Rattle.lot_laws.specs.Locations.{Location, hand}
@@ -61,7 +61,7 @@ pub successor_one : {one : ℕ → Type 0} (w : State) (t l u : ℕ) (b : Bool) 
     → owners_handed_over w t l o ≡ with_exclusive o (Some u)
 successor_one w t l u b apart hands single here held_at alone unshared o =
     ap (λ s. owners_of_successor (sum (shares_handed_over w t l)) s o) (successor_in t 0 w.places u (alone u) (held_tells (place_at w u) t l b held_at) (only_held (place_at w) apart hands t l u b single here held_at) ∙ ap (λ n. Some (successor_is n)) (let e : 0 + u ≡ u = omega arith in e))
-    ∙ ap (λ (n : ℕ). if n == 0 then with_exclusive o (Some u) else pending_for u o) (ap sum (none_given t w.places (shares_at w l) alone) ∙ unshared)
+    ∙ ap (λ (n : ℕ). if n == 0 then with_exclusive o (Some u) else owners_with_pending u o) (ap sum (none_given t w.places (shares_at w l) alone) ∙ unshared)
 
 -- ---------------------------------------------------------------- a release wakes whom it has taken
 

@@ -22,19 +22,19 @@ use Rattle.steps_rwlock.specs.declared.places.RwLockPlace.{RwLockPlace}
 use Rattle.steps_rwlock.specs.declared.places.RwLockAt.{RwLockAt}
 use Rattle.steps_rwlock.specs.declared.places.RwLockAt.TheVariants as at
 use Rattle.steps_rwlock.specs.declared.park.ParkAt.TheVariants as parking
-use Rattle.steps_rwlock.specs.RwLockDeeds.{role_at, again_of}
-use Rattle.steps_rwlock.specs.RwLockProfiles.{hand_at as place_hand}
+use Rattle.steps_rwlock.specs.RwLockDeeds.{role_at, retried_want}
+use Rattle.steps_rwlock.specs.RwLockProfiles.{parked_hand as place_hand}
 use Rattle.steps_rwlock_fair.specs.declared.places.RwLockCallPlace.{RwLockCallPlace}
 use Rattle.steps_rwlock_fair.specs.declared.places.RwLockCallPlace.TheVariants.{Plain, Glance, HandOver, Bump, Handed}
 use Rattle.steps_rwlock_fair.specs.declared.hand_over.Taken.{Taken as Counted}
 use Rattle.steps_rwlock_fair.specs.declared.hand_over.HandOverAt.TheVariants as handing
 use Rattle.steps_rwlock_fair.specs.declared.handed.HandedAt.TheVariants as handed
 use Rattle.steps_rwlock_fair.specs.FairCalls.{CallStands, in_hand_of}
-use Rattle.steps_rwlock_fair.specs.FairDeeds.{call_deeds, hands_over}
-use Rattle.steps_rwlock_fair.specs.FairLaws.{CallTells, HandsOver as Hands}
+use Rattle.steps_rwlock_fair.specs.FairDeeds.{call_deeds, handing_deeds}
+use Rattle.steps_rwlock_fair.specs.FairLaws.{CallTells, StandsToHandOver as Hands}
 use Rattle.steps_rwlock_fair.specs.FairMoves.{call_move}
 use Rattle.steps_rwlock_fair.specs.FairProfiles.{call_profile}
-use Rattle.steps_rwlock_fair.specs.FairSteps.{call_act, call_next, call_owners, call_shares, has_room, parked_as, tokens, with_taken, without}
+use Rattle.steps_rwlock_fair.specs.FairSteps.{call_act, call_next, call_owners, call_shares, has_room, parked_as, tokens, with_taken, word_without}
 use Rattle.steps_rwlock_fair.proofs.FairActs.{fair_sleepers_move}
 use Rattle.steps_rwlock_fair.proofs.FairMoves.{hand_overs_move, handed_move}
 use Rattle.steps_rwlock_fair.proofs.FairOwners.{givers_keep}
@@ -49,11 +49,11 @@ use Rattle.spec_locks.specs.Locks.{LockState, Rules, Taken, HandOff, IsLockState
 use Rattle.spec_locks.specs.Sites.{Case, Role, Pends, Site, has_readers}
 use Rattle.spec_locks.specs.Codes.{HasLimit, code}
 use Rattle.spec_locks.specs.Deeds as laws
-use Rattle.lot_machine.specs.Machine.{State, owners_at, place_at, put, queue_at, share_at, shares_at, sharers, state_after_act, successor_from, unshared_then, word_at}
+use Rattle.lot_machine.specs.Machine.{State, owners_at, place_at, put, queue_at, share_at, shares_at, sharers_in_hand, state_after_act, successor_from, unshared_then, word_at}
 use Rattle.lot_machine.specs.Fits.{IsWellFormed}
 use Rattle.lot_laws.specs.Refinement.{taken_at}
 use Rattle.lot_laws.specs.MutexDeeds.{acts}
-use Rattle.lot_laws.specs.SitesOf.{FitsItsLock, Goes, LimitHasRoom, IsCounted, IsInductive, carried_at, hand_at, rules_in}
+use Rattle.lot_laws.specs.SitesOf.{FitsItsLock, Goes, LimitHasRoom, IsCountOfHand, IsInductive, carried_at, hand_at, rules_in}
 use Rattle.lot_laws.specs.Locations.{role_on, location}
 use Rattle.lot_laws.proofs.sites.ActsKept.{lock_by}
 use Rattle.steps_base.specs.Profiles.{Hand}
@@ -69,7 +69,7 @@ use Rattle.lot_laws.proofs.rwlock.Kept.{beside_no_call, admits, at_now, call_tol
 -- tells what a hand-over that has these in hand, and saw this word, does to the lock
 pub record HandsFacts (a : Admission) (c : RwLockCallPlace) (k : Counted) (op : Op) (seen : ℕ) : Type 0 where
   pub right : Want
-  pub deeds : (whom : Option ℕ) → takes_effect op seen ≡ true → call_deeds a c whom (Value seen) ≡ hands_over right k whom
+  pub deeds : (whom : Option ℕ) → takes_effect op seen ≡ true → call_deeds a c whom (Value seen) ≡ handing_deeds right k whom
   pub owners : (t : ℕ) (shared : List ℕ) (o : Owners) (main second : List Waiter) (taken : ℕ → Option Taken)
       → takes_effect op seen ≡ true
       → lock_seen shared (call_owners a c t seen o) main second taken
@@ -113,7 +113,7 @@ hands_facts l a (HandOver access.Upgradable b (handing.Exchange j expected)) k o
     same_k = cc
 
     by_room : (room : Bool) → has_room a.limit j expected ≡ room
-        → (if room then act.HandOver l (operation.Exchange expected (with_taken access.Upgradable j expected)) else act.Word l (operation.Exchange expected (parked_as j.none_left (without access.Upgradable expected))))
+        → (if room then act.HandOver l (operation.Exchange expected (with_taken access.Upgradable j expected)) else act.Word l (operation.Exchange expected (parked_as j.none_left (word_without access.Upgradable expected))))
         ≡ act.HandOver l op
         → HandsFacts a (HandOver access.Upgradable b (handing.Exchange j expected)) k op seen
     by_room true f g =
@@ -133,8 +133,8 @@ hand_claims : (a : Admission) (c : RwLockCallPlace) (t : ℕ) → (call_profile 
 hand_claims a c t h = by_call c h
   where
     by_place : (p : RwLockPlace) (to : RwLockAt) → place_hand to ≡ hand t false
-        → ((role_at (again_of p) p.purpose to).claims ≡ None)
-        ⊎ ((b : Bool) × ((role_at (again_of p) p.purpose to).claims ≡ Some (Pends b)))
+        → ((role_at (retried_want p) p.purpose to).claims ≡ None)
+        ⊎ ((b : Bool) × ((role_at (retried_want p) p.purpose to).claims ≡ Some (Pends b)))
     by_place p (at.Park (parking.Taken v)) g = inl refl
     by_place p (at.Aside (parking.Taken v)) g = inr (_, refl)
     by_place p (at.Park to) g = absurd cc
@@ -167,7 +167,7 @@ heir_same (Some x) (Some y) e = let both : record { thread = 0; want = x } ≡ r
 
 module _ (w : State) (t l : ℕ) (a : Admission) (c : RwLockCallPlace) (steady : IsInductive w) (shape : IsWellFormed w)
     (there : t < length w.places) (lt : l < length w.locks) (is : place_at w t ≡ RwLock l a c)
-    (k : Counted) (is_k : in_hand_of c ≡ Some k) (count : IsCounted w t k) (op : Op) (e : call_act l a c ≡ act.HandOver l op) where
+    (k : Counted) (is_k : in_hand_of c ≡ Some k) (count : IsCountOfHand w t k) (op : Op) (e : call_act l a c ≡ act.HandOver l op) where
   abbrev here : Site
   here = lock_by w l (rules_in w l)
 
@@ -214,10 +214,10 @@ module _ (w : State) (t l : ℕ) (a : Admission) (c : RwLockCallPlace) (steady :
   few = word_few (rules_in w l) here fits.0.0 (steady.sites.site l) limits.0.1 limits.1
 
   fewer : k.sharers < a.limit
-  fewer = let x : sharers t w.places < length w.places = few_sharers w t there (of_single l (place_at w t) of) bare in
+  fewer = let x : sharers_in_hand t w.places < length w.places = few_sharers w t there (of_single l (place_at w t) of) bare in
       let y : length w.places ≤ (rules_in w l).limit = limits.0.2 in
       let z : (rules_in w l).limit ≡ a.limit = fits.0.2 in
-      let n : sharers t w.places ≡ k.sharers = count.number in omega arith
+      let n : sharers_in_hand t w.places ≡ k.sharers = count.number in omega arith
 
   now : word_at w l ≡ code (rules_in w l) here
   now = steady.sites.word l

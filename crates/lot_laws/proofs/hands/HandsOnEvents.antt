@@ -38,7 +38,7 @@ use Rattle.lot_machine.specs.Machine.{State, place_after_telling, place_at, put,
 use Rattle.lot_laws.specs.MutexDeeds.{acts}
 use Rattle.lot_laws.specs.MutexDeeds as deeds
 use Rattle.lot_laws.specs.Refinement.{call_state, lock_state, taken_at}
-use Rattle.lot_laws.specs.SitesOf.{FitsItsLock, Goes, IsCounted, IsInductive, carried_at, rules_in}
+use Rattle.lot_laws.specs.SitesOf.{FitsItsLock, Goes, IsCountOfHand, IsInductive, carried_at, rules_in}
 use Rattle.lot_laws.proofs.machine.AtPlaces.{in_no_hand, unless_held}
 use Rattle.lot_laws.proofs.calls.Events.{Happens, OthersFollow, happens}
 use Rattle.lot_laws.proofs.machine.Parts.{IsSingle, held_tells, location_here, condvar_untaken}
@@ -67,7 +67,7 @@ gains false CallOnce l r = refl
 
 module _ (w : State) (t l : ℕ) (a : Admission) (c : RwLockCallPlace) (steady : IsInductive w) (shape : IsWellFormed w)
     (there : t < length w.places) (lt : l < length w.locks) (is : place_at w t ≡ RwLock l a c)
-    (k : Counted) (is_k : in_hand_of c ≡ Some k) (count : IsCounted w t k) (op : Op) (e : call_act l a c ≡ act.HandOver l op) (takes : takes_effect op (word_at w l) ≡ true) where
+    (k : Counted) (is_k : in_hand_of c ≡ Some k) (count : IsCountOfHand w t k) (op : Op) (e : call_act l a c ≡ act.HandOver l op) (takes : takes_effect op (word_at w l) ≡ true) where
   abbrev alone : Bool
   alone = unshared_then w t l
 

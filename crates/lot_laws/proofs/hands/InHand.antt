@@ -11,7 +11,7 @@ use Rattle.spec_locks.proofs.HandLimits.{sum_cons}
 use Rattle.lot_steps.specs.declared.places.Place.{Place}
 use Rattle.lot_steps.specs.declared.places.Place.TheVariants.{Idle}
 use Rattle.lot_machine.specs.declared.hands.Successor.{Successor}
-use Rattle.lot_machine.specs.Machine.{held, shares_in_hand, sharers, successor_from, successor_or, wants_more_in_hand}
+use Rattle.lot_machine.specs.Machine.{held, shares_in_hand, sharers_in_hand, successor_from, successor_or, wants_more_in_hand}
 
 -- tells what a thread wants, where t has taken it
 abbrev pub wanted_of : ℕ → Option Taken → Option Want
@@ -68,17 +68,17 @@ shared_by t taken i (n ∷ ns) =
 
 pub counted : (t i : ℕ) (taken : ℕ → Option Taken) (ps : List Place)
     → ((j : ℕ) → shares_handed t (taken (i + j)) ≡ (if shares_in_hand t (held (get_or ps j Idle)) then 1 else 0))
-    → sharers t ps ≡ sharers_from t taken i (length ps)
+    → sharers_in_hand t ps ≡ sharers_from t taken i (length ps)
 counted t i taken [] each = refl
 counted t i taken (p ∷ ps) each =
     let first : shares_handed t (taken i) ≡ (if shares_in_hand t (held p) then 1 else 0) = subst (λ k. shares_handed t (taken k) ≡ (if shares_in_hand t (held p) then 1 else 0)) (let z : i + 0 ≡ i = omega arith in z) (each 0) in
-    let rest : sharers t ps ≡ sharers_from t taken (i + 1) (length ps) = counted t (i + 1) taken ps (λ j. subst (λ k. shares_handed t (taken k) ≡ (if shares_in_hand t (held (get_or ps j Idle)) then 1 else 0)) (let z : i + suc j ≡ i + 1 + j = omega arith in z) (each (suc j))) in
+    let rest : sharers_in_hand t ps ≡ sharers_from t taken (i + 1) (length ps) = counted t (i + 1) taken ps (λ j. subst (λ k. shares_handed t (taken k) ≡ (if shares_in_hand t (held (get_or ps j Idle)) then 1 else 0)) (let z : i + suc j ≡ i + 1 + j = omega arith in z) (each (suc j))) in
     one_more (shares_in_hand t (held p)) ps ∙ (λ k. sym first k + rest k)
   where
     one_more : (b : Bool) (ps : List Place)
         → length
         (cond b (p ∷ filter (λ (q : Place). shares_in_hand t (held q)) ps) (filter (λ (q : Place). shares_in_hand t (held q)) ps))
-        ≡ (if b then 1 else 0) + sharers t ps
+        ≡ (if b then 1 else 0) + sharers_in_hand t ps
     one_more true ps = omega arith
     one_more false ps = omega arith
 

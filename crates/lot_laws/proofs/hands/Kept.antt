@@ -29,7 +29,7 @@ use Rattle.spec_locks.proofs.HandLimits.{handed_limit, sum_cons, unshared_succes
 use Rattle.spec_locks.proofs.Hands.{has_upgradable_handed, has_exclusive_handed, pends_handed, shares_handed_on}
 use Rattle.lot_machine.specs.declared.hands.Successor.{Successor}
 use Rattle.lot_machine.specs.declared.locks.Lock.{Lock}
-use Rattle.lot_machine.specs.Machine.{State, place_at, word_at, owners_at, shares_at, filled_at, kind_at, queue_at, section_at, unlocked, put, state_after_hand_over, state_after_telling, place_after_telling, hand_over_told, unshared_then, held, held_by, shares_in_hand, shares_given, shares_handed_over, with_share, successor_from, owners_of_successor, owners_handed_over, pending_for}
+use Rattle.lot_machine.specs.Machine.{State, place_at, word_at, owners_at, shares_at, filled_at, kind_at, queue_at, section_at, unlocked, put, state_after_hand_over, state_after_telling, place_after_telling, hand_over_told, unshared_then, held, held_by, shares_in_hand, shares_given, shares_handed_over, with_share, successor_from, owners_of_successor, owners_handed_over, owners_with_pending}
 use Rattle.lot_machine.proofs.ShareLemmas.{given_count}
 use Rattle.lot_laws.specs.Refinement.{taken_at}
 use Rattle.lot_laws.specs.MutexDeeds.{acts}
@@ -177,7 +177,7 @@ heir_in (Some x) = Some (record { thread = x.thread; want = x.want })
 
 module _ (shares : List ℕ) (o : Owners) (main second : List Waiter) (taken : ℕ → Option Taken) where
   writer_is : (b : Bool) (u : ℕ)
-      → lock_seen shares (if b then with_exclusive o (Some u) else pending_for u o) main second taken
+      → lock_seen shares (if b then with_exclusive o (Some u) else owners_with_pending u o) main second taken
       ≡ (if b then with_owner u Exclusive (lock_seen shares o main second taken) else locks.pending_for u false (lock_seen shares o main second taken))
   writer_is true u = refl
   writer_is false u = refl

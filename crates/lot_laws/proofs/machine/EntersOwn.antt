@@ -11,7 +11,7 @@ use Rattle.steps_condvar.specs.declared.notify.NotifyAt.TheVariants as notify
 use Rattle.steps_condvar.specs.CondvarSteps.{condvar_act, mutex_beside, move_act}
 use Rattle.lot_steps.specs.declared.places.Place.{Place}
 use Rattle.lot_steps.specs.declared.places.Place.TheVariants.{Idle, Mutex, RwLock, Once, Condvar, Semaphore}
-use Rattle.lot_steps.specs.Steps.{act_of, beside_of, lock_of}
+use Rattle.lot_steps.specs.Steps.{act_of, beside_of, called_lock}
 use Rattle.spec_locks.specs.Sites.{Line, Main, Second, has_readers}
 use Rattle.spec_locks.specs.Purposes.{rules_of}
 use Rattle.lot_machine.specs.Machine.{State, kind_at, place_at}
@@ -57,7 +57,7 @@ within_line l key s a h e = absurd e
 
 module _ (w : State) (t : ℕ) (world : IsWorld w) (b : IsBarred w t) where
   abbrev Own : Type 0
-  Own = ((lock_of (place_at w t) ≡ Some b.lock) ⊎ (beside_of (place_at w t) ≡ Some b.lock)) × HasLine (rules_of (kind_at w b.lock)).sort b.line
+  Own = ((called_lock (place_at w t) ≡ Some b.lock) ⊎ (beside_of (place_at w t) ≡ Some b.lock)) × HasLine (rules_of (kind_at w b.lock)).sort b.line
 
   -- for this lock it is the main line
   main_line : (l : ℕ) → 2 * l ≡ key_of b.lock b.line → (l ≡ b.lock) × HasLine (rules_of (kind_at w b.lock)).sort b.line
@@ -67,10 +67,10 @@ module _ (w : State) (t : ℕ) (world : IsWorld w) (b : IsBarred w t) where
       by_line k Main e = ((omega arith), tt)
       by_line k Second e = absurd (omega arith)
 
-  own_main : (l : ℕ) → lock_of (place_at w t) ≡ Some l → 2 * l ≡ key_of b.lock b.line → Own
+  own_main : (l : ℕ) → called_lock (place_at w t) ≡ Some l → 2 * l ≡ key_of b.lock b.line → Own
   own_main l own e = let h = main_line l e in (inl (own ∙ ap Some h.0), h.1)
 
-  own_shared : (l : ℕ) → lock_of (place_at w t) ≡ Some l → has_readers (rules_in w l).sort ≡ true
+  own_shared : (l : ℕ) → called_lock (place_at w t) ≡ Some l → has_readers (rules_in w l).sort ≡ true
       → (n : Line) × (key_of b.lock b.line ≡ key_of l n) → Own
   own_shared l own readers h = let same : b.lock ≡ l = same_lock b.lock l b.line h.0 h.1 in
       (inl (own ∙ ap Some (sym same)), by_line b.line (subst (λ k. has_readers (rules_in w k).sort ≡ true) (sym same) readers))
@@ -85,12 +85,12 @@ module _ (w : State) (t : ℕ) (world : IsWorld w) (b : IsBarred w t) where
     where
       by_place : (p : Place) → place_at w t ≡ p → FitsItsLock w p → EntersSection (key_of b.lock b.line) (act_of p) → Own
       by_place Idle is fits e = absurd e
-      by_place (Mutex l at) is fits e = own_main l (ap lock_of is) ((mutex_facts l at).main refl (key_of b.lock b.line) e)
-      by_place (Once l at) is fits e = own_main l (ap lock_of is) ((once_facts l at).main refl (key_of b.lock b.line) e)
-      by_place (Semaphore l at) is fits e = own_main l (ap lock_of is) ((semaphore_facts l at).main refl (key_of b.lock b.line) e)
-      by_place (RwLock l a c) is fits e = own_shared l (ap lock_of is) fits.0.0
+      by_place (Mutex l at) is fits e = own_main l (ap called_lock is) ((mutex_facts l at).main refl (key_of b.lock b.line) e)
+      by_place (Once l at) is fits e = own_main l (ap called_lock is) ((once_facts l at).main refl (key_of b.lock b.line) e)
+      by_place (Semaphore l at) is fits e = own_main l (ap called_lock is) ((semaphore_facts l at).main refl (key_of b.lock b.line) e)
+      by_place (RwLock l a c) is fits e = own_shared l (ap called_lock is) fits.0.0
           (within_line l (key_of b.lock b.line) (location (RwLock l a c)) (act_of (RwLock l a c)) (call_facts l a c).line e)
       by_place (Condvar l at) is fits e = elim (condvar_main l (key_of b.lock b.line) at e) [
-        | inl own ↦ own_main l (ap lock_of is) own
+        | inl own ↦ own_main l (ap called_lock is) own
         | inr beside ↦ let h = main_line beside.0 beside.2 in (inr (ap beside_of is ∙ beside.1 ∙ ap Some h.0), h.1)
       ]

@@ -23,8 +23,8 @@ use Rattle.spec_locks.specs.declared.calls.Turn as turn
 use Rattle.spec_locks.specs.declared.calls.Step.{Step}
 use Rattle.lot_steps.specs.declared.places.Place.{Place}
 use Rattle.spec_locks.specs.Calls.{lock_in}
-use Rattle.lot_steps.specs.Steps.{act_of, lock_of, next_place, first_place, looking, late_key}
-use Rattle.lot_machine.specs.Machine.{state_after_hand_over_by, State, left_behind, state_after_requeue, state_after_take, can_turn, unlocked, place_at, word_at, queue_at, section_at, put, state_after_operation, state_with_sections, queues_with_last, queues_without_first, state_after_taking, state_after_wake, state_after_act, state_after_look, state_after_late_on, go_reply, state_after_turn, is_possible, after, kind_at}
+use Rattle.lot_steps.specs.Steps.{act_of, called_lock, next_place, first_place, looking, late_key}
+use Rattle.lot_machine.specs.Machine.{state_after_hand_over_by, State, left_in_line, state_after_requeue, state_after_take, can_turn, unlocked, place_at, word_at, queue_at, section_at, put, state_after_operation, state_with_sections, queues_with_last, queues_without_first, state_after_taking, state_after_wake, state_after_act, state_after_look, state_after_late_on, go_reply, state_after_turn, is_possible, after, kind_at}
 use Rattle.lot_laws.proofs.calls.Looking.{looks_untouched}
 use Rattle.lot_machine.proofs.Shape.{both}
 use Rattle.std.specs.Prelude.{nat_lt, length}
@@ -44,11 +44,11 @@ use Rattle.steps_base.specs.declared.acts.Whom.{Whom}
 use Rattle.steps_base.specs.declared.acts.Whom.TheVariants as whom
 use Rattle.steps_base.specs.Acts.{takes_effect, holds}
 use Rattle.lot_laws.specs.Refinement.{ChangesOneThing}
-use Rattle.lot_laws.specs.WorldRuns.{IsUntouched, TouchesOnlyByGoing}
+use Rattle.lot_laws.specs.WorldRuns.{LeavesWordsAndQueues, TouchesOnlyByGoing}
 
 -- a thread that looks at the word once more changes none
 spun_touches : (w : State) (t : ℕ) → t < length w.places → (o : Option Place) → looking (place_at w t) ≡ o
-    → IsUntouched w (state_after_look w t o)
+    → LeavesWordsAndQueues w (state_after_look w t o)
 spun_touches w t there None is = (λ l. refl, λ key. refl)
 spun_touches w t there (Some q) is = looks_untouched w t there q is
 
@@ -134,7 +134,7 @@ module _ (w : State) (t : ℕ) (steady : IsInductive w) (there : t < length w.pl
     act_one p (act.TheVariants.Closure state) h = stays
     act_one p (act.TheVariants.End answer) h = stays
 
-  one_gone : IsSingle (place_at w t) → (o : Option ℕ) → lock_of (place_at w t) ≡ o
+  one_gone : IsSingle (place_at w t) → (o : Option ℕ) → called_lock (place_at w t) ≡ o
       → ChangesOneThing w t (state_after_act w t (place_at w t) (act_of (place_at w t)))
   one_gone single (Some l) own = act_one l (of_own l (place_at w t) single own) (place_at w t) (act_of (place_at w t)) (line_act (place_at w t) l single own)
   one_gone single None none = subst (λ p. ChangesOneThing w t (state_after_act w t p (act_of p))) (sym (calls_none (place_at w t) none)) stays
@@ -143,7 +143,7 @@ module _ (w : State) (t : ℕ) (steady : IsInductive w) (there : t < length w.pl
   module _ (c : ℕ) (at : CondvarPlace) (is : place_at w t ≡ Condvar c at) (fits : FitsItsLock w (Condvar c at)) where
     requeued_one : (from to : ℕ) (how : Requeue) → section_at w from ≡ Some t → section_at w to ≡ Some t
         → ChangesOneThing w t (state_after_requeue w t from to how)
-    requeued_one from to how held_from held_to = inr ((λ k. refl), set_at to (set w.queues from (left_behind how (queue_at w from))) _ held_to (set_at from w.queues (left_behind how (queue_at w from)) held_from (λ k. inl refl)))
+    requeued_one from to how held_from held_to = inr ((λ k. refl), set_at to (set w.queues from (left_in_line how (queue_at w from))) _ held_to (set_at from w.queues (left_in_line how (queue_at w from)) held_from (λ k. inl refl)))
 
     act_of_two : (p : Place) (a : Act) → IsActOfTwo c at a → ChangesOneThing w t (state_after_act w t p a)
     act_of_two p (act.TheVariants.Word k f) h = word_one p k f
@@ -165,7 +165,7 @@ module _ (w : State) (t : ℕ) (steady : IsInductive w) (there : t < length w.pl
   two_gone two = let fits = fits_two w t steady two in
       act_of_two two.lock two.at two.is fits (place_at w t) (act_of (place_at w t)) (subst (λ p. IsActOfTwo two.lock two.at (act_of p)) (sym two.is) (condvar_lines two.lock two.at fits.reached))
 
-  gone_one : (o : Option ℕ) → lock_of (place_at w t) ≡ o
+  gone_one : (o : Option ℕ) → called_lock (place_at w t) ≡ o
       → ChangesOneThing w t (state_after_act w t (place_at w t) (act_of (place_at w t)))
   gone_one o e = elim (single_or_two (place_at w t)) [ inl single ↦ one_gone single o e | inr two ↦ two_gone two ]
 
@@ -190,7 +190,7 @@ module _ (w : State) (t : ℕ) (steady : IsInductive w) (there : t < length w.pl
   turned_one : (x : Turn) → can_turn w t x ≡ true → ChangesOneThing w t (state_after_turn w t x)
   turned_one (turn.TheVariants.Begin c) can = put_one w w t t (first_place (kind_at w (lock_in c)) c) stays
   turned_one turn.TheVariants.Go can = let acted = state_after_act w t (place_at w t) (act_of (place_at w t)) in
-      put_one w acted t t (next_place (place_at acted t) (go_reply w t)) (gone_one (lock_of (place_at w t)) refl)
+      put_one w acted t t (next_place (place_at acted t) (go_reply w t)) (gone_one (called_lock (place_at w t)) refl)
   turned_one turn.TheVariants.Spin can = spin_one (looking (place_at w t)) refl
   turned_one turn.TheVariants.Late can = late_one (late_key (place_at w t))
   turned_one turn.TheVariants.Ok can = closed_one true (closes_one w t true can)
@@ -206,7 +206,7 @@ one_thing w s steady = either (is_possible w s) refl
 
 -- ---------------------------------------------------------------- turns that touch nothing
 
-late_touches : (w : State) (t : ℕ) (o : Option ℕ) → IsUntouched w (state_after_late_on w t o)
+late_touches : (w : State) (t : ℕ) (o : Option ℕ) → LeavesWordsAndQueues w (state_after_late_on w t o)
 late_touches w t None = (λ l. refl, λ key. refl)
 late_touches w t (Some key) = (λ l. refl, λ key. refl)
 

@@ -32,8 +32,8 @@ use Rattle.steps_rwlock_fair.specs.FairSteps.{call_next}
 use Rattle.steps_base.specs.declared.acts.Next as next
 use Rattle.steps_mutex.specs.MutexSteps.{mutex_next}
 use Rattle.core_base.specs.declared.wants.Want.{Want}
-use Rattle.steps_base.specs.Profiles.{Hand, Of, hand_owner, taken_from, Profile, blank}
-use Rattle.lot_steps.specs.Steps.{next_place, taker, mutex_goes, rwlock_goes, once_goes, semaphore_goes, lock_of, profile, wants, is_lock, calls, beside_of, or_else, profile_beside, key_in, late_key, line_owed, retries_on}
+use Rattle.steps_base.specs.Profiles.{Hand, Of, hand_owner, taken_from, Profile, blank_row}
+use Rattle.lot_steps.specs.Steps.{next_place, taker, mutex_goes, rwlock_goes, once_goes, semaphore_goes, called_lock, profile, wants, is_lock, calls, beside_of, or_else, profile_beside, key_in, late_key, line_owed, retries_on}
 use Rattle.spec_locks.specs.Locks.{LockState, Taken, Rules, keep_from, putting}
 use Rattle.std.specs.Prelude.{◌&&◌, ◌||◌}
 use Rattle.steps_base.specs.Owners.{is_thread}
@@ -226,7 +226,7 @@ none_beside (Once k at) single = refl
 none_beside (Semaphore k at) single = refl
 none_beside (Condvar k at) single = absurd single
 
-pub blank_beside : (p : Place) → IsSingle p → profile_beside p ≡ blank
+pub blank_beside : (p : Place) → IsSingle p → profile_beside p ≡ blank_row
 blank_beside Idle single = refl
 blank_beside (Mutex k at) single = refl
 blank_beside (RwLock k a at) single = refl
@@ -244,8 +244,8 @@ single_role p l single = ap (λ o. if calls p l then (profile p).role else if is
 pub single_taken : (p : Place) (l : ℕ) → IsSingle p → taken_at p l ≡ taken_from (profile p).hand (profile p).wants (calls p l)
 single_taken p l single = ap (λ o. if is_lock l o && not (calls p l) then taken_from (profile_beside p).hand (profile_beside p).wants true else taken_from (profile p).hand (profile p).wants (calls p l)) (none_beside p single)
 
-pub single_late : (p : Place) → IsSingle p → late_key p ≡ key_in (lock_of p) (profile p).late_line
-single_late p single = ap (λ o. or_else (key_in o (profile_beside p).late_line) (key_in (lock_of p) (profile p).late_line)) (none_beside p single)
+pub single_late : (p : Place) → IsSingle p → late_key p ≡ key_in (called_lock p) (profile p).late_line
+single_late p single = ap (λ o. or_else (key_in o (profile_beside p).late_line) (key_in (called_lock p) (profile p).late_line)) (none_beside p single)
 
 pub single_owes : (p : Place) (l : ℕ) → IsSingle p → line_owed p l ≡ (if calls p l then (profile p).owes else None)
 single_owes p l single = ap (λ o. or_else (if is_lock l o then (profile_beside p).owes else None) (if calls p l then (profile p).owes else None)) (none_beside p single)
@@ -393,7 +393,7 @@ of_single l (Once k at) of = tt
 of_single l (Semaphore k at) of = tt
 of_single l (Condvar k at) of = absurd of
 
-pub of_lock_of : (l : ℕ) (p : Place) → IsOf l p → IsLock l (lock_of p)
+pub of_lock_of : (l : ℕ) (p : Place) → IsOf l p → IsLock l (called_lock p)
 of_lock_of l Idle of = tt
 of_lock_of l (Mutex k at) of = of
 of_lock_of l (RwLock k a at) of = of
@@ -401,7 +401,7 @@ of_lock_of l (Once k at) of = of
 of_lock_of l (Semaphore k at) of = of
 of_lock_of l (Condvar k at) of = absurd of
 
-pub of_lock : (l : ℕ) (p : Place) → IsSingle p → IsLock l (lock_of p) → IsOf l p
+pub of_lock : (l : ℕ) (p : Place) → IsSingle p → IsLock l (called_lock p) → IsOf l p
 of_lock l Idle single own = tt
 of_lock l (Mutex k at) single own = own
 of_lock l (RwLock k a at) single own = own
@@ -409,7 +409,7 @@ of_lock l (Once k at) single own = own
 of_lock l (Semaphore k at) single own = own
 of_lock l (Condvar k at) single own = absurd single
 
-pub of_own : (l : ℕ) (p : Place) → IsSingle p → lock_of p ≡ Some l → IsOf l p
+pub of_own : (l : ℕ) (p : Place) → IsSingle p → called_lock p ≡ Some l → IsOf l p
 of_own l Idle single own = tt
 of_own l (Mutex k at) single own = cc
 of_own l (RwLock k a at) single own = cc
@@ -472,7 +472,7 @@ next_mutex l k (next.TheVariants.At at) e = e
 next_mutex l k (next.TheVariants.End answer) e = tt
 
 -- a thread that calls no lock is idle
-pub calls_none : (p : Place) → lock_of p ≡ None → p ≡ Idle
+pub calls_none : (p : Place) → called_lock p ≡ None → p ≡ Idle
 calls_none Idle e = refl
 calls_none (Mutex k at) e = absurd cc
 calls_none (RwLock k a at) e = absurd cc
@@ -486,9 +486,9 @@ free_of q l single none = single_taken q l single ∙ ap (λ (h : Option Hand). 
 
 -- a thread that is in a hand calls the lock
 pub held_calls : (p : Place) (l : ℕ) → IsOf l p → (h : Hand) → (location p).hand ≡ Some h → calls p l ≡ true
-held_calls p l of h e = by_lock (lock_of p) refl (of_lock_of l p of)
+held_calls p l of h e = by_lock (called_lock p) refl (of_lock_of l p of)
   where
-    by_lock : (o : Option ℕ) → lock_of p ≡ o → IsLock l o → is_lock l o ≡ true
+    by_lock : (o : Option ℕ) → called_lock p ≡ o → IsLock l o → is_lock l o ≡ true
     by_lock None f g = absurd (let none : ◌≡◌ {A = Option Hand} None (Some h) = sym (ap (λ q. (location q).hand) (calls_none p f)) ∙ e in cc)
     by_lock (Some k) f g = ap (λ j. j == l) g ∙ same l
 
@@ -498,20 +498,20 @@ calls_other l k (Some j) h ne = differ j k (λ e. ne (sym e ∙ h))
 
 -- it does nothing about another lock
 pub role_elsewhere : (l k : ℕ) (p : Place) → IsOf l p → k ≢ l → role_on p k ≡ idle
-role_elsewhere l k p h ne = single_role p k (of_single l p h) ∙ ap (λ b. if b then (profile p).role else idle) (calls_other l k (lock_of p) (of_lock_of l p h) ne)
+role_elsewhere l k p h ne = single_role p k (of_single l p h) ∙ ap (λ b. if b then (profile p).role else idle) (calls_other l k (called_lock p) (of_lock_of l p h) ne)
 
 pub taken_elsewhere : (l k : ℕ) (p : Place) → IsOf l p → k ≢ l → taken_at p k ≡ None
-taken_elsewhere l k p h ne = single_taken p k (of_single l p h) ∙ ap (taken_from (profile p).hand (profile p).wants) (calls_other l k (lock_of p) (of_lock_of l p h) ne) ∙ taken_out (profile p).hand (profile p).wants
+taken_elsewhere l k p h ne = single_taken p k (of_single l p h) ∙ ap (taken_from (profile p).hand (profile p).wants) (calls_other l k (called_lock p) (of_lock_of l p h) ne) ∙ taken_out (profile p).hand (profile p).wants
 
 -- how it stands at a lock, by how it stands at its own
 pub location_is : (l k : ℕ) (p : Place) → IsOf l p → location_at p k ≡ (if l == k then location p else nowhere)
-location_is l k p h = single_location p k (of_single l p h) ∙ by_lock (lock_of p) refl (of_lock_of l p h)
+location_is l k p h = single_location p k (of_single l p h) ∙ by_lock (called_lock p) refl (of_lock_of l p h)
   where
     out : (b : Bool) → location p ≡ nowhere → nowhere ≡ (if b then location p else nowhere)
     out true e = sym e
     out false e = refl
 
-    by_lock : (o : Option ℕ) → lock_of p ≡ o → IsLock l o → (if is_lock k o then location p else nowhere) ≡ (if l == k then location p else nowhere)
+    by_lock : (o : Option ℕ) → called_lock p ≡ o → IsLock l o → (if is_lock k o then location p else nowhere) ≡ (if l == k then location p else nowhere)
     by_lock None e own = out (l == k) (ap location (calls_none p e))
     by_lock (Some j) e own = ap (λ x. if x == k then location p else nowhere) own
 
@@ -525,9 +525,9 @@ abbrev pub role_of : Place → Role
 role_of p = (profile p).role
 
 pub role_here : (l : ℕ) (p : Place) → IsOf l p → role_on p l ≡ role_of p
-role_here l p h = single_role p l (of_single l p h) ∙ by_lock (lock_of p) refl (of_lock_of l p h)
+role_here l p h = single_role p l (of_single l p h) ∙ by_lock (called_lock p) refl (of_lock_of l p h)
   where
-    by_lock : (o : Option ℕ) → lock_of p ≡ o → IsLock l o → (if is_lock l o then role_of p else idle) ≡ role_of p
+    by_lock : (o : Option ℕ) → called_lock p ≡ o → IsLock l o → (if is_lock l o then role_of p else idle) ≡ role_of p
     by_lock None e own = sym (ap role_of (calls_none p e))
     by_lock (Some j) e own = ap (λ x. if x == l then role_of p else idle) own ∙ ap (λ b. if b then role_of p else idle) (same l)
 
@@ -623,9 +623,9 @@ pub record IsHeldBy (p : Place) (t : ℕ) : Type 0 where
   pub of : IsOf lock p
 
 pub held_where : (p : Place) (t : ℕ) → IsSingle p → is_thread t (taker p) ≡ true → IsHeldBy p t
-held_where p t single h = by_hand (profile p).hand (lock_of p) refl refl (sym (ap (is_thread t) (single_taker p single)) ∙ h)
+held_where p t single h = by_hand (profile p).hand (called_lock p) refl refl (sym (ap (is_thread t) (single_taker p single)) ∙ h)
   where
-    by_hand : (x : Option Hand) (o : Option ℕ) → (profile p).hand ≡ x → lock_of p ≡ o → is_thread t (hand_owner x) ≡ true → IsHeldBy p t
+    by_hand : (x : Option Hand) (o : Option ℕ) → (profile p).hand ≡ x → called_lock p ≡ o → is_thread t (hand_owner x) ≡ true → IsHeldBy p t
     by_hand None o e f g = absurd cc
     by_hand (Some (Of u b)) None e f g = absurd (let none : (profile p).hand ≡ None = ap (λ y. (profile y).hand) (calls_none p f) in let k : ◌≡◌ {A = Option Hand} None (Some (Of u b)) = sym none ∙ e in cc)
     by_hand (Some (Of u b)) (Some k) e f g = record {

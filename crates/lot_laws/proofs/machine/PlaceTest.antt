@@ -12,7 +12,7 @@ use Rattle.steps_base.specs.declared.acts.Act.TheVariants as act
 use Rattle.steps_base.specs.Profiles.{Hand, Profile, in_line}
 use Rattle.steps_base.proofs.RowCheck.{both, is_line, is_try, no_line}
 use Rattle.spec_locks.specs.Codes.{has_aside}
-use Rattle.spec_locks.specs.Condvars.{Stage}
+use Rattle.spec_locks.specs.Condvars.{CondvarStage}
 use Rattle.spec_locks.specs.Purposes.{Recall, Blank, Purpose, Enters, Converts, once_purpose}
 use Rattle.spec_locks.specs.declared.calls.Patience.{Patience}
 use Rattle.spec_locks.specs.declared.calls.Patience.TheVariants.{Try}
@@ -68,7 +68,7 @@ use Rattle.steps_condvar.specs.declared.wait.Stands.{Stands}
 use Rattle.steps_condvar.specs.declared.wait.Stands.TheVariants as stands
 use Rattle.steps_condvar.specs.declared.wait.WaitAt.{WaitAt}
 use Rattle.steps_condvar.specs.declared.wait.WaitAt.TheVariants as wait
-use Rattle.steps_condvar.specs.CondvarProfiles.{condvar_profile, hand_of, has_moved, is_main, is_moved, mutex_side}
+use Rattle.steps_condvar.specs.CondvarProfiles.{condvar_profile, hand_of, has_moved, is_main_line, is_moved, mutex_side}
 use Rattle.steps_condvar.specs.CondvarSteps.{condvar_act, move_act}
 use Rattle.lot_steps.specs.declared.places.Place.{Place}
 use Rattle.lot_steps.specs.declared.places.Place.TheVariants.{Idle, Mutex, RwLock, Once, Condvar, Semaphore}
@@ -165,7 +165,7 @@ row_test row a =
     && ((not (row.role.sets && is_line Main row.role.wakes) || is_line Main row.owes)
     && (no_hand row.hand || no_line row.stands)))
 
-abbrev no_stage : Option Stage → Bool
+abbrev no_stage : Option CondvarStage → Bool
 no_stage None = true
 no_stage s = false
 
@@ -270,7 +270,7 @@ row_so row a h =
       unheld = λ m e. elim (either (no_hand row.hand) _ t3.1) [ inl x ↦ hand_so row.hand x | inr x ↦ absurd (no_line_so row.stands m x e) ];
     }
 
-stage_so : (x : Option Stage) → no_stage x ≡ true → x ≡ None
+stage_so : (x : Option CondvarStage) → no_stage x ≡ true → x ≡ None
 stage_so None h = refl
 stage_so (Some s) h = absurd cc
 
@@ -525,7 +525,7 @@ wait_beside : (l m : ℕ) (timed : Bool) (to : WaitAt) → RowFacts (mutex_side 
 wait_beside l m timed (wait.Release s to) = let f = (mutex_facts m to).by_row in record {
   goes = f.goes;
   carries = f.carries;
-  owed = λ sets wakes. ap (λ x. in_line (is_main x) Main) (f.owed sets wakes);
+  owed = λ sets wakes. ap (λ x. in_line (is_main_line x) Main) (f.owed sets wakes);
   unheld = by_stand s;
 }
   where
@@ -535,11 +535,11 @@ wait_beside l m timed (wait.Release s to) = let f = (mutex_facts m to).by_row in
 wait_beside l m timed (wait.Lock late to) = let f = (mutex_facts m to).by_row in record {
   goes = f.goes;
   carries = f.carries;
-  owed = λ sets wakes. ap (λ x. in_line (is_main x) Main) (f.owed sets wakes);
+  owed = λ sets wakes. ap (λ x. in_line (is_main_line x) Main) (f.owed sets wakes);
   unheld = λ n h. f.unheld Main (by_line (mutex_profile to).stands n h);
 }
   where
-    by_line : (o : Option Line) (n : Line) → in_line (is_main o) Main ≡ Some n → o ≡ Some Main
+    by_line : (o : Option Line) (n : Line) → in_line (is_main_line o) Main ≡ Some n → o ≡ Some Main
     by_line (Some Main) n h = refl
     by_line o n h = absurd cc
 wait_beside l m timed (wait.Asleep stands.Moved) = row_shows refl

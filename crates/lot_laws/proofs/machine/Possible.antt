@@ -44,7 +44,7 @@ use Rattle.steps_base.specs.declared.acts.Whom.{Whom}
 use Rattle.steps_base.specs.declared.acts.Whom as whom
 use Rattle.steps_base.specs.Acts.{takes_effect, outcome_of, holds}
 use Rattle.steps_mutex.specs.MutexSteps.{mutex_act, mutex_first, mutex_next}
-use Rattle.lot_steps.specs.Steps.{act_of, beside_of, lock_of, profile_beside, next_place, next_act, mutex_goes, mutex_does, late_key, first_place, looking, key_in, profile, rwlock_does, rwlock_goes, once_does, once_goes, condvar_goes, condvar_does, semaphore_does, semaphore_goes}
+use Rattle.lot_steps.specs.Steps.{act_of, beside_of, called_lock, profile_beside, next_place, next_act, mutex_goes, mutex_does, late_key, first_place, looking, key_in, profile, rwlock_does, rwlock_goes, once_does, once_goes, condvar_goes, condvar_does, semaphore_does, semaphore_goes}
 use Rattle.core_base.specs.declared.ops.Op.{Op}
 use Rattle.lot_machine.specs.Machine.{state_after_hand_over_by, State, state_after_take, place_at, queue_at, section_at, can_do, can_go, is_free_under, word_at, state_with_sections, queues_without_first, state_after_taking, state_after_wake, state_after_act, state_after_go, state_after_late_on}
 use Rattle.lot_machine.specs.Fits.{IsWellFormed, PlaceFits}
@@ -74,7 +74,7 @@ use Rattle.lot_laws.proofs.promises.PlaceSteps.{late_next}
 use Rattle.steps_rwlock_fair.specs.declared.places.RwLockCallPlace.{RwLockCallPlace}
 use Rattle.spec_locks.specs.declared.calls.RwLockCall.TheVariants as rwlock_call
 use Rattle.spec_locks.specs.declared.calls.Access.TheVariants as access
-use Rattle.steps_rwlock.specs.RwLockBegins.{admission_of}
+use Rattle.steps_rwlock.specs.RwLockBegins.{admission_of_kind}
 use Rattle.steps_rwlock_fair.specs.FairBegins.{call_first}
 use Rattle.steps_rwlock_fair.specs.FairSteps.{call_act, call_next}
 use Rattle.spec_locks.specs.declared.calls.RwLockCall.{RwLockCall}
@@ -115,9 +115,9 @@ module _ (w : State) where
 
 -- a thread that can do something is in a call, and one in a call has something to do
 called_of : (w : State) (p : Place) (r : ℕ → Rights) → can_do w (act_of p) ≡ true → (call_state p r).purpose ≢ None
-called_of w p r can = by_lock (beside_of p) (lock_of p) refl
+called_of w p r can = by_lock (beside_of p) (called_lock p) refl
   where
-    by_lock : (m o : Option ℕ) → lock_of p ≡ o → (call_on_both m o (profile p) (profile_beside p) r).purpose ≢ None
+    by_lock : (m o : Option ℕ) → called_lock p ≡ o → (call_on_both m o (profile p) (profile_beside p) r).purpose ≢ None
     by_lock None (Some l) e = λ h. cc
     by_lock (Some m) (Some l) e = λ h. cc
     by_lock m None e = absurd (let f : can_do w Rest ≡ true = ap (λ q. can_do w (act_of q)) (sym (calls_none p e)) ∙ can in cc)
@@ -125,11 +125,11 @@ called_of w p r can = by_lock (beside_of p) (lock_of p) refl
 acting_of : (w : State) (t : ℕ) → IsInductive w → (call_state (place_at w t) (rights w t)).purpose ≢ None
     → is_acting (act_of (place_at w t)) ≡ true
 acting_of w t steady called = elim (single_or_two (place_at w t)) [
-  | inl single ↦ by_lock single (lock_of (place_at w t)) refl
+  | inl single ↦ by_lock single (called_lock (place_at w t)) refl
   | inr two ↦ ap (λ p. is_acting (act_of p)) two.is ∙ condvar_acts two.lock two.at
 ]
   where
-    by_lock : IsSingle (place_at w t) → (o : Option ℕ) → lock_of (place_at w t) ≡ o → is_acting (act_of (place_at w t)) ≡ true
+    by_lock : IsSingle (place_at w t) → (o : Option ℕ) → called_lock (place_at w t) ≡ o → is_acting (act_of (place_at w t)) ≡ true
     by_lock single (Some l) e = (row_promises w t steady l single e).acts
     by_lock single None e = absurd (called (ap (λ (c : CallState). c.purpose) (call_none (place_at w t) e (rights w t))))
 
@@ -293,7 +293,7 @@ closure_gone (Condvar l at) r = by_next (condvar_next at r)
 
 -- no call begins in its closure, and none is late there
 pub begins_outside : (k : Kind) (c : Call) → runs_closure (act_of (first_place k c)) ≡ false
-begins_outside k (call.TheVariants.RwLock l c) = call_runs_none l (admission_of k) (call_first c)
+begins_outside k (call.TheVariants.RwLock l c) = call_runs_none l (admission_of_kind k) (call_first c)
 begins_outside k (call.TheVariants.Once l c) = refl
 begins_outside k (call.TheVariants.Semaphore l c) = semaphore_runs_none l (semaphore_first c)
 begins_outside k (call.TheVariants.Condvar l (condvar.Wait m timed)) = refl
@@ -339,7 +339,7 @@ begins_awake k (call.TheVariants.Condvar l (condvar.Wait m timed)) = refl
 begins_awake k (call.TheVariants.Condvar l (condvar.Notify all)) = refl
 begins_awake k (call.TheVariants.RwLock l c) = by_call c
   where
-    by_call : (c : RwLockCall) → sleeps (call_act l (admission_of k) (call_first c)) ≡ false
+    by_call : (c : RwLockCall) → sleeps (call_act l (admission_of_kind k) (call_first c)) ≡ false
     by_call (rwlock_call.Enter access.Exclusive how) = refl
     by_call (rwlock_call.Enter access.Shared how) = refl
     by_call (rwlock_call.Enter access.Upgradable how) = refl
@@ -478,9 +478,9 @@ module _ (w : State) (t : ℕ) where
 
 pub gone_sections : (w : State) (t : ℕ) → IsWellFormed w → IsInductive w → can_go w t ≡ true → (key : ℕ)
     → SectionChanges (section_at w key) t (section_at (state_after_go w t) key)
-gone_sections w t shape steady can = elim (single_or_two (place_at w t)) [ inl single ↦ by_lock single (lock_of (place_at w t)) refl | inr two ↦ by_two two ]
+gone_sections w t shape steady can = elim (single_or_two (place_at w t)) [ inl single ↦ by_lock single (called_lock (place_at w t)) refl | inr two ↦ by_two two ]
   where
-    by_lock : IsSingle (place_at w t) → (o : Option ℕ) → lock_of (place_at w t) ≡ o → (key : ℕ)
+    by_lock : IsSingle (place_at w t) → (o : Option ℕ) → called_lock (place_at w t) ≡ o → (key : ℕ)
         → SectionChanges (section_at w key) t (section_at (state_after_act w t (place_at w t) (act_of (place_at w t))) key)
     by_lock single (Some l) own key = act_sections w t shape steady l (of_own l (place_at w t) single own) (calls_there (length w.locks) (place_at w t) l own (shape.places t)) (place_at w t) (act_of (place_at w t)) can (line_act (place_at w t) l single own) key
     by_lock single None none key = absurd (let e : can_do w (act_of (place_at w t)) ≡ false = ap (λ p. can_do w (act_of p)) (calls_none (place_at w t) none) in cc)

@@ -16,7 +16,7 @@ use Rattle.spec_locks.specs.declared.calls.SemaphoreCall.TheVariants as semaphor
 use Rattle.spec_locks.specs.declared.kinds.Kind.{Kind}
 use Rattle.spec_locks.specs.declared.kinds.Kind.TheVariants as kinds
 use Rattle.spec_locks.specs.Calls.{lock_in}
-use Rattle.lot_steps.specs.Steps.{first_place, lock_of}
+use Rattle.lot_steps.specs.Steps.{first_place, called_lock}
 use Rattle.spec_locks.specs.Purposes.{mutex_purpose, purpose_of, rwlock_purpose}
 use Rattle.spec_locks.specs.Runs.{purpose_at}
 use Rattle.spec_locks.specs.Sites.{Main}
@@ -76,12 +76,12 @@ pub reads_its_own : (w : State) (t : ℕ) (c : Call) → place_at w t ≡ first_
     → HasWhatItReads w t (purpose_at (locks_of w) c)
 reads_its_own w t c is way = by_call c is
   where
-    own : (l : ℕ) → lock_of (place_at w t) ≡ Some l → HasMainLine w t l
+    own : (l : ℕ) → called_lock (place_at w t) ≡ Some l → HasMainLine w t l
     own l calls u inside = way l u Main (inl calls) tt inside
 
     by_call : (c : Call) → place_at w t ≡ first_place (kind_at w (lock_in c)) c → HasWhatItReads w t (purpose_at (locks_of w) c)
-    by_call (call.Mutex l c) is = of_mutex w t l (own l (ap lock_of is)) (kind_at w l) c
-    by_call (call.RwLock l c) is = of_rwlock w t l (own l (ap lock_of is)) (kind_at w l) c
-    by_call (call.Once l c) is = of_once w t l (own l (ap lock_of is)) (kind_at w l) c
-    by_call (call.Condvar l c) is = of_condvar w t l (own l (ap lock_of is)) (kind_at w l) c
-    by_call (call.Semaphore l c) is = of_semaphore w t l (own l (ap lock_of is)) (kind_at w l) c
+    by_call (call.Mutex l c) is = of_mutex w t l (own l (ap called_lock is)) (kind_at w l) c
+    by_call (call.RwLock l c) is = of_rwlock w t l (own l (ap called_lock is)) (kind_at w l) c
+    by_call (call.Once l c) is = of_once w t l (own l (ap called_lock is)) (kind_at w l) c
+    by_call (call.Condvar l c) is = of_condvar w t l (own l (ap called_lock is)) (kind_at w l) c
+    by_call (call.Semaphore l c) is = of_semaphore w t l (own l (ap called_lock is)) (kind_at w l) c

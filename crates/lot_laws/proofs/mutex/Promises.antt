@@ -14,7 +14,7 @@ use Rattle.lot_machine.specs.Machine.{State, place_at, word_at, kind_at}
 use Rattle.lot_laws.specs.Refinement.{owner_at, lock_state, call_at}
 use Rattle.lot_laws.specs.SitesOf.{is_mutex, rules_in}
 use Rattle.lot_laws.specs.Owing.{Owes, IsInside, IsWait, ReleasesLock, LetsOthersIn, SeesWaiters, OwesSince, OnlyLooks, LooksFirst, line_let_in, tells_by, sort_at}
-use Rattle.lot_laws.specs.Promises.{WakesWaiters, IsKept, IsLookedAfter, IsOpenNow}
+use Rattle.lot_laws.specs.Promises.{WakesWaiters, IsKept, IsLookedAfterIn, IsOpenNow}
 use Rattle.steps_base.specs.Rows.{KnowsRights, WakesAside}
 use Rattle.lot_laws.specs.MutexPromises.{HasDebtor, HasReleasedIt, IsShownToOwe, WakesOne, GoesToRelease, SeesParkedBit, IsMutexKept, MutexesAreKept, OwesMutexSince, MutexesOwe}
 use Rattle.lot_laws.proofs.mutex.Words.{mutex}
@@ -72,7 +72,7 @@ module _ (w : State) (l : ℕ) (of_mutex : is_mutex (kind_at w l) ≡ true) wher
   only_releases t (inr shared) = absurd (unshared shared.0)
 
 module _ (w : State) (l : ℕ) (kept : IsKept w) (of_mutex : is_mutex (kind_at w l) ≡ true) where
-  looked_after : IsLookedAfter w l Main → HasDebtor w l
+  looked_after : IsLookedAfterIn w l Main → HasDebtor w l
   looked_after k = record {
     debtor = k.debtor;
     debt = elim k.debt [

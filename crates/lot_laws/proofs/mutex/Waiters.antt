@@ -25,7 +25,7 @@ use Rattle.steps_condvar.specs.declared.wait.WaitAt.{WaitAt}
 use Rattle.steps_condvar.specs.declared.wait.WaitAt.TheVariants as wait
 use Rattle.steps_condvar.specs.CondvarSteps.{mutex_beside}
 use Rattle.steps_condvar.specs.CondvarProfiles.{condvar_profile, mutex_side, notify_row}
-use Rattle.steps_condvar.specs.CondvarCalls.{IsReached, IsRelease, IsLockOf, IsRelock}
+use Rattle.steps_condvar.specs.CondvarCalls.{IsReached, IsUnlockPlace, IsLockOf, IsRelock}
 use Rattle.spec_locks.specs.Locks.{Rules, Taken}
 use Rattle.spec_locks.specs.Locks as locks
 use Rattle.spec_locks.specs.Sites.{Role, Line, Main, Has, has_readers, idle}
@@ -169,13 +169,13 @@ module _ (k l : ℕ) (apart : k ≢ l) (m : ℕ) (timed : Bool) (of : mutex_besi
     taken = λ t. condvar_told k l apart (Wait m timed (wait.Release stands.Moved at)) (Wait m timed (wait.Release (stands.InHand t) at)) of of refl refl _ _ _ _ refl refl refl (λ y h. h);
   }
 
-  release_claims : (at : MutexPlace) → IsRelease at
+  release_claims : (at : MutexPlace) → IsUnlockPlace at
       → ((mutex_profile at).role.claims ≡ None) ⊎ ((mutex_profile at).role.claims ≡ Some (Has Exclusive))
   release_claims (Unlock unlock.Subtract) h = inr refl
   release_claims (Unlock at) h = inl refl
   release_claims at h = absurd h
 
-  release_held : (t : ℕ) (at : MutexPlace) → IsRelease at → IsHeldThere l t (wait_at (wait.Release (stands.InHand t) at))
+  release_held : (t : ℕ) (at : MutexPlace) → IsUnlockPlace at → IsHeldThere l t (wait_at (wait.Release (stands.InHand t) at))
   release_held t at release = record {
     was = taken_beside k l apart (Wait m timed (wait.Release (stands.InHand t) at)) of;
     claims = elim (release_claims at release) [

@@ -22,7 +22,7 @@ use Rattle.steps_base.specs.declared.acts.Reply.TheVariants.{Value}
 use Rattle.steps_mutex.specs.MutexSteps.{is_parked, is_locked, mutex_owners}
 use Rattle.steps_base.specs.Owners.{with_exclusive}
 use Rattle.lot_steps.specs.Steps.{next_place}
-use Rattle.spec_locks.specs.Locks.{Taken, Queued, IsTaken, keep_from, one_if_some, is_thread, putting}
+use Rattle.spec_locks.specs.Locks.{Taken, Queued, IsTaken, keep_from, one_if_some, one_if_thread, putting}
 use Rattle.spec_locks.specs.Locks as locks
 use Rattle.spec_locks.specs.Sites.{Role, Has, Site, IsSite, Deed, Main, End, In, Mark, Clear, FindNobody, Case, idle, found, is_empty, seen_main, counts_some}
 use Rattle.spec_locks.specs.Codes as codes
@@ -110,13 +110,13 @@ module _ (l : ℕ) (n : Base) (w w2 : ℕ) (o : Owners) (m s : List Waiter) (p :
     needed = ((rw is i, rw is c, ap (map queued_of) none, rw is v), tt);
   }
 
-  pub parks : (key : ℕ) → is_parked w2 ≡ is_parked w → is_parked w ≡ true → (o.exclusive ≢ None) → times t m ≡ 0 → is_thread t (first_of s) ≡ 0 → d.inside ≡ Some Main → d.wakes ≡ None → d.covers ≡ false → role_on p2 l ≡ record d { retries = None; empty = None } → MutexSteps l n w w2 o o m (m ++ waiter key t Exclusive ∷ []) s p t p2 (Case (locks.Park Exclusive) ∷ [])
+  pub parks : (key : ℕ) → is_parked w2 ≡ is_parked w → is_parked w ≡ true → (o.exclusive ≢ None) → times t m ≡ 0 → one_if_thread t (first_of s) ≡ 0 → d.inside ≡ Some Main → d.wakes ≡ None → d.covers ≡ false → role_on p2 l ≡ record d { retries = None; empty = None } → MutexSteps l n w w2 o o m (m ++ waiter key t Exclusive ∷ []) s p t p2 (Case (locks.Park Exclusive) ∷ [])
   parks key bit set owned nowhere aside i v c own = record {
     site = meet o (m ++ waiter key t Exclusive ∷ []) (Case (locks.Park Exclusive) ∷ []) (tt, tt) (ap (λ q. record now.lock { queue = q }) (queued_behind key t Exclusive m)) bit refl (own ∙ rw (same t, is) refl);
     needed = ((((tt, owned), stands_nowhere), (rw is i, set, rw is v, rw is c)), tt);
   }
     where
-      stands_nowhere : locks.times t (map queued_of m) + is_thread t (first_of s) + one_if_some (taken_at (p t) l) ≡ 0
+      stands_nowhere : locks.times t (map queued_of m) + one_if_thread t (first_of s) + one_if_some (taken_at (p t) l) ≡ 0
       stands_nowhere = let a : locks.times t (map queued_of m) ≡ times t m = queued_times t m in let b : one_if_some (taken_at (p t) l) ≡ 0 = ap one_if_some hand in omega arith
 
   pub removes : is_parked w2 ≡ is_parked w → 1 ≤ times t m → first_of s ≡ None → d.inside ≡ Some Main → d.carries ≡ false → role_on p2 l ≡ record d { empty = found Main (is_empty (map queued_of (without t m))) } → MutexSteps l n w w2 o o m (without t m) s p t p2 (Case locks.Late ∷ [])

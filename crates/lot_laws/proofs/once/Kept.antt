@@ -19,7 +19,7 @@ use Rattle.steps_base.specs.declared.acts.Reply.TheVariants.{Done, Value, Parked
 use Rattle.steps_base.specs.declared.acts.Wakes.{Wakes}
 use Rattle.steps_base.specs.declared.acts.Whom.TheVariants as whom
 use Rattle.steps_base.specs.Acts.{holds, wakes_taken}
-use Rattle.steps_base.specs.Moves.{StaysPut, GoesIn, GoesOut, LeavesLine, AreLeaving, Waits, row_of}
+use Rattle.steps_base.specs.Moves.{StaysPut, GoesIn, GoesOut, LeavesLine, AreLeaving, RowWaits, row_of}
 use Rattle.steps_base.specs.Calls.{IsNotLate}
 use Rattle.steps_base.specs.Profiles.{Profile, in_hand}
 use Rattle.steps_base.specs.Owners.{lock_seen}
@@ -53,7 +53,7 @@ use Rattle.steps_mutex.specs.declared.places.MutexPlace.{MutexPlace}
 use Rattle.steps_rwlock.specs.declared.places.Admission.{Admission}
 use Rattle.steps_rwlock_fair.specs.declared.places.RwLockCallPlace.{RwLockCallPlace}
 use Rattle.lot_steps.specs.Steps.{calls, next_place, once_goes, profile}
-use Rattle.lot_machine.specs.Machine.{State, are_free, can_do, is_free, state_after_late_under, kind_at, owners_at, place_at, put, queue_at, reply_to, section_at, shares_at, state_after_act, word_at}
+use Rattle.lot_machine.specs.Machine.{State, are_free, can_do, section_is_free, state_after_late_under, kind_at, owners_at, place_at, put, queue_at, reply_to, section_at, shares_at, state_after_act, word_at}
 use Rattle.lot_machine.specs.Fits.{IsWellFormed}
 use Rattle.lot_machine.proofs.Shape.{main_key_there}
 use Rattle.lot_laws.specs.Refinement.{taken_at}
@@ -271,7 +271,7 @@ module _ (w : State) (t l : ℕ) (at : OncePlace) (steady : IsInductive w) (shap
         woken_fits = subst (λ y. FitsItsLock w (next_place y (Woken Normal))) (sym e) (fits_next k (once_next p (Woken Normal)) fits_u);
       }
         where
-          z : Waits (once_move p)
+          z : RowWaits (once_move p)
           z = once_sleepers_move p
 
           fits_u : FitsItsLock w (Once k p)
@@ -404,7 +404,7 @@ module _ (w : State) (t l : ℕ) (at : OncePlace) (steady : IsInductive w) (shap
   goes_once can = subst (λ q. GoesFrom q (once_act l at)) is (by_act (once_act l at) refl (once_acts l at) (once_acts_move l at) can)
 
   -- its time is up
-  pub once_goes_late : (m : Line) → (once_profile at).late_line ≡ Some m → is_free w (key_of l m) ≡ true
+  pub once_goes_late : (m : Line) → (once_profile at).late_line ≡ Some m → section_is_free w (key_of l m) ≡ true
       → Goes w (state_after_late_under w t (key_of l m)) l (acts t (once_deeds at Late))
   once_goes_late m e free = goes_in w t l steady there own (rules_in w l) refl (once_move at) same_row (once_hears at) m Late (next_place (place_at w t) Late) (section_there m)
       (nobody_is (section_at w (key_of l m)) free) (once_late_move at m e) (λ h. followed Late h)

@@ -17,8 +17,8 @@ use Rattle.steps_once.specs.declared.run.RunAt.{RunAt}
 use Rattle.steps_once.specs.declared.run.RunAt.TheVariants as run
 use Rattle.steps_once.specs.declared.places.OncePlace.{OncePlace}
 use Rattle.steps_once.specs.declared.places.OncePlace.TheVariants.{Look, Run, GiveUp}
-use Rattle.steps_once.specs.OnceSteps.{begins_run, ended, found, in_look, in_run, is_forced, next_look, once_act, once_next, run_act, still_retries, gives_up, give_up_act, in_give_up, is_timed, next_give_up}
-use Rattle.steps_once.specs.OnceProfiles.{again_of, once_profile, run_row}
+use Rattle.steps_once.specs.OnceSteps.{begins_run, ended, closure_begun, in_look, in_run, is_forced, next_look, once_act, once_next, run_act, still_retries, is_late_asleep, give_up_act, in_give_up, is_timed, next_give_up}
+use Rattle.steps_once.specs.OnceProfiles.{retried_want, once_profile, run_row}
 use Rattle.lot_steps.specs.Steps.{act_of, once_does, once_goes, profile}
 use Rattle.lot_machine.specs.Machine.{State, reply_to, word_at}
 use Rattle.lot_laws.specs.Owing.{tells_by, tells_of}
@@ -36,21 +36,21 @@ tells_so l (GiveUp again at) m v = refl
 
 -- ---------------------------------------------------------------- a thread that looks, or waits
 
-found_owes : (r : Reply) → (run_row (found r)).owes ≡ None
+found_owes : (r : Reply) → (run_row (closure_begun r)).owes ≡ None
 found_owes (reply.Value seen) = refl
 found_owes r = refl
 
 -- after its look: a run has begun, it gives up, or it looks on
 abbrev LooksOn : OnceCall → Bool → Bool → Reply → (b late : Bool) → Next LookAt → Next OncePlace
 LooksOn c again still r b late n =
-    if b then next.At (Run (is_forced c) (found r)) else if late then next.At (GiveUp again give_up.Remove) else in_look c still n
+    if b then next.At (Run (is_forced c) (closure_begun r)) else if late then next.At (GiveUp again give_up.Remove) else in_look c still n
 
 look_since : (l : ℕ) (c : OnceCall) (again still : Bool) (r : Reply) (b late : Bool) (n : Next LookAt) (m : Line)
     → (profile (once_goes l (LooksOn c again still r b late n))).owes ≡ Some m
     → (profile (once_goes l (LooksOn c again still r b late n))).role.inside ≡ Some m
 look_since l c again still r true late n m h = absurd (let f : ◌≡◌ {A = Option Line} None (Some m) = sym (found_owes r) ∙ h in cc)
 look_since l c again still r false true n m h = h
-look_since l c again still r false false (next.At at) m h = look_owes (is_timed c) (again_of c still) at m h
+look_since l c again still r false false (next.At at) m h = look_owes (is_timed c) (retried_want c still) at m h
 look_since l c again still r false false (next.End answer) m h = absurd cc
 
 -- ---------------------------------------------------------------- a thread that runs its closure
@@ -107,7 +107,7 @@ once_owes_next w t l (GiveUp again at) = owes_then (λ m. tells_so l (GiveUp aga
   sees = λ m s step. absurd (gives_up_quietly l again at s.0);
 })
 once_owes_next w t l (Look c again at) = owes_then (λ m. tells_so l (Look c again at) m (word_at w l)) (record {
-  since = λ m h. inl (look_since l c again (still_retries again r) r (begins_run c at r) (gives_up c at r) (next_look c at r) m h);
+  since = λ m h. inl (look_since l c again (still_retries again r) r (begins_run c at r) (is_late_asleep c at r) (next_look c at r) m h);
   sees = λ m s step. absurd (lets_nobody l c again at s.0);
 })
   where

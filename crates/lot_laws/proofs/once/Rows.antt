@@ -12,7 +12,7 @@ use Rattle.steps_once.specs.declared.give_up.GiveUpAt.{GiveUpAt}
 use Rattle.steps_once.specs.declared.look.LookAt.{LookAt}
 use Rattle.steps_once.specs.declared.look.LookAt.TheVariants as look
 use Rattle.steps_once.specs.declared.places.OncePlace.TheVariants.{Look, GiveUp}
-use Rattle.steps_once.specs.OnceProfiles.{again_of, look_row, once_profile}
+use Rattle.steps_once.specs.OnceProfiles.{retried_want, look_row, once_profile}
 
 unreleased : (timed : Bool) (wanted : Option Want) (at : LookAt) → (look_row timed wanted at).released ≡ false
 unreleased timed wanted look.Load = refl
@@ -20,7 +20,7 @@ unreleased timed wanted at = refl
 
 pub lets_nobody : (l : ℕ) (c : OnceCall) (again : Bool) (at : LookAt) → LetsIn locks.Once l (once_profile (Look c again at)) → ⊥
 lets_nobody l c again at (inr h) = let f : false ≡ true = h.0 in cc
-lets_nobody l c again at (inl h) = by_call c (subst (λ b. IsReleasing (Some (once_purpose l c)) b l) (unreleased (is_timed c) (again_of c again) at) h)
+lets_nobody l c again at (inl h) = by_call c (subst (λ b. IsReleasing (Some (once_purpose l c)) b l) (unreleased (is_timed c) (retried_want c again) at) h)
   where
     by_call : (c : OnceCall) → IsReleasing (Some (once_purpose l c)) false l → ⊥
     by_call (CallOnce forced) g = let f : false ≡ true = g.1 in cc

@@ -27,7 +27,7 @@ use Rattle.steps_once.specs.declared.give_up.GiveUpAt.TheVariants as give_up
 use Rattle.steps_once.specs.declared.run.RunAt.{RunAt}
 use Rattle.steps_once.specs.declared.run.RunAt.TheVariants as run
 use Rattle.steps_once.specs.declared.places.OncePlace.TheVariants.{Look, Run, GiveUp}
-use Rattle.steps_once.specs.OnceSteps.{begins_run, course_of, found, in_look, in_run, is_forced, next_look, next_run, still_retries, gives_up, in_give_up, next_give_up}
+use Rattle.steps_once.specs.OnceSteps.{begins_run, course_of, closure_begun, in_look, in_run, is_forced, next_look, next_run, still_retries, is_late_asleep, in_give_up, next_give_up}
 use Rattle.steps_semaphore.specs.declared.places.SemaphorePlace.{SemaphorePlace}
 use Rattle.steps_semaphore.specs.SemaphoreSteps.{semaphore_next}
 use Rattle.steps_rwlock_fair.specs.declared.places.RwLockCallPlace.{RwLockCallPlace}
@@ -36,7 +36,7 @@ use Rattle.steps_condvar.specs.declared.places.CondvarPlace.{CondvarPlace}
 use Rattle.steps_condvar.specs.CondvarSteps.{condvar_next}
 use Rattle.lot_steps.specs.declared.places.Place.{Place}
 use Rattle.lot_steps.specs.declared.places.Place.TheVariants.{Idle, Mutex, RwLock, Once, Condvar, Semaphore}
-use Rattle.lot_steps.specs.Steps.{act_of, lock_of, looking, mutex_goes, next_place, once_goes, rwlock_goes, condvar_goes, semaphore_goes}
+use Rattle.lot_steps.specs.Steps.{act_of, called_lock, looking, mutex_goes, next_place, once_goes, rwlock_goes, condvar_goes, semaphore_goes}
 use Rattle.lot_machine.specs.Fits.{IsWellFormed}
 use Rattle.lot_machine.specs.Machine.{State, after, opening, place_at, put, runs_closure, step_outcome}
 use Rattle.lot_laws.specs.Refinement.{RunsClosure, call_at, call_state, lock_state, locks_of, sleeps}
@@ -115,10 +115,10 @@ give_up_runs_none l again give_up.Leave = refl
 
 -- the lock of whose call a place is in the closure
 abbrev closure_lock : Place → Option ℕ
-closure_lock p = if runs_closure (act_of p) then lock_of p else None
+closure_lock p = if runs_closure (act_of p) then called_lock p else None
 
 outside : (p : Place) → runs_closure (act_of p) ≡ false → closure_lock p ≡ None
-outside p e = ap (λ b. if b then lock_of p else None) e
+outside p e = ap (λ b. if b then called_lock p else None) e
 
 -- no run begins by what befalls a thread
 begins_never : (c : OnceCall) (at : LookAt) (r : Reply) → Befalls r → begins_run c at r ≡ false
@@ -180,7 +180,7 @@ unmoved (Once l (GiveUp again at)) r h = by_next (next_give_up at r) ∙ sym (ou
     by_next : (n : Next GiveUpAt) → closure_lock (once_goes l (in_give_up again n)) ≡ None
     by_next (next.At q) = outside (Once l (GiveUp again q)) (give_up_runs_none l again q)
     by_next (next.End answer) = refl
-unmoved (Once l (Look c again at)) r h = looks (begins_run c at r) (gives_up c at r) (begins_never c at r h) ∙ sym (outside (Once l (Look c again at)) (look_runs_none l c again at))
+unmoved (Once l (Look c again at)) r h = looks (begins_run c at r) (is_late_asleep c at r) (begins_never c at r h) ∙ sym (outside (Once l (Look c again at)) (look_runs_none l c again at))
   where
     by_next : (n : Next LookAt) → closure_lock (once_goes l (in_look c (still_retries again r) n)) ≡ None
     by_next (next.At q) = outside (Once l (Look c (still_retries again r) q)) (look_runs_none l c (still_retries again r) q)
@@ -188,7 +188,7 @@ unmoved (Once l (Look c again at)) r h = looks (begins_run c at r) (gives_up c a
 
     looks : (b late : Bool) → b ≡ false
         → closure_lock
-        (once_goes l (if b then next.At (Run (is_forced c) (found r)) else if late then next.At (GiveUp again give_up.Remove) else in_look c (still_retries again r) (next_look c at r)))
+        (once_goes l (if b then next.At (Run (is_forced c) (closure_begun r)) else if late then next.At (GiveUp again give_up.Remove) else in_look c (still_retries again r) (next_look c at r)))
         ≡ None
     looks true late e = absurd cc
     looks false true e = refl
@@ -196,13 +196,13 @@ unmoved (Once l (Look c again at)) r h = looks (begins_run c at r) (gives_up c a
 
 -- for every act of another thread
 stays_inside : (w : State) (s : Step) (t l : ℕ) → t ≢ s.thread → RunsClosure w t l → RunsClosure (after w s) t l
-stays_inside w s t l ne h = inside (place_at (after w s) t) (others_keep_it closure_lock unmoved w s t ne ∙ ap (λ b. if b then lock_of (place_at w t) else None) h.1 ∙ h.0)
+stays_inside w s t l ne h = inside (place_at (after w s) t) (others_keep_it closure_lock unmoved w s t ne ∙ ap (λ b. if b then called_lock (place_at w t) else None) h.1 ∙ h.0)
   where
-    inside : (p : Place) → closure_lock p ≡ Some l → (lock_of p ≡ Some l) × (runs_closure (act_of p) ≡ true)
+    inside : (p : Place) → closure_lock p ≡ Some l → (called_lock p ≡ Some l) × (runs_closure (act_of p) ≡ true)
     inside p e = either (runs_closure (act_of p)) refl e
       where
-        either : (b : Bool) → runs_closure (act_of p) ≡ b → (if b then lock_of p else None) ≡ Some l
-            → (lock_of p ≡ Some l) × (runs_closure (act_of p) ≡ true)
+        either : (b : Bool) → runs_closure (act_of p) ≡ b → (if b then called_lock p else None) ≡ Some l
+            → (called_lock p ≡ Some l) × (runs_closure (act_of p) ≡ true)
         either true on own = (own, on)
         either false on own = absurd cc
 
@@ -215,7 +215,7 @@ IsCallOnce purpose l = (forced : Bool) × (purpose ≡ Some (CallsOnce l forced)
 calls_once : (w : State) (t l : ℕ) → RunsClosure w t l → IsCallOnce (call_at w t).purpose l
 calls_once w t l h =
     let one = runs_one (place_at w t) h.1 in
-    let same_lock : Some one.lock ≡ Some l = sym (ap lock_of one.is) ∙ h.0 in
+    let same_lock : Some one.lock ≡ Some l = sym (ap called_lock one.is) ∙ h.0 in
     let here : one.lock ≡ l = cc in
     (one.forced, ap (λ p. (call_state p (λ k. rights_of (lock_state w k) t)).purpose) one.is ∙ ap (λ n. Some (CallsOnce n one.forced)) here)
 
@@ -225,7 +225,7 @@ runs_its_own w t l inside call =
     let one = runs_one (place_at w t) inside in
     let own : Some (CallsOnce one.lock one.forced) ≡ Some (CallsOnce l call.0) = sym (ap (λ p. (call_state p (λ k. rights_of (lock_state w k) t)).purpose) one.is) ∙ call.1 in
     let here : one.lock ≡ l = cc in
-    (ap lock_of one.is ∙ ap Some here, inside)
+    (ap called_lock one.is ∙ ap Some here, inside)
 
 -- a call does to no lock but its own what a `Once` is for
 once_only : (w : LocksState) (t l : ℕ) (c : OnceCase) (purpose : Option Purpose) (m : ℕ) → MayDo w t l (OfOnce c) purpose
@@ -337,7 +337,7 @@ pub put_running : (w : State) (t : ℕ) (q : Place) → runs_closure (act_of (pl
     → RunsInClosures (put w t q)
 put_running w t q outside_now running u l e = elim (cases_eq u t) [
   | inl own ↦ absurd (let f : true ≡ false = sym (running u l e).1 ∙ ap (λ n. runs_closure (act_of (place_at w n))) own ∙ outside_now in cc)
-  | inr ne ↦ subst (λ p. (lock_of p ≡ Some l) × (runs_closure (act_of p) ≡ true)) (sym (get_or-set_other w.places t u q Idle ne)) (running u l e)
+  | inr ne ↦ subst (λ p. (called_lock p ≡ Some l) × (runs_closure (act_of p) ≡ true)) (sym (get_or-set_other w.places t u q Idle ne)) (running u l e)
 ]
 
 -- ---------------------------------------------------------------- the opening state

@@ -24,11 +24,11 @@ use Rattle.steps_once.specs.declared.run.RunAt.TheVariants as run
 use Rattle.steps_once.specs.declared.places.OncePlace.{OncePlace}
 use Rattle.steps_once.specs.declared.places.OncePlace.TheVariants.{Look, Run, GiveUp}
 use Rattle.steps_once.specs.OnceCalls.{next_row}
-use Rattle.steps_once.specs.OnceDeeds.{closes, end_of, exchanged_deeds, looked_deeds, once_deeds}
+use Rattle.steps_once.specs.OnceDeeds.{closes, run_ending, exchanged_deeds, looked_deeds, once_deeds}
 use Rattle.steps_once.specs.OnceProfiles.{once_profile}
-use Rattle.steps_once.specs.OnceSteps.{course_act, course_of, ended, found, in_look, in_run, is_forced, is_mark, is_run, looked_by, marked, once_act, once_next, state_before}
+use Rattle.steps_once.specs.OnceSteps.{course_act, course_of, ended, closure_begun, in_look, in_run, is_forced, is_mark, is_run, looked_by, marked, once_act, once_next, state_before}
 use Rattle.lot_steps.specs.declared.places.Place.TheVariants.{Idle, Once}
-use Rattle.lot_steps.specs.Steps.{lock_of, next_act, next_place, once_does, once_goes, profile}
+use Rattle.lot_steps.specs.Steps.{called_lock, next_act, next_place, once_does, once_goes, profile}
 use Rattle.spec_locks.specs.Deeds.{case_of, event_by}
 use Rattle.spec_locks.specs.Locks.{LockCase, OfOnce, Rules, standing}
 use Rattle.spec_locks.specs.Runs.{AtLock, Begins, GoesOn, LocksState, Nothing, state_told}
@@ -97,7 +97,7 @@ module _ (w : LocksState) (l v : ℕ) where
   exchanges_on : (c : OnceCall) (again won : Bool) (k : Course)
       → (k ≡ Runs → state_before (is_poisoned v) ≡ state_told (w.locks l).phase)
       → Begins w (event_by l (case_of None (exchanged_deeds c won k))) (outcome_of (once_does l
-      (if won && is_run k then next.At (Run (is_forced c) (found (Value v))) else in_look c again (if won && is_mark k then next.At (look.Decide (marked v)) else looked_by v k))))
+      (if won && is_run k then next.At (Run (is_forced c) (closure_begun (Value v))) else in_look c again (if won && is_mark k then next.At (look.Decide (marked v)) else looked_by v k))))
   exchanges_on c again true Runs told = ap outcome.Closure (told refl)
   exchanges_on c again true Marks told = steps_on _ (course_steps l (marked v) (course_of c (marked v)))
   exchanges_on c again true Parks told = looks_on c again Parks
@@ -128,8 +128,8 @@ module _ (w : State) (t l : ℕ) (at : OncePlace) (steady : IsInductive w) (shap
   kept : GoesFrom w t l at steady shape there lt is (Once l at) (once_act l at)
   kept = goes_once w t l at steady shape there lt is can
 
-  of : lock_of (place_at w t) ≡ Some l
-  of = ap lock_of is
+  of : called_lock (place_at w t) ≡ Some l
+  of = ap called_lock is
 
   carries : carried_at (place_at w t) l ≡ (once_profile at).carries
   carries = ap (λ (y : Location). y.carries) (location_own (place_at w t) l of) ∙ ap (λ q. (location q).carries) is
@@ -147,7 +147,7 @@ module _ (w : State) (t l : ℕ) (at : OncePlace) (steady : IsInductive w) (shap
 
   -- where it is then
   waits : (q : OncePlace) → place_at behind t ≡ Once l q → IsWaiting (once_profile q) → 1 ≤ standing t (lock_state behind l)
-  waits q e h = waiting_stands behind t happened.after l (ap lock_of e) (subst (λ (x : Profile). IsWaiting x) (sym (ap profile e)) h)
+  waits q e h = waiting_stands behind t happened.after l (ap called_lock e) (subst (λ (x : Profile). IsWaiting x) (sym (ap profile e)) h)
 
   rests : (q : OncePlace) → place_at behind t ≡ Once l q → GoesAs behind t l (outcome_of (once_act l q))
   rests (Look c again look.Asleep) e = inr (inl (refl, waits (Look c again look.Asleep) e (inl (λ n. cc))))
@@ -175,7 +175,7 @@ module _ (w : State) (t l : ℕ) (at : OncePlace) (steady : IsInductive w) (shap
     where
       by_next : (n : Next OncePlace) → place_at behind t ≡ once_goes l n
           → LeadsTo behind t l (next_row n) (outcome_of (once_does l n))
-      by_next (next.At q) e = (ap lock_of e, ap profile e, rests q e, subst IsSingle (sym e) tt)
+      by_next (next.At q) e = (ap called_lock e, ap profile e, rests q e, subst IsSingle (sym e) tt)
       by_next (next.End answer) e = (e, refl)
 
   -- it is told of its closure exactly where its run begins
@@ -236,6 +236,6 @@ module _ (w : State) (t l : ℕ) (at : OncePlace) (steady : IsInductive w) (shap
 
 -- a run that ends is told of as such
 pub closes_event : (l : ℕ) (succeeded b : Bool)
-    → event_by l (case_of None (closes succeeded b)) ≡ AtLock l (OfOnce (end_of succeeded))
+    → event_by l (case_of None (closes succeeded b)) ≡ AtLock l (OfOnce (run_ending succeeded))
 closes_event l succeeded true = refl
 closes_event l succeeded false = refl

@@ -30,7 +30,7 @@ use Rattle.lot_laws.specs.Refinement.{call_at, call_state}
 use Rattle.lot_laws.specs.Locations.{location, location_at}
 use Rattle.lot_laws.specs.SitesOf.{FitsCondvar, FitsItsLock, IsInductive, key_of}
 use Rattle.lot_laws.specs.Owing.{IsInside, IsWait, Owes}
-use Rattle.lot_laws.specs.Promises.{GoesToWake, HasReleased}
+use Rattle.lot_laws.specs.Promises.{GoesToWake, WaitHasReleased}
 use Rattle.lot_laws.proofs.calls.Events.{rights}
 use Rattle.lot_laws.proofs.machine.Parts.{condvar_apart, differ, same, single_or_two}
 use Rattle.lot_laws.proofs.promises.PlacePromises.{owing_is}
@@ -156,8 +156,8 @@ entering_acts k (Wait n timed (wait.Release s (mutex.Unlock unlock.Enter))) l m 
 entering_acts k at l m e = absurd e.2
 
 entering_released : (k : ℕ) (at : CondvarPlace) (l : ℕ) (m : Line) → EntersAt at l m → (r : ℕ → Rights)
-    → HasReleased (call_state (Condvar k at) r).purpose (call_state (Condvar k at) r).released l m
-entering_released k (Wait n timed (wait.Release s (mutex.Unlock unlock.Enter))) l m e r = let here : n ≡ l = cc in subst (HasReleased (Some (Waits k n timed)) true l) (sym e.1) (here, refl)
+    → WaitHasReleased (call_state (Condvar k at) r).purpose (call_state (Condvar k at) r).released l m
+entering_released k (Wait n timed (wait.Release s (mutex.Unlock unlock.Enter))) l m e r = let here : n ≡ l = cc in subst (WaitHasReleased (Some (Waits k n timed)) true l) (sym e.1) (here, refl)
 entering_released k at l m e r = absurd e.2
 
 -- a thread that enters the section of one lock alone does so in a wait
@@ -220,7 +220,7 @@ module _ (w : State) (t : ℕ) (steady : IsInductive w) where
       | inl i ↦ inl i
       | inr enters ↦ inr (
         subst (λ p. act_of p ≡ Enter (One (key_of l m))) (sym two.is) (entering_acts two.lock two.at l m enters),
-        inr (inr (subst (λ p. HasReleased (call_state p (rights w t)).purpose (call_state p (rights w t)).released l m) (sym two.is) (entering_released two.lock two.at l m enters (rights w t)))),
+        inr (inr (subst (λ p. WaitHasReleased (call_state p (rights w t)).purpose (call_state p (rights w t)).released l m) (sym two.is) (entering_released two.lock two.at l m enters (rights w t)))),
       )
     ]
   ]

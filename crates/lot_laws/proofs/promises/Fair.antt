@@ -31,7 +31,7 @@ use Rattle.lot_steps.specs.declared.places.Place.TheVariants.{Idle, Mutex, RwLoc
 use Rattle.steps_condvar.specs.declared.places.CondvarPlace.{CondvarPlace}
 use Rattle.steps_condvar.specs.declared.places.CondvarPlace.TheVariants as condvar_place
 use Rattle.steps_mutex.specs.MutexSteps.{is_locked, is_parked, lock_act, hand_off_act}
-use Rattle.lot_steps.specs.Steps.{act_of, looking, late_key, next_place, lock_of, profile}
+use Rattle.lot_steps.specs.Steps.{act_of, looking, late_key, next_place, called_lock, profile}
 use Rattle.lot_machine.specs.Machine.{State, unlocked, place_at, word_at, owners_at, kind_at, queue_at, state_after_operation, queues_with_last, queues_without_first, state_after_act, state_after_taking, state_after_look, state_after_go, put, state_after_late_on, state_after_turn, can_turn, is_possible, after, step_outcome, can_do, reply_to}
 use Rattle.lot_machine.specs.Fits.{IsWellFormed, PlaceFits}
 use Rattle.lot_laws.specs.MutexPromises.{IsMutexWord}
@@ -47,7 +47,7 @@ use Rattle.spec_locks.specs.Locks.{LockState, Rules, Taken, LockCase, Enter, Pen
 use Rattle.spec_locks.specs.Locks as locks
 use Rattle.spec_locks.specs.Runs.{CallState, AreLockStates, IsStep, MayMove, rules_at, locks_after, Moves}
 use Rattle.lot_laws.specs.Refinement.{call_at, lock_state, locks_of, call_state, owner_at}
-use Rattle.lot_laws.specs.Fair.{ReleasesFairly, IsFairRelease, OwnsOn, HandsMutexOver, LetsMutexGo, IsFair, IsToGiveAt, GivesUpFairly, FairReleaseComesTo as GivesFrom}
+use Rattle.lot_laws.specs.Fair.{OwnerReleasesFairly, IsFairRelease, OwnsOn, HandsMutexOver, LetsMutexGo, IsFair, IsToGiveAt, GivesUpFairly, FairReleaseComesTo as GivesFrom}
 use Rattle.steps_rwlock_fair.specs.FairGives.{IsToGive}
 use Rattle.steps_rwlock_fair.specs.FairSteps.{call_act}
 use Rattle.lot_laws.proofs.rwlock.FairHands.{goes_giving, owner_stays}
@@ -381,11 +381,11 @@ module _ (w : State) (t l : ℕ) (shape : IsWellFormed w) (steady : IsInductive 
       by_place (Condvar k at) is fits can gives = absurd (two_give k at gives)
       by_place (Mutex k at) is fits can gives = absurd (
           let fits_k : is_mutex (kind_at w k) ≡ true = subst (FitsItsLock w) is (steady.stands.calls t) in
-          let here : k ≡ l = sym (subst (λ p. lock_for ((profile p).purpose k) ≡ k) is (row_promises w t steady k (subst IsSingle (sym is) tt) (ap lock_of is)).own) ∙ gives.0 in
+          let here : k ≡ l = sym (subst (λ p. lock_for ((profile p).purpose k) ≡ k) is (row_promises w t steady k (subst IsSingle (sym is) tt) (ap called_lock is)).own) ∙ gives.0 in
           let none : has_readers (rules_in w l).sort ≡ false = ap (λ (r : Rules). has_readers r.sort) (subst (λ j. rules_of (kind_at w j) ≡ mutex) here (mutex_rules (kind_at w k) fits_k)) in
           let f : false ≡ true = sym none ∙ readers in cc)
       by_place (RwLock k a c) is fits can gives =
-          let here : k ≡ l = sym (subst (λ p. lock_for ((profile p).purpose k) ≡ k) is (row_promises w t steady k (subst IsSingle (sym is) tt) (ap lock_of is)).own) ∙ gives.0 in
+          let here : k ≡ l = sym (subst (λ p. lock_for ((profile p).purpose k) ≡ k) is (row_promises w t steady k (subst IsSingle (sym is) tt) (ap called_lock is)).own) ∙ gives.0 in
           at_lock k here a c is fits can gives.1
         where
           at_lock : (k : ℕ) → k ≡ l → (a : Admission) (c : RwLockCallPlace) → place_at w t ≡ RwLock k a c → k < length w.locks
@@ -467,14 +467,14 @@ is_fair w s shape steady counted condvars = record {
       | inr own ↦ absurd (subst (λ q. IsFairRelease q l) may.notifies (subst (λ k. IsFairRelease (call_at w k).purpose l) own fair))
     ]
 
-    coded : (t l : ℕ) → ReleasesFairly w t l → IsMutexWord (word_at (after w s) l) (owner_at (after w s) l)
+    coded : (t l : ℕ) → OwnerReleasesFairly w t l → IsMutexWord (word_at (after w s) l) (owner_at (after w s) l)
     coded t l h = words_coded (after w s) (after_steady w s shape steady counted condvars) l
         (ap rules_of (after_kinds w s l) ∙ mutex_rules (kind_at w l) h.2)
 
-    owned : (t l : ℕ) → ReleasesFairly w t l → owner_at (after w s) l ≡ Some t → OwnsOn (after w s) t l
+    owned : (t l : ℕ) → OwnerReleasesFairly w t l → owner_at (after w s) l ≡ Some t → OwnsOn (after w s) t l
     owned t l h e = (e, locked_by (word_at (after w s) l) (owner_at (after w s) l) t (coded t l h) e)
 
-    told : (t l : ℕ) → ReleasesFairly w t l → ComesTo w t l (after w s)
+    told : (t l : ℕ) → OwnerReleasesFairly w t l → ComesTo w t l (after w s)
         → OwnsOn (after w s) t l ⊎ (HandsMutexOver w (after w s) t l ⊎ LetsMutexGo w (after w s) t l)
     told t l fair (inl e) = inl (owned t l fair e)
     told t l fair (inr (inl h)) = inr (inl (h.0, h.1, h.2, locked_by (word_at (after w s) l) (owner_at (after w s) l) h.0 (coded t l fair) h.2))

@@ -14,7 +14,7 @@ use Rattle.spec_locks.specs.Headline as headline
 use Rattle.spec_locks.specs.Headline.{MayTell, Behaves, Opens}
 use Rattle.lot_machine.specs.Machine.{State, opening, unlocked, place_at, filled_at, after, step_outcome, after_steps, step_outcomes}
 use Rattle.lot_laws.specs.Refinement.{locks_of, sleeps, keys_entered}
-use Rattle.lot_laws.specs.Promises.{IsKept, IsDebtorOf, IsLookedAfter, IsHandedOver}
+use Rattle.lot_laws.specs.Promises.{IsKept, IsDebtorOf, IsLookedAfterIn, IsHandedOverIn}
 use Rattle.lot_laws.specs.Owing.{Owes}
 use Rattle.lot_laws.specs.SitesOf.{IsWorld}
 use Rattle.lot_laws.specs.WorldRuns.{IsWorldRun, Tells}
@@ -42,14 +42,14 @@ module _ (w : State) (k : IsKept w) where
   debt_so t l Main (inr again) = inr again
   debt_so t l Second owes = at_line t l Second owes
 
-  looked_after : (l : ℕ) (m : Line) → IsLookedAfter w l m → headline.IsLookedAfter (locks_of w) l m
+  looked_after : (l : ℕ) (m : Line) → IsLookedAfterIn w l m → headline.IsLookedAfter (locks_of w) l m
   looked_after l m h = record {
     debtor = h.debtor;
     debt = debt_so h.debtor l m h.debt;
     awake = awake_is (act_of (place_at w h.debtor)) h.awake;
   }
 
-  handed_over : (t : ℕ) → IsHandedOver w t → headline.IsHandedOver (locks_of w) t
+  handed_over : (t : ℕ) → IsHandedOverIn w t → headline.IsHandedOver (locks_of w) t
   handed_over t h = record {
     lock = h.lock;
     by = h.by;

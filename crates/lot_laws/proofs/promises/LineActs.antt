@@ -6,7 +6,7 @@ use Rattle.std.proofs.Math.ListN.{get_or-map}
 use Rattle.core_base.specs.Lines.{without, times}
 use Rattle.steps_base.specs.declared.acts.Act.{Act}
 use Rattle.steps_base.specs.declared.acts.Act.TheVariants as act
-use Rattle.lot_steps.specs.Steps.{act_of, key_in, late_key, lock_of, profile}
+use Rattle.lot_steps.specs.Steps.{act_of, key_in, late_key, called_lock, profile}
 use Rattle.lot_steps.specs.declared.places.Place.{Place}
 use Rattle.lot_steps.specs.declared.places.Place.TheVariants.{Idle, Mutex, RwLock, Once, Condvar, Semaphore}
 use Rattle.spec_locks.specs.Sites.{Line, Main, Second}
@@ -28,7 +28,7 @@ takes_here l s (act.Take key x) h = (h.0, h.2)
 takes_here l s a h = tt
 
 -- an act in a call of one lock is on a line of that
-pub line_act : (p : Place) (l : ℕ) → IsSingle p → lock_of p ≡ Some l → IsLineAct l (location p) (act_of p)
+pub line_act : (p : Place) (l : ℕ) → IsSingle p → called_lock p ≡ Some l → IsLineAct l (location p) (act_of p)
 line_act Idle l single h = absurd cc
 line_act (RwLock k a c) l single h = let e : k ≡ l = cc in subst (λ j. IsLineAct j (location (RwLock k a c)) (act_of (RwLock k a c))) e (call_facts k a c).line
 line_act (Once k at) l single h = let e : k ≡ l = cc in subst (λ j. IsLineAct j (location (Once k at)) (act_of (Once k at))) e (once_facts k at).line
@@ -38,8 +38,8 @@ line_act (Mutex k at) l single h = let e : k ≡ l = cc in subst (λ j. IsLineAc
 
 -- a thread that may be late sleeps in a line of its lock
 pub late_line : (p : Place) (key : ℕ) → IsSingle p → late_key p ≡ Some key
-    → (l : ℕ) × (lock_of p ≡ Some l) × ((m : Line) × ((profile p).late_line ≡ Some m) × (key ≡ key_of l m))
-late_line p key single h = by_lock (lock_of p) (profile p).late_line (sym (single_late p single) ∙ h)
+    → (l : ℕ) × (called_lock p ≡ Some l) × ((m : Line) × ((profile p).late_line ≡ Some m) × (key ≡ key_of l m))
+late_line p key single h = by_lock (called_lock p) (profile p).late_line (sym (single_late p single) ∙ h)
   where
     by_lock : (o : Option ℕ) (x : Option Line) → key_in o x ≡ Some key
         → (l : ℕ) × (o ≡ Some l) × ((m : Line) × (x ≡ Some m) × (key ≡ key_of l m))
@@ -49,7 +49,7 @@ late_line p key single h = by_lock (lock_of p) (profile p).late_line (sym (singl
     by_lock None None e = absurd cc
 
 -- the lock that it calls is there
-pub calls_there : (n : ℕ) (p : Place) (l : ℕ) → lock_of p ≡ Some l → PlaceFits n p → l < n
+pub calls_there : (n : ℕ) (p : Place) (l : ℕ) → called_lock p ≡ Some l → PlaceFits n p → l < n
 calls_there n Idle l e fits = absurd cc
 calls_there n (RwLock k a p) l e fits = let f : k ≡ l = cc in subst (λ j. j < n) f fits
 calls_there n (Once k p) l e fits = let f : k ≡ l = cc in subst (λ j. j < n) f fits

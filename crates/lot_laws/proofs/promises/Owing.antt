@@ -22,7 +22,7 @@ use Rattle.lot_steps.specs.declared.places.Place.{Place}
 use Rattle.lot_steps.specs.declared.places.Place.TheVariants.{Idle}
 use Rattle.spec_locks.specs.Calls.{lock_in}
 use Rattle.steps_condvar.specs.CondvarSteps.{condvar_first}
-use Rattle.lot_steps.specs.Steps.{act_of, condvar_goes, next_place, first_place, is_idle, looking, late_key, lock_of, line_owed, profile, next_act}
+use Rattle.lot_steps.specs.Steps.{act_of, condvar_goes, next_place, first_place, is_idle, looking, late_key, called_lock, line_owed, profile, next_act}
 use Rattle.lot_machine.specs.Machine.{State, place_at, word_at, state_after_go, state_after_going, go_reply, go_outcome, going_outcome, is_free_under, is_open_to, can_begin, state_after_begin, can_turn, turn_outcome, kind_at, put, state_after_look, look_outcome, state_after_late_on, state_after_turn, is_possible, after, step_outcome}
 use Rattle.lot_laws.proofs.machine.Befallen.{others_keep_it}
 use Rattle.spec_locks.specs.Locks.{Rights}
@@ -55,7 +55,7 @@ others_owe w s u k ne = others_keep_it (λ p. line_owed p k) (λ p r b. owes_bef
 -- ---------------------------------------------------------------- the thread of the step
 
 -- a thread that is in no call lets nobody in
-idle_shut : (w : State) (t l : ℕ) → lock_of (place_at w t) ≡ None → LetsOthersIn w t l → ⊥
+idle_shut : (w : State) (t l : ℕ) → called_lock (place_at w t) ≡ None → LetsOthersIn w t l → ⊥
 idle_shut w t l none h = by_call (subst (LetsBy w t l) (call_none (place_at w t) none (rights_at w t)) h)
   where
     by_call : LetsBy w t l no_call → ⊥
@@ -63,8 +63,8 @@ idle_shut w t l none h = by_call (subst (LetsBy w t l) (call_none (place_at w t)
     by_call (inr shared) = elim shared.1 [ inl less ↦ less | inr left ↦ let e : ◌≡◌ {A = Option ℕ} None (Some l) = left.0 in cc ]
 
 -- a thread that lets others in calls that lock
-lets_own : (w : State) (t l : ℕ) → IsInductive w → IsSingle (place_at w t) → LetsOthersIn w t l → lock_of (place_at w t) ≡ Some l
-lets_own w t l steady single lets = by_lock (lock_of (place_at w t)) refl
+lets_own : (w : State) (t l : ℕ) → IsInductive w → IsSingle (place_at w t) → LetsOthersIn w t l → called_lock (place_at w t) ≡ Some l
+lets_own w t l steady single lets = by_lock (called_lock (place_at w t)) refl
   where
     by_row : (k : ℕ) (row : Profile) (r : ℕ → Rights) → lock_for (row.purpose k) ≡ k → CallsOneLock (Some (row.purpose k))
         → LetsBy w t l (call_by k row r) → k ≡ l
@@ -75,7 +75,7 @@ lets_own w t l steady single lets = by_lock (lock_of (place_at w t)) refl
         gave_up_for true k h = cc
         gave_up_for false k h = absurd cc
 
-    by_lock : (o : Option ℕ) → lock_of (place_at w t) ≡ o → o ≡ Some l
+    by_lock : (o : Option ℕ) → called_lock (place_at w t) ≡ o → o ≡ Some l
     by_lock None e = absurd (idle_shut w t l e lets)
     by_lock (Some k) e = ap Some (by_row k (profile (place_at w t)) (rights_at w t) (row_promises w t steady k single e).own (row_calls_one w t steady k single e) (subst (LetsBy w t l) (call_own w t steady k single e) lets))
 
@@ -88,7 +88,7 @@ waits_not (Some q) one waits = waits
 module _ (w v : State) (t : ℕ) (steady : IsInductive w) (behind : IsInductive v) (single : IsSingle (place_at w t))
     (single_then : IsSingle (place_at v t)) where
   -- tells what it sees, by its row
-  sees_row : (l : ℕ) (m : Line) (o : Outcome) (own : lock_of (place_at w t) ≡ Some l) → SeesWaiters w t l m o v
+  sees_row : (l : ℕ) (m : Line) (o : Outcome) (own : called_lock (place_at w t) ≡ Some l) → SeesWaiters w t l m o v
       → RowFinds (sort_at w l) l (word_at w l) (profile (place_at w t)) m
   sees_row l m o own s = (
     lets_in w t steady l single own s.0,
@@ -96,7 +96,7 @@ module _ (w v : State) (t : ℕ) (steady : IsInductive w) (behind : IsInductive 
     ap (λ (c : CallState). tells_by (sort_at w l) c.purpose m (word_at w l)) (sym (call_own w t steady l single own)) ∙ s.2,
   )
 
-  row_sees : (l : ℕ) (m : Line) (o : Outcome) (own : lock_of (place_at w t) ≡ Some l)
+  row_sees : (l : ℕ) (m : Line) (o : Outcome) (own : called_lock (place_at w t) ≡ Some l)
       → RowFinds (sort_at w l) l (word_at w l) (profile (place_at w t)) m → o ≡ outcome.TheVariants.Step
       → act_of (place_at v t) ≡ Enter (One (key_of l m)) → SeesWaiters w t l m o v
   row_sees l m o own s step enters = (
@@ -130,14 +130,14 @@ module _ (w v : State) (t : ℕ) (steady : IsInductive w) (behind : IsInductive 
       o : Outcome
       o = outcome_of (next_act (place_at w t) (go_reply w t))
 
-      own_before : lock_of q ≡ Some l → (x : Option ℕ) → lock_of (place_at w t) ≡ x → x ≡ Some l
-      own_before own None e = absurd (let f : lock_of q ≡ None = ap (λ p. lock_of (next_place p (go_reply w t))) (calls_none (place_at w t) e) in let g : ◌≡◌ {A = Option ℕ} None (Some l) = sym f ∙ own in cc)
+      own_before : called_lock q ≡ Some l → (x : Option ℕ) → called_lock (place_at w t) ≡ x → x ≡ Some l
+      own_before own None e = absurd (let f : called_lock q ≡ None = ap (λ p. called_lock (next_place p (go_reply w t))) (calls_none (place_at w t) e) in let g : ◌≡◌ {A = Option ℕ} None (Some l) = sym f ∙ own in cc)
       own_before own (Some k) e = ap Some (sym (subst (IsLock k) own (of_lock_of k q (next_of k (place_at w t) (go_reply w t) (of_own k (place_at w t) single e)))))
 
       -- a thread that owes a wake that is outside goes in
       since : Owes v t l m → IsInside v t l m ⊎ SeesWaiters w t l m o v
       since h =
-          let own = own_before (ap lock_of (sym at_q) ∙ owes_own (place_at v t) l m single_then h) (lock_of (place_at w t)) refl in
+          let own = own_before (ap called_lock (sym at_q) ∙ owes_own (place_at v t) l m single_then h) (called_lock (place_at w t)) refl in
           elim ((owing_is v t behind single_then l m).0 h) [
             | inl i ↦ inl i
             | inr g ↦ elim ((owes_next w t l steady single own).since m (row_then q at_q l m o h)) [
@@ -149,20 +149,20 @@ module _ (w v : State) (t : ℕ) (steady : IsInductive w) (behind : IsInductive 
       saw : SeesWaiters w t l m o v → Owes v t l m
       saw s =
           let own = lets_own w t l steady single s.0 in
-          let owes = (owes_next w t l steady single own).sees m (sees_row l m o own s) s.3 (λ looks. ap act_of (sym at_q) ∙ s.4 (looks_then own (lock_of q) refl looks)) in
-          owed_own (place_at v t) l (ap lock_of at_q ∙ still (lock_of q) refl owes own) single_then ∙ ap (λ p. (profile p).owes) at_q ∙ owes
+          let owes = (owes_next w t l steady single own).sees m (sees_row l m o own s) s.3 (λ looks. ap act_of (sym at_q) ∙ s.4 (looks_then own (called_lock q) refl looks)) in
+          owed_own (place_at v t) l (ap called_lock at_q ∙ still (called_lock q) refl owes own) single_then ∙ ap (λ p. (profile p).owes) at_q ∙ owes
         where
-          same_lock : (j : ℕ) → lock_of q ≡ Some j → lock_of (place_at w t) ≡ Some l → j ≡ l
+          same_lock : (j : ℕ) → called_lock q ≡ Some j → called_lock (place_at w t) ≡ Some l → j ≡ l
           same_lock j e own = subst (IsLock l) e (of_lock_of l q (next_of l (place_at w t) (go_reply w t) (of_own l (place_at w t) single own)))
 
-          still : (x : Option ℕ) → lock_of q ≡ x → (profile q).owes ≡ Some m → lock_of (place_at w t) ≡ Some l → x ≡ Some l
+          still : (x : Option ℕ) → called_lock q ≡ x → (profile q).owes ≡ Some m → called_lock (place_at w t) ≡ Some l → x ≡ Some l
           still None e owes own = absurd (let f : ◌≡◌ {A = Option Line} None (Some m) = sym (ap (λ p. (profile p).owes) (calls_none q e)) ∙ owes in cc)
           still (Some j) e owes own = ap Some (same_lock j e own)
 
-          looks_then : lock_of (place_at w t) ≡ Some l → (x : Option ℕ) → lock_of q ≡ x → RowLooks l (profile q) → OnlyLooks v t l
+          looks_then : called_lock (place_at w t) ≡ Some l → (x : Option ℕ) → called_lock q ≡ x → RowLooks l (profile q) → OnlyLooks v t l
           looks_then own None e looks = absurd (subst (λ p. RowLooks l (profile p)) (calls_none q e) looks).0
           looks_then own (Some j) e looks =
-              let own_then : lock_of (place_at v t) ≡ Some l = ap lock_of at_q ∙ e ∙ ap Some (same_lock j e own) in
+              let own_then : called_lock (place_at v t) ≡ Some l = ap called_lock at_q ∙ e ∙ ap Some (same_lock j e own) in
               subst (λ (c : CallState). LooksFirst c.purpose l × (c.released ≡ false)) (sym (call_own v t behind l single_then own_then)) (subst (λ p. RowLooks l (profile p)) (sym at_q) looks)
 
   -- it owes nothing but what it is inside, and lets nobody in
@@ -201,7 +201,7 @@ module _ (w : State) (t : ℕ) (shape : IsWellFormed w) (steady : IsInductive w)
       at_rest = idle_is (place_at w t) (both (is_idle (place_at w t)) (is_open_to w t c) can).0
 
       shut : (l : ℕ) → LetsOthersIn w t l → ⊥
-      shut l lets = idle_shut w t l (ap lock_of at_rest) lets
+      shut l lets = idle_shut w t l (ap called_lock at_rest) lets
 
       here : place_at (state_after_begin w t c) t ≡ first_place (kind_at w (lock_in c)) c
       here = get_or-set_same w.places t (first_place (kind_at w (lock_in c)) c) Idle there

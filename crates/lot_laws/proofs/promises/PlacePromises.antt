@@ -9,8 +9,8 @@ use Rattle.steps_base.specs.declared.acts.Act.TheVariants.{Enter, Rest}
 use Rattle.steps_base.specs.Profiles.{taken_from}
 use Rattle.lot_steps.specs.declared.places.Place.{Place}
 use Rattle.lot_steps.specs.declared.places.Place.TheVariants.{Idle, Mutex, RwLock, Once, Condvar, Semaphore}
-use Rattle.lot_steps.specs.Steps.{act_of, lock_of, is_lock, calls, profile, line_owed, beside_of, profile_beside}
-use Rattle.spec_locks.specs.Locks.{Taken, IsSomePending, one_if_some, is_thread, standing}
+use Rattle.lot_steps.specs.Steps.{act_of, called_lock, is_lock, calls, profile, line_owed, beside_of, profile_beside}
+use Rattle.spec_locks.specs.Locks.{Taken, IsSomePending, one_if_some, one_if_thread, standing}
 use Rattle.spec_locks.specs.Locks as locks
 use Rattle.spec_locks.specs.Runs.{CallState}
 use Rattle.spec_locks.specs.Purposes.{Purpose, IsReleasing, Waits}
@@ -22,7 +22,7 @@ use Rattle.lot_laws.specs.Locations.{Location, nowhere, location, location_at, r
 use Rattle.lot_laws.specs.SitesOf.{IsInductive, FitsItsLock, key_of, stood_in, rules_in}
 use Rattle.lot_laws.specs.Owing.{Owes, IsInside, LetsOthersIn, sort_at}
 use Rattle.steps_base.specs.Rows.{IsDowngrade}
-use Rattle.lot_laws.specs.Promises.{GoesToWake, HasReleased}
+use Rattle.lot_laws.specs.Promises.{GoesToWake, WaitHasReleased}
 use Rattle.steps_base.specs.Rows.{WakesAside}
 use Rattle.lot_laws.proofs.hands.Counts.{none_first, first_out}
 use Rattle.lot_laws.proofs.calls.SingleCalls.{call_here, call_none}
@@ -34,7 +34,7 @@ use Rattle.lot_laws.proofs.sites.StandsMoved.{mutex_rules}
 use Rattle.lot_laws.proofs.promises.LineActs.{line_act}
 use Rattle.lot_laws.proofs.machine.PlaceTest.{IsOfLine, IsLineAct}
 use Rattle.steps_mutex.proofs.MutexRowCheck.{mutex_promises}
-use Rattle.lot_laws.proofs.promises.RowPromises.{CallsOneLock, LetsIn, LetsInAt, IsWaiting, calls_one as purpose_of_one, taken_of, RowPromises}
+use Rattle.lot_laws.proofs.promises.RowPromises.{CallsOneLock, LetsIn, LetsInAt, IsWaiting, calls_one as purpose_of_one, taken_in_row, RowPromises}
 use Rattle.lot_laws.proofs.calls.Events.{rights}
 use Rattle.lot_laws.proofs.rwlock.CallRows.{call_promises}
 use Rattle.steps_rwlock_fair.specs.FairProfiles.{call_profile}
@@ -42,24 +42,24 @@ use Rattle.steps_rwlock_fair.specs.FairSteps.{call_act}
 
 -- ---------------------------------------------------------------- the lock that a thread calls, and the others
 
-calls_one : (p : Place) (l : ℕ) → (lock_of p ≡ Some l) ⊎ (calls p l ≡ false)
-calls_one p l = by_lock (lock_of p)
+calls_one : (p : Place) (l : ℕ) → (called_lock p ≡ Some l) ⊎ (calls p l ≡ false)
+calls_one p l = by_lock (called_lock p)
   where
     by_lock : (o : Option ℕ) → (o ≡ Some l) ⊎ (is_lock l o ≡ false)
     by_lock None = inr refl
     by_lock (Some k) = elim (cases_eq k l) [ inl e ↦ inl (ap Some e) | inr ne ↦ inr (differ k l ne) ]
 
-called : (p : Place) (l : ℕ) → lock_of p ≡ Some l → calls p l ≡ true
+called : (p : Place) (l : ℕ) → called_lock p ≡ Some l → calls p l ≡ true
 called p l own = ap (is_lock l) own ∙ same l
 
-module _ (p : Place) (l : ℕ) (own : lock_of p ≡ Some l) where
+module _ (p : Place) (l : ℕ) (own : called_lock p ≡ Some l) where
   pub location_own : location_at p l ≡ location p
   location_own = ap (λ b. if b then location p else if is_lock l (beside_of p) then location_by (profile_beside p) else nowhere) (called p l own)
 
   pub role_own : role_on p l ≡ (profile p).role
   role_own = ap (λ b. if b then (profile p).role else if is_lock l (beside_of p) then (profile_beside p).role else idle) (called p l own)
 
-  pub taken_own : taken_at p l ≡ taken_of (profile p)
+  pub taken_own : taken_at p l ≡ taken_in_row (profile p)
   taken_own = here (is_lock l (beside_of p)) (calls p l) (called p l own)
     where
       here : (b c : Bool) → c ≡ true
@@ -81,19 +81,19 @@ module _ (p : Place) (l : ℕ) (single : IsSingle p) (other : calls p l ≡ fals
   taken_other = single_taken p l single ∙ ap (taken_from (profile p).hand (profile p).wants) other ∙ taken_out (profile p).hand (profile p).wants
 
 -- a thread that does something about a lock, stands at it or owes on it, calls it
-pub owes_own : (p : Place) (l : ℕ) (m : Line) → IsSingle p → line_owed p l ≡ Some m → lock_of p ≡ Some l
+pub owes_own : (p : Place) (l : ℕ) (m : Line) → IsSingle p → line_owed p l ≡ Some m → called_lock p ≡ Some l
 owes_own p l m single h = elim (calls_one p l) [
   | inl own ↦ own
   | inr other ↦ absurd (let e : None ≡ Some m = sym (single_owes p l single ∙ ap (λ b. if b then (profile p).owes else None) other) ∙ h in cc)
 ]
 
-pub role_calls : (p : Place) (l : ℕ) → IsSingle p → (role_on p l ≡ idle → ⊥) → lock_of p ≡ Some l
+pub role_calls : (p : Place) (l : ℕ) → IsSingle p → (role_on p l ≡ idle → ⊥) → called_lock p ≡ Some l
 role_calls p l single busy = elim (calls_one p l) [
   | inl own ↦ own
   | inr other ↦ absurd (busy (single_role p l single ∙ ap (λ b. if b then (profile p).role else idle) other))
 ]
 
-pub location_calls : (p : Place) (l : ℕ) → IsSingle p → (location_at p l ≡ nowhere → ⊥) → lock_of p ≡ Some l
+pub location_calls : (p : Place) (l : ℕ) → IsSingle p → (location_at p l ≡ nowhere → ⊥) → called_lock p ≡ Some l
 location_calls p l single busy = elim (calls_one p l) [ inl own ↦ own | inr other ↦ absurd (busy (location_other p l single other)) ]
 
 -- a key is of one lock
@@ -110,7 +110,7 @@ LetsBy w t l c =
     ⊎ ((has_readers (sort_at w l) ≡ true) × (IsDowngrade c.purpose l ⊎ ((c.gave_up ≡ Some l) × ((m : Line) → IsInside w t l m → ⊥))))
 
 -- a call of one lock is no wait that has released its mutex
-pub not_released : (q : Option Purpose) → CallsOneLock q → (released : Bool) (l : ℕ) (m : Line) → HasReleased q released l m → ⊥
+pub not_released : (q : Option Purpose) → CallsOneLock q → (released : Bool) (l : ℕ) (m : Line) → WaitHasReleased q released l m → ⊥
 not_released None one released l m h = h
 not_released (Some (Waits k n timed)) one released l m h = one
 not_released (Some q) one released l m h = h
@@ -119,11 +119,11 @@ not_released (Some q) one released l m h = h
 
 module _ (w : State) (t : ℕ) (steady : IsInductive w) where
   -- in a call of one lock
-  pub row_promises : (l : ℕ) → IsSingle (place_at w t) → lock_of (place_at w t) ≡ Some l
+  pub row_promises : (l : ℕ) → IsSingle (place_at w t) → called_lock (place_at w t) ≡ Some l
       → RowPromises (sort_at w l) l (profile (place_at w t)) (act_of (place_at w t))
   row_promises l single own = by_place (place_at w t) refl own
     where
-      by_place : (p : Place) → place_at w t ≡ p → lock_of p ≡ Some l → RowPromises (sort_at w l) l (profile p) (act_of p)
+      by_place : (p : Place) → place_at w t ≡ p → called_lock p ≡ Some l → RowPromises (sort_at w l) l (profile p) (act_of p)
       by_place Idle is own = absurd cc
       by_place (Condvar k at) is own = absurd (subst IsSingle is single)
       by_place (Once k at) is own =
@@ -147,10 +147,10 @@ module _ (w : State) (t : ℕ) (steady : IsInductive w) where
           let admitted : FitsItsLock w (RwLock k a c) = rw is at (steady.stands.calls t) in
           subst (λ j. RowPromises (sort_at w j) j (call_profile a c) (call_act k a c)) here (call_promises (rules_in w k) a k c admitted.0 admitted.1)
 
-  pub not_condvar : (l : ℕ) → IsSingle (place_at w t) → lock_of (place_at w t) ≡ Some l → sort_at w l ≢ locks.Condvar
+  pub not_condvar : (l : ℕ) → IsSingle (place_at w t) → called_lock (place_at w t) ≡ Some l → sort_at w l ≢ locks.Condvar
   not_condvar l single own is_condvar = by_place (place_at w t) refl own
     where
-      by_place : (p : Place) → place_at w t ≡ p → lock_of p ≡ Some l → ⊥
+      by_place : (p : Place) → place_at w t ≡ p → called_lock p ≡ Some l → ⊥
       by_place Idle is own = cc
       by_place (Condvar k at) is own = subst IsSingle is single
       by_place (Once k at) is own =
@@ -171,14 +171,14 @@ module _ (w : State) (t : ℕ) (steady : IsInductive w) where
           let admitted : FitsItsLock w (RwLock k a c) = rw is at (steady.stands.calls t) in
           let other : false ≡ true = sym (ap has_readers (ap (sort_at w) here ∙ is_condvar)) ∙ admitted.0.0 in cc
 
-  pub row_calls_one : (l : ℕ) → IsSingle (place_at w t) → lock_of (place_at w t) ≡ Some l
+  pub row_calls_one : (l : ℕ) → IsSingle (place_at w t) → called_lock (place_at w t) ≡ Some l
       → CallsOneLock (Some ((profile (place_at w t)).purpose l))
   row_calls_one l single own = purpose_of_one (sort_at w l) ((profile (place_at w t)).purpose l) ((row_promises l single own).known (λ k. sort_at w l) refl) (not_condvar l single own)
 
   pub calls_one_lock : IsSingle (place_at w t) → CallsOneLock (call_at w t).purpose
-  calls_one_lock single = by_lock (lock_of (place_at w t)) refl
+  calls_one_lock single = by_lock (called_lock (place_at w t)) refl
     where
-      by_lock : (o : Option ℕ) → lock_of (place_at w t) ≡ o → CallsOneLock (call_at w t).purpose
+      by_lock : (o : Option ℕ) → called_lock (place_at w t) ≡ o → CallsOneLock (call_at w t).purpose
       by_lock None e = subst (λ (c : CallState). CallsOneLock c.purpose) (sym (call_none (place_at w t) e (rights w t))) tt
       by_lock (Some l) e = subst (λ (c : CallState). CallsOneLock c.purpose) (sym (call_here (place_at w t) l single e (rights w t))) (row_calls_one l single e)
 
@@ -196,7 +196,7 @@ module _ (w : State) (t : ℕ) (steady : IsInductive w) where
           | inr two ↦ absurd (two_stand_main two.lock two.at l (subst (λ p. (location_at p l).stands ≡ Some Second) two.is stands))
         ]
 
-        own : lock_of (place_at w t) ≡ Some l
+        own : called_lock (place_at w t) ≡ Some l
         own = location_calls (place_at w t) l single (λ out. let e : ◌≡◌ {A = Option Line} None (Some Second) = sym (ap (λ (x : Location). x.stands) out) ∙ stands in cc)
 
         pending : (b : Bool) × ((lock_state w l).pending ≡ Some (record { thread = t; falls_back = b }))
@@ -215,17 +215,17 @@ module _ (w : State) (t : ℕ) (steady : IsInductive w) where
             ap Some (sym (subst (λ o. IsSomePending o u) pending.1 of))
 
     -- how often it stands anywhere about a lock
-    aside_by : is_thread t (lock_state w l).aside ≡ stood_in (location_at (place_at w t) l).stands Second
+    aside_by : one_if_thread t (lock_state w l).aside ≡ stood_in (location_at (place_at w t) l).stands Second
     aside_by = by_line (location_at (place_at w t) l).stands refl
       where
-        absent : Lines.times t (queue_at w (2 * l + 1)) ≡ 0 → is_thread t (lock_state w l).aside ≡ 0
+        absent : Lines.times t (queue_at w (2 * l + 1)) ≡ 0 → one_if_thread t (lock_state w l).aside ≡ 0
         absent none = first_out t (queue_at w (2 * l + 1)) none
 
         by_line : (o : Option Line) → (location_at (place_at w t) l).stands ≡ o
-            → is_thread t (lock_state w l).aside ≡ stood_in o Second
+            → one_if_thread t (lock_state w l).aside ≡ stood_in o Second
         by_line None e = absent (steady.stands.lines t l Second ∙ ap (λ x. stood_in x Second) e)
         by_line (Some Main) e = absent (steady.stands.lines t l Second ∙ ap (λ x. stood_in x Second) e)
-        by_line (Some Second) e = ap (is_thread t) (in_second e) ∙ ap (λ b. if b then 1 else 0) (same t)
+        by_line (Some Second) e = ap (one_if_thread t) (in_second e) ∙ ap (λ b. if b then 1 else 0) (same t)
 
     pub standing_by : standing t (lock_state w l)
         ≡ stood_in (location_at (place_at w t) l).stands Main + stood_in (location_at (place_at w t) l).stands Second + one_if_some
@@ -267,7 +267,7 @@ module _ (w : State) (t : ℕ) (steady : IsInductive w) where
 
     -- in a call of one lock it calls that one, and waits
     pub stands_waiting : IsSingle (place_at w t) → 1 ≤ standing t (lock_state w l)
-        → (lock_of (place_at w t) ≡ Some l) × IsWaiting (profile (place_at w t))
+        → (called_lock (place_at w t) ≡ Some l) × IsWaiting (profile (place_at w t))
     stands_waiting single some = elim (calls_one (place_at w t) l) [
       | inl own ↦ (
         own,
@@ -283,10 +283,10 @@ module _ (w : State) (t : ℕ) (steady : IsInductive w) where
     ]
 
     -- and whoever waits stands about the lock that it calls
-    pub waiting_stands : lock_of (place_at w t) ≡ Some l → IsWaiting (profile (place_at w t)) → 1 ≤ standing t (lock_state w l)
+    pub waiting_stands : called_lock (place_at w t) ≡ Some l → IsWaiting (profile (place_at w t)) → 1 ≤ standing t (lock_state w l)
     waiting_stands own waits = elim waits [
       | inl in_line ↦ by_line (profile (place_at w t)).stands refl in_line
-      | inr taken ↦ by_taken (taken_of (profile (place_at w t))) refl taken
+      | inr taken ↦ by_taken (taken_in_row (profile (place_at w t))) refl taken
     ]
       where
         by_line : (o : Option Line) → (profile (place_at w t)).stands ≡ o → o ≢ None → 1 ≤ standing t (lock_state w l)
@@ -298,7 +298,7 @@ module _ (w : State) (t : ℕ) (steady : IsInductive w) where
             let a : stood_in (location_at (place_at w t) l).stands Second ≡ 1 = ap (λ (x : Location). stood_in x.stands Second) (location_own (place_at w t) l own) ∙ ap (λ x. stood_in x Second) e in
             let n = standing_by in omega arith
 
-        by_taken : (o : Option Taken) → taken_of (profile (place_at w t)) ≡ o → o ≢ None → 1 ≤ standing t (lock_state w l)
+        by_taken : (o : Option Taken) → taken_in_row (profile (place_at w t)) ≡ o → o ≢ None → 1 ≤ standing t (lock_state w l)
         by_taken None e some = absurd (some refl)
         by_taken (Some x) e some =
             let a : one_if_some (taken_at (place_at w t) l) ≡ 1 = ap one_if_some (taken_own (place_at w t) l own ∙ e) in
@@ -306,7 +306,7 @@ module _ (w : State) (t : ℕ) (steady : IsInductive w) where
 
   -- ---------------------------------------------------------------- its call
 
-  module _ (l : ℕ) (single : IsSingle (place_at w t)) (own : lock_of (place_at w t) ≡ Some l) where
+  module _ (l : ℕ) (single : IsSingle (place_at w t)) (own : called_lock (place_at w t) ≡ Some l) where
     -- the call is told by the row
     pub call_own : call_at w t ≡ call_on (Some l) (profile (place_at w t)) (rights w t)
     call_own = call_here (place_at w t) l single own (rights w t)
@@ -350,7 +350,7 @@ module _ (w : State) (t : ℕ) (steady : IsInductive w) where
     -- on its way into the section of a line
     lets_in_at : (m : Line)
         → LetsOthersIn w t l
-        ⊎ (WakesAside (call_at w t).purpose l m ⊎ HasReleased (call_at w t).purpose (call_at w t).released l m)
+        ⊎ (WakesAside (call_at w t).purpose l m ⊎ WaitHasReleased (call_at w t).purpose (call_at w t).released l m)
         → LetsInAt (sort_at w l) l (profile (place_at w t)) m
     lets_in_at m (inl lets) = inl (lets_in lets)
     lets_in_at m (inr (inl wakes)) = inr (subst (λ (c : CallState). WakesAside c.purpose l m) call_own wakes)
@@ -358,7 +358,7 @@ module _ (w : State) (t : ℕ) (steady : IsInductive w) where
 
     lets_out_at : (m : Line) → LetsInAt (sort_at w l) l (profile (place_at w t)) m
         → LetsOthersIn w t l
-        ⊎ (WakesAside (call_at w t).purpose l m ⊎ HasReleased (call_at w t).purpose (call_at w t).released l m)
+        ⊎ (WakesAside (call_at w t).purpose l m ⊎ WaitHasReleased (call_at w t).purpose (call_at w t).released l m)
     lets_out_at m h = elim h [ inl lets ↦ inl (lets_out lets) | inr wakes ↦ inr (inl (subst (λ (c : CallState). WakesAside c.purpose l m) (sym call_own) wakes)) ]
 
   -- a thread that owes a wake on a line is inside its section, or lets others in and is on its way into it
@@ -368,17 +368,17 @@ module _ (w : State) (t : ℕ) (steady : IsInductive w) where
         let row = (row_promises l single own).owing.owes m (sym (owed_own (place_at w t) l own single) ∙ h) in
         elim row [ inl i ↦ inl ((inside_own l single own m).0 i) | inr g ↦ inr (g.0, lets_out_at l single own m g.1) ]),
     λ h. elim h [
-      | inl i ↦ (let own = inside_calls (lock_of (place_at w t)) refl i in owed_own (place_at w t) l own single ∙ (row_promises l single own).owing.inside m ((inside_own l single own m).1 i))
-      | inr g ↦ (let own = entering_calls (lock_of (place_at w t)) refl g.0 in owed_own (place_at w t) l own single ∙ (row_promises l single own).owing.entering m g.0 (lets_in_at l single own m g.1))
+      | inl i ↦ (let own = inside_calls (called_lock (place_at w t)) refl i in owed_own (place_at w t) l own single ∙ (row_promises l single own).owing.inside m ((inside_own l single own m).1 i))
+      | inr g ↦ (let own = entering_calls (called_lock (place_at w t)) refl g.0 in owed_own (place_at w t) l own single ∙ (row_promises l single own).owing.entering m g.0 (lets_in_at l single own m g.1))
     ],
   )
     where
-      inside_calls : (o : Option ℕ) → lock_of (place_at w t) ≡ o → IsInside w t l m → lock_of (place_at w t) ≡ Some l
+      inside_calls : (o : Option ℕ) → called_lock (place_at w t) ≡ o → IsInside w t l m → called_lock (place_at w t) ≡ Some l
       inside_calls o e i = role_calls (place_at w t) l single (λ idles. let f : (location_at (place_at w t) l).inside ≡ Some m = (steady.stands.sections t l m).1 i in
           let g : ◌≡◌ {A = Option Line} None (Some m) = sym (ap (λ (d : Role). d.inside) idles) ∙ inside_is (place_at w t) l ∙ f in cc)
 
-      entering_calls : (o : Option ℕ) → lock_of (place_at w t) ≡ o → act_of (place_at w t) ≡ Enter (One (key_of l m))
-          → lock_of (place_at w t) ≡ Some l
+      entering_calls : (o : Option ℕ) → called_lock (place_at w t) ≡ o → act_of (place_at w t) ≡ Enter (One (key_of l m))
+          → called_lock (place_at w t) ≡ Some l
       entering_calls None e a = absurd (let f : Rest ≡ Enter (One (key_of l m)) = sym (ap act_of (calls_none (place_at w t) e)) ∙ a in cc)
       entering_calls (Some k) e a =
           let of : IsOfLine k (key_of l m) = subst (IsLineAct k (location (place_at w t))) a (line_act (place_at w t) k single e) in

@@ -17,7 +17,7 @@ use Rattle.lot_steps.specs.declared.places.Place.TheVariants.{Idle, Mutex, RwLoc
 use Rattle.steps_base.specs.Acts.{outcome_of}
 use Rattle.spec_locks.specs.declared.kinds.Kind.{Kind}
 use Rattle.spec_locks.specs.Kinds.{is_fair}
-use Rattle.lot_steps.specs.Steps.{act_of, next_act, next_place, first_place, lock_of, line_owed, profile, rwlock_does, rwlock_goes}
+use Rattle.lot_steps.specs.Steps.{act_of, next_act, next_place, first_place, called_lock, line_owed, profile, rwlock_does, rwlock_goes}
 use Rattle.lot_machine.specs.Machine.{State, place_at, word_at, kind_at, reply_to}
 use Rattle.spec_locks.specs.Locks as locks
 use Rattle.lot_laws.specs.Owing.{sort_at}
@@ -41,7 +41,7 @@ use Rattle.steps_rwlock.specs.RwLockCalls.{MayStand}
 use Rattle.steps_rwlock.specs.RwLockSteps.{rwlock_act}
 use Rattle.steps_rwlock_fair.specs.declared.places.RwLockCallPlace.{RwLockCallPlace}
 use Rattle.steps_rwlock_fair.specs.declared.hand_over.HandOverAt.TheVariants as handing
-use Rattle.steps_rwlock.specs.RwLockBegins.{admission_of}
+use Rattle.steps_rwlock.specs.RwLockBegins.{admission_of_kind}
 use Rattle.steps_rwlock_fair.specs.declared.places.RwLockCallPlace.TheVariants.{Plain, HandOver}
 use Rattle.steps_rwlock_fair.specs.FairSteps.{given, call_act, call_next}
 use Rattle.steps_rwlock_fair.specs.FairProfiles.{call_profile}
@@ -86,7 +86,7 @@ call_owes w t k a c admits stands alone = leads (call_next a c (reply_to w t (ca
     leads (next.End answer) h = record { since = h.since; sees = λ m s step looks. absurd cc }
 
 -- the reply to its act leads a thread on, in a call of one lock
-pub owes_next : (w : State) (t l : ℕ) → IsInductive w → IsSingle (place_at w t) → lock_of (place_at w t) ≡ Some l
+pub owes_next : (w : State) (t l : ℕ) → IsInductive w → IsSingle (place_at w t) → called_lock (place_at w t) ≡ Some l
     → OwesAt w t (sort_at w l) l (place_at w t)
 owes_next w t l steady single own = by_place (place_at w t) refl own
   where
@@ -98,7 +98,7 @@ owes_next w t l steady single own = by_place (place_at w t) refl own
         claims : (role_on (place_at w t) k).claims ≡ Some (Has Exclusive)
         claims = ap (λ p. (role_on p k).claims) (is ∙ ap (RwLock k a) e) ∙ ap (λ (z : Bool). (if z then (call_profile a (HandOver access.Exclusive b (handing.Free seen))).role else idle).claims) (same k)
 
-    by_place : (p : Place) → place_at w t ≡ p → lock_of p ≡ Some l → OwesAt w t (sort_at w l) l p
+    by_place : (p : Place) → place_at w t ≡ p → called_lock p ≡ Some l → OwesAt w t (sort_at w l) l p
     by_place Idle is own = absurd cc
     by_place (Once k at) is own =
         let here : k ≡ l = cc in
@@ -122,7 +122,7 @@ owes_next w t l steady single own = by_place (place_at w t) refl own
 
 pub first_owes : (k : Kind) (c : Call) → (profile (first_place k c)).owes ≡ None
 first_owes k (call.TheVariants.Mutex m c) = mutex_first_owes (is_fair k) c
-first_owes k (call.TheVariants.RwLock m c) = rwlock_first_owes (admission_of k) c
+first_owes k (call.TheVariants.RwLock m c) = rwlock_first_owes (admission_of_kind k) c
 first_owes k (call.TheVariants.Once m c) = refl
 first_owes k (call.TheVariants.Semaphore m (semaphore_call.Acquire how.Patient)) = refl
 first_owes k (call.TheVariants.Semaphore m (semaphore_call.Acquire how.Timed)) = refl

@@ -7,7 +7,7 @@ use Rattle.steps_base.specs.Profiles.{Profile, hand, hand_owner}
 use Rattle.spec_locks.specs.declared.kinds.Kind.{Kind}
 use Rattle.lot_steps.specs.declared.places.Place.{Place}
 use Rattle.lot_steps.specs.declared.places.Place.TheVariants.{Condvar}
-use Rattle.lot_steps.specs.Steps.{act_of, calls, is_lock, lock_of, or_else, profile, retries_on, taker}
+use Rattle.lot_steps.specs.Steps.{act_of, calls, is_lock, called_lock, or_else, profile, retries_on, taker}
 use Rattle.lot_machine.specs.Machine.{State, opening, place_at, kind_at, filled_at, section_at}
 use Rattle.lot_laws.specs.Locations.{Location, location_at, role_on}
 use Rattle.lot_laws.specs.SitesOf.{AreCondvars, IsInductive, RunsInClosures, rules_in, site_of}
@@ -18,12 +18,12 @@ use Rattle.spec_locks.specs.Runs.{CallState, IsOpening}
 use Rattle.spec_locks.specs.Locks.{LockState, Sort, Queued, Rights, opening_lock, Rules, IsSomePending, has_caller, rights_of, readers, count, standing}
 use Rattle.spec_locks.specs.Onces.{InProgress, IsRunning}
 use Rattle.spec_locks.specs.Locks as sorts
-use Rattle.spec_locks.specs.Sites.{Role, Line, Main, Second, Has, Pends, Runs, IsOpen, counts_some, has_readers, IsDebtor, IsSite}
+use Rattle.spec_locks.specs.Sites.{Role, Line, Main, Second, Has, Pends, Runs, IsOpen, counts_some, has_readers, IsDebtorRole, IsSite}
 use Rattle.spec_locks.specs.Codes.{HasLimit}
 use Rattle.spec_locks.specs.Purposes.{Enters, Converts, Bumps, CallsOnce, Awaits, Purpose, MayWait, Waits}
 use Rattle.lot_laws.specs.Refinement.{RunsClosure, locks_of, lock_state, lock_seen, taken_at, call_at, call_on, call_state, stance_of}
 use Rattle.lot_laws.specs.Owing.{Owes, sort_at}
-use Rattle.lot_laws.specs.Promises.{IsKept, WaitsFor, WakesWaiters, IsDebtorOf, IsLookedAfter, IsOpenNow, WasNeverFull, HasOrPends, IsHandedOver, IsOwedWake, IsWithinLimit, want_of, HasReleased}
+use Rattle.lot_laws.specs.Promises.{IsKept, WaitsFor, WakesWaiters, IsDebtorOf, IsLookedAfterIn, IsOpenNow, WasNeverFull, HasOrPends, IsHandedOverIn, IsOwedWake, IsWithinLimit, want_of, WaitHasReleased}
 use Rattle.steps_base.specs.Rows.{KnowsRights}
 use Rattle.lot_laws.proofs.calls.Closures.{runs_one}
 use Rattle.lot_laws.proofs.hands.Inside.{hands_inside, is_to_mark}
@@ -48,7 +48,7 @@ use Rattle.lot_laws.proofs.mutex.Waiters.{role_beside, location_beside}
 use Rattle.core_base.specs.declared.keys.Keys.TheVariants.{One}
 use Rattle.core_base.specs.declared.notes.Note as note
 use Rattle.steps_base.specs.declared.acts.Wakes as wakes
-use Rattle.steps_condvar.specs.CondvarProfiles.{condvar_profile, condvar_purpose, condvar_recalls, condvar_released, condvar_row}
+use Rattle.steps_condvar.specs.CondvarProfiles.{condvar_profile, condvar_place_purpose, condvar_recalls, condvar_released, condvar_row}
 use Rattle.steps_condvar.specs.CondvarSteps.{mutex_beside}
 use Rattle.lot_laws.proofs.promises.Debtors.{going_owes_so, inside_owes_so, owing_so}
 use Rattle.lot_laws.proofs.condvar.MutexDebts.{LooksBeside, debtor_beside, idle_owes, looks_beside, no_second, two_owe, two_recalls, two_released, two_retries}
@@ -92,7 +92,7 @@ open_unowned sorts.Once s none h = none (λ k. k)
 
 -- each thread that has released a mutex is in a wait with it
 released_mutex : (sort : ℕ → Sort) (q : Option Purpose) (released : Bool) (l : ℕ) → KnowsRights sort q
-    → HasReleased q released l Main → sort l ≡ sorts.Mutex
+    → WaitHasReleased q released l Main → sort l ≡ sorts.Mutex
 released_mutex sort (Some (Waits k n timed)) released l knows h = ap sort (sym h.0) ∙ knows.1
 released_mutex sort q released l knows h = absurd h
 
@@ -129,10 +129,10 @@ module _ (w : State) (steady : IsInductive w) where
 
   known : (t : ℕ) → KnowsRights (sort_at w) (call_at w t).purpose
   known t = by_call t (λ p. KnowsRights (sort_at w) (call_state p (rights_now t)).purpose)
-      (λ single. by_lock single (lock_of (place_at w t)) refl)
+      (λ single. by_lock single (called_lock (place_at w t)) refl)
       (λ k at is fits. subst (KnowsRights (sort_at w)) (sym (two_purpose k at (rights_now t))) (two_know w k at fits))
     where
-      by_lock : IsSingle (place_at w t) → (o : Option ℕ) → lock_of (place_at w t) ≡ o
+      by_lock : IsSingle (place_at w t) → (o : Option ℕ) → called_lock (place_at w t) ≡ o
           → KnowsRights (sort_at w) (call_at w t).purpose
       by_lock single None e = subst (λ (c : CallState). KnowsRights (sort_at w) c.purpose) (sym (call_none (place_at w t) e (λ k. rights_of (lock_state w k) t))) tt
       by_lock single (Some l) e = subst (λ (c : CallState). KnowsRights (sort_at w) c.purpose) (sym (call_own w t steady l single e)) ((row_promises w t steady l single e).known (sort_at w) refl)
@@ -140,7 +140,7 @@ module _ (w : State) (steady : IsInductive w) where
   retrying : (t l : ℕ) → (retries_on (place_at w t) l ≡ true) ↔ ((call_at w t).retries ≡ Some l)
   retrying t l = by_call t (λ p. (retries_on p l ≡ true) ↔ ((call_state p (rights_now t)).retries ≡ Some l))
       (λ single. subst (λ b. (b ≡ true) ↔ ((call_at w t).retries ≡ Some l)) (sym (single_retries (place_at w t) l single))
-      (subst (λ (c : CallState). ((profile (place_at w t)).retries && calls (place_at w t) l ≡ true) ↔ (c.retries ≡ Some l)) (sym (single_call (place_at w t) single (λ k. rights_of (lock_state w k) t))) (retry_shown (lock_of (place_at w t)) (profile (place_at w t)) (λ k. rights_of (lock_state w k) t) l)))
+      (subst (λ (c : CallState). ((profile (place_at w t)).retries && calls (place_at w t) l ≡ true) ↔ (c.retries ≡ Some l)) (sym (single_call (place_at w t) single (λ k. rights_of (lock_state w k) t))) (retry_shown (called_lock (place_at w t)) (profile (place_at w t)) (λ k. rights_of (lock_state w k) t) l)))
       (λ k at is fits. two_retry k at l (rights_now t))
 
   second_line : (t l : ℕ) → Owes w t l Second → has_readers (sort_at w l) ≡ true
@@ -163,7 +163,7 @@ module _ (w : State) (steady : IsInductive w) where
   -- a thread that is to look after the waiters of a line does so
   module _ (t l : ℕ) (m : Line) (single : IsSingle (place_at w t))
       (debtor : IsDebtorIn (sort_at w l) (role_on (place_at w t) l) m) (unowned : (lock_state w l).exclusive ≢ Some t) where
-    own : lock_of (place_at w t) ≡ Some l
+    own : called_lock (place_at w t) ≡ Some l
     own = role_calls (place_at w t) l single (λ idles. idle_owes (sort_at w l) m (subst (λ d. IsDebtorIn (sort_at w l) d m) idles debtor))
 
     row : RowLooksAfter (sort_at w l) l (profile (place_at w t)) (act_of (place_at w t)) m
@@ -181,7 +181,7 @@ module _ (w : State) (steady : IsInductive w) where
       | inr some ↦ absurd (elim (stands_waiting w t steady k single some).1 [ inl in_line ↦ in_line row.stands | inr taken ↦ taken row.taken ])
     ]
 
-    looks_after : IsLookedAfter w l m
+    looks_after : IsLookedAfterIn w l m
     looks_after = record { debtor = t; debt = debt_of m row.debt; awake = row.awake; stands_nowhere = λ k. inl (stands_nowhere k) }
 
   -- in a call of a condition variable, beside it
@@ -193,7 +193,7 @@ module _ (w : State) (steady : IsInductive w) where
     mutex_sort : mutex_beside two.at ≡ Some l → sort_at w l ≡ sorts.Mutex
     mutex_sort names = ap (λ (r : Rules). r.sort) (plain_rules (kind_at w l) ((fits_two w t steady two).mutex l names))
 
-    purpose_two : (call_at w t).purpose ≡ Some (condvar_purpose two.at two.lock)
+    purpose_two : (call_at w t).purpose ≡ Some (condvar_place_purpose two.at two.lock)
     purpose_two = ap (λ p. (call_state p (rights_now t)).purpose) two.is ∙ two_purpose two.lock two.at (rights_now t)
 
     recalls_two : (call_at w t).recalls ≡ condvar_recalls two.at
@@ -211,7 +211,7 @@ module _ (w : State) (steady : IsInductive w) where
         | inl owed ↦ inl (
           owes_two owed.0,
           subst (λ q. WakesWaiters (sort_at w l) q (call_at w t).gave_up (call_at w t).recalls l) (sym purpose_two)
-              (subst (λ x. WakesWaiters (sort_at w l) (Some (condvar_purpose two.at two.lock)) (call_at w t).gave_up x l) (sym recalls_two) (owed.1 (sort_at w l) (call_at w t).gave_up)),
+              (subst (λ x. WakesWaiters (sort_at w l) (Some (condvar_place_purpose two.at two.lock)) (call_at w t).gave_up x l) (sym recalls_two) (owed.1 (sort_at w l) (call_at w t).gave_up)),
         )
         | inr again ↦ inr (
           ap (λ p. (call_state p (rights_now t)).retries) two.is ∙ two_retries two.lock two.at l (rights_now t) names again.0,
@@ -221,35 +221,35 @@ module _ (w : State) (steady : IsInductive w) where
 
       nowhere_two : (k : ℕ)
           → (standing t (lock_state w k) ≡ 0)
-          ⊎ (HasReleased (call_at w t).purpose (call_at w t).released l Main × Owes w t l Main)
+          ⊎ (WaitHasReleased (call_at w t).purpose (call_at w t).released l Main × Owes w t l Main)
       nowhere_two k = elim looks.stands [
         | inl none ↦ inl (elim (cases_lt (standing t (lock_state w k)) 1) [
           | inl few ↦ omega arith
           | inr some ↦ absurd (none k (subst (λ p. StandsAt p k) two.is (stands_there w t steady k some)))
         ])
         | inr released ↦ inr (
-          subst (λ q. HasReleased q (call_at w t).released l Main) (sym purpose_two) (subst (λ b. HasReleased (Some (condvar_purpose two.at two.lock)) b l Main) (sym released_two) released.0),
+          subst (λ q. WaitHasReleased q (call_at w t).released l Main) (sym purpose_two) (subst (λ b. WaitHasReleased (Some (condvar_place_purpose two.at two.lock)) b l Main) (sym released_two) released.0),
           owes_two released.1,
         )
       ]
 
-      looks_two : IsLookedAfter w l Main
+      looks_two : IsLookedAfterIn w l Main
       looks_two = record { debtor = t; debt = debt_two; awake = λ asleep. looks.awake (sym (ap act_of two.is) ∙ asleep); stands_nowhere = nowhere_two }
 
     looked_main : IsDebtorIn (sort_at w l) (role_on (place_at w t) l) Main → (lock_state w l).exclusive ≢ Some t
-        → IsLookedAfter w l Main
+        → IsLookedAfterIn w l Main
     looked_main debtor unowned = let there = named_there Main debtor in
         looks_two there.0 (looks_beside two.lock two.at l (fits_two w t steady two).reached there.0
         (subst (λ s. IsDebtorIn s (condvar_row two.at).role Main) (mutex_sort there.0) (subst (λ d. IsDebtorIn (sort_at w l) d Main) there.1 debtor))
         (λ claims. unowned ((steady.sites.site l).held t (Has Exclusive) (ap (λ (d : Role). d.claims) there.1 ∙ claims))))
 
     looked_two : (m : Line) → IsDebtorIn (sort_at w l) (role_on (place_at w t) l) m → (lock_state w l).exclusive ≢ Some t
-        → IsLookedAfter w l m
+        → IsLookedAfterIn w l m
     looked_two Main debtor unowned = looked_main debtor unowned
     looked_two Second debtor unowned = let there = named_there Second debtor in absurd (no_second two.at (fits_two w t steady two).reached (subst (λ d. IsDebtorIn (sort_at w l) d Second) there.1 debtor))
 
   looked_after : (t l : ℕ) (m : Line) → IsDebtorIn (sort_at w l) (role_on (place_at w t) l) m
-      → (lock_state w l).exclusive ≢ Some t → IsLookedAfter w l m
+      → (lock_state w l).exclusive ≢ Some t → IsLookedAfterIn w l m
   looked_after t l m debtor unowned = elim (single_or_two (place_at w t)) [ inl single ↦ looks_after t l m single debtor unowned | inr two ↦ looked_two t l two m debtor unowned ]
 
   unfilled : (l : ℕ) → WasNeverFull w l → filled_at w l ≡ false
@@ -261,7 +261,7 @@ module _ (w : State) (steady : IsInductive w) where
 
   -- each thread that waits in a line whose way is open
   in_line : (l : ℕ) → (lock_state w l).queue ≢ [] → IsOpen (sort_at w l) (lock_state w l) → filled_at w l ≡ false
-      → IsLookedAfter w l Main
+      → IsLookedAfterIn w l Main
   in_line l some now empty =
       let free = open_unowned (sort_at w l) (lock_state w l) (steady.sites.site l).state.unwritten now in
       let d = (steady.sites.site l).main (inl some) now empty in
@@ -269,11 +269,11 @@ module _ (w : State) (steady : IsInductive w) where
 
   -- or for a permit, where one is free
   beside_permit : (l : ℕ) → sort_at w l ≡ sorts.Semaphore → (lock_state w l).queue ≢ [] → readers (lock_state w l) < (rules_in w l).limit
-      → IsLookedAfter w l Main
+      → IsLookedAfterIn w l Main
   beside_permit l sort some fewer =
       let d = nobody_forgotten (rules_in w l).limit (site_of w l) tended some fewer in
       let free = (steady.sites.site l).state.unwritten (λ k. subst (λ x. sorts.Knows x Exclusive) sort k) in
-      looked_after d.0 l Main (subst (λ x. IsDebtor x ((site_of w l).role d.0)) (sym sort) d.1) (λ own. let e : ◌≡◌ {A = Option ℕ} None (Some d.0) = sym free ∙ own in cc)
+      looked_after d.0 l Main (subst (λ x. IsDebtorRole x ((site_of w l).role d.0)) (sym sort) d.1) (λ own. let e : ◌≡◌ {A = Option ℕ} None (Some d.0) = sym free ∙ own in cc)
     where
       same_rules : rules_in w l ≡ semaphore (rules_in w l).limit
       same_rules = λ i. record { sort = sort i; limit = (rules_in w l).limit }
@@ -285,7 +285,7 @@ module _ (w : State) (steady : IsInductive w) where
         few = (steady.sites.site l).state.within sort;
       }
 
-  main : (t l : ℕ) → WaitsFor w t l → IsOpenNow (rules_in w l) (lock_state w l) → WasNeverFull w l → IsLookedAfter w l Main
+  main : (t l : ℕ) → WaitsFor w t l → IsOpenNow (rules_in w l) (lock_state w l) → WasNeverFull w l → IsLookedAfterIn w l Main
   main t l waiting open_now full =
       let some = not_empty t (lock_state w l).queue waiting in
       elim open_now [ inl now ↦ in_line l some now (unfilled l full) | inr free ↦ beside_permit l free.0 some free.1 ]
@@ -299,7 +299,7 @@ module _ (w : State) (steady : IsInductive w) where
       called_some [] h e = cc
       called_some (x ∷ q) h e = cc
 
-      after : IsLookedAfter w l Main
+      after : IsLookedAfterIn w l Main
       after = in_line l (called_some (lock_state w l).queue called) (subst (λ s. IsOpen s (lock_state w l)) (sym once) (called, rests)) (steady.sites.unfilled l (ap has_readers once))
 
       -- it is in no wait, whose mutex is none
@@ -322,7 +322,7 @@ module _ (w : State) (steady : IsInductive w) where
       let one = runs_one (place_at w t) h.1 in
       (steady.sites.site l).held t Runs (ap (λ (d : Role). d.claims) (role_own (place_at w t) l h.0) ∙ ap (λ p. (profile p).role.claims) one.is)
 
-  second : (l : ℕ) → (lock_state w l).aside ≢ None → readers (lock_state w l) ≡ 0 → IsLookedAfter w l Second
+  second : (l : ℕ) → (lock_state w l).aside ≢ None → readers (lock_state w l) ≡ 0 → IsLookedAfterIn w l Second
   second l aside none =
       let d = (steady.sites.site l).second aside none in
       looked_after d.0 l Second d.1 (λ own. pending_alone d.0 own (lock_state w l).aside refl aside)
@@ -339,7 +339,7 @@ module _ (w : State) (steady : IsInductive w) where
 
   module _ (t : ℕ) (asleep : act_of (place_at w t) ≡ Sleep) (nowhere : (l : ℕ) → standing t (lock_state w l) ≡ 0) where
     -- tells what it has, by what it claims
-    claimed_at : (l : ℕ) → lock_of (place_at w t) ≡ Some l → (x : Want)
+    claimed_at : (l : ℕ) → called_lock (place_at w t) ≡ Some l → (x : Want)
         → HasClaimed (sort_at w l) (profile (place_at w t)).role.claims x → HasOrPends (sort_at w l) (lock_state w l) t x
     claimed_at l own x h = elim h [
       | inl has ↦ inl ((steady.sites.site l).held t (Has x) (claims ∙ has))
@@ -360,7 +360,7 @@ module _ (w : State) (steady : IsInductive w) where
       | inr two ↦ absurd (two_hand_none two.lock two.at (fits_two w by steady two).reached l (sym (ap (λ p. (location_at p l).carries) two.is) ∙ carries))
     ]
 
-    handed_beside : (two : IsOfTwo (place_at w t)) → WasHandedBeside two.lock two.at → IsHandedOver w t
+    handed_beside : (two : IsOfTwo (place_at w t)) → WasHandedBeside two.lock two.at → IsHandedOverIn w t
     handed_beside two handed =
         let apart = condvar_apart w two.lock two.at (fits_two w t steady two) handed.mutex handed.beside in
         let in_hand : (location_at (place_at w t) handed.mutex).hand ≡ hand handed.by true = ap (λ p. (location_at p handed.mutex).hand) two.is ∙ ap (λ (x : Location). x.hand) (location_beside two.lock handed.mutex apart two.at handed.beside) ∙ handed.in_hand in
@@ -377,8 +377,8 @@ module _ (w : State) (steady : IsInductive w) where
           wakes = told.1;
         }
 
-    handed_at : (l : ℕ) → IsSingle (place_at w t) → lock_of (place_at w t) ≡ Some l
-        → WasHanded (sort_at w l) l (profile (place_at w t)) → IsHandedOver w t
+    handed_at : (l : ℕ) → IsSingle (place_at w t) → called_lock (place_at w t) ≡ Some l
+        → WasHanded (sort_at w l) l (profile (place_at w t)) → IsHandedOverIn w t
     handed_at l single own handed =
         let in_hand : (location_at (place_at w t) l).hand ≡ hand handed.by true = ap (λ (x : Location). x.hand) (location_own (place_at w t) l own) ∙ handed.in_hand in
         let carries = steady.stands.hands.taken handed.by t l true in_hand in
@@ -394,16 +394,16 @@ module _ (w : State) (steady : IsInductive w) where
           wakes = told.1;
         }
 
-    handed_over : IsHandedOver w t
-    handed_over = elim (single_or_two (place_at w t)) [ inl single ↦ by_lock single (lock_of (place_at w t)) refl | inr two ↦ by_two two ]
+    handed_over : IsHandedOverIn w t
+    handed_over = elim (single_or_two (place_at w t)) [ inl single ↦ by_lock single (called_lock (place_at w t)) refl | inr two ↦ by_two two ]
       where
-        by_two : IsOfTwo (place_at w t) → IsHandedOver w t
+        by_two : IsOfTwo (place_at w t) → IsHandedOverIn w t
         by_two two = let fits = fits_two w t steady two in elim (two_asleep two.lock two.at (condvar_apart w two.lock two.at fits) fits.reached (sym (ap act_of two.is) ∙ asleep)) [
           | inl some ↦ absurd (let stood = there_stands w t steady some.0 (subst (λ p. StandsAt p some.0) (sym two.is) some.1) in let none = nowhere some.0 in omega arith)
           | inr handed ↦ handed_beside two handed
         ]
 
-        by_lock : IsSingle (place_at w t) → (o : Option ℕ) → lock_of (place_at w t) ≡ o → IsHandedOver w t
+        by_lock : IsSingle (place_at w t) → (o : Option ℕ) → called_lock (place_at w t) ≡ o → IsHandedOverIn w t
         by_lock single None e = absurd (let f : Rest ≡ Sleep = sym (ap act_of (calls_none (place_at w t) e)) ∙ asleep in cc)
         by_lock single (Some l) e = elim ((row_promises w t steady l single e).asleep asleep) [
           | inl waiting ↦ absurd (let some = waiting_stands w t steady l e waiting in let none = nowhere l in omega arith)

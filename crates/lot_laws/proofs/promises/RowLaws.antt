@@ -3,7 +3,7 @@ use Rattle.std.proofs.Common.{ℕ, zero, suc, true, Some, None, ◌≡◌, inl, 
 use Rattle.spec_locks.specs.declared.kinds.Kind.TheVariants as kind
 use Rattle.lot_machine.specs.Machine.{after_steps}
 use Rattle.spec_locks.specs.Sites.{Line, Main}
-use Rattle.lot_laws.specs.Promises.{IsLookedAfter}
+use Rattle.lot_laws.specs.Promises.{IsLookedAfterIn}
 use Rattle.lot_laws.specs.Laws.{FairUnlockHandsOver, NoWaiterIsForgotten, NobodyIsPassedOver, three, row, row_told, forgotten}
 use Rattle.lot_machine.proofs.Shape.{opening_shaped}
 use Rattle.std.proofs.lemmas.List.Elements.{All-cons, All-nil}
@@ -32,7 +32,7 @@ hands_over = record {
 }
 
 -- nobody owes or retries
-nobody_looks : (u : ℕ) (h : IsLookedAfter forgotten 0 Main) → h.debtor ≡ u → ⊥
+nobody_looks : (u : ℕ) (h : IsLookedAfterIn forgotten 0 Main) → h.debtor ≡ u → ⊥
 nobody_looks zero h e = elim h.debt [
   | inl owes ↦ let f : ◌≡◌ {A = Option Line} None (Some Main) = rw e at owes.0 in cc
   | inr retries ↦ let f : None ≡ Some 0 = rw e at retries.0 in cc

@@ -15,7 +15,7 @@ use Rattle.spec_locks.specs.Locks.{Sort}
 use Rattle.spec_locks.specs.Locks as sorts
 use Rattle.spec_locks.specs.Purposes.{Purpose, Enters, Releases, Converts, Bumps, CallsOnce, Awaits, IsReleasing, lock_for, Waits, Notifies}
 use Rattle.spec_locks.specs.Sites.{Line, Main, Second}
-pub use Rattle.steps_base.specs.Rows.{is_acting, taken_of, IsWaiting, HasClaimed, WasHanded, LetsIn, LetsInAt, RowOwes, IsDebtorIn, HasDebt, RowLooksAfter, RowIsLate, RowPromises}
+pub use Rattle.steps_base.specs.Rows.{is_acting, taken_in_row, IsWaiting, HasClaimed, WasHanded, LetsIn, LetsInAt, RowOwes, IsDebtorIn, HasDebt, RowLooksAfter, RowIsLate, RowPromises}
 pub use Rattle.lot_machine.proofs.Acted.{Befalls}
 use Rattle.lot_laws.specs.SitesOf.{key_of}
 use Rattle.lot_laws.specs.Owing.{LooksFirst, line_let_in, tells_by, tells_of}

@@ -27,7 +27,7 @@ use Rattle.steps_rwlock.specs.declared.enter.Decision.TheVariants as decisions
 use Rattle.steps_rwlock.specs.declared.park.ParkAt.TheVariants as parking
 use Rattle.steps_rwlock.specs.RwLockSteps.{wanted, decided, decided_act, rwlock_act}
 use Rattle.steps_rwlock.specs.RwLockDeeds.{Admits}
-use Rattle.steps_rwlock.specs.RwLockCalls.{MayStand, MayWait as HasTime, ParksBy, StandsAt}
+use Rattle.steps_rwlock.specs.RwLockCalls.{MayStand, WaitsIfBlocked as HasTime, ParksBy, StandsAt}
 use Rattle.steps_rwlock.specs.RwLockProfiles.{rwlock_profile, late_at, has_given_up}
 use Rattle.steps_rwlock_fair.specs.declared.places.RwLockCallPlace.{RwLockCallPlace}
 use Rattle.steps_rwlock_fair.specs.declared.places.RwLockCallPlace.TheVariants.{Plain, Glance, HandOver, Bump, Handed}
@@ -39,7 +39,7 @@ use Rattle.steps_rwlock_fair.specs.declared.handed.HandedAt.TheVariants as hande
 use Rattle.steps_rwlock_fair.specs.FairSteps.{any_taken, has_room, exchange_act, hand_over_act, handed_act, call_act}
 use Rattle.steps_rwlock_fair.specs.FairDeeds.{claim_at}
 use Rattle.steps_rwlock_fair.specs.FairProfiles.{call_profile, carries_taken, release_purpose, entry_purpose}
-use Rattle.steps_rwlock_fair.specs.FairCalls.{CallStands, HandsOverAt, IsOfBump, WaitsFor}
+use Rattle.steps_rwlock_fair.specs.FairCalls.{CallStands, HandsOverAt, IsOfBump, WaitsWithPatience}
 use Rattle.spec_locks.specs.Locks.{Rules, Sort}
 use Rattle.spec_locks.specs.Purposes.{Bumps, MayWait, lock_for}
 use Rattle.spec_locks.specs.Sites.{Has, has_readers}
@@ -417,7 +417,7 @@ module _ (r : Rules) (a : Admission) (l : ℕ) (admits : Admits r a) where
 
   -- ---------------------------------------------------------------- a thread that was handed the lock
 
-  module _ (x : Access) (how : Patience) (b : Bool) (waits : WaitsFor b how) where
+  module _ (x : Access) (how : Patience) (b : Bool) (waits : WaitsWithPatience b how) where
     has_time : (how : Patience) → HasTime how → how ≢ Try
     has_time Patient h e = cc
     has_time Timed h e = cc
@@ -426,7 +426,7 @@ module _ (r : Rules) (a : Admission) (l : ℕ) (admits : Admits r a) where
     waited : MayWait (Some (entry_purpose b (wanted x) how l)) l
     waited = by_bump b waits
       where
-        by_bump : (c : Bool) → WaitsFor c how → MayWait (Some (entry_purpose c (wanted x) how l)) l
+        by_bump : (c : Bool) → WaitsWithPatience c how → MayWait (Some (entry_purpose c (wanted x) how l)) l
         by_bump true h = refl
         by_bump false h = (refl, has_time how h)
 

@@ -45,7 +45,7 @@ use Rattle.steps_rwlock_fair.specs.FairLaws.{CallOpens, next_rows}
 use Rattle.steps_rwlock_fair.specs.FairProfiles.{call_profile}
 use Rattle.steps_rwlock_fair.proofs.FairOpenings.{calls_open}
 use Rattle.lot_steps.specs.declared.places.Place.TheVariants.{Idle, RwLock}
-use Rattle.lot_steps.specs.Steps.{calls, lock_of, next_act, profile, rwlock_does, rwlock_goes}
+use Rattle.lot_steps.specs.Steps.{calls, called_lock, next_act, profile, rwlock_does, rwlock_goes}
 use Rattle.spec_locks.specs.Locks.{LockCase, Owns, Rights, standing}
 use Rattle.spec_locks.specs.Purposes.{purpose_of, rules_of, rwlock_purpose}
 use Rattle.spec_locks.specs.Runs.{GoesOn, HasRight, new_call}
@@ -202,7 +202,7 @@ module _ (w : State) (t l : ℕ) (a : Admission) (c : RwLockCallPlace) (steady :
           → (outcome_of y ≡ outcome.Step) ⊎ ((outcome_of y ≡ outcome.Sleep) × (1 ≤ standing t (lock_state behind l)))
       by_act act.Sleep moves acting asleep awake = inr (
         refl,
-        waiting_stands behind t kept.happened.after l (ap lock_of e) (subst (λ (x : Profile). IsWaiting x) (sym (ap profile e)) (elim (asleep refl) [
+        waiting_stands behind t kept.happened.after l (ap called_lock e) (subst (λ (x : Profile). IsWaiting x) (sym (ap profile e)) (elim (asleep refl) [
           | inl h ↦ h
           | inr h ↦ absurd (awake h.by h.in_hand)
         ])),
@@ -218,7 +218,7 @@ module _ (w : State) (t l : ℕ) (a : Admission) (c : RwLockCallPlace) (steady :
       by_next : (n : Next RwLockCallPlace) → place_at behind t ≡ rwlock_goes l a n → NextAwake a l n
           → LeadsTo behind t l (next_rows a n) (outcome_of (rwlock_does l a n))
       by_next (next.At q) e awake = (
-        ap lock_of e,
+        ap called_lock e,
         ap profile e,
         elim (rests q e awake) [
           | inl step ↦ inl step

@@ -24,7 +24,7 @@ use Rattle.steps_rwlock_fair.specs.FairDeeds.{call_deeds, exchanged_deeds}
 use Rattle.steps_rwlock_fair.specs.FairGives.{IsToGive}
 use Rattle.steps_rwlock_fair.specs.FairMoves.{CallMoves, call_hears, call_move}
 use Rattle.steps_rwlock_fair.specs.FairProfiles.{call_profile}
-use Rattle.steps_rwlock_fair.specs.FairSteps.{any_taken, call_act, has_room, parked_as, with_taken, without}
+use Rattle.steps_rwlock_fair.specs.FairSteps.{any_taken, call_act, has_room, parked_as, with_taken, word_without}
 use Rattle.steps_rwlock_fair.proofs.FairActs.{fair_acts_move}
 use Rattle.steps_rwlock_fair.proofs.FairGives.{bump_keeps, fair_releases_give, handed_keeps, plain_keeps}
 use Rattle.spec_locks.specs.Deeds.{after_all}
@@ -96,7 +96,7 @@ module _ (l : ℕ) (a : Admission) (whom : Option ℕ) (v : ℕ) where
       → exchanged_deeds y k whom won (has_room a.limit k expected) ≡ exchanged_deeds y k None won (has_room a.limit k expected)
   exchange_same b k expected op x true won e f y = absurd (
       let g : act.HandOver l (operation.Exchange expected (with_taken x k expected)) ≡ act.Word l op =
-      sym (ap (λ r. if r then act.HandOver l (operation.Exchange expected (with_taken x k expected)) else act.Word l (operation.Exchange expected (parked_as k.none_left (without x expected)))) e) ∙ f in cc)
+      sym (ap (λ r. if r then act.HandOver l (operation.Exchange expected (with_taken x k expected)) else act.Word l (operation.Exchange expected (parked_as k.none_left (word_without x expected)))) e) ∙ f in cc)
   exchange_same b k expected op x false true e f y = ap (exchanged_deeds y k whom true) e ∙ sym (ap (exchanged_deeds y k None true) e)
   exchange_same b k expected op x false false e f y = refl
 

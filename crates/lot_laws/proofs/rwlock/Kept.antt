@@ -36,7 +36,7 @@ use Rattle.steps_rwlock.specs.RwLockSteps.{patience_of}
 use Rattle.steps_rwlock.specs.RwLockDeeds.{Admits, MayHear}
 use Rattle.steps_rwlock.specs.RwLockProfiles.{late_line_at}
 use Rattle.steps_rwlock.specs.RwLockCalls.{HasDeadline, MayBeTold}
-use Rattle.steps_rwlock.specs.RwLockBegins.{admission_of}
+use Rattle.steps_rwlock.specs.RwLockBegins.{admission_of_kind}
 use Rattle.steps_rwlock_fair.specs.declared.places.RwLockCallPlace.{RwLockCallPlace}
 use Rattle.steps_rwlock_fair.specs.declared.places.RwLockCallPlace.TheVariants.{Plain, Glance, HandOver, Bump, Handed}
 use Rattle.steps_rwlock_fair.specs.FairCalls.{CallMayBeTold, CallMayHear, CallStands, CallStandsNext, IsInCall}
@@ -68,7 +68,7 @@ use Rattle.spec_locks.specs.Codes.{HasLimit, bit, code, code_of, packed, writers
 use Rattle.spec_locks.specs.Deeds.{case_of}
 use Rattle.spec_locks.specs.Deeds as laws
 use Rattle.spec_locks.specs.Purposes.{rules_of}
-use Rattle.lot_machine.specs.Machine.{State, place_at, word_at, kind_at, owners_at, shares_at, share_at, queue_at, section_at, can_do, are_free, is_free, put, state_after_act, state_after_late_under, reply_to}
+use Rattle.lot_machine.specs.Machine.{State, place_at, word_at, kind_at, owners_at, shares_at, share_at, queue_at, section_at, can_do, are_free, section_is_free, put, state_after_act, state_after_late_under, reply_to}
 use Rattle.lot_machine.specs.Fits.{IsWellFormed}
 use Rattle.lot_machine.proofs.Shape.{main_key_there}
 use Rattle.lot_laws.specs.Refinement.{taken_at}
@@ -640,7 +640,7 @@ module _ (w : State) (t l : ℕ) (a : Admission) (c : RwLockCallPlace) (steady :
 
   -- ---------------------------------------------------------------- its time is up
 
-  pub rwlock_goes_late : (m : Line) → call_late_line c ≡ Some m → is_free w (key_of l m) ≡ true
+  pub rwlock_goes_late : (m : Line) → call_late_line c ≡ Some m → section_is_free w (key_of l m) ≡ true
       → Goes w (state_after_late_under w t (key_of l m)) l (acts t (call_deeds a c None Late))
   rwlock_goes_late m e free = goes_in w t l steady there own (rules_in w l) refl (call_move a c) same_row (call_hears a c) m Late (next_place (place_at w t) Late) (section_there m)
       (none_is (section_at w (key_of l m)) free) (fair_late_moves a c m e) (λ h. followed None Late h (call_told_late a c m e))
@@ -648,7 +648,7 @@ module _ (w : State) (t l : ℕ) (a : Admission) (c : RwLockCallPlace) (steady :
 -- ---------------------------------------------------------------- a call begins
 
 -- a lock of such a kind lets in whom the call says
-pub admits_by : (k : Kind) → has_readers (rules_of k).sort ≡ true → Admits (rules_of k) (admission_of k)
+pub admits_by : (k : Kind) → has_readers (rules_of k).sort ≡ true → Admits (rules_of k) (admission_of_kind k)
 admits_by (kinds.RwLock limit) h = (refl, refl, refl)
 admits_by (kinds.Recursive limit) h = (refl, refl, refl)
 admits_by k h = absurd cc
@@ -662,17 +662,17 @@ module _ (w : State) (t l : ℕ) (c : RwLockCall) (steady : IsInductive w) (ther
     (idle_now : place_at w t ≡ Idle) (readers : has_readers (rules_in w l).sort ≡ true)
     (right : call_right c t (owners_at w l) (share_at w l t) ≡ true) where
   abbrev pub first : Place
-  first = RwLock l (admission_of (kind_at w l)) (call_first c)
+  first = RwLock l (admission_of_kind (kind_at w l)) (call_first c)
 
-  pub opens : CallOpens (admission_of (kind_at w l)) c
-  opens = calls_open (admission_of (kind_at w l)) c
+  pub opens : CallOpens (admission_of_kind (kind_at w l)) c
+  opens = calls_open (admission_of_kind (kind_at w l)) c
 
   free_now : taken_at (place_at w t) l ≡ None
   free_now = ap (λ q. taken_at q l) idle_now
 
   -- with what it claims
   pub rwlock_begins : Goes w (put w t first) l (acts t (Begin opens.opening.claims ∷ []))
-  rwlock_begins = place_goes w t l steady (rw idle_now tt) there (rules_in w l) refl first refl (first_fits w l (admission_of (kind_at w l)) c (admits_by (kind_at w l) readers)) (Begin opens.opening.claims ∷ []) (λ h. tt)
+  rwlock_begins = place_goes w t l steady (rw idle_now tt) there (rules_in w l) refl first refl (first_fits w l (admission_of_kind (kind_at w l)) c (admits_by (kind_at w l) readers)) (Begin opens.opening.claims ∷ []) (λ h. tt)
       (steps_by (rules_in w l) l (parts_at w l) (parts_at w l) (place_at w) t first (Begin opens.opening.claims ∷ [])
       (opens.has t (shares_at w l) (owners_at w l) (queue_at w (2 * l)) (queue_at w (2 * l + 1)) (λ u. taken_at (place_at w u) l) right, tt) (tt, tt)
       (free_now ∙ sym (free_of first l tt (ap (λ (y : Location). y.hand) opens.opening.location)))

@@ -7,7 +7,7 @@ use Rattle.steps_rwlock.specs.declared.places.RwLockAt.{RwLockAt}
 use Rattle.steps_rwlock.specs.RwLockSteps.{rwlock_next, next_at, patience_of}
 use Rattle.steps_rwlock.specs.declared.places.Admission.{Admission}
 use Rattle.steps_rwlock.specs.declared.places.RwLockPlace.{RwLockPlace}
-use Rattle.steps_rwlock.specs.RwLockProfiles.{rwlock_late_line, late_line_at, hand_at as rwlock_hand}
+use Rattle.steps_rwlock.specs.RwLockProfiles.{rwlock_late_line, late_line_at, parked_hand as rwlock_hand}
 use Rattle.steps_base.specs.declared.acts.Reply.TheVariants as reply
 use Rattle.steps_rwlock_fair.specs.declared.places.RwLockCallPlace.{RwLockCallPlace}
 use Rattle.steps_rwlock_fair.specs.declared.places.RwLockCallPlace.TheVariants.{Plain, Glance, HandOver, Bump as BumpCall, Handed}

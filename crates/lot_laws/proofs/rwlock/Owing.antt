@@ -31,7 +31,7 @@ use Rattle.steps_rwlock.specs.declared.park.ParkAt.{ParkAt}
 use Rattle.steps_rwlock.specs.declared.park.ParkAt.TheVariants as parking
 use Rattle.steps_rwlock.specs.declared.release.WakeAt.{WakeAt}
 use Rattle.steps_rwlock.specs.declared.release.WakeAt.TheVariants as waking
-use Rattle.steps_rwlock.specs.RwLockSteps.{plus, decided, patience_of, patience_at, entered, looked, looked_by, missed, came_in, came_in_for, exchanged_next, counted, rolled_back, gave_way_by, park_next, parks_at, looks_again, clears, wake_next, next_at, rwlock_act, rwlock_next, act_at}
+use Rattle.steps_rwlock.specs.RwLockSteps.{plus, decided, patience_of, patience_at, entered, looked, looked_by, missed, came_in, came_in_for, exchanged_next, after_count, rolled_back, gave_way_by, park_next, parks_at, looks_again, clears, wake_next, next_at, rwlock_act, rwlock_next, act_at}
 use Rattle.steps_rwlock.specs.RwLockDeeds.{Admits, rwlock_role, pends}
 use Rattle.steps_rwlock.specs.RwLockCalls.{StandsAt, MayStand}
 use Rattle.steps_rwlock_fair.specs.declared.places.RwLockCallPlace.{RwLockCallPlace}
@@ -331,7 +331,7 @@ exchanged_quiet a p e seen decisions.Mark = if_quiet (seen == e) (next.At (recor
 exchanged_quiet a p e seen decisions.Park = looked_quiet p seen (decided a p seen)
 exchanged_quiet a p e seen (decisions.Refuse x) = looked_quiet p seen (decided a p seen)
 
-counted_quiet : (p : RwLockPlace) (seen : ℕ) → IsQuietNext (counted p seen)
+counted_quiet : (p : RwLockPlace) (seen : ℕ) → IsQuietNext (after_count p seen)
 counted_quiet p seen = if_quiet (count_in seen == 0) (next.End (entered (patience_at p))) (next.At (record { purpose = p.purpose; retries = p.retries; at = at.Count seen })) tt tt
 
 at_parks : (m : Line) (to : ParkAt) → IsQuiet (parks_at m to)
@@ -371,7 +371,7 @@ before_quiet a p (at.Decide e) h told = tt
 before_quiet a p (at.Park to) h told = park_quiet p Main to told
 before_quiet a p at.Look h (reply.Value seen) = counted_quiet p seen
 before_quiet a p at.Look h told = tt
-before_quiet a p (at.Count e) h (reply.Value seen) = if_quiet (seen == e) (next.At (record { purpose = p.purpose; retries = p.retries; at = at.Marked })) (counted p seen) tt (counted_quiet p seen)
+before_quiet a p (at.Count e) h (reply.Value seen) = if_quiet (seen == e) (next.At (record { purpose = p.purpose; retries = p.retries; at = at.Marked })) (after_count p seen) tt (counted_quiet p seen)
 before_quiet a p (at.Count e) h reply.Done = tt
 before_quiet a p (at.Count e) h told = tt
 before_quiet a p at.Marked h reply.Done = tt

@@ -27,9 +27,9 @@ use Rattle.steps_rwlock.specs.declared.park.ParkAt.TheVariants as parking
 use Rattle.steps_rwlock.specs.declared.release.WakeAt.{WakeAt}
 use Rattle.steps_rwlock.specs.declared.release.WakeAt.TheVariants as waking
 use Rattle.steps_rwlock.specs.RwLockSteps.{wanted, to_of, start_of, patience_of, want_at, decided, decided_act, park_act, act_at, rwlock_act, exchange, plus}
-use Rattle.steps_rwlock.specs.RwLockDeeds.{Admits, parking_role, waking_role, role_at, again_of, rwlock_role, falls_back, pends, claimed}
+use Rattle.steps_rwlock.specs.RwLockDeeds.{Admits, parking_role, waking_role, role_at, retried_want, rwlock_role, falls_back, pends, claimed}
 use Rattle.steps_rwlock.specs.RwLockCalls.{ParksBy, StandsAt, IsNoRefusal, IsDecided, MayStand}
-use Rattle.steps_rwlock.specs.RwLockProfiles.{rwlock_profile, is_inside, is_timed, owes_at, stands_at, hand_at, carries_at, late_line_at, late_at, has_given_up, purpose_by, wants_for}
+use Rattle.steps_rwlock.specs.RwLockProfiles.{rwlock_profile, is_inside, is_timed, owes_at, stands_at, parked_hand, carries_at, late_line_at, late_at, has_given_up, purpose_by, wants_for}
 use Rattle.steps_base.specs.Profiles.{Profile, hand, in_line, taken_from}
 use Rattle.spec_locks.specs.Codes.{has_aside}
 use Rattle.spec_locks.specs.Locks.{Rules, Sort, Knows}
@@ -226,7 +226,7 @@ waits_at l q again to stands h = absurd h
 
 -- a thread that waits is in a line, or on its way out of it
 waiting_parks : (a : Admission) (p : RwLockPlace) (to : RwLockAt)
-    → (stands_at to ≢ None) ⊎ (taken_from (hand_at to) (wants_for p.purpose) true ≢ None) → IsParking to
+    → (stands_at to ≢ None) ⊎ (taken_from (parked_hand to) (wants_for p.purpose) true ≢ None) → IsParking to
 waiting_parks a p (at.Park to) h = tt
 waiting_parks a p (at.Aside to) h = tt
 waiting_parks a p to h = absurd (elim h [ inl n ↦ n refl | inr n ↦ n refl ])
@@ -251,7 +251,7 @@ wants_some (purpose.Release x) u h e = h
 wants_some (purpose.Downgrade d) u h e = h
 
 asleep_at : (l : ℕ) (a : Admission) (p : RwLockPlace) (to : RwLockAt) → StandsAt p.purpose p.retries to → act_at l a p to ≡ Sleep
-    → (stands_at to ≢ None) ⊎ (taken_from (hand_at to) (wants_for p.purpose) true ≢ None)
+    → (stands_at to ≢ None) ⊎ (taken_from (parked_hand to) (wants_for p.purpose) true ≢ None)
 asleep_at l a p (at.Park parking.Asleep) stands h = inl (λ n. cc)
 asleep_at l a p (at.Aside parking.Asleep) stands h = inl (λ n. cc)
 asleep_at l a p (at.Park (parking.Taken by)) stands h = inr (wants_some p.purpose by (before_waits p.purpose p.retries (at.Park (parking.Taken by)) stands tt))
@@ -381,7 +381,7 @@ module _ (r : Rules) (readers : has_readers r.sort ≡ true) (a : Admission) (l 
 
   -- ---------------------------------------------------------------- the thread that looks after the waiters
 
-  again_debt : (q : RwLockPurpose) (again : Bool) (to : RwLockAt) → Waits q → counts_some r.sort (again_of (of q again to)) ≡ true
+  again_debt : (q : RwLockPurpose) (again : Bool) (to : RwLockAt) → Waits q → counts_some r.sort (retried_want (of q again to)) ≡ true
       → HasDebt r.sort l (row_of a q again to) Main
   again_debt (purpose.Enter x how) true to waits h = inr (refl, h)
   again_debt (purpose.Upgrade how) true to waits h = inr (refl, h)
@@ -390,7 +390,7 @@ module _ (r : Rules) (readers : has_readers r.sort ≡ true) (a : Admission) (l 
   again_debt q false to waits h = absurd cc
 
   -- it does nothing but try again
-  tries : (q : RwLockPurpose) (again : Bool) (to : RwLockAt) → Waits q → IsAwakeAt to → stands_at to ≡ None → hand_at to ≡ None → (m : Line) (claims : Option Claim) → IsDebtorIn r.sort (record idle { retries = again_of (of q again to); claims = claims }) m → RowLooksAfter r.sort l (row_of a q again to) (act_at l a (of q again to) to) m
+  tries : (q : RwLockPurpose) (again : Bool) (to : RwLockAt) → Waits q → IsAwakeAt to → stands_at to ≡ None → parked_hand to ≡ None → (m : Line) (claims : Option Claim) → IsDebtorIn r.sort (record idle { retries = retried_want (of q again to); claims = claims }) m → RowLooksAfter r.sort l (row_of a q again to) (act_at l a (of q again to) to) m
   tries q again to waits awake stands hand Main claims d = record {
     debt = again_debt q again to waits (elim d [ inl h ↦ absurd cc | inr h ↦ elim h [ inl k ↦ absurd cc | inr k ↦ k ] ]);
     awake = awake_at l a (of q again to) to awake;
@@ -423,22 +423,22 @@ module _ (r : Rules) (readers : has_readers r.sort ≡ true) (a : Admission) (l 
   debtor q again at.Marked stands m d = tries q again at.Marked (before_waits q again at.Marked stands tt) tt refl refl m (pends q) d
   debtor q again (at.Park parking.Check) stands m d = tries q again (at.Park parking.Check) (before_waits q again (at.Park parking.Check) stands tt) tt refl refl m None (bare m d)
     where
-      bare : (m : Line) → IsDebtorIn r.sort (rwlock_role (of q again (at.Park parking.Check))) m → IsDebtorIn r.sort (record idle { retries = again_of (of q again (at.Park parking.Check)); claims = None }) m
+      bare : (m : Line) → IsDebtorIn r.sort (rwlock_role (of q again (at.Park parking.Check))) m → IsDebtorIn r.sort (record idle { retries = retried_want (of q again (at.Park parking.Check)); claims = None }) m
       bare Main d = d
       bare Second d = d
   debtor q again (at.Park (parking.Leave false)) stands m d = tries q again (at.Park (parking.Leave false)) (before_waits q again (at.Park (parking.Leave false)) stands tt) tt refl refl m None (bare m d)
     where
-      bare : (m : Line) → IsDebtorIn r.sort (rwlock_role (of q again (at.Park (parking.Leave false)))) m → IsDebtorIn r.sort (record idle { retries = again_of (of q again (at.Park (parking.Leave false))); claims = None }) m
+      bare : (m : Line) → IsDebtorIn r.sort (rwlock_role (of q again (at.Park (parking.Leave false)))) m → IsDebtorIn r.sort (record idle { retries = retried_want (of q again (at.Park (parking.Leave false))); claims = None }) m
       bare Main d = d
       bare Second d = d
   debtor q again (at.Aside parking.Check) stands m d = tries q again (at.Aside parking.Check) (before_waits q again (at.Aside parking.Check) stands tt) tt refl refl m (pends q) (bare m d)
     where
-      bare : (m : Line) → IsDebtorIn r.sort (rwlock_role (of q again (at.Aside parking.Check))) m → IsDebtorIn r.sort (record idle { retries = again_of (of q again (at.Aside parking.Check)); claims = pends q }) m
+      bare : (m : Line) → IsDebtorIn r.sort (rwlock_role (of q again (at.Aside parking.Check))) m → IsDebtorIn r.sort (record idle { retries = retried_want (of q again (at.Aside parking.Check)); claims = pends q }) m
       bare Main d = d
       bare Second d = d
   debtor q again (at.Aside (parking.Leave false)) stands m d = tries q again (at.Aside (parking.Leave false)) (before_waits q again (at.Aside (parking.Leave false)) stands tt) tt refl refl m (pends q) (bare m d)
     where
-      bare : (m : Line) → IsDebtorIn r.sort (rwlock_role (of q again (at.Aside (parking.Leave false)))) m → IsDebtorIn r.sort (record idle { retries = again_of (of q again (at.Aside (parking.Leave false))); claims = pends q }) m
+      bare : (m : Line) → IsDebtorIn r.sort (rwlock_role (of q again (at.Aside (parking.Leave false)))) m → IsDebtorIn r.sort (record idle { retries = retried_want (of q again (at.Aside (parking.Leave false))); claims = pends q }) m
       bare Main d = d
       bare Second d = d
   debtor q again (at.Wake n waking.Enter) stands m d = wakes_on q again n m waking.Enter (wakes_line n m (start_of q) d) (λ h. cc)
@@ -507,7 +507,7 @@ module _ (r : Rules) (readers : has_readers r.sort ≡ true) (a : Admission) (l 
     acts = acts_at l a (of q again to) to stands.decided;
     waits = λ h. waits_at l q again to stands.place (waiting_parks a (of q again to) to h);
     known = λ sort_of e. rwlock_known l q sort_of (ap has_readers e ∙ readers);
-    aside = aside_claims (again_of (of q again to)) q to;
+    aside = aside_claims (retried_want (of q again to)) q to;
     owing = record {
       owes = λ m h. elim (owes_is q again to m h) [ inl i ↦ inl i | inr g ↦ inr (g.0, inl g.1) ];
       inside = inside_owes q again to;

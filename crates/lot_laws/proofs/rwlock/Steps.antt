@@ -13,7 +13,7 @@ use Rattle.steps_rwlock.specs.RwLockCalls.{MayStand}
 use Rattle.steps_rwlock.specs.RwLockMoves.{rwlock_move, rwlock_hears}
 use Rattle.steps_rwlock.specs.RwLockSteps.{rwlock_act}
 use Rattle.steps_rwlock.proofs.RwLockMoves.{rwlock_acts_move}
-use Rattle.steps_base.specs.Moves.{Moves}
+use Rattle.steps_base.specs.Moves.{MovesByAct}
 use Rattle.steps_rwlock_fair.specs.declared.places.RwLockCallPlace.{RwLockCallPlace}
 use Rattle.steps_rwlock_fair.specs.declared.places.RwLockCallPlace.TheVariants.{Plain, Glance, HandOver, Bump, Handed}
 use Rattle.steps_rwlock_fair.specs.declared.hand_over.Taken.{Taken as Counted}
@@ -27,7 +27,7 @@ use Rattle.steps_rwlock_fair.specs.FairProfiles.{call_profile}
 use Rattle.steps_rwlock_fair.specs.FairSteps.{call_act}
 use Rattle.steps_rwlock_fair.proofs.FairActs.{fair_acts_move}
 use Rattle.lot_steps.specs.declared.places.Place.TheVariants.{RwLock}
-use Rattle.lot_steps.specs.Steps.{lock_of, next_place}
+use Rattle.lot_steps.specs.Steps.{called_lock, next_place}
 use Rattle.spec_locks.specs.Deeds.{case_of, event_by}
 use Rattle.spec_locks.specs.Locks.{LockCase}
 use Rattle.spec_locks.specs.Sites.{Deed}
@@ -54,7 +54,7 @@ use Rattle.lot_laws.proofs.sites.SitesKept.{go_by}
 
 -- a call that only enters and releases hands nothing over
 plain_gives : (l k : ℕ) (a : Admission) (p : RwLockPlace) (op : Op) → MayStand a p → rwlock_act l a p ≡ act.HandOver k op → ⊥
-plain_gives l k a p op may e = subst (λ x. Moves l a.recursive (rwlock_move a p) (rwlock_hears a p) x) e (rwlock_acts_move l a p may)
+plain_gives l k a p op may e = subst (λ x. MovesByAct l a.recursive (rwlock_move a p) (rwlock_hears a p) x) e (rwlock_acts_move l a p may)
 
 -- a thread that hands over says whom it has in hand
 pub gives_counted : (l k : ℕ) (a : Admission) (c : RwLockCallPlace) (op : Op) → CallStands a c
@@ -94,8 +94,8 @@ module _ (w : State) (t l : ℕ) (a : Admission) (c : RwLockCallPlace) where
 
 module _ (w : State) (t l : ℕ) (a : Admission) (c : RwLockCallPlace) (steady : IsInductive w) (shape : IsWellFormed w)
     (there : t < length w.places) (lt : l < length w.locks) (is : place_at w t ≡ RwLock l a c) where
-  of : lock_of (place_at w t) ≡ Some l
-  of = ap lock_of is
+  of : called_lock (place_at w t) ≡ Some l
+  of = ap called_lock is
 
   -- a thread that it has in hand, by its place
   pub carries : carried_at (place_at w t) l ≡ (call_profile a c).carries

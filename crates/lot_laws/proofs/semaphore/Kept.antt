@@ -26,7 +26,7 @@ use Rattle.steps_base.specs.declared.acts.Wakes.{Wakes}
 use Rattle.steps_base.specs.declared.acts.Whom.TheVariants as whom
 use Rattle.steps_base.specs.Acts.{holds, wakes_taken}
 use Rattle.steps_base.specs.Calls.{CallFollows}
-use Rattle.steps_base.specs.Moves.{StaysPut, GoesIn, GoesOut, LeavesLine, AreLeaving, Parks, Waits, parks_in, row_of}
+use Rattle.steps_base.specs.Moves.{StaysPut, GoesIn, GoesOut, LeavesLine, AreLeaving, Parks, RowWaits, parks_in, row_of}
 use Rattle.steps_base.specs.Profiles.{Profile, in_hand}
 use Rattle.steps_base.specs.Owners.{lock_seen, shares_then}
 use Rattle.spec_locks.specs.Locks.{Rules}
@@ -40,7 +40,7 @@ use Rattle.steps_semaphore.specs.declared.tries.TryAt.TheVariants as tries
 use Rattle.steps_semaphore.specs.declared.release.ReleaseAt.TheVariants as release
 use Rattle.steps_semaphore.specs.declared.places.SemaphorePlace.{SemaphorePlace}
 use Rattle.steps_semaphore.specs.declared.places.SemaphorePlace.TheVariants.{Acquire, Try, Release}
-use Rattle.steps_semaphore.specs.SemaphoreDeeds.{enters, semaphore_deeds, takes}
+use Rattle.steps_semaphore.specs.SemaphoreDeeds.{enter_deeds, semaphore_deeds, take_deeds}
 use Rattle.steps_semaphore.specs.SemaphoreLaws.{Follows, IsAt, LeavesWord, MayHear, role_next, next_row, semaphore_role}
 use Rattle.steps_semaphore.specs.SemaphoreProfiles.{semaphore_profile}
 use Rattle.steps_semaphore.specs.SemaphoreSteps.{is_free, semaphore_act, semaphore_first, semaphore_next, semaphore_right, semaphore_shares}
@@ -56,7 +56,7 @@ use Rattle.steps_rwlock.specs.declared.places.Admission.{Admission}
 use Rattle.steps_rwlock_fair.specs.declared.places.RwLockCallPlace.{RwLockCallPlace}
 use Rattle.steps_condvar.specs.declared.places.CondvarPlace.{CondvarPlace}
 use Rattle.lot_steps.specs.Steps.{calls, next_place, profile, semaphore_goes}
-use Rattle.lot_machine.specs.Machine.{State, are_free, can_do, is_free as is_free_in, state_after_late_under, kind_at, owners_at, place_at, put, queue_at, reply_to, section_at, share_at, shares_at, state_after_act, word_at}
+use Rattle.lot_machine.specs.Machine.{State, are_free, can_do, section_is_free as is_free_in, state_after_late_under, kind_at, owners_at, place_at, put, queue_at, reply_to, section_at, share_at, shares_at, state_after_act, word_at}
 use Rattle.lot_machine.specs.Fits.{IsWellFormed}
 use Rattle.lot_machine.proofs.Shape.{main_key_there}
 use Rattle.lot_laws.specs.Refinement.{taken_at}
@@ -93,7 +93,7 @@ module _ (r : Rules) (s : Site) (t : ℕ) where
     pub aside : (laws.after_all r ds s t).aside_parked ≡ s.aside_parked
     pub lock : (laws.after_all r ds s t).lock ≡ record s.lock { shared = (laws.after_all r ds s t).lock.shared }
 
-  exchanged_only : (other free : Bool) → OnlyPermits (if other then [] else if free then enters else Mark Main ∷ [])
+  exchanged_only : (other free : Bool) → OnlyPermits (if other then [] else if free then enter_deeds else Mark Main ∷ [])
   exchanged_only true free = record { aside = refl; lock = refl }
   exchanged_only false true = record { aside = refl; lock = refl }
   exchanged_only false false = record { aside = refl; lock = refl }
@@ -102,7 +102,7 @@ module _ (r : Rules) (s : Site) (t : ℕ) where
   looked_only true = record { aside = refl; lock = refl }
   looked_only false = record { aside = refl; lock = refl }
 
-  attempted_only : (won free : Bool) → OnlyPermits (if won then enters else if free then [] else End ∷ [])
+  attempted_only : (won free : Bool) → OnlyPermits (if won then enter_deeds else if free then [] else End ∷ [])
   attempted_only true free = record { aside = refl; lock = refl }
   attempted_only false free = looked_only free
 
@@ -137,7 +137,7 @@ nobody_is : (o : Option ℕ) → is_none o ≡ true → o ≡ None
 nobody_is None h = refl
 nobody_is (Some u) h = absurd cc
 
-takes_calm : (who : Option ℕ) → AreCalm (takes who)
+takes_calm : (who : Option ℕ) → AreCalm (take_deeds who)
 takes_calm None = tt
 takes_calm (Some u) = tt
 
@@ -252,7 +252,7 @@ module _ (w : State) (t l : ℕ) (at : SemaphorePlace) (steady : IsInductive w) 
         woken_fits = subst (λ y. FitsItsLock w (next_place y (Woken Normal))) (sym e) (fits_next k (semaphore_next p (Woken Normal)) fits_u.0 (next_timed p (Woken Normal) fits_u.1 (λ x. absurd cc)));
       }
         where
-          z : Waits (semaphore_move p)
+          z : RowWaits (semaphore_move p)
           z = semaphore_sleepers_move p
 
           fits_u : FitsItsLock w (Semaphore k p)
@@ -373,7 +373,7 @@ module _ (w : State) (t l : ℕ) (at : SemaphorePlace) (steady : IsInductive w) 
       subst (λ j. GoesFrom (place_at w t) (act.Take j whom.First)) (sym e) (record {
         goes = first.1;
         tells = tells_by (first_of (queue_at w (key_of l Main))) (reply_to w t (act.Take (key_of l Main) whom.First)) (λ x. cc) first.0;
-        others = calm_by (takes (first_of (queue_at w (key_of l Main)))) (g.deeds (first_of (queue_at w (key_of l Main))) _ _) (takes_calm (first_of (queue_at w (key_of l Main))));
+        others = calm_by (take_deeds (first_of (queue_at w (key_of l Main)))) (g.deeds (first_of (queue_at w (key_of l Main))) _ _) (takes_calm (first_of (queue_at w (key_of l Main))));
       })
 
   left : (m : Line) (key : ℕ) → key ≡ key_of l m → LeavesLine (semaphore_move at) (semaphore_hears at) m

@@ -12,7 +12,7 @@ use Rattle.steps_base.specs.declared.acts.Next.TheVariants.{At, End as Over}
 use Rattle.steps_base.specs.declared.acts.Reply.TheVariants as reply
 use Rattle.steps_base.specs.declared.acts.Whom.TheVariants.{First}
 use Rattle.spec_locks.specs.declared.outcomes.Answer.TheVariants as answer
-use Rattle.steps_base.specs.Moves.{AreOfWord, GoesIn, Hears, IsHeld, Move, Moves, Sleeps, StaysPut, Waits, inside_of, row_of, location_of, location_then}
+use Rattle.steps_base.specs.Moves.{AreOfWord, GoesIn, Hears, IsHeld, Move, MovesByAct, Sleeps, StaysPut, RowWaits, inside_of, row_of, location_of, location_then}
 use Rattle.steps_base.specs.Profiles.{Hand, hand, in_hand}
 use Rattle.steps_base.specs.Locations.{Location, nowhere, location_by}
 use Rattle.spec_locks.specs.Codes.{has_parked}
@@ -27,7 +27,7 @@ use Rattle.steps_semaphore.specs.declared.tries.TryAt.TheVariants as tries
 use Rattle.steps_semaphore.specs.declared.release.ReleaseAt.TheVariants as release
 use Rattle.steps_semaphore.specs.declared.places.SemaphorePlace.{SemaphorePlace}
 use Rattle.steps_semaphore.specs.declared.places.SemaphorePlace.TheVariants.{Acquire, Try, Release}
-use Rattle.steps_semaphore.specs.SemaphoreDeeds.{enters, semaphore_deeds, takes}
+use Rattle.steps_semaphore.specs.SemaphoreDeeds.{enter_deeds, semaphore_deeds, take_deeds}
 use Rattle.steps_semaphore.specs.SemaphoreLaws.{MayHear, next_row}
 use Rattle.steps_semaphore.specs.SemaphoreLaws as laws
 use Rattle.steps_semaphore.specs.SemaphoreProfiles.{semaphore_late_line, semaphore_profile}
@@ -48,7 +48,7 @@ semaphore_hears p r s t whom told = MayHear r s t p whom told
 -- it takes the first who waits, if there is one
 pub record TakesFirst (x : Move) (hears : Hears) : Type 0 where
   pub was : location_of x ≡ inside_of Main
-  pub deeds : (whom : Option ℕ) (any none_left : Bool) → x.deeds whom (reply.Took any none_left) ≡ takes whom
+  pub deeds : (whom : Option ℕ) (any none_left : Bool) → x.deeds whom (reply.Took any none_left) ≡ take_deeds whom
   pub goes : (any none_left : Bool)
       → location_then x (reply.Took any none_left) ≡ record (inside_of Main) { carries = in_hand any false }
   pub may : (r : Rules) (s : Site) (t : ℕ) (whom : Option ℕ) (any none_left : Bool) → laws.TakesFirst s whom any none_left → HasTakenNobody s.lock t
@@ -57,7 +57,7 @@ pub record TakesFirst (x : Move) (hears : Hears) : Type 0 where
 -- by its act, as in any call, or it takes the first
 abbrev pub SemaphoreMoves : ℕ → Move → Hears → Act → Type 0
 SemaphoreMoves l x hears (act.Take key First) = (key ≡ key_of l Main) × TakesFirst x hears
-SemaphoreMoves l x hears y = Moves l false x hears y
+SemaphoreMoves l x hears y = MovesByAct l false x hears y
 
 abbrev location_next : Next SemaphorePlace → Location
 location_next n = location_by (row_of (next_row n))
@@ -65,7 +65,7 @@ location_next n = location_by (row_of (next_row n))
 -- ---------------------------------------------------------------- the word
 
 -- an exchange took a permit, set the bit, or found another word
-exchanged_word : (other free : Bool) → AreOfWord (if other then [] else if free then enters else Mark Main ∷ [])
+exchanged_word : (other free : Bool) → AreOfWord (if other then [] else if free then enter_deeds else Mark Main ∷ [])
 exchanged_word true free = tt
 exchanged_word false true = tt
 exchanged_word false false = tt
@@ -84,7 +84,7 @@ looked_rest : (free : Bool) (seen : ℕ) → location_next (in_try (if free then
 looked_rest true seen = refl
 looked_rest false seen = refl
 
-attempted_word : (won free : Bool) → AreOfWord (if won then enters else if free then [] else End ∷ [])
+attempted_word : (won free : Bool) → AreOfWord (if won then enter_deeds else if free then [] else End ∷ [])
 attempted_word true free = tt
 attempted_word false true = tt
 attempted_word false false = tt
@@ -163,7 +163,7 @@ semaphore_acts_move l (Release (release.Leave any)) h = (Main, refl, record { an
 -- ---------------------------------------------------------------- threads asleep
 
 -- it stands in no line, and is in nobody's hand
-awake : (p : SemaphorePlace) → (semaphore_profile p).stands ≡ None → (semaphore_profile p).hand ≡ None → Waits (semaphore_move p)
+awake : (p : SemaphorePlace) → (semaphore_profile p).stands ≡ None → (semaphore_profile p).hand ≡ None → RowWaits (semaphore_move p)
 awake p out free = record {
   aside = λ h. absurd (let e : ◌≡◌ {A = Option Line} None (Some Second) = sym out ∙ h in cc);
   stands = λ m h. absurd (let e : ◌≡◌ {A = Option Line} None (Some m) = sym out ∙ h in cc);
@@ -179,7 +179,7 @@ asleep_in timed again m e = record {
   role = λ u. refl;
 }
 
-pub semaphore_sleepers_move : (p : SemaphorePlace) → Waits (semaphore_move p)
+pub semaphore_sleepers_move : (p : SemaphorePlace) → RowWaits (semaphore_move p)
 semaphore_sleepers_move (Acquire timed again acquire.Asleep) = record {
   aside = λ h. absurd cc;
   stands = λ m h. inr (asleep_in timed again m (let e : m ≡ Main = cc in e));

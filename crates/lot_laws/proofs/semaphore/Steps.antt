@@ -22,7 +22,7 @@ use Rattle.steps_semaphore.specs.SemaphoreProfiles.{semaphore_profile}
 use Rattle.steps_semaphore.specs.SemaphoreSteps.{is_free, semaphore_act, semaphore_next}
 use Rattle.steps_semaphore.proofs.SemaphoreRowCheck.{semaphore_promises}
 use Rattle.lot_steps.specs.declared.places.Place.TheVariants.{Idle, Semaphore}
-use Rattle.lot_steps.specs.Steps.{lock_of, next_act, next_place, profile, semaphore_does, semaphore_goes}
+use Rattle.lot_steps.specs.Steps.{called_lock, next_act, next_place, profile, semaphore_does, semaphore_goes}
 use Rattle.spec_locks.specs.Deeds.{case_of, event_by}
 use Rattle.spec_locks.specs.Locks.{LockCase, standing}
 use Rattle.spec_locks.specs.Locks as locks
@@ -78,8 +78,8 @@ module _ (w : State) (t l : ℕ) (at : SemaphorePlace) (steady : IsInductive w) 
   sort : (rules_in w l).sort ≡ locks.Semaphore
   sort = sort_is w t l at steady shape there lt is
 
-  of : lock_of (place_at w t) ≡ Some l
-  of = ap lock_of is
+  of : called_lock (place_at w t) ≡ Some l
+  of = ap called_lock is
 
   carries : carried_at (place_at w t) l ≡ (semaphore_profile at).carries
   carries = ap (λ (y : Location). y.carries) (location_own (place_at w t) l of) ∙ ap (λ q. (location q).carries) is
@@ -97,7 +97,7 @@ module _ (w : State) (t l : ℕ) (at : SemaphorePlace) (steady : IsInductive w) 
 
   -- where it is then
   waits : (q : SemaphorePlace) → place_at behind t ≡ Semaphore l q → IsWaiting (semaphore_profile q) → 1 ≤ standing t (lock_state behind l)
-  waits q e h = waiting_stands behind t happened.after l (ap lock_of e) (subst (λ (x : Profile). IsWaiting x) (sym (ap profile e)) h)
+  waits q e h = waiting_stands behind t happened.after l (ap called_lock e) (subst (λ (x : Profile). IsWaiting x) (sym (ap profile e)) h)
 
   rests : (q : SemaphorePlace) → place_at behind t ≡ Semaphore l q → GoesAs behind t l (outcome_of (semaphore_act l q))
   rests (Acquire timed again acquire.Asleep) e = inr (inl (refl, waits (Acquire timed again acquire.Asleep) e (inl (λ n. cc))))
@@ -114,7 +114,7 @@ module _ (w : State) (t l : ℕ) (at : SemaphorePlace) (steady : IsInductive w) 
     where
       by_next : (n : Next SemaphorePlace) → place_at behind t ≡ semaphore_goes l n
           → LeadsTo behind t l (next_row n) (outcome_of (semaphore_does l n))
-      by_next (next.At q) e = (ap lock_of e, ap profile e, rests q e, subst IsSingle (sym e) tt)
+      by_next (next.At q) e = (ap called_lock e, ap profile e, rests q e, subst IsSingle (sym e) tt)
       by_next (next.End answer) e = (e, refl)
 
   promises : RowPromises locks.Semaphore l (semaphore_profile at) (semaphore_act l at)

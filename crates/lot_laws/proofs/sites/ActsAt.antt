@@ -23,7 +23,7 @@ use Rattle.lot_machine.specs.Machine.{State, unlocked, place_at, word_at, owners
 use Rattle.lot_laws.specs.Refinement.{taken_at}
 use Rattle.lot_laws.specs.MutexDeeds.{acts}
 use Rattle.lot_laws.specs.Locations.{Location, location_at, nowhere, role_on}
-use Rattle.lot_laws.specs.SitesOf.{locations_of, TakesOne, ActsNeeded, IsInductive, SiteFollows, Goes, FitsItsLock, Waits, AreWaiting, rules_in, key_of, stood_in}
+use Rattle.lot_laws.specs.SitesOf.{locations_of, TakesOne, ActsNeeded, IsInductive, SiteFollows, Goes, FitsItsLock, AllAreWaiting, AreWaiting, rules_in, key_of, stood_in}
 use Rattle.lot_laws.proofs.semaphore.Permits.{all_by}
 use Rattle.lot_laws.proofs.hands.Counts.{without_absent}
 use Rattle.lot_laws.proofs.machine.Parts.{base_at, parts_at, seen_in, same, differ, put_places, put_here, inside_is}
@@ -226,7 +226,7 @@ module _ (w : State) (t l : ℕ) (steady : IsInductive w) (there : t < length w.
           (λ n. own_count n ∙ ap (λ (x : Location). stood_in x.stands n) (sym put_now)) waits_now (ap (λ (x : Location). x.inside) (put_now ∙ e)) (ap (λ (x : Location). x.carries) (put_now ∙ e)) (ap (λ (x : Location). x.hand) (put_now ∙ e))));
     }
       where
-        waits_now : Waits locations_now (queue_at v)
+        waits_now : AllAreWaiting locations_now (queue_at v)
         waits_now k n = elim (cases_eq k l) [
           | inl f ↦ rw f (elim (same_line n m) [
             | inl g ↦ rw (g, here) lined

@@ -19,9 +19,9 @@ use Rattle.steps_base.specs.Acts.{holds, wakes_taken}
 use Rattle.steps_base.specs.Moves.{Move, Hears, StaysPut, GoesIn, Parks, Picks, TakesAside, LeavesLine, GoesOut, Sleeps, IsHeld, AreOfWord, AreLeaving, parks_in, inside_of, location_of, location_then}
 use Rattle.steps_base.specs.Profiles.{Profile, Of, hand, in_hand, taken_from}
 use Rattle.steps_rwlock_fair.specs.FairMoves.{CallWaits}
-use Rattle.steps_base.specs.Locations.{Location, location_by, nowhere, waits_for}
+use Rattle.steps_base.specs.Locations.{Location, location_by, nowhere, want_in_line}
 use Rattle.lot_steps.specs.declared.places.Place.{Place}
-use Rattle.lot_steps.specs.Steps.{next_place, profile, profile_beside, wants, taker, lock_of, is_lock, calls, beside_of}
+use Rattle.lot_steps.specs.Steps.{next_place, profile, profile_beside, wants, taker, called_lock, is_lock, calls, beside_of}
 use Rattle.lot_steps.specs.declared.places.Place.TheVariants.{Idle}
 use Rattle.core_base.specs.Picks.{lock_picker, lock_picked, without_lock_picked}
 use Rattle.steps_base.specs.Owners.{is_thread}
@@ -31,7 +31,7 @@ use Rattle.spec_locks.specs.Picks.{queued_of}
 use Rattle.spec_locks.specs.Sites.{Role, Pends, wakened, is_empty, Site, IsSite, Deed, Line, Main, Second, End, In, Out, Mark, Clear, FindNobody, Case, has_readers, idle}
 use Rattle.spec_locks.specs.Codes.{code}
 use Rattle.spec_locks.specs.Deeds as laws
-use Rattle.lot_machine.specs.Machine.{State, place_at, word_at, queue_at, section_at, put, state_with_sections, state_after_operation, state_after_telling, state_after_leave, state_after_park, queues_with_last, queues_without, queues_without_first, is_there, state_after_reply, state_after_taking, state_after_take_first, state_after_take, reply_to_take, sharers, successor_from, want_of_successor}
+use Rattle.lot_machine.specs.Machine.{State, place_at, word_at, queue_at, section_at, put, state_with_sections, state_after_operation, state_after_telling, state_after_leave, state_after_park, queues_with_last, queues_without, queues_without_first, is_there, state_after_reply, state_after_taking, state_after_take_first, state_after_take, reply_to_take, sharers_in_hand, successor_from, want_of_successor}
 use Rattle.lot_laws.specs.Refinement.{taken_at}
 use Rattle.lot_laws.specs.MutexDeeds.{acts}
 use Rattle.lot_laws.specs.Locations.{location, location_at, role_on}
@@ -225,7 +225,7 @@ module _ (w : State) (t l : ℕ) (steady : IsInductive w) (there : t < length w.
   pub nowhere_here : (location_of x).stands ≡ None → (location_of x).hand ≡ None → standing t here.lock ≡ 0
   nowhere_here out free =
       let main : locks.times t (map queued_of (queue_at w (2 * l))) ≡ 0 = queued_times t (queue_at w (2 * l)) ∙ none Main in
-      let aside : locks.is_thread t (first_of (queue_at w (2 * l + 1))) ≡ 0 = first_out t (queue_at w (2 * l + 1)) (none Second) in
+      let aside : locks.one_if_thread t (first_of (queue_at w (2 * l + 1))) ≡ 0 = first_out t (queue_at w (2 * l + 1)) (none Second) in
       let taken : one_if_some (taken_at (place_at w t) l) ≡ 0 = ap one_if_some (free_of (place_at w t) l (of_single l (place_at w t) own) (ap (λ (y : Location). y.hand) location_is ∙ free)) in
       omega arith
     where
@@ -256,7 +256,7 @@ module _ (w : State) (t l : ℕ) (steady : IsInductive w) (there : t < length w.
           where
             by_aside : (o : Option ℕ) → first_of (queue_at w (2 * l + 1)) ≡ o → first_of (queue_at w (2 * l + 1)) ≡ None
             by_aside None e = e
-            by_aside (Some u) e = absurd (let it : u ≡ t = pending_one here.lock.pending u t (site.state.aside_pending u e) needed.0.0.0 in let none : locks.is_thread t (first_of (queue_at w (2 * l + 1))) ≡ 0 = let all : standing t here.lock ≡ 0 = needed.0.0.2 in omega arith in let one : locks.is_thread t (first_of (queue_at w (2 * l + 1))) ≡ 1 = ap (locks.is_thread t) e ∙ ap (λ b. if b then 1 else 0) (ap (λ v. v == t) it ∙ same t) in omega arith)
+            by_aside (Some u) e = absurd (let it : u ≡ t = pending_one here.lock.pending u t (site.state.aside_pending u e) needed.0.0.0 in let none : locks.one_if_thread t (first_of (queue_at w (2 * l + 1))) ≡ 0 = let all : standing t here.lock ≡ 0 = needed.0.0.2 in omega arith in let one : locks.one_if_thread t (first_of (queue_at w (2 * l + 1))) ≡ 1 = ap (locks.one_if_thread t) e ∙ ap (λ b. if b then 1 else 0) (ap (λ v. v == t) it ∙ same t) in omega arith)
 
     pub parked_hears : (check : Check) (want : Want) → Parks x hears m check want → (b : Bool) → holds check (word_at w l) ≡ b
         → hears r here t None (Parked b)
@@ -310,7 +310,7 @@ module _ (w : State) (t l : ℕ) (steady : IsInductive w) (there : t < length w.
       either false e = absurd (let f : None ≡ Some y = sym none ∙ e in cc)
 
   called : (p : Place) → IsSingle p → calls p l ≡ true → IsOf l p
-  called p single h = of_lock l p single (by_lock (lock_of p) h)
+  called p single h = of_lock l p single (by_lock (called_lock p) h)
     where
       by_lock : (o : Option ℕ) → is_lock l o ≡ true → IsLock l o
       by_lock None e = tt
@@ -452,7 +452,7 @@ module _ (w : State) (t l : ℕ) (steady : IsInductive w) (there : t < length w.
         by_sleeper : calls (place_at w y.thread) l ≡ true → (location (place_at w y.thread)).stands ≡ Some Second
             → (z : IsSleeper y.thread) → y.want ≡ Exclusive
         by_sleeper calls_l h z = let a = z.waits.aside (sym (ap (λ (y : Profile). y.stands) z.row) ∙ h) in
-            let waits_all : (location (place_at w y.thread)).waits ≡ Some Exclusive = (λ i. waits_for (h i) ((ap (λ (y : Profile). y.wants) z.row ∙ a.0) i)) in
+            let waits_all : (location (place_at w y.thread)).waits ≡ Some Exclusive = (λ i. want_in_line (h i) ((ap (λ (y : Profile). y.wants) z.row ∙ a.0) i)) in
             let both : Some y.want ≡ Some Exclusive = sym waits_there ∙ ap (λ (y : Location). y.waits) (location_here l (place_at w y.thread) (called (place_at w y.thread) z.single calls_l)) ∙ waits_all in cc
 
     -- ---------------------------------------------------------------- out of a line
@@ -647,16 +647,16 @@ module _ (w : State) (t l : ℕ) (steady : IsInductive w) (there : t < length w.
             at_u = place_then u ∙ ap (λ (c : Bool). if c then p2 else place_at w u) h
 
         pub picked_hears : hears r here t None told_picked
-        picked_hears = g.may r here t (sharers t taken_state.places) (want_of_successor (successor_from t 0 taken_state.places)) (length others == 0) (sym (empty_line others) ∙ ap is_empty (left_tied r.sort start (2 * l) (queue_at w (2 * l)) under))
+        picked_hears = g.may r here t (sharers_in_hand t taken_state.places) (want_of_successor (successor_from t 0 taken_state.places)) (length others == 0) (sym (empty_line others) ∙ ap is_empty (left_tied r.sort start (2 * l) (queue_at w (2 * l)) under))
 
         picks_follow : IsFollowed None told_picked then_at
-        picks_follow = followed (sharers t taken_state.places) (want_of_successor (successor_from t 0 taken_state.places)) (length others == 0) picked_hears
+        picks_follow = followed (sharers_in_hand t taken_state.places) (want_of_successor (successor_from t 0 taken_state.places)) (length others == 0) picked_hears
 
         goes_then : location then_at ≡ record (inside_of Main) { carries = in_hand any false }
-        goes_then = there_is None told_picked then_at picks_follow ∙ g.goes (sharers t taken_state.places) (want_of_successor (successor_from t 0 taken_state.places)) (length others == 0)
+        goes_then = there_is None told_picked then_at picks_follow ∙ g.goes (sharers_in_hand t taken_state.places) (want_of_successor (successor_from t 0 taken_state.places)) (length others == 0)
 
         pub picked_deeds : x.deeds None told_picked ≡ Case (TakePicked start) ∷ []
-        picked_deeds = g.deeds (sharers t taken_state.places) (want_of_successor (successor_from t 0 taken_state.places)) (length others == 0)
+        picked_deeds = g.deeds (sharers_in_hand t taken_state.places) (want_of_successor (successor_from t 0 taken_state.places)) (length others == 0)
 
         carries_then : (b : Bool) → (location then_at).carries ≡ Some b → (b ≡ false) × ((u : ℕ) × (member u chosen ≡ true))
         carries_then b h = by_any any refl (sym (ap (λ (y : Location). y.carries) goes_then) ∙ h)

@@ -6,7 +6,7 @@ use Rattle.lot_steps.specs.declared.places.Place.{Place}
 use Rattle.lot_steps.specs.declared.places.Place.TheVariants.{Mutex}
 use Rattle.steps_mutex.specs.declared.places.MutexPlace.{MutexPlace}
 use Rattle.steps_mutex.specs.MutexSteps.{is_parked}
-use Rattle.spec_locks.specs.Locks.{is_thread}
+use Rattle.spec_locks.specs.Locks.{one_if_thread}
 use Rattle.spec_locks.specs.Locks as locks
 use Rattle.spec_locks.specs.Sites.{IsSite, Line, Main, Case, FindNobody, found, is_empty}
 use Rattle.lot_machine.specs.Machine.{State, place_at, word_at, owners_at, queue_at, put, queues_with_last, queues_without, queues_without_first}
@@ -54,7 +54,7 @@ module _ (w : State) (t l : ℕ) (at : MutexPlace) (steady : IsInductive w) (is 
   park_keeps p2 of none none2 nowhere full owned i k c e s = park_goes w t l steady (own w t l at steady is there) there mutex (rules w t l at steady is there) p2 (own_of l p2 of) (fits p2 of) Main Exclusive (Case (locks.Park Exclusive) ∷ []) (λ h. absurd cc) line
       (ap (λ y. (location y).stands) is ∙ nowhere)
       (parks l (base_at w l) (word_at w l) (word_at w l) (owners_at w l) (queue_at w (2 * l)) (queue_at w (2 * l + 1)) (place_at w) t p2 site_here (mutex_role at) (own_role l (place_at w t) at is) (hand_none none) none2 (2 * l) refl full owned
-      (stood_here Main ∙ ap (λ x. stood_in x Main) nowhere) (ap (is_thread t) no_aside) i k c e)
+      (stood_here Main ∙ ap (λ x. stood_in x Main) nowhere) (ap (one_if_thread t) no_aside) i k c e)
       (s ∙ sym (ap (λ y. record (location y) { stands = Some Main; waits = Some Exclusive }) is))
 
   -- it leaves the line

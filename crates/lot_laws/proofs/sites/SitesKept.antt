@@ -410,9 +410,9 @@ module _ (w : State) (t l : ℕ) (steady : IsInductive w) (there : t < length w.
     -- the store that hands the lock over
     pub hands_over : Goes w
         (go_by w t (Mutex l (HandOff bumps (hand_off.Store true none_left))) (act.TheVariants.HandOver l (op.Store (hand_off_word true none_left)))) l
-        (acts t (deeds.hands_over (Some u) none_left) ++ deeds.claims_of (Some u))
+        (acts t (deeds.handing_deeds (Some u) none_left) ++ deeds.claims_of (Some u))
     hands_over = record {
-      follows = subst (λ (z : State). SiteFollows w (put z t p2) l (acts t (deeds.hands_over (Some u) none_left) ++ deeds.claims_of (Some u))) (sym told) (follow w after l (rules w t l at steady is there) (putting (putting (place_at w) u pu) t p2) (if none_left then 1 else 3) (with_exclusive (owners_at w l) (Some u)) (queue_at w (2 * l)) places
+      follows = subst (λ (z : State). SiteFollows w (put z t p2) l (acts t (deeds.handing_deeds (Some u) none_left) ++ deeds.claims_of (Some u))) (sym told) (follow w after l (rules w t l at steady is there) (putting (putting (place_at w) u pu) t p2) (if none_left then 1 else 3) (with_exclusive (owners_at w l) (Some u)) (queue_at w (2 * l)) places
           (record { threads = length-set (set w.places u pu) t p2 ∙ length-set w.places u pu; locks = length-set w.locks l _; shares = length-set w.shares l (shares_handed_over w t l) })
           (λ k i. record { shared = ((λ j. get_or (set w.shares l (shares_handed_over w t l)) k (replicate ((length-set (set w.places u pu) t p2 ∙ length-set w.places u pu) j) 0)) ∙ given_shares w t l (none_given t w.places (shares_at w l) (alone_at w t l at steady is)) k) i; filled = given_filled w t (Mutex l at) l (op.Store (hand_off_word true none_left)) (rules w t l at steady is there) k i })
           (changed_set (λ x. x.word) w.locks l _ (unlocked kind.TheVariants.Mutex) lt) owners_given

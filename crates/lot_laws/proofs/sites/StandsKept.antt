@@ -14,7 +14,7 @@ use Rattle.lot_machine.specs.Machine.{State, kind_at}
 use Rattle.lot_laws.specs.SitesOf.{is_mutex}
 use Rattle.lot_laws.specs.Refinement.{taken_at}
 use Rattle.lot_laws.specs.Locations.{Hand, Location, hand, role_on, location_at}
-use Rattle.lot_laws.specs.SitesOf.{Sections, Lines, Waits, AreWaiting, HandsBy, FitsItsLock, key_of, stood_in}
+use Rattle.lot_laws.specs.SitesOf.{Sections, Lines, AllAreWaiting, AreWaiting, HandsBy, FitsItsLock, key_of, stood_in}
 use Rattle.lot_laws.proofs.machine.Parts.{IsOf, put_here, put_other, same, location_elsewhere, role_elsewhere, taken_elsewhere, IsMutexOf}
 
 pub both : (a b : Bool) → (a && b) ≡ true → (a ≡ true) × (b ≡ true)
@@ -188,8 +188,8 @@ waiting_without q l m t (y ∷ xs) h = either (not (y.thread == t)) (waiting_wit
     either true k = (h.0, k)
     either false k = k
 
-pub waits_same : (p q : ℕ → ℕ → Location) (queue after : ℕ → List Waiter) → Waits p queue
-    → ((u k : ℕ) → (q u k).waits ≡ (p u k).waits) → ((key : ℕ) → after key ≡ queue key) → Waits q after
+pub waits_same : (p q : ℕ → ℕ → Location) (queue after : ℕ → List Waiter) → AllAreWaiting p queue
+    → ((u k : ℕ) → (q u k).waits ≡ (p u k).waits) → ((key : ℕ) → after key ≡ queue key) → AllAreWaiting q after
 waits_same p q queue after h e lines l m = waiting_same p q l m (after (key_of l m)) (subst (AreWaiting p l m) (sym (lines (key_of l m))) (h l m)) (λ u g. e u l)
 
 -- ---------------------------------------------------------------- hands

@@ -12,7 +12,7 @@ use Rattle.spec_locks.specs.Sites.{Line}
 use Rattle.lot_machine.specs.Machine.{State, place_at, kind_at, section_at, queue_at}
 use Rattle.lot_laws.specs.SitesOf.{is_mutex}
 use Rattle.lot_laws.specs.Locations.{Location, location_at}
-use Rattle.lot_laws.specs.SitesOf.{Stands, Sections, Lines, Waits, Hands, HandsBy, TakesOne, FitsItsLock, rules_in, key_of, stood_in, locations_of}
+use Rattle.lot_laws.specs.SitesOf.{Stands, Sections, Lines, AllAreWaiting, Hands, HandsBy, TakesOne, FitsItsLock, rules_in, key_of, stood_in, locations_of}
 use Rattle.lot_laws.proofs.machine.Parts.{put_here, put_other}
 use Rattle.lot_laws.proofs.mutex.Words.{mutex}
 use Rattle.lot_laws.proofs.sites.StandsKept.{AlikeBeside, part_else, sections_same, entered, left, lines_same, line_moved, hands_same, waits_same, calls_in}
@@ -40,7 +40,7 @@ hands_in w v p kinds h = record {
 pub record AreThere (one : ℕ → Type 0) (at : ℕ → ℕ → Location) (section : ℕ → Option ℕ) (queue : ℕ → List Waiter) : Type 0 where
   pub sections : Sections at section
   pub lines : Lines at queue
-  pub waits : Waits at queue
+  pub waits : AllAreWaiting at queue
   pub hands : HandsBy one at
 
 pub there_in : (w : State) → Stands w → AreThere (TakesOne w) (locations_of (place_at w)) (section_at w) (queue_at w)
@@ -52,7 +52,7 @@ pub stands_by : (w v : State) (q : ℕ → Place) → place_at v ≡ q → ((k :
 stands_by w v q e kinds there c = record {
   sections = subst (λ (f : ℕ → Place). Sections (locations_of f) (section_at v)) (sym e) there.sections;
   lines = subst (λ (f : ℕ → Place). Lines (locations_of f) (queue_at v)) (sym e) there.lines;
-  waits = subst (λ (f : ℕ → Place). Waits (locations_of f) (queue_at v)) (sym e) there.waits;
+  waits = subst (λ (f : ℕ → Place). AllAreWaiting (locations_of f) (queue_at v)) (sym e) there.waits;
   hands = subst (λ (f : ℕ → Place). Hands (TakesOne v) f) (sym e) (hands_in w v q kinds there.hands);
   calls = λ u. subst (λ (f : ℕ → Place). FitsItsLock v (f u)) (sym e) (c u);
 }
@@ -76,7 +76,7 @@ module _ {one : ℕ → Type 0} (at at2 : ℕ → ℕ → Location) (section : �
   hands_stay : (at2 t l).carries ≡ (at t l).carries → (at2 t l).hand ≡ (at t l).hand → HandsBy one at2
   hands_stay c n = hands_same at at2 there.hands (part (λ x. x.carries) c) (part (λ x. x.hand) n)
 
-  waits_stay : (at2 t l).waits ≡ (at t l).waits → Waits at2 queue
+  waits_stay : (at2 t l).waits ≡ (at t l).waits → AllAreWaiting at2 queue
   waits_stay e = waits_same at at2 queue queue there.waits (part (λ x. x.waits) e) (λ key. refl)
 
   lines_stay : (at2 t l).stands ≡ (at t l).stands → Lines at2 queue
@@ -116,7 +116,7 @@ module _ {one : ℕ → Type 0} (at at2 : ℕ → ℕ → Location) (section : �
   -- into a line, or out of it
   pub line_changes : (m : Line) (after : ℕ → List Waiter) → ((key : ℕ) → key ≢ key_of l m → after key ≡ queue key)
       → ((u : ℕ) → u ≢ t → times u (after (key_of l m)) ≡ times u (queue (key_of l m)))
-      → ((n : Line) → times t (after (key_of l n)) ≡ stood_in (at2 t l).stands n) → Waits at2 after
+      → ((n : Line) → times t (after (key_of l n)) ≡ stood_in (at2 t l).stands n) → AllAreWaiting at2 after
       → (at2 t l).inside ≡ (at t l).inside → (at2 t l).carries ≡ (at t l).carries → (at2 t l).hand ≡ (at t l).hand
       → AreThere one at2 section after
   line_changes m after elsewhere counts own_count waits i c n = record {

@@ -21,7 +21,7 @@ use Rattle.lot_machine.specs.Machine.{State, unlocked, shares_at, place_at, sect
 use Rattle.lot_laws.specs.Refinement.{taken_at}
 use Rattle.lot_laws.specs.MutexDeeds.{acts}
 use Rattle.lot_laws.specs.Locations.{Location, hand, location_at, role_on}
-use Rattle.lot_laws.specs.SitesOf.{ActsNeeded, TakesOne, Hands, IsInductive, Goes, FitsItsLock, Lines, Waits, AreWaiting, Sections, after_acts, rules_in, key_of, stood_in, carried_at, hand_at, locations_of}
+use Rattle.lot_laws.specs.SitesOf.{ActsNeeded, TakesOne, Hands, IsInductive, Goes, FitsItsLock, Lines, AllAreWaiting, AreWaiting, Sections, after_acts, rules_in, key_of, stood_in, carried_at, hand_at, locations_of}
 use Rattle.lot_laws.proofs.semaphore.Permits.{all_by}
 use Rattle.lot_laws.proofs.machine.Parts.{parts_at, base_at, lock_in, seen_in, same, differ, put_here, put_other, set_puts, past_all}
 use Rattle.lot_laws.proofs.sites.OneStep.{AreSingle, others_same}
@@ -256,7 +256,7 @@ module _ (w : State) (t l : ℕ) (steady : IsInductive w) (there : t < length w.
 
   -- and wait as before
   waits_now : (queue : ℕ → List Waiter) → queue (key_of l m) ≡ left → ((key : ℕ) → key ≢ key_of l m → queue key ≡ queue_at w key)
-      → Waits (locations_of places_now) queue
+      → AllAreWaiting (locations_of places_now) queue
   waits_now queue here others k n = elim (cases_eq k l) [
     | inl f ↦ rw f (elim (same_line n m) [
       | inl g ↦ rw (g, here) (waiting_same (locations_of (place_at w)) (locations_of places_now) l m left splits.lefts (λ u g. stays u (untaken_left u g)))

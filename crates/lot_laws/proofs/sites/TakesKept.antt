@@ -19,7 +19,7 @@ use Rattle.lot_laws.proofs.machine.Parts.{parts_at, lock_in, seen_in, IsOf, loca
 use Rattle.lot_laws.proofs.sites.OneStep.{AreSingle}
 use Rattle.lot_laws.proofs.sites.Following.{NoHandOff, with_line, lock_by}
 use Rattle.lot_laws.proofs.sites.StandsKept.{own_alike}
-use Rattle.steps_base.specs.Locations.{waits_for}
+use Rattle.steps_base.specs.Locations.{want_in_line}
 use Rattle.lot_steps.specs.Steps.{profile}
 pub use Rattle.lot_laws.proofs.sites.TakesAt.{member, member_times, at_most_one, told_by, told_places, told_once, AllAre}
 use Rattle.lot_laws.proofs.sites.TakesAt.{IsTakenAt, behind_take}
@@ -69,7 +69,7 @@ module _ (w : State) (t l : ℕ) (steady : IsInductive w) (own : IsOf l (place_a
           let c : 1 ≤ times t taken = member_times t taken h in omega arith)
 
   waits_out : (p : Place) → (location p).stands ≡ None → (location p).waits ≡ None
-  waits_out p e = ap (λ o. waits_for o (profile p).wants) e
+  waits_out p e = ap (λ o. want_in_line o (profile p).wants) e
 
   -- its station, but for whom it carries
   now : (location p2).inside ≡ (location (place_at w t)).inside → (location p2).stands ≡ None → (location p2).hand ≡ None → location_at p2 l ≡ record (behind_take t (member t taken) (location_at (place_at w t) l)) { carries = (location p2).carries }

@@ -33,7 +33,7 @@ use Rattle.lot_machine.specs.Machine.{State, place_at, owners_at, kind_at, put, 
 use Rattle.lot_machine.specs.Fits.{IsWellFormed, PlaceFits}
 use Rattle.lot_laws.specs.Refinement.{lock_state, taken_at}
 use Rattle.lot_laws.specs.SitesOf.{is_mutex}
-use Rattle.lot_laws.specs.MutexDeeds.{mutex_role, mutex_location, acts, begins}
+use Rattle.lot_laws.specs.MutexDeeds.{mutex_role, mutex_location, acts, begin_deed}
 use Rattle.lot_laws.specs.Locations.{nowhere, location}
 use Rattle.lot_laws.specs.SitesOf.{AreCondvars, AreCounted, IsInductive, Goes}
 use Rattle.lot_machine.proofs.Shape.{both, looking_shaped}
@@ -84,7 +84,7 @@ module _ (w : State) (t : ℕ) (steady : IsInductive w) (shape : IsWellFormed w)
   -- each call of a mutex
   calls_begin : (l : ℕ) (fair : Bool) (c : MutexCall) → is_mutex (kind_at w l) ≡ true → place_at w t ≡ Idle
       → mutex_right c t (owners_at w l) ≡ true
-      → Goes w (put w t (Mutex l (mutex_first fair c))) l (acts t (begins (mutex_first fair c) ∷ []))
+      → Goes w (put w t (Mutex l (mutex_first fair c))) l (acts t (begin_deed (mutex_first fair c) ∷ []))
   calls_begin l fair call.Lock of is right = begin_kept l _ None of is refl refl tt refl
   calls_begin l fair call.LockTimed of is right = begin_kept l _ None of is refl refl tt refl
   calls_begin l fair call.TryLock of is right = begin_kept l _ None of is refl refl tt refl

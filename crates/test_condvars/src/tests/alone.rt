@@ -3,7 +3,7 @@ ghost use Rattle.std.specs.Prelude.{◌<◌, ◌≤◌};
 ghost use Rattle.parking_lot.specs.Names.{IsTokenOf, lot_of};
 
 use super::rooms::{Room, look, room_for};
-use super::{Limit, TURNS, holds, is_just_past, same, wait};
+use super::{Limit, TURNS, check, is_just_past, check_eq, wait};
 use parking_lot::{TickClock, Token};
 use std::alloc::Global;
 use std::process::Abort;
@@ -32,8 +32,8 @@ fn room_alone<A: Abort>(rt: &A, alloc: Global) -> (Room, Token)
 #[test]
 fn nobody_is_notified_where_nobody_waits(rt: HostRuntime) {
     let (room, mut token) = room_alone(&rt, rt.alloc());
-    holds(&rt, !room.condvar.notify_one(&rt, &mut token));
-    same(&rt, room.condvar.notify_all(&rt, &mut token), 0);
+    check(&rt, !room.condvar.notify_one(&rt, &mut token));
+    check_eq(&rt, room.condvar.notify_all(&rt, &mut token), 0);
 }
 
 // Waits for as long as a condition was called at most so often, and counts the calls. Whether that
@@ -60,8 +60,8 @@ pub(super) fn wait_turns<R: Wait>(rt: &R, room: &Room, token: &mut Token, turns:
 #[test]
 fn a_condition_that_does_not_hold_is_called_once(rt: HostRuntime) {
     let (room, mut token) = room_alone(&rt, rt.alloc());
-    holds(&rt, wait_turns(&rt, &room, &mut token, 0));
-    same(&rt, look(&rt, &room, &mut token), 1);
+    check(&rt, wait_turns(&rt, &room, &mut token, 0));
+    check_eq(&rt, look(&rt, &room, &mut token), 1);
 }
 
 // The same within a time, or up to a deadline. How often the condition was called, and whether the
@@ -112,10 +112,10 @@ fn waits_past_its_time<R: Wait + Abort>(rt: &R, alloc: Global, seats: usize)
     let (room, mut token) = room_among(rt, alloc, seats);
     let clock = TickClock::new();
     let told = calls_in_time(rt, &room, &mut token, 1, &clock, Limit::Until(0));
-    same(rt, told, Some((2, false)));
+    check_eq(rt, told, Some((2, false)));
     let told = calls_in_time(rt, &room, &mut token, 9, &clock, Limit::Until(40));
-    same(rt, told, Some((4, true)));
-    holds(rt, is_just_past(&clock, 40));
+    check_eq(rt, told, Some((4, true)));
+    check(rt, is_just_past(&clock, 40));
 }
 
 // By queues of one bucket, of eight, and of 64.
@@ -132,8 +132,8 @@ fn a_condition_that_holds_times_out(rt: HostRuntime) {
     let (room, mut token) = room_alone(&rt, rt.alloc());
     let clock = TickClock::starting_at(FAR);
     let told = calls_in_time(&rt, &room, &mut token, TURNS, &clock, Limit::For(30));
-    same(&rt, told, Some((2, true)));
-    holds(&rt, is_just_past(&clock, FAR + 30));
+    check_eq(&rt, told, Some((2, true)));
+    check(&rt, is_just_past(&clock, FAR + 30));
 }
 
 // Waits for so long, in vain. Whether it timed out, and the mutex is free behind it.
@@ -151,15 +151,15 @@ fn gives_up<R: Wait>(rt: &R, room: &Room, token: &mut Token, clock: &TickClock) 
 fn who_waits_gives_up_in_time(rt: HostRuntime) {
     let (room, mut token) = room_alone(&rt, rt.alloc());
     let clock = TickClock::starting_at(FAR);
-    holds(&rt, gives_up(&rt, &room, &mut token, &clock));
-    holds(&rt, is_just_past(&clock, FAR + 20));
-    holds(&rt, !room.condvar.notify_one(&rt, &mut token));
+    check(&rt, gives_up(&rt, &room, &mut token, &clock));
+    check(&rt, is_just_past(&clock, FAR + 20));
+    check(&rt, !room.condvar.notify_one(&rt, &mut token));
 }
 
 #[test]
 fn tells_that_it_is_a_condition_variable(rt: HostRuntime) -> Result<(), Fail> {
     let (room, _token) = room_alone(&rt, rt.alloc());
-    same(
+    check_eq(
         &rt,
         format!(in rt.alloc(); "{:?}", room.condvar)?.as_str(),
         "Condvar { .. }",

@@ -3,7 +3,7 @@ ghost use Rattle.std.specs.Prelude.{◌≡◌, IfSome};
 ghost use Rattle.parking_lot.specs.Names.{IsTokenOf, lock_of, lot_of};
 
 use super::rooms::{Part, Room, play};
-use super::{Limit, TURNS, same, wait, wait_long};
+use super::{Limit, TURNS, check_eq, wait, wait_long};
 use parking_lot::{MutexGuard, TickClock, Token};
 use std::sync::Wait;
 use std::thread::yield_now;
@@ -117,25 +117,25 @@ pub(super) fn notify_slow<R: Wait>(
 #[test]
 fn two_who_wait_are_notified_under_the_mutex(rt: HostRuntime) {
     let part = Part::Notify(Whom::AllUnderMutex, 2);
-    same(&rt, play(&rt, rt.alloc(), 3, part), (true, 2));
+    check_eq(&rt, play(&rt, rt.alloc(), 3, part), (true, 2));
 }
 
 #[test]
 fn ten_who_wait_are_notified_under_the_mutex(rt: HostRuntime) {
     let part = Part::Notify(Whom::AllUnderMutex, 10);
-    same(&rt, play(&rt, rt.alloc(), 11, part), (true, 10));
+    check_eq(&rt, play(&rt, rt.alloc(), 11, part), (true, 10));
 }
 
 #[test]
 fn ten_who_wait_are_notified_where_nobody_has_the_mutex(rt: HostRuntime) {
     let part = Part::Notify(Whom::AllFree, 10);
-    same(&rt, play(&rt, rt.alloc(), 11, part), (true, 10));
+    check_eq(&rt, play(&rt, rt.alloc(), 11, part), (true, 10));
 }
 
 #[test]
 fn a_notification_is_passed_on(rt: HostRuntime) {
     let part = Part::Notify(Whom::One, 4);
-    same(&rt, play(&rt, rt.alloc(), 5, part), (true, 4));
+    check_eq(&rt, play(&rt, rt.alloc(), 5, part), (true, 4));
 }
 
 // Notifies one each time the value has come to the next number.
@@ -156,5 +156,5 @@ pub(super) fn notify_in_turn<R: Wait>(rt: &R, room: &Room, token: &mut Token, tu
 // A condition is called again after each of four notifications.
 #[test]
 fn a_condition_is_called_after_each_wait(rt: HostRuntime) {
-    same(&rt, play(&rt, rt.alloc(), 2, Part::Turns(4)), (true, 5));
+    check_eq(&rt, play(&rt, rt.alloc(), 2, Part::Turns(4)), (true, 5));
 }

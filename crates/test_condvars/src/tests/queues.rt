@@ -2,7 +2,7 @@
 ghost use Rattle.std.specs.Prelude.{◌≡◌, ◌≤◌, All};
 ghost use Rattle.parking_lot.specs.Names.{IsTicketOf, IsTokenOf, lock_of, lot_of, lot_of_condvar};
 
-use super::{Limit, condvar_of, holds, mutex_of, seats, wait};
+use super::{Limit, condvar_of, check, mutex_of, seats, wait};
 use parking_lot::{Condvar, Mutex, MutexGuard, TickClock, Ticket, Token};
 use std::alloc::Global;
 use std::process::Abort;
@@ -247,24 +247,24 @@ fn passes<R: Threads + Wait + Abort + Sync>(
 fn one_sends_to_one(rt: HostRuntime) {
     // Through one place, in bounded waits, and through a hundred places.
     for (most, style) in [(1, Style::All), (1, Style::Bounded), (100, Style::All)] {
-        holds(&rt, passes(&rt, rt.alloc(), 1, 1, most, style));
+        check(&rt, passes(&rt, rt.alloc(), 1, 1, most, style));
     }
 }
 
 #[test]
 fn one_sends_to_five(rt: HostRuntime) {
-    holds(&rt, passes(&rt, rt.alloc(), 1, 5, 1, Style::All));
+    check(&rt, passes(&rt, rt.alloc(), 1, 5, 1, Style::All));
 }
 
 #[test]
 fn ten_send_to_one(rt: HostRuntime) {
-    holds(&rt, passes(&rt, rt.alloc(), 10, 1, 1, Style::All));
+    check(&rt, passes(&rt, rt.alloc(), 10, 1, 1, Style::All));
 }
 
 #[test]
 fn ten_send_to_ten(rt: HostRuntime) {
     // The threads that notify all, those that notify one, and those in bounded waits.
     for (most, style) in [(1, Style::All), (1, Style::One), (5, Style::Bounded)] {
-        holds(&rt, passes(&rt, rt.alloc(), 10, 10, most, style));
+        check(&rt, passes(&rt, rt.alloc(), 10, 10, most, style));
     }
 }

@@ -6,7 +6,7 @@ ghost use Rattle.parking_lot.specs.Names.{IsTicketOf, IsTokenOf, lot_of, lot_of_
 use super::alone::wait_turns;
 use super::many::{Whom, add_and_wait, notify_in_turn, notify_slow};
 use super::two::{Way, bump_until_notified, come_with_another, lock_and_wait, notify};
-use super::{condvar_of, holds, mutex_of, seats};
+use super::{condvar_of, check, mutex_of, seats};
 use parking_lot::{Condvar, Mutex, ParkingLot, Ticket, Token};
 use std::alloc::Global;
 use std::process::Abort;
@@ -126,6 +126,6 @@ pub(super) fn play<R: Threads + Wait + Abort + Sync>(
         },
     );
     let content = found.is_ok_and(|found| found.iter().all(|content| *content));
-    holds(rt, !room.condvar.notify_one(rt, &mut token));
+    check(rt, !room.condvar.notify_one(rt, &mut token));
     (content, look(rt, room, &mut token))
 }

@@ -3,7 +3,7 @@ ghost use Rattle.std.specs.Prelude.{◌≡◌};
 ghost use Rattle.parking_lot.specs.Names.{IsTokenOf, lot_of};
 
 use super::rooms::{Part, Room, look, play};
-use super::{Ended, Limit, TURNS, is_just_past, same, wait, wait_long};
+use super::{Ended, Limit, TURNS, is_just_past, check_eq, wait, wait_long};
 use parking_lot::{Fault, ParkingLot, TickClock, Token};
 use std::sync::Wait;
 use std::sync::atomic::AtomicBool;
@@ -101,7 +101,7 @@ pub(super) fn notify<R: Wait>(
 
 #[test]
 fn who_waits_is_notified_under_the_mutex(rt: HostRuntime) {
-    same(
+    check_eq(
         &rt,
         play(&rt, rt.alloc(), 2, Part::Meet(Way::UnderMutex)),
         (true, 0),
@@ -110,7 +110,7 @@ fn who_waits_is_notified_under_the_mutex(rt: HostRuntime) {
 
 #[test]
 fn who_waits_is_notified_where_nobody_has_the_mutex(rt: HostRuntime) {
-    same(
+    check_eq(
         &rt,
         play(&rt, rt.alloc(), 2, Part::Meet(Way::Free)),
         (true, 0),
@@ -119,7 +119,7 @@ fn who_waits_is_notified_where_nobody_has_the_mutex(rt: HostRuntime) {
 
 #[test]
 fn who_waits_lets_in_who_waited_for_the_mutex(rt: HostRuntime) {
-    same(
+    check_eq(
         &rt,
         play(&rt, rt.alloc(), 2, Part::Meet(Way::InLine)),
         (true, 0),
@@ -128,7 +128,7 @@ fn who_waits_lets_in_who_waited_for_the_mutex(rt: HostRuntime) {
 
 #[test]
 fn who_waits_with_a_limit_is_notified_in_time(rt: HostRuntime) {
-    same(
+    check_eq(
         &rt,
         play(&rt, rt.alloc(), 2, Part::Meet(Way::Timed)),
         (true, 0),
@@ -154,7 +154,7 @@ pub(super) fn bump_until_notified<R: Wait>(rt: &R, room: &Room, token: &mut Toke
 
 #[test]
 fn who_waits_is_moved_to_a_mutex_that_is_held(rt: HostRuntime) {
-    same(&rt, play(&rt, rt.alloc(), 2, Part::Bump), (true, 0));
+    check_eq(&rt, play(&rt, rt.alloc(), 2, Part::Bump), (true, 0));
 }
 
 // Waits with another mutex. Whether that was refused, and the mutex is locked still.
@@ -202,5 +202,5 @@ pub(super) fn come_with_another<R: Wait>(
 
 #[test]
 fn those_who_wait_at_a_time_have_one_mutex(rt: HostRuntime) {
-    same(&rt, play(&rt, rt.alloc(), 2, Part::Another), (true, 0));
+    check_eq(&rt, play(&rt, rt.alloc(), 2, Part::Another), (true, 0));
 }

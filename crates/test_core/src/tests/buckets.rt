@@ -3,7 +3,7 @@ ghost use Rattle.std.specs.Prelude.{◌≡◌, ◌<◌, ◌≤◌};
 ghost use Rattle.parking_lot_core.specs.Tokens.{IsSameThread, IsTicketOf, IsTokenOf};
 
 use super::parts::{Part, play};
-use super::{Task, holds, in_section, lot_of, same, ticket_of, word_of};
+use super::{Task, check, in_section, lot_of, check_eq, ticket_of, word_of};
 use core_base::main_key;
 use core_queues::{bits_for, bucket_among};
 use parking_lot_core::{Key, Keys, Note, ParkingLot, Requeue, Ticket, Token, WordKind};
@@ -102,7 +102,7 @@ fn both_enter<R: Threads + Wait + Sync + Abort>(rt: &R, alloc: Global, seats: us
 {
     let (lot, mut token, mut others) = lot_of(rt, alloc, WORDS, seats);
     let (key, other) = keys_apart(rt, &lot, &mut token, seats);
-    holds(rt, lie_apart(seats, key, other));
+    check(rt, lie_apart(seats, key, other));
     let (one, two) = (token.leave(), ticket_of(rt, &lot, &mut others));
     let (inside, left) = (AtomicBool::new(false), AtomicBool::new(false));
     let (lot, inside, left) = (&*lot, &inside, &left);
@@ -115,8 +115,8 @@ fn both_enter<R: Threads + Wait + Sync + Abort>(rt: &R, alloc: Global, seats: us
 
 #[test]
 fn sections_of_two_buckets_are_entered_at_once(rt: HostRuntime) {
-    same(&rt, both_enter(&rt, rt.alloc(), 8), (true, true));
-    same(&rt, both_enter(&rt, rt.alloc(), 64), (true, true));
+    check_eq(&rt, both_enter(&rt, rt.alloc(), 8), (true, true));
+    check_eq(&rt, both_enter(&rt, rt.alloc(), 64), (true, true));
 }
 
 fn shift<R: Wait>(rt: &R, lot: &ParkingLot, token: &mut Token, back: bool)
@@ -162,14 +162,14 @@ pub fn wake_moved<R: Wait>(
 #[test]
 fn who_was_moved_is_taken_or_late(rt: HostRuntime) {
     // The lot has two seats, and two buckets.
-    holds(&rt, lie_apart(2, KEY, OTHER));
+    check(&rt, lie_apart(2, KEY, OTHER));
     let ((woken, late), taken) = play(&rt, rt.alloc(), (Part::SleepBriefly, Part::WakeMoved));
     let ended = (woken, woken.saturating_add(late));
-    same(&rt, ended, (taken.0, 200));
+    check_eq(&rt, ended, (taken.0, 200));
 }
 
 #[test]
 fn who_was_moved_and_not_taken_is_late(rt: HostRuntime) {
     let (ended, _) = play(&rt, rt.alloc(), (Part::SleepBriefly, Part::Move));
-    same(&rt, ended, (0, 200));
+    check_eq(&rt, ended, (0, 200));
 }

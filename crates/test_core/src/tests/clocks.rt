@@ -1,7 +1,7 @@
 //! Clocks, and sleepers whose time is up.
 ghost use Rattle.parking_lot_core.specs.Tokens.{IsTokenOf, IsSameThread};
 
-use super::{Task, in_section, mutex_of, same};
+use super::{Task, in_section, mutex_of, check_eq};
 use core_base::TickClock;
 use parking_lot_core::{Clock, Key, Note, ParkingLot, Slept, Token, Want, Word};
 use std::alloc::Global;
@@ -45,15 +45,15 @@ fn is_late<R: Wait + Abort, C: Clock>(rt: &R, alloc: Global, limit: (&C, u64)) {
     let (lot, mut token, word) = mutex_of(rt, alloc, 4);
     in_section(rt, &lot, &mut token, KEY, Task::LineUp(Want::Exclusive));
     let told = told_until(rt, &lot, &mut token, word, limit);
-    same(rt, told, Err((KEY, Some(KEY))));
-    same(rt, lot.queued(rt, &mut token, KEY), 0);
+    check_eq(rt, told, Err((KEY, Some(KEY))));
+    check_eq(rt, lot.queued(rt, &mut token, KEY), 0);
 }
 
 #[test]
 fn who_is_not_woken_is_late(rt: HostRuntime) {
     let clock = TickClock::starting_at(1000);
     is_late(&rt, rt.alloc(), (&clock, 1005));
-    same(&rt, clock.now(), 1006);
+    check_eq(&rt, clock.now(), 1006);
 }
 
 // A clock on which time passes by pauses alone.
@@ -76,5 +76,5 @@ impl Clock for PauseClock {
 fn a_sleeper_pauses_for_what_is_left(rt: HostRuntime) {
     let clock = PauseClock(AtomicU64::new(1000));
     is_late(&rt, rt.alloc(), (&clock, 1005));
-    same(&rt, clock.now(), 1005);
+    check_eq(&rt, clock.now(), 1005);
 }

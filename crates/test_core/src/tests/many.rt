@@ -8,7 +8,7 @@ ghost use Rattle.parking_lot_core.specs.Tokens.{IsNewTicketOf, IsSameThread, IsT
 use super::mutexes::{try_lock, unlock};
 use super::several::told_to;
 use super::threads::try_hand_over;
-use super::{Task, in_section, next_of, same, seats_of, sleep};
+use super::{Task, in_section, next_of, check_eq, seats_of, sleep};
 use parking_lot_core::{Key, Keys, Note, ParkingLot, Ticket, Token, Want, Word};
 use std::sync::Wait;
 
@@ -54,8 +54,8 @@ fn count_woken<R: Wait>(rt: &R, lot: &ParkingLot, tickets: Vec<Ticket>, word: Wo
 fn one_leave_wakes_1023_threads(rt: HostRuntime) {
     let (lot, mut server, others, word) = seats_of(&rt, rt.alloc(), 1, THREADS);
     let queued = take_all(&rt, &lot, &mut server, THREADS - 1);
-    same(&rt, queued, THREADS - 1);
-    same(&rt, count_woken(&rt, &lot, others, word), THREADS - 1);
+    check_eq(&rt, queued, THREADS - 1);
+    check_eq(&rt, count_woken(&rt, &lot, others, word), THREADS - 1);
 }
 
 // Locks the mutex, and hands it over to a thread, which unlocks it. Whether it got the mutex.
@@ -112,5 +112,5 @@ fn count_served<R: Wait>(
 fn a_right_goes_to_each_of_1023_threads(rt: HostRuntime) {
     let (lot, mut server, others, word) = seats_of(&rt, rt.alloc(), 1, THREADS);
     let served = count_served(&rt, &lot, &mut server, others, word);
-    same(&rt, served, THREADS - 1);
+    check_eq(&rt, served, THREADS - 1);
 }

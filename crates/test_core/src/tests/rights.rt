@@ -7,7 +7,7 @@ ghost use Rattle.parking_lot_core.specs.Tokens.{IsTokenOf, IsSameThread};
 use super::clocks::told_until;
 use super::mutexes::try_lock;
 use super::threads::try_hand_over;
-use super::{Task, holds, in_section, mutex_of, same, word_of};
+use super::{Task, check, in_section, mutex_of, check_eq, word_of};
 use core_base::TickClock;
 use parking_lot_core::{Key, ParkingLot, Token, Want, Word, WordKind};
 use std::sync::Wait;
@@ -39,9 +39,9 @@ fn hand_to_itself<R: Wait>(rt: &R, lot: &ParkingLot, token: &mut Token, word: Wo
 fn a_right_to_another_mutex_wakes_nobody(rt: HostRuntime) {
     let (lot, mut token, one) = mutex_of(&rt, rt.alloc(), 2);
     let other = word_of(&rt, &lot, &mut token, WordKind::Mutex);
-    holds(&rt, hand_to_itself(&rt, &lot, &mut token, other));
+    check(&rt, hand_to_itself(&rt, &lot, &mut token, other));
     in_section(&rt, &lot, &mut token, KEY, Task::LineUp(Want::Exclusive));
     let clock = TickClock::new();
     let late = told_until(&rt, &lot, &mut token, one, (&clock, EARLY));
-    same(&rt, late, Err((KEY, Some(KEY))));
+    check_eq(&rt, late, Err((KEY, Some(KEY))));
 }

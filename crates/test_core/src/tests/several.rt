@@ -11,7 +11,7 @@ ghost use Rattle.parking_lot_core.specs.declared.tokens.Did.TheVariants.{Nothing
 
 use super::mutexes::try_lock;
 use super::parts::{Part, Score, play_beside};
-use super::{Task, in_section, same, seats_of, ticket_of, told};
+use super::{Task, in_section, check_eq, seats_of, ticket_of, told};
 use parking_lot_core::{
     Key, Keys, Note, ParkingLot, Right, Section, Ticket, Token, Want, Word, WordKind,
 };
@@ -181,7 +181,7 @@ fn notes_of_three<R: Wait>(
 fn each_gets<R: Wait + Abort>(rt: &R, alloc: Global, way: Way, note: Note) {
     let (lot, seats) = seat_four(rt, alloc, 4);
     let notes = notes_of_three(rt, alloc, &lot, seats, way);
-    same(rt, notes, [note, note, note]);
+    check_eq(rt, notes, [note, note, note]);
 }
 
 #[test]
@@ -266,5 +266,5 @@ fn all_four<R: Threads + Wait + Sync>(rt: &R, lot: &ParkingLot, seats: Four) -> 
 #[test]
 fn the_last_three_sleepers_wake_together(rt: HostRuntime) {
     let (lot, seats) = seat_four(&rt, rt.alloc(), 1024);
-    same(&rt, all_four(&rt, &lot, seats), 3);
+    check_eq(&rt, all_four(&rt, &lot, seats), 3);
 }

@@ -12,7 +12,7 @@ ghost use Rattle.parking_lot_core.specs.declared.tokens.Did.TheVariants.{Nothing
 use super::buckets::lie_apart;
 use super::mutexes::{try_lock, unlock};
 use super::several::append_three;
-use super::{Task, holds, in_section, lot_of, mutex_of, same};
+use super::{Task, check, in_section, lot_of, mutex_of, check_eq};
 use core_words::laws::mutex_may_step;
 use parking_lot_core::{
     Did, Fault, Key, Keys, Note, Op, ParkingLot, Requeue, Section, SectionRecord, Ticket, Token,
@@ -36,7 +36,7 @@ fn sizes_fit_or_not(rt: HostRuntime) {
     for row in SIZES {
         let (words, seats, _) = *row;
         let found = ParkingLot::fits(words, seats);
-        same(&rt, (words, seats, found), *row);
+        check_eq(&rt, (words, seats, found), *row);
     }
 }
 
@@ -50,14 +50,14 @@ fn is_new(ticket: Ticket, number: usize) -> bool {
 
 fn are_new(rt: &impl Abort, tickets: Vec<Ticket>) {
     for (number, ticket) in tickets.into_iter().enumerate() {
-        holds(rt, is_new(ticket, number));
+        check(rt, is_new(ticket, number));
     }
 }
 
 #[test]
 fn seats_are_numbered(rt: HostRuntime) -> Result<(), Fail> {
     let (_lot, tickets) = ParkingLot::new(rt.alloc(), 1, 1024)?;
-    same(&rt, tickets.len(), 1024);
+    check_eq(&rt, tickets.len(), 1024);
     are_new(&rt, tickets);
     Ok(())
 }
@@ -93,14 +93,14 @@ fn lock_once(
 fn a_mutex_is_locked_once(rt: HostRuntime) {
     let (lot, mut token, word) = mutex_of(&rt, rt.alloc(), 4);
     let locked = lock_once(&lot, &mut token, word);
-    same(&rt, locked, Some((true, Want::Exclusive, false, [1, 0])));
+    check_eq(&rt, locked, Some((true, Want::Exclusive, false, [1, 0])));
 }
 
 #[test]
 fn a_lot_has_as_many_words_as_may_be(rt: HostRuntime) {
     let (lot, mut token, word) = mutex_of(&rt, rt.alloc(), 1 << 20);
     let locked = lock_once(&lot, &mut token, word);
-    same(&rt, locked, Some((true, Want::Exclusive, false, [1, 0])));
+    check_eq(&rt, locked, Some((true, Want::Exclusive, false, [1, 0])));
 }
 
 // Returns the values that the operations find, one after another.
@@ -123,7 +123,7 @@ fn found_by_each(lot: &ParkingLot, token: &mut Token, word: Word) -> [u64; 6]
 fn each_operation_changes_the_word(rt: HostRuntime) {
     let (lot, mut token, word) = mutex_of(&rt, rt.alloc(), 4);
     let found = found_by_each(&lot, &mut token, word);
-    same(&rt, found, [0, 1, 3, 3, 1, 1]);
+    check_eq(&rt, found, [0, 1, 3, 3, 1, 1]);
 }
 
 // Returns the value that a store finds, and the value that is there then.
@@ -143,7 +143,7 @@ fn found_by_a_store(lot: &ParkingLot, token: &mut Token, word: Word) -> [u64; 4]
 fn an_owner_may_store(rt: HostRuntime) {
     let (lot, mut token, word) = mutex_of(&rt, rt.alloc(), 4);
     let found = found_by_a_store(&lot, &mut token, word);
-    same(&rt, found, [0, 3, 1, 1]);
+    check_eq(&rt, found, [0, 3, 1, 1]);
 }
 
 type Drawn = Result<(usize, WordKind), Fault>;
@@ -207,8 +207,8 @@ fn draw_the_last(lot: &ParkingLot, token: &mut Token) -> [Drawn; 4]
 #[test]
 fn words_are_drawn_once(rt: HostRuntime) {
     let (lot, mut token, _) = lot_of(&rt, rt.alloc(), 5, 1);
-    same(&rt, draw_four(&lot, &mut token), FOUR);
-    same(&rt, draw_the_last(&lot, &mut token), THE_LAST);
+    check_eq(&rt, draw_four(&lot, &mut token), FOUR);
+    check_eq(&rt, draw_the_last(&lot, &mut token), THE_LAST);
 }
 
 // How many stand under each of two keys, and under which the thread does.
@@ -258,9 +258,9 @@ fn line_up_twice<R: Wait>(
 fn a_section_takes_in_order(rt: HostRuntime) {
     let (lot, mut token, _) = lot_of(&rt, rt.alloc(), 1, 1);
     let seen = line_up_twice(&rt, &lot, &mut token);
-    same(&rt, seen, ([(1, 0, Some(6)), (0, 1, Some(7))], 0, true));
-    same(&rt, token.last_section(), recorded(Did::TakeAll(7), 1));
-    same(&rt, lot.queued(&rt, &mut token, 7), 0);
+    check_eq(&rt, seen, ([(1, 0, Some(6)), (0, 1, Some(7))], 0, true));
+    check_eq(&rt, token.last_section(), recorded(Did::TakeAll(7), 1));
+    check_eq(&rt, lot.queued(&rt, &mut token, 7), 0);
 }
 
 const SHARED_OR_NOT: (Want, Want, Want) = (Want::Shared, Want::Exclusive, Want::Shared);
@@ -292,13 +292,13 @@ fn pick_of_three<R: Wait>(rt: &R, lot: &ParkingLot, token: &mut Token) -> (bool,
 #[test]
 fn a_section_takes_who_is_picked(rt: HostRuntime) {
     let (lot, mut token, _) = lot_of(&rt, rt.alloc(), 1, 3);
-    same(&rt, pick_of_three(&rt, &lot, &mut token), (true, true, 1));
+    check_eq(&rt, pick_of_three(&rt, &lot, &mut token), (true, true, 1));
     let did = Did::TakePicked {
         key: 6,
         start: None,
         recursive: false,
     };
-    same(&rt, token.last_section(), recorded(did, 2));
+    check_eq(&rt, token.last_section(), recorded(did, 2));
 }
 
 // The answer of a section that requeues, the first of whom it took, and how many stand under each
@@ -349,9 +349,9 @@ fn requeues<R: Wait + Abort>(rt: &R, lot: &ParkingLot, token: &mut Token, to: Ke
 {
     for (op, seen, number) in REQUEUED {
         let (op, number) = (*op, *number);
-        same(rt, requeue_three(rt, lot, token, to, op), *seen);
+        check_eq(rt, requeue_three(rt, lot, token, to, op), *seen);
         let did = Did::Requeue { from: 6, to, op };
-        same(rt, token.last_section(), recorded(did, number));
+        check_eq(rt, token.last_section(), recorded(did, number));
     }
 }
 
@@ -359,7 +359,7 @@ fn requeues<R: Wait + Abort>(rt: &R, lot: &ParkingLot, token: &mut Token, to: Ke
 fn a_section_requeues(rt: HostRuntime) {
     let (lot, mut token, _) = lot_of(&rt, rt.alloc(), 1, 3);
     // To a key of the same bucket, and to one of another.
-    same(&rt, (lie_apart(3, 6, 1), lie_apart(3, 6, 2)), (false, true));
+    check_eq(&rt, (lie_apart(3, 6, 1), lie_apart(3, 6, 2)), (false, true));
     requeues(&rt, &lot, &mut token, 1);
     requeues(&rt, &lot, &mut token, 2);
 }
@@ -367,15 +367,15 @@ fn a_section_requeues(rt: HostRuntime) {
 fn forgets<R: Wait + Abort>(rt: &R, lot: &ParkingLot, token: &mut Token, word: Word)
     requires { IsTokenOf lot.now token.old × IsWordOf lot.now.words word × (word.kind ≡ Mutex) }
 {
-    same(rt, in_section(rt, lot, token, 0, Task::TakeFirst), None);
+    check_eq(rt, in_section(rt, lot, token, 0, Task::TakeFirst), None);
     let record = SectionRecord {
         key: 0,
         did: Did::TakeFirst(0),
         number: 0,
     };
-    same(rt, token.last_section(), Some(record));
+    check_eq(rt, token.last_section(), Some(record));
     lot.word(token, word, Op::Load);
-    same(rt, token.last_section(), None);
+    check_eq(rt, token.last_section(), None);
 }
 
 #[test]

@@ -9,7 +9,7 @@ ghost use Rattle.parking_lot_core.specs.Tokens.{IsTokenOf, IsSameThread};
 use super::clocks::told_until;
 use super::mutexes::{try_lock, unlock};
 use super::parts::{Part, play};
-use super::{Task, delay, in_section, same, sleep, until_taken};
+use super::{Task, delay, in_section, check_eq, sleep, until_taken};
 use core_base::TickClock;
 use parking_lot_core::{Key, Keys, Note, ParkingLot, Right, Token, Want, Word};
 use std::sync::Wait;
@@ -114,7 +114,7 @@ pub fn answer<R: Wait>(rt: &R, lot: &ParkingLot, token: &mut Token, word: Word) 
 #[test]
 fn a_right_goes_round(rt: HostRuntime) {
     let (served, answered) = play(&rt, rt.alloc(), (Part::Serve, Part::Answer));
-    same(&rt, (served.0, answered.0), (ROUNDS, ROUNDS));
+    check_eq(&rt, (served.0, answered.0), (ROUNDS, ROUNDS));
 }
 
 // Wakes the other thread as soon as it stands in the line, by a plain note and by a right in turn.
@@ -177,7 +177,7 @@ pub fn sleep_late<R: Wait>(rt: &R, lot: &ParkingLot, token: &mut Token, word: Wo
 #[test]
 fn an_early_parker_loses_and_doubles_no_wake(rt: HostRuntime) {
     let (woken, _) = play(&rt, rt.alloc(), (Part::SleepLate, Part::WakeEarly));
-    same(&rt, woken.0, SLOW_ROUNDS);
+    check_eq(&rt, woken.0, SLOW_ROUNDS);
 }
 
 // How many rounds ended by a wake, and how many by the deadline.
@@ -226,5 +226,5 @@ pub fn wake_until<R: Wait>(rt: &R, lot: &ParkingLot, token: &mut Token, done: &A
 fn who_was_taken_is_woken_and_not_late(rt: HostRuntime) {
     let ((woken, late), taken) = play(&rt, rt.alloc(), (Part::SleepBriefly, Part::WakeUntilDone));
     let ended = (woken, woken.saturating_add(late));
-    same(&rt, ended, (taken.0, ROUNDS));
+    check_eq(&rt, ended, (taken.0, ROUNDS));
 }

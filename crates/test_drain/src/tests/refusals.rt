@@ -1,7 +1,7 @@
 //! Memory that is refused: `bench/each_refusal.py` refuses each allocation of these tests in turn.
 //! In a run where none is refused, they try what is answered then.
 
-use super::same;
+use super::check_eq;
 use core_base::{Fault, ListQueues, Queues, Want};
 use core_queues::BucketQueues;
 use lot_replay::replay::replay;
@@ -91,11 +91,11 @@ fn world_after<Q: Queues + Drop>(
     let mut world = match World::<Q>::new(alloc, &MUTEX, THREADS) {
         Ok(world) => world,
         Err(fault) => {
-            same(rt, fault, Fault::NoMemory);
+            check_eq(rt, fault, Fault::NoMemory);
             World::new(alloc, &MUTEX, THREADS)?
         }
     };
-    same(rt, look(&world), OPENING);
+    check_eq(rt, look(&world), OPENING);
     for step in steps {
         world.step(*step);
     }
@@ -109,13 +109,13 @@ fn runs<Q: Queues + Drop>(rt: &impl Abort, alloc: Global) -> Result<(), Fail> {
     let mut outcomes = Vec::new(alloc);
     if let Err(stopped) = world.run(&steps, &mut outcomes) {
         let taken = stopped.taken;
-        same(rt, outcomes.as_slice(), &OUTCOMES[..taken]);
+        check_eq(rt, outcomes.as_slice(), &OUTCOMES[..taken]);
         let other = world_after::<Q>(rt, alloc, &steps[..taken])?;
-        same(rt, look(&world), look(&other));
-        same(rt, world.run(&steps[taken..], &mut outcomes), Ok(()));
+        check_eq(rt, look(&world), look(&other));
+        check_eq(rt, world.run(&steps[taken..], &mut outcomes), Ok(()));
     }
-    same(rt, outcomes.as_slice(), OUTCOMES.as_slice());
-    same(rt, look(&world), UNLOCKING);
+    check_eq(rt, outcomes.as_slice(), OUTCOMES.as_slice());
+    check_eq(rt, look(&world), UNLOCKING);
     Ok(())
 }
 
@@ -135,16 +135,16 @@ fn drains<Q: Queues + Drop>(rt: &impl Abort, alloc: Global) -> Result<(), Fail> 
         }
         match world.drain(alloc) {
             Ok(steps) => {
-                same(rt, look(&world), UNLOCKING);
+                check_eq(rt, look(&world), UNLOCKING);
                 for step in steps.iter() {
-                    same(rt, world.step(*step) == Outcome::NotNow, false);
+                    check_eq(rt, world.step(*step) == Outcome::NotNow, false);
                 }
                 drained = true;
             }
-            Err(fault) => same(rt, (fault, look(&world)), (Fault::NoMemory, UNLOCKING)),
+            Err(fault) => check_eq(rt, (fault, look(&world)), (Fault::NoMemory, UNLOCKING)),
         }
     }
-    same(rt, (drained, look(&world)), (true, OPENING));
+    check_eq(rt, (drained, look(&world)), (true, OPENING));
     Ok(())
 }
 
@@ -159,11 +159,11 @@ fn makes<Q: Queues + Drop>(rt: &impl Abort, alloc: Global) -> Result<(), Fail> {
     let queues = match Q::with_capacity(alloc, 5) {
         Ok(queues) => queues,
         Err(fault) => {
-            same(rt, fault, Fault::NoMemory);
+            check_eq(rt, fault, Fault::NoMemory);
             Q::with_capacity(alloc, 5)?
         }
     };
-    same(rt, queues.key_of(4), None);
+    check_eq(rt, queues.key_of(4), None);
     Ok(())
 }
 
@@ -221,11 +221,11 @@ fn replays<Q: Queues + Drop>(rt: &impl Abort, alloc: Global) {
     let status = replay::<Q, _, _>(alloc, &mut &LINES[..], &mut text);
     let found = (text.as_slice(), status);
     let is_known = ENDINGS.iter().any(|ending| *ending == found);
-    same(rt, (found, is_known), (found, true));
+    check_eq(rt, (found, is_known), (found, true));
     if status != 0 {
         text.clear();
         let status = replay::<Q, _, _>(alloc, &mut &LINES[..], &mut text);
-        same(rt, (text.as_slice(), status), (WHOLE, 0));
+        check_eq(rt, (text.as_slice(), status), (WHOLE, 0));
     }
 }
 

@@ -1,6 +1,6 @@
 //! Schedules with a `drain`, as lines in and lines out, over both kinds of queues.
 use super::rows::{DRAINED, ROWS, WORKED};
-use super::{holds, same};
+use super::{check, check_eq};
 use core_base::{ListQueues, Queues};
 use core_queues::BucketQueues;
 use lot_replay::replay::replay;
@@ -17,8 +17,8 @@ fn replayed<Q: Queues + Drop>(alloc: Global, input: &[u8]) -> (Vec<u8>, u8) {
 
 fn leads_to<Q: Queues + Drop>(rt: &impl Abort, alloc: Global, input: &[u8], wanted: &[u8]) {
     let (text, status) = replayed::<Q>(alloc, input);
-    same(rt, text.as_slice(), wanted);
-    same(rt, status, 0);
+    check_eq(rt, text.as_slice(), wanted);
+    check_eq(rt, status, 0);
 }
 
 #[test]
@@ -57,22 +57,22 @@ fn steps_in(alloc: Global, text: &[u8]) -> Result<Vec<u8>, AllocError> {
 fn is_drained(rt: &impl Abort, alloc: Global, schedule: &[u8]) -> Result<(), AllocError> {
     let drained = with_lines(alloc, schedule, b"drain\nshow\n")?;
     let (text, status) = replayed::<BucketQueues>(alloc, drained.as_slice());
-    same(rt, status, 0);
-    holds(rt, text.as_slice().ends_with(b" 0\n"));
+    check_eq(rt, status, 0);
+    check(rt, text.as_slice().ends_with(b" 0\n"));
     let steps = steps_in(alloc, text.as_slice())?;
-    holds(rt, !steps.is_empty());
+    check(rt, !steps.is_empty());
     let taken = with_lines(alloc, schedule, steps.as_slice())?;
     let shown = with_lines(alloc, taken.as_slice(), b"show\n")?;
     let (text, status) = replayed::<BucketQueues>(alloc, shown.as_slice());
-    same(rt, status, 0);
-    holds(rt, text.as_slice().ends_with(b" 0\n"));
+    check_eq(rt, status, 0);
+    check(rt, text.as_slice().ends_with(b" 0\n"));
     Ok(())
 }
 
 #[test]
 fn a_drain_is_a_schedule(rt: HostRuntime) {
     for schedule in DRAINED.iter() {
-        same(&rt, is_drained(&rt, rt.alloc(), schedule), Ok(()));
+        check_eq(&rt, is_drained(&rt, rt.alloc(), schedule), Ok(()));
     }
 }
 
@@ -96,9 +96,9 @@ fn are_drained_or_refused(
         }
         let drained = with_lines(alloc, front.as_slice(), b"drain\nshow\n")?;
         let (text, status) = replayed::<BucketQueues>(alloc, drained.as_slice());
-        same(rt, status, 0);
+        check_eq(rt, status, 0);
         let text = text.as_slice();
-        holds(rt, is_refused(text) || text.ends_with(b" 0\n"));
+        check(rt, is_refused(text) || text.ends_with(b" 0\n"));
     }
     Ok(())
 }
@@ -107,6 +107,6 @@ fn are_drained_or_refused(
 fn worked_schedules_are_drained_behind_each_line(rt: HostRuntime) {
     for schedule in WORKED.iter() {
         let tried = are_drained_or_refused(&rt, rt.alloc(), schedule);
-        same(&rt, tried, Ok(()));
+        check_eq(&rt, tried, Ok(()));
     }
 }

@@ -2,7 +2,7 @@
 ghost use Rattle.std.specs.Prelude.{◌≤◌, ◌≡◌, ◌<◌, All, length, true};
 ghost use Rattle.spec_locks.specs.Kinds.{fits};
 
-use super::{holds, same};
+use super::{check, check_eq};
 use core_base::{ListQueues, Queues};
 use core_queues::BucketQueues;
 use lot_world::{Call, Kind, MutexCall, Outcome, Step, Turn, World};
@@ -50,7 +50,7 @@ fn is_over<Q: Queues + Drop>(world: &World<Q>) -> bool {
 /// Each step is possible.
 fn takes_all<Q: Queues + Drop>(rt: &impl Abort, world: &mut World<Q>, steps: &[Step]) {
     for step in steps {
-        holds(rt, world.step(*step) != Outcome::NotNow);
+        check(rt, world.step(*step) != Outcome::NotNow);
     }
 }
 
@@ -61,11 +61,11 @@ fn drains<Q: Queues + Drop>(rt: &impl Abort, alloc: Global, world: &mut World<Q>
     };
     let number = (world.threads() as u128).wrapping_add(1);
     let most = number.wrapping_mul(number).wrapping_mul(1000);
-    holds(rt, steps.len() as u128 <= most);
+    check(rt, steps.len() as u128 <= most);
     takes_all(rt, world, steps.as_slice());
-    holds(rt, is_over(world));
+    check(rt, is_over(world));
     if let Some(more) = steps_of(alloc, world) {
-        same(rt, more.len(), 0);
+        check_eq(rt, more.len(), 0);
     }
     true
 }
@@ -226,9 +226,9 @@ fn drained_walks<Q: Queues + Drop, A: Abort>(
 fn mutexes_are_drained(rt: HostRuntime) {
     for threads in 2..17 {
         let plain = drained_walks::<ListQueues, _>(&rt, rt.alloc(), Kind::Mutex, threads, 20);
-        same(&rt, plain, 20);
+        check_eq(&rt, plain, 20);
         let fair = drained_walks::<BucketQueues, _>(&rt, rt.alloc(), Kind::Fair, threads, 20);
-        same(&rt, fair, 20);
+        check_eq(&rt, fair, 20);
     }
 }
 
@@ -237,10 +237,10 @@ fn reader_writer_locks_are_drained(rt: HostRuntime) {
     for threads in 2..17 {
         let kind = Kind::RwLock { limit: 1000 };
         let normal = drained_walks::<BucketQueues, _>(&rt, rt.alloc(), kind, threads, 30);
-        same(&rt, normal, 30);
+        check_eq(&rt, normal, 30);
         let kind = Kind::Recursive { limit: 1000 };
         let recursive = drained_walks::<ListQueues, _>(&rt, rt.alloc(), kind, threads, 30);
-        same(&rt, recursive, 30);
+        check_eq(&rt, recursive, 30);
     }
 }
 
@@ -269,5 +269,5 @@ fn a_lock_of_1024_threads_is_drained(rt: HostRuntime) {
     let kind = Kind::RwLock { limit: 1024 };
     let mut world = world_of::<BucketQueues, _>(&rt, rt.alloc(), kind, 1024);
     queue_up(&mut world);
-    holds(&rt, drains(&rt, rt.alloc(), &mut world));
+    check(&rt, drains(&rt, rt.alloc(), &mut world));
 }

@@ -3,7 +3,7 @@ ghost use Rattle.std.specs.Prelude.{◌≡◌, IfOk};
 ghost use Rattle.std.specs.Arc.{arc_value};
 ghost use Rattle.parking_lot.specs.Names.{IsTokenOf, lot_of};
 
-use super::same;
+use super::check_eq;
 use parking_lot::{Fault, Mutex, ParkingLot, Team, Token};
 use std::sync::{Arc, Wait};
 use std::test::Fail;
@@ -54,6 +54,6 @@ fn two_accounts(rt: HostRuntime) -> Result<(), Fail> {
         &|token: &mut Token| accounts.transfer(&rt, token, 3),
     )?;
     let Accounts { savings, current } = accounts;
-    same(&rt, [savings.into_inner(), current.into_inner()], [1, 99]);
+    check_eq(&rt, [savings.into_inner(), current.into_inner()], [1, 99]);
     Ok(())
 }

@@ -3,7 +3,7 @@
 ghost use Rattle.std.specs.Prelude.{◌≡◌, ◌+◌, ◌*◌, ◌/◌, IfOk, IfSome};
 ghost use Rattle.parking_lot.specs.Names.{IsTokenOf, lot_of_rwlock};
 
-use super::{all_are, holds, same};
+use super::{all_are, check, check_eq};
 use parking_lot::{Fault, RwLock, Team, Token};
 use std::sync::Wait;
 use std::test::Fail;
@@ -107,7 +107,7 @@ fn a_cache(rt: HostRuntime) -> Result<(), Fail> {
     let (team, mut token) = Team::new(rt.alloc(), 2)?;
     let cache = RwLock::new(team.lot(), &mut token, Vec::new(rt.alloc())).map_err(Fault::from)?;
     let found = team.run(&rt, &|token: &mut Token| look_up_all(&rt, &cache, token))?;
-    holds(&rt, all_are(&found, &Ok(2794)));
-    same(&rt, cache.into_inner().len(), 4);
+    check(&rt, all_are(&found, &Ok(2794)));
+    check_eq(&rt, cache.into_inner().len(), 4);
     Ok(())
 }

@@ -3,7 +3,7 @@ ghost use Rattle.std.specs.Prelude.{◌≡◌, IfOk};
 ghost use Rattle.std.specs.Arc.{arc_value};
 ghost use Rattle.parking_lot.specs.Names.{IsTokenOf};
 
-use super::{all_are, holds};
+use super::{all_are, check};
 use parking_lot::{
     Fault, Key, Keys, Note, ParkingLot, Slept, Team, TickClock, Token, Want, Word, WordKind,
 };
@@ -97,6 +97,6 @@ fn a_door_that_is_opened_once(rt: HostRuntime) -> Result<(), Fail> {
     let (team, mut token) = Team::new(rt.alloc(), 4)?;
     let door = Door::new(team.lot(), &mut token)?;
     let passed = team.run(&rt, &|token: &mut Token| open_or_pass(&rt, &door, token))?;
-    holds(&rt, all_are(&passed, &true));
+    check(&rt, all_are(&passed, &true));
     Ok(())
 }

@@ -3,7 +3,7 @@ ghost use Rattle.std.specs.Prelude.{◌≡◌, IfOk};
 ghost use Rattle.std.specs.Arc.{arc_value};
 ghost use Rattle.parking_lot.specs.Names.{IsTokenOf, lot_of, lot_of_semaphore};
 
-use super::{holds, same, sum_of};
+use super::{check, check_eq, sum_of};
 use parking_lot::{Fault, Mutex, ParkingLot, Semaphore, Team, Token};
 use std::alloc::Global;
 use std::sync::{Arc, Wait};
@@ -70,7 +70,7 @@ fn a_pool_of_drives(rt: HostRuntime) -> Result<(), Fail> {
     let kept = pool.permits.acquire(&rt, &mut token);
     let written = team.run(&rt, &|token: &mut Token| write_often(&rt, &pool, token));
     kept.release(&rt, &mut token);
-    same(&rt, sum_of(&written?), 2 * TIMES);
-    holds(&rt, pool.permits.available(&mut token) == 2);
+    check_eq(&rt, sum_of(&written?), 2 * TIMES);
+    check(&rt, pool.permits.available(&mut token) == 2);
     Ok(())
 }

@@ -1,7 +1,7 @@
 //! A function that locks, and calls another that locks.
 ghost use Rattle.parking_lot.specs.Names.{IsTokenOf, lot_of};
 
-use super::same;
+use super::check_eq;
 use parking_lot::{Fault, ReentrantMutex, Team, Token};
 use std::sync::Wait;
 use std::test::Fail;
@@ -33,6 +33,6 @@ fn mean<R: Wait>(rt: &R, prices: &Prices, token: &mut Token) -> Result<u64, Faul
 fn a_function_that_locks_again(rt: HostRuntime) -> Result<(), Fail> {
     let (team, mut token) = Team::new(rt.alloc(), 0)?;
     let prices = Prices::new(team.lot(), &mut token, [3, 4, 5])?;
-    same(&rt, mean(&rt, &prices, &mut token)?, 4);
+    check_eq(&rt, mean(&rt, &prices, &mut token)?, 4);
     Ok(())
 }

@@ -2,7 +2,7 @@
 //! the cell empty.
 ghost use Rattle.parking_lot.specs.Names.{IsTokenOf, lot_of_once};
 
-use super::{all_are, holds, same};
+use super::{all_are, check, check_eq};
 use parking_lot::{OnceCell, Team, Token};
 use std::num::ParseIntError;
 use std::sync::Wait;
@@ -54,13 +54,13 @@ fn a_value_that_is_made_once(rt: HostRuntime) -> Result<(), Fail> {
     let (team, mut token) = Team::new(rt.alloc(), 2)?;
     let rate = OnceCell::new(team.lot(), &mut token)?;
     let reads = AtomicUsize::new(0);
-    holds(
+    check(
         &rt,
         rate_of(&rt, &rate, &mut token, "nineteen", &reads).is_err(),
     );
-    holds(&rt, rate.get().is_none());
+    check(&rt, rate.get().is_none());
     let found = team.run(&rt, &|token: &mut Token| taxed(&rt, &rate, token, &reads))?;
-    holds(&rt, all_are(&found, &Some(1190)));
-    same(&rt, reads.load(SeqCst), 2);
+    check(&rt, all_are(&found, &Some(1190)));
+    check_eq(&rt, reads.load(SeqCst), 2);
     Ok(())
 }

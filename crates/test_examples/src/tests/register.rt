@@ -1,7 +1,7 @@
 //! A register of badges, each with the number of its place. A badge that is missing is written down.
 ghost use Rattle.parking_lot.specs.Names.{IsTokenOf, lot_of_rwlock};
 
-use super::{all_are, holds, same};
+use super::{all_are, check, check_eq};
 use parking_lot::{Fault, RwLock, Team, Token};
 use std::sync::Wait;
 use std::test::Fail;
@@ -38,7 +38,7 @@ fn a_register_of_badges(rt: HostRuntime) -> Result<(), Fail> {
         &rt,
         &|token: &mut Token| number_of(&rt, &register, token, 17),
     )?;
-    same(&rt, written, 1);
-    holds(&rt, all_are(&found, &Ok(0)));
+    check_eq(&rt, written, 1);
+    check(&rt, all_are(&found, &Ok(0)));
     Ok(())
 }

@@ -1,7 +1,7 @@
 //! A table that is filled once, by whoever comes first.
 ghost use Rattle.parking_lot.specs.Names.{IsTokenOf, lot_of_once};
 
-use super::{all_are, holds, same};
+use super::{all_are, check, check_eq};
 use parking_lot::{Fault, Once, OnceFault, Team, Token};
 use std::sync::Wait;
 use std::sync::atomic::Ordering::SeqCst;
@@ -41,7 +41,7 @@ fn a_table_that_is_filled_once(rt: HostRuntime) -> Result<(), Fail> {
         &rt,
         &|token: &mut Token| look_up(&rt, &filled, &table, token),
     )?;
-    holds(&rt, all_are(&found, &42));
-    same(&rt, table.fills.load(SeqCst), 1);
+    check(&rt, all_are(&found, &42));
+    check_eq(&rt, table.fills.load(SeqCst), 1);
     Ok(())
 }

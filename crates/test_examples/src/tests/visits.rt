@@ -1,7 +1,7 @@
 //! Closures that run where a lock is free, a wait that ends in time, and sizes that no lot has.
 ghost use Rattle.parking_lot.specs.Names.{IsTokenOf, lot_of, lot_of_rwlock};
 
-use super::{holds, same};
+use super::{check, check_eq};
 use parking_lot::{Fault, Monitor, ParkingLot, RwLock, Team, TickClock, Token};
 use std::sync::Wait;
 use std::test::Fail;
@@ -28,9 +28,9 @@ fn a_busy_lock_runs_no_closure(rt: HostRuntime) -> Result<(), Fail> {
     let guard = lock.write(&rt, &mut token);
     let tried = team.run(&rt, &|token: &mut Token| try_both(&rt, &lock, token));
     guard.unlock(&rt, &mut token);
-    same(&rt, tried?.pop(), Some((Ok(None), None)));
+    check_eq(&rt, tried?.pop(), Some((Ok(None), None)));
     let tried = try_both(&rt, &lock, &mut token);
-    same(&rt, tried, (Ok(Some(5)), Some(6)));
+    check_eq(&rt, tried, (Ok(Some(5)), Some(6)));
     Ok(())
 }
 
@@ -59,21 +59,21 @@ fn wait_for_0<R: Wait>(rt: &R, monitor: &Monitor<u64, 1>, token: &mut Token) -> 
 fn a_wait_of_a_monitor_ends_in_time(rt: HostRuntime) -> Result<(), Fail> {
     let (team, mut token) = Team::new(rt.alloc(), 0)?;
     let monitor = Monitor::new(rt.alloc(), team.lot(), &mut token, 1u64)?;
-    holds(&rt, wait_for_0(&rt, &monitor, &mut token));
-    holds(&rt, !wait_for_0(&rt, &monitor, &mut token));
-    holds(&rt, !monitor.notify_one(&rt, &mut token, 0));
-    same(&rt, monitor.notify_all(&rt, &mut token, 0), 0);
-    same(&rt, monitor.into_inner(), 0);
+    check(&rt, wait_for_0(&rt, &monitor, &mut token));
+    check(&rt, !wait_for_0(&rt, &monitor, &mut token));
+    check(&rt, !monitor.notify_one(&rt, &mut token, 0));
+    check_eq(&rt, monitor.notify_all(&rt, &mut token, 0), 0);
+    check_eq(&rt, monitor.into_inner(), 0);
     Ok(())
 }
 
 #[test]
 fn a_lot_refuses_its_sizes(rt: HostRuntime) -> Result<(), Fail> {
     let refused = Some(Fault::SizesOutOfRange);
-    same(&rt, Team::new(rt.alloc(), 1024).err(), refused);
-    same(&rt, Team::with_words(rt.alloc(), 0, 1).err(), refused);
-    same(&rt, ParkingLot::for_threads(rt.alloc(), 0).err(), refused);
+    check_eq(&rt, Team::new(rt.alloc(), 1024).err(), refused);
+    check_eq(&rt, Team::with_words(rt.alloc(), 0, 1).err(), refused);
+    check_eq(&rt, ParkingLot::for_threads(rt.alloc(), 0).err(), refused);
     let (_lot, tickets) = ParkingLot::try_new(rt.alloc(), 1, 1024)?;
-    same(&rt, tickets.len(), 1024);
+    check_eq(&rt, tickets.len(), 1024);
     Ok(())
 }

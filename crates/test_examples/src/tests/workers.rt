@@ -2,7 +2,7 @@
 //! wait while it is empty.
 ghost use Rattle.parking_lot.specs.Names.{IsTokenOf, lot_of};
 
-use super::{same, sum_of};
+use super::{check_eq, sum_of};
 use parking_lot::{Fault, Monitor, Team, Token};
 use std::sync::Wait;
 use std::test::Fail;
@@ -114,6 +114,6 @@ fn a_bounded_queue_of_workers(rt: HostRuntime) -> Result<(), Fail> {
     };
     let desk = Desk::new(rt.alloc(), team.lot(), &mut token, jobs).map_err(Fault::from)?;
     let done = team.run(&rt, &|token: &mut Token| bring_or_work(&rt, &desk, token))?;
-    same(&rt, sum_of(&done), 78);
+    check_eq(&rt, sum_of(&done), 78);
     Ok(())
 }

@@ -3,7 +3,7 @@
 ghost use Rattle.std.specs.Prelude.{◌≤◌, length};
 
 use super::checked::{Checked, Stop};
-use super::same;
+use super::check_eq;
 use super::scripts::{Deed, Line, Script, play, play_all};
 use core_base::{ListQueues, Queues};
 use core_queues::BucketQueues;
@@ -79,7 +79,7 @@ fn bears_at<Q: Queues + Drop, A: Abort>(
             let found = disturbed::<Q>(alloc, script, before, line, behind);
             runs = runs.wrapping_add(1);
             steps = steps.wrapping_add(found.unwrap_or(0));
-            same(
+            check_eq(
                 rt,
                 (name, place, thread, disturbance, found.err()),
                 (name, place, thread, disturbance, None),
@@ -138,83 +138,83 @@ fn disturbed_scenes_keep_their_rules(rt: HostRuntime) -> Result<(), Fail> {
         runs = runs.wrapping_add(found.0);
         steps = steps.wrapping_add(found.1);
     }
-    same(&rt, (runs, steps), (4212, 192920));
+    check_eq(&rt, (runs, steps), (4212, 192920));
     Ok(())
 }
 
 #[test]
 fn disturbed_mutexes_keep_their_rules(rt: HostRuntime) -> Result<(), Fail> {
     let found = all_bear(&rt, rt.alloc(), &MUTEXES)?;
-    same(&rt, found, (1442, 34426));
+    check_eq(&rt, found, (1442, 34426));
     Ok(())
 }
 
 #[test]
 fn disturbed_semaphores_keep_their_rules(rt: HostRuntime) -> Result<(), Fail> {
     let found = all_bear(&rt, rt.alloc(), &SEMAPHORES)?;
-    same(&rt, found, (588, 19078));
+    check_eq(&rt, found, (588, 19078));
     Ok(())
 }
 
 #[test]
 fn disturbed_onces_keep_their_rules(rt: HostRuntime) -> Result<(), Fail> {
     let found = all_bear(&rt, rt.alloc(), &ONCES)?;
-    same(&rt, found, (1074, 32028));
+    check_eq(&rt, found, (1074, 32028));
     Ok(())
 }
 
 #[test]
 fn disturbed_reader_writer_locks_keep_their_rules(rt: HostRuntime) -> Result<(), Fail> {
     let found = all_bear(&rt, rt.alloc(), &RWLOCKS)?;
-    same(&rt, found, (1932, 57100));
+    check_eq(&rt, found, (1932, 57100));
     Ok(())
 }
 
 #[test]
 fn disturbed_fair_releases_keep_their_rules(rt: HostRuntime) -> Result<(), Fail> {
     let found = all_bear(&rt, rt.alloc(), &FAIR_RELEASES)?;
-    same(&rt, found, (1310, 43616));
+    check_eq(&rt, found, (1310, 43616));
     Ok(())
 }
 
 #[test]
 fn disturbed_releases_keep_their_rules(rt: HostRuntime) -> Result<(), Fail> {
     let found = all_bear(&rt, rt.alloc(), &RELEASES)?;
-    same(&rt, found, (1502, 50490));
+    check_eq(&rt, found, (1502, 50490));
     Ok(())
 }
 
 #[test]
 fn disturbed_moves_keep_their_rules(rt: HostRuntime) -> Result<(), Fail> {
     let found = all_bear(&rt, rt.alloc(), &MOVES)?;
-    same(&rt, found, (1506, 85494));
+    check_eq(&rt, found, (1506, 85494));
     Ok(())
 }
 
 #[test]
 fn disturbed_notifications_keep_their_rules(rt: HostRuntime) -> Result<(), Fail> {
     let found = all_bear(&rt, rt.alloc(), &MEANWHILE)?;
-    same(&rt, found, (3318, 215640));
+    check_eq(&rt, found, (3318, 215640));
     Ok(())
 }
 
 #[test]
 fn disturbed_shown_mutexes_keep_their_rules(rt: HostRuntime) -> Result<(), Fail> {
     let found = all_bear(&rt, rt.alloc(), &SHOWN_MUTEXES)?;
-    same(&rt, found, (862, 48182));
+    check_eq(&rt, found, (862, 48182));
     Ok(())
 }
 
 #[test]
 fn disturbed_late_waiters_keep_their_rules(rt: HostRuntime) -> Result<(), Fail> {
     let found = all_bear(&rt, rt.alloc(), &LATE_WAITERS)?;
-    same(&rt, found, (1690, 84994));
+    check_eq(&rt, found, (1690, 84994));
     Ok(())
 }
 
 #[test]
 fn disturbed_refusals_keep_their_rules(rt: HostRuntime) -> Result<(), Fail> {
     let found = all_bear(&rt, rt.alloc(), &REFUSALS)?;
-    same(&rt, found, (308, 8898));
+    check_eq(&rt, found, (308, 8898));
     Ok(())
 }

@@ -1,6 +1,6 @@
 //! Planted states, steps and answers that are wrong: the checker names what is wrong with each.
 
-use super::same;
+use super::check_eq;
 use core_base::Want;
 use spec_locks::{
     Access, Answer, Call, CondvarCall, Downgrade, Kind, MutexCall, Outcome, RwLockCall, Step, Turn,
@@ -257,7 +257,7 @@ const STATES: &[(Planned<'static>, Option<Violation>)] = &[
 fn states_are_named(rt: HostRuntime) -> Result<(), Fail> {
     for (number, (planned, wanted)) in STATES.iter().enumerate() {
         let found = check_state(&seen(rt.alloc(), planned)?).err();
-        same(&rt, (number, found), (number, *wanted));
+        check_eq(&rt, (number, found), (number, *wanted));
     }
     Ok(())
 }
@@ -427,9 +427,9 @@ fn steps_are_named(rt: HostRuntime) -> Result<(), Fail> {
         let turn = *turn;
         let step = Step { thread: 0, turn };
         let found = check_step(&before, step, Outcome::Step, &after).err();
-        same(&rt, (number, found), (number, Some(*wanted)));
+        check_eq(&rt, (number, found), (number, Some(*wanted)));
         let found = check_step(&before, step, Outcome::NotNow, &after).err();
-        same(
+        check_eq(
             &rt,
             (number, found),
             (number, Some(Violation::ChangedByNothing)),
@@ -495,13 +495,13 @@ fn answers_are_named(rt: HostRuntime) -> Result<(), Fail> {
             thread: 0,
             turn: Turn::Go,
         };
-        same(
+        check_eq(
             &rt,
             watch.follow(&still, begins, Outcome::Step, &still),
             Ok(()),
         );
         let found = watch.follow(&still, goes, Outcome::End(*answer), &still);
-        same(&rt, found.err(), Some(*wanted));
+        check_eq(&rt, found.err(), Some(*wanted));
     }
     Ok(())
 }
@@ -616,7 +616,7 @@ fn picks_are_named(rt: HostRuntime) -> Result<(), Fail> {
         let (thread, call) = (0, Call::RwLock { lock: 0, call });
         let turn = Turn::Begin(call);
         let begun = watch.follow(&before, Step { thread, turn }, Outcome::Step, &before);
-        same(&rt, begun, Ok(()));
+        check_eq(&rt, begun, Ok(()));
         let turn = Turn::Go;
         let found = watch.follow(&before, Step { thread, turn }, Outcome::Step, &after);
         let wanted = if is_right {
@@ -624,7 +624,7 @@ fn picks_are_named(rt: HostRuntime) -> Result<(), Fail> {
         } else {
             Some(Violation::WrongPicks(0))
         };
-        same(&rt, found.err(), wanted);
+        check_eq(&rt, found.err(), wanted);
     }
     Ok(())
 }

@@ -2,7 +2,7 @@
 ghost use Rattle.std.specs.Prelude.{◌≤◌, ◌<◌};
 
 use super::checked::{Checked, Stop};
-use super::same;
+use super::check_eq;
 use core_base::{ListQueues, Queues};
 use core_queues::BucketQueues;
 use spec_locks::{
@@ -189,10 +189,10 @@ fn walks<A: Abort>(rt: &A, alloc: Global, kinds: &[Kind], threads: usize, count:
     let mut possible = 0usize;
     for seed in 0..count {
         let found = walk::<ListQueues>(alloc, kinds, threads, seed);
-        same(rt, (threads, seed, found.err()), (threads, seed, None));
+        check_eq(rt, (threads, seed, found.err()), (threads, seed, None));
         possible = possible.wrapping_add(found.unwrap_or(0));
         let found = walk::<BucketQueues>(alloc, kinds, threads, seed ^ 0xffff);
-        same(rt, (threads, seed, found.err()), (threads, seed, None));
+        check_eq(rt, (threads, seed, found.err()), (threads, seed, None));
         possible = possible.wrapping_add(found.unwrap_or(0));
     }
     possible
@@ -251,7 +251,7 @@ fn all_walks<A: Abort>(rt: &A, alloc: Global, worlds: &[&[Kind]], least: usize) 
             turns = turns.wrapping_add(2 * TURNS * WALKS as usize);
         }
     }
-    same(
+    check_eq(
         rt,
         (turns, possible),
         (turns, possible.max((turns / 100).wrapping_mul(least))),

@@ -3,7 +3,7 @@ ghost use Rattle.std.specs.Prelude.{◌≡◌, Ok, refl};
 ghost use Rattle.parking_lot_core.specs.Tokens.{IsTokenOf};
 ghost use Rattle.parking_lot.specs.Names.{lot_of, lot_of_rwlock};
 
-use super::{mutex_alone, rwlock_alone, same};
+use super::{mutex_alone, rwlock_alone, check_eq};
 use crate::{Entry, Slot};
 use indexmap::IndexMap;
 use lock_values::{Mapped, Shows, ShowsMut};
@@ -65,7 +65,7 @@ fn moved<R: Wait>(rt: &R, mutex: &Mutex<Point>, token: &mut Token) -> (u32, u32)
 #[test]
 fn a_part_is_written_and_the_rest_stays(rt: HostRuntime) {
     let (mutex, mut token) = mutex_alone(&rt, rt.alloc(), Point { x: 3, y: 5 });
-    same(&rt, moved(&rt, &mutex, &mut token), (7, 5));
+    check_eq(&rt, moved(&rt, &mutex, &mut token), (7, 5));
 }
 
 // A guard that has its value itself, as a look by a borrowed key is not covered under a lock's guard.
@@ -112,11 +112,11 @@ fn refused<A: Abort>(rt: &A, guard: Whole<Words>) -> Whole<Words> {
     };
     match Mapped::try_new(guard, missing) {
         Ok(mapped) => {
-            same(rt, true, false);
+            check_eq(rt, true, false);
             mapped.into_guard()
         }
         Err((guard, why)) => {
-            same(rt, why, 12345);
+            check_eq(rt, why, 12345);
             guard
         }
     }
@@ -130,11 +130,11 @@ fn found<A: Abort>(rt: &A, guard: Whole<Words>) -> Whole<Words> {
     };
     match Mapped::try_new(guard, there) {
         Ok(mapped) => {
-            same(rt, *mapped, "world");
+            check_eq(rt, *mapped, "world");
             mapped.into_guard()
         }
         Err((guard, _)) => {
-            same(rt, true, false);
+            check_eq(rt, true, false);
             guard
         }
     }
@@ -146,7 +146,7 @@ fn a_refusal_gives_the_guard_back(rt: HostRuntime) -> Result<(), AllocError> {
         value: words(rt.alloc())?,
     };
     let guard = refused(&rt, guard);
-    same(&rt, guard.show().get(&"hello").copied(), Some("world"));
+    check_eq(&rt, guard.show().get(&"hello").copied(), Some("world"));
     drop(found(&rt, guard));
     Ok(())
 }
@@ -163,7 +163,7 @@ fn a_write_is_seen_through_the_whole(rt: HostRuntime) -> Result<(), AllocError> 
     if let Ok(mut mapped) = Mapped::try_new(guard, there) {
         *mapped = "moon";
         let guard = mapped.into_guard();
-        same(&rt, guard.show().get(&"hello").copied(), Some("moon"));
+        check_eq(&rt, guard.show().get(&"hello").copied(), Some("moon"));
     }
     Ok(())
 }
@@ -190,12 +190,12 @@ fn looked_further<A: Abort>(
     };
     match mapped.try_map_or_err(further) {
         Ok(deeper) => {
-            same(rt, true, false);
+            check_eq(rt, true, false);
             deeper.into_guard()
         }
         Err((mapped, why)) => {
-            same(rt, why, 45678);
-            same(rt, mapped.len(), 2);
+            check_eq(rt, why, 45678);
+            check_eq(rt, mapped.len(), 2);
             mapped.into_guard()
         }
     }
@@ -244,6 +244,6 @@ fn read_twice<R: Wait>(rt: &R, lock: &RwLock<Point>, token: &mut Token) -> Optio
 fn a_part_of_a_shared_value_is_read_twice(rt: HostRuntime) {
     let (lock, mut token) = rwlock_alone(&rt, rt.alloc(), Point { x: 3, y: 5 });
     let seen = read_twice(&rt, &lock, &mut token);
-    same(&rt, seen, Some((9, 9)));
-    same(&rt, lock.into_inner().y, 5);
+    check_eq(&rt, seen, Some((9, 9)));
+    check_eq(&rt, lock.into_inner().y, 5);
 }

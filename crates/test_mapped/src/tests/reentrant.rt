@@ -5,7 +5,7 @@ ghost use Rattle.parking_lot_core.specs.Tokens.{IsTicketOf, IsTokenOf};
 ghost use Rattle.parking_lot.specs.Names.{lot_of};
 
 use super::parts::{Point, TheX};
-use super::same;
+use super::check_eq;
 use super::texts::text_of;
 use parking_lot::{
     Fault, ParkingLot, ReentrantMutex, ReentrantMutexGuard, Ticket, Token, advance_count,
@@ -130,9 +130,9 @@ fn tries_of_the_owner_succeed_and_of_others_fail(rt: HostRuntime) {
     if let Some(ticket) = tickets.pop() {
         let mut other = ticket.enter();
         let found = tried_by_two(&rt, &mutex, &mut one, &mut other);
-        same(&rt, found, [true, true, false, true, true]);
+        check_eq(&rt, found, [true, true, false, true, true]);
     }
-    same(&rt, mutex.into_inner(), 7);
+    check_eq(&rt, mutex.into_inner(), 7);
 }
 
 // Locks once more by a guard. Whether the mutex is locked for the other thread while either guard is
@@ -171,7 +171,7 @@ fn a_guard_gives_another(rt: HostRuntime) {
     if let Some(ticket) = tickets.pop() {
         let mut other = ticket.enter();
         let found = locked_by_a_guard(&rt, &mutex, &mut one, &mut other);
-        same(&rt, found, [false, false, true]);
+        check_eq(&rt, found, [false, false, true]);
     }
 }
 
@@ -199,8 +199,8 @@ fn nested<R: Wait + Abort>(
 #[test]
 fn one_thread_locks_many_times(rt: HostRuntime) {
     let (mutex, mut token, _others) = reentrant(&rt, rt.alloc(), 3);
-    same(&rt, nested(&rt, &mutex, &mut token, 1000), 3000);
-    same(&rt, nested(&rt, &mutex, &mut token, 1), 3);
+    check_eq(&rt, nested(&rt, &mutex, &mut token, 1000), 3000);
+    check_eq(&rt, nested(&rt, &mutex, &mut token, 1), 3);
 }
 
 // Bumps an only guard, and one beside another. Whether the mutex is this thread's still.
@@ -218,16 +218,16 @@ fn bumped<R: Wait + Abort>(rt: &R, mutex: &ReentrantMutex<u64>, token: &mut Toke
 #[test]
 fn a_bump_keeps_the_mutex_where_nobody_waits(rt: HostRuntime) {
     let (mutex, mut token, _others) = reentrant(&rt, rt.alloc(), 3);
-    same(&rt, bumped(&rt, &mutex, &mut token), true);
+    check_eq(&rt, bumped(&rt, &mutex, &mut token), true);
 }
 
 #[test]
 fn counts_name_their_thread_up_to_the_limit(rt: HostRuntime) {
-    same(&rt, advance_count(0, 0), Ok(4294967297));
-    same(&rt, advance_count(0, 2), Ok(12884901889));
-    same(&rt, advance_count(4294967297, 0), Ok(4294967298));
-    same(&rt, advance_count(8589934590, 0), Ok(8589934591));
-    same(&rt, advance_count(8589934591, 0), Err(Fault::LockCountFull));
+    check_eq(&rt, advance_count(0, 0), Ok(4294967297));
+    check_eq(&rt, advance_count(0, 2), Ok(12884901889));
+    check_eq(&rt, advance_count(4294967297, 0), Ok(4294967298));
+    check_eq(&rt, advance_count(8589934590, 0), Ok(8589934591));
+    check_eq(&rt, advance_count(8589934591, 0), Err(Fault::LockCountFull));
 }
 
 // The texts of a mutex that this thread has, and that another has.
@@ -257,8 +257,8 @@ fn a_reentrant_mutex_shows_its_value_to_its_owner(rt: HostRuntime) {
     if let Some(ticket) = tickets.pop() {
         let mut other = ticket.enter();
         let (own, others) = shown_to_two(&rt, rt.alloc(), &mutex, &mut one, &mut other);
-        same(&rt, own.as_str(), "ReentrantMutex { data: [0, 10] }");
-        same(&rt, others.as_str(), "ReentrantMutex { data: <locked> }");
+        check_eq(&rt, own.as_str(), "ReentrantMutex { data: [0, 10] }");
+        check_eq(&rt, others.as_str(), "ReentrantMutex { data: <locked> }");
     }
 }
 
@@ -277,7 +277,7 @@ fn part_of<R: Wait + Abort>(rt: &R, mutex: &ReentrantMutex<Point>, token: &mut T
 #[test]
 fn a_part_of_a_reentrant_value_is_read(rt: HostRuntime) {
     let (mutex, mut token, _others) = reentrant(&rt, rt.alloc(), Point { x: 3, y: 5 });
-    same(&rt, part_of(&rt, &mutex, &mut token), 3);
+    check_eq(&rt, part_of(&rt, &mutex, &mut token), 3);
 }
 
 // Adds to a number with a load and a store, under two guards, of which the first goes first.
@@ -389,10 +389,10 @@ fn play<R: Threads + Wait + Abort + Sync>(rt: &R, alloc: Global, alternate: bool
 
 #[test]
 fn another_thread_waits_for_all_guards(rt: HostRuntime) {
-    same(&rt, play(&rt, rt.alloc(), false), (4950, 4950));
+    check_eq(&rt, play(&rt, rt.alloc(), false), (4950, 4950));
 }
 
 #[test]
 fn two_threads_alternate(rt: HostRuntime) {
-    same(&rt, play(&rt, rt.alloc(), true), (0, 2000));
+    check_eq(&rt, play(&rt, rt.alloc(), true), (0, 2000));
 }

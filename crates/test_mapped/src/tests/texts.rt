@@ -3,7 +3,7 @@ ghost use Rattle.std.specs.Prelude.{◌≡◌};
 ghost use Rattle.parking_lot_core.specs.Tokens.{IsTokenOf};
 ghost use Rattle.parking_lot.specs.Names.{lot_of, lot_of_rwlock};
 
-use super::{lone, mutex_alone, rwlock_alone, same};
+use super::{lone, mutex_alone, rwlock_alone, check_eq};
 use parking_lot::{Condvar, Fault, Mutex, Once, RwLock, Token};
 use std::alloc::Global;
 use std::fmt::Debug;
@@ -52,10 +52,10 @@ fn locked_text<R: Wait + Abort>(
 fn a_mutex_shows_its_value_where_nobody_owns_it(rt: HostRuntime) {
     let (mutex, mut token) = mutex_alone(&rt, rt.alloc(), [0, 10]);
     let locked = locked_text(&rt, rt.alloc(), &mutex, &mut token);
-    same(&rt, locked.as_str(), "Mutex { data: <locked> }");
+    check_eq(&rt, locked.as_str(), "Mutex { data: <locked> }");
     let free = free_text(&rt, rt.alloc(), &mutex, &mut token);
-    same(&rt, free.as_str(), "Mutex { data: [0, 10] }");
-    same(&rt, mutex.is_locked(&mut token), false);
+    check_eq(&rt, free.as_str(), "Mutex { data: [0, 10] }");
+    check_eq(&rt, mutex.is_locked(&mut token), false);
 }
 
 #[test]
@@ -63,10 +63,10 @@ fn a_once_and_a_condition_variable_show_themselves(rt: HostRuntime) -> Result<()
     let (lot, mut token) = lone(&rt, rt.alloc());
     let once = Once::new(&lot, &mut token)?;
     let new = text_of(&rt, rt.alloc(), &once.show(&mut token));
-    same(&rt, new.as_str(), "Once { state: New }");
+    check_eq(&rt, new.as_str(), "Once { state: New }");
     let condvar = Condvar::new(&lot, &mut token)?;
     let text = text_of(&rt, rt.alloc(), &condvar);
-    same(&rt, text.as_str(), "Condvar { .. }");
+    check_eq(&rt, text.as_str(), "Condvar { .. }");
     Ok(())
 }
 
@@ -94,6 +94,6 @@ fn rwlock_texts<R: Wait + Abort>(
 fn a_reader_writer_lock_shows_its_value_where_nobody_writes(rt: HostRuntime) {
     let (lock, mut token) = rwlock_alone(&rt, rt.alloc(), [0, 10]);
     let (free, locked) = rwlock_texts(&rt, rt.alloc(), &lock, &mut token);
-    same(&rt, free.as_str(), "RwLock { data: [0, 10] }");
-    same(&rt, locked.as_str(), "RwLock { data: <locked> }");
+    check_eq(&rt, free.as_str(), "RwLock { data: [0, 10] }");
+    check_eq(&rt, locked.as_str(), "RwLock { data: <locked> }");
 }

@@ -5,7 +5,7 @@ ghost use Rattle.parking_lot.specs.Names.{lot_of};
 
 use super::fair::{GivesUp, give_up, take_and_keep};
 use super::fair_unlocks::{take_in_turn, unlock_in_turn};
-use super::{fair_mutex_of, keep, mutex_of, same, seats};
+use super::{fair_mutex_of, keep, mutex_of, check_eq, seats};
 use parking_lot::{FairMutex, Mutex, ParkingLot, Ticket, Token, lock_api};
 use std::alloc::Global;
 use std::process::Abort;
@@ -134,8 +134,8 @@ pub(super) fn for_rooms<R: Threads + Wait + Abort + Sync>(
     part: Part,
     wanted: (bool, u64, u64),
 ) {
-    same(rt, play(rt, alloc, 8, threads, part), wanted);
-    same(rt, play(rt, alloc, 64, threads, part), wanted);
+    check_eq(rt, play(rt, alloc, 8, threads, part), wanted);
+    check_eq(rt, play(rt, alloc, 64, threads, part), wanted);
 }
 
 #[test]

@@ -4,7 +4,7 @@ ghost use Rattle.parking_lot_core.specs.Tokens.{IsTokenOf};
 ghost use Rattle.parking_lot.specs.Names.{lock_of, lot_of};
 
 use super::crowds::{Part, for_rooms};
-use super::{fair_mutex_alone, same};
+use super::{fair_mutex_alone, check_eq};
 use parking_lot::{Key, Mutex, MutexGuard, ParkingLot, RawFairMutex, Token, lock_api};
 use std::sync::Wait;
 use std::sync::atomic::AtomicBool;
@@ -212,7 +212,7 @@ fn the_value_of_a_fair_mutex_comes_out(rt: HostRuntime) {
     let (mutex, _token) = fair_mutex_alone(&rt, rt.alloc(), 10);
     // A `FairMutex` is this one, by type.
     let mut mutex: lock_api::Mutex<RawFairMutex, u64> = mutex;
-    same(&rt, *mutex.get_mut(), 10);
+    check_eq(&rt, *mutex.get_mut(), 10);
     *mutex.get_mut() = 20;
-    same(&rt, mutex.into_inner(), 20);
+    check_eq(&rt, mutex.into_inner(), 20);
 }

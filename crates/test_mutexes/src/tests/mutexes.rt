@@ -4,7 +4,7 @@ ghost use Rattle.std.specs.Arc.{arc_value};
 ghost use Rattle.parking_lot_core.specs.Tokens.{IsTokenOf};
 ghost use Rattle.parking_lot.specs.Names.{lock_of, lot_of, value_of};
 
-use super::{holds, lone, mutex_alone, mutex_of, same};
+use super::{check, lone, mutex_alone, mutex_of, check_eq};
 use parking_lot::{Fault, Mutex, MutexGuard, Token};
 use std::alloc::Global;
 use std::mem;
@@ -49,7 +49,7 @@ fn what_was_written_is_there(rt: HostRuntime) {
         clear(&rt, &mutex, &mut token),
         replace(&rt, &mutex, &mut token, 1),
     ];
-    same(&rt, seen, [5, 7, 0]);
+    check_eq(&rt, seen, [5, 7, 0]);
 }
 
 // Pushes under the mutex. Whether that value alone is there.
@@ -66,8 +66,8 @@ fn push<R: Wait>(rt: &R, mutex: &Mutex<Vec<u8>>, token: &mut Token) -> bool
 #[test]
 fn a_guard_lends_its_value(rt: HostRuntime) {
     let (mutex, mut token) = mutex_alone(&rt, rt.alloc(), Vec::new(rt.alloc()));
-    holds(&rt, push(&rt, &mutex, &mut token));
-    same(&rt, mutex.into_inner().as_slice(), [3].as_slice());
+    check(&rt, push(&rt, &mutex, &mut token));
+    check_eq(&rt, mutex.into_inner().as_slice(), [3].as_slice());
 }
 
 // Whether the mutex is locked and a try gets it: before another try that gets it, under that one's
@@ -100,7 +100,7 @@ fn look<R: Wait>(rt: &R, mutex: &Mutex<u8>, token: &mut Token) -> (bool, bool)
 fn a_try_gets_a_free_mutex_alone(rt: HostRuntime) {
     let (mutex, mut token) = mutex_alone(&rt, rt.alloc(), 0);
     let seen = tries(&rt, &mutex, &mut token);
-    same(
+    check_eq(
         &rt,
         seen,
         Some([(false, true), (true, false), (false, true)]),
@@ -133,16 +133,16 @@ fn add_around<R: Wait>(rt: &R, mutex: &Mutex<u8>, token: &mut Token) -> [Option<
 fn a_closure_is_not_run_beside_who_has_the_mutex(rt: HostRuntime) {
     let (mutex, mut token) = mutex_alone(&rt, rt.alloc(), 5);
     let sums = add_around(&rt, &mutex, &mut token);
-    same(&rt, sums, [Some(6), None, Some(7)]);
+    check_eq(&rt, sums, [Some(6), None, Some(7)]);
 }
 
 #[test]
 fn the_value_comes_out(rt: HostRuntime) {
     let (mut mutex, mut token) = mutex_alone(&rt, rt.alloc(), 10);
-    same(&rt, replace(&rt, &mutex, &mut token, 15), 10);
-    same(&rt, *mutex.get_mut(), 15);
+    check_eq(&rt, replace(&rt, &mutex, &mut token, 15), 10);
+    check_eq(&rt, *mutex.get_mut(), 15);
     *mutex.get_mut() = 20;
-    same(&rt, mutex.into_inner(), 20);
+    check_eq(&rt, mutex.into_inner(), 20);
 }
 
 // Counts how often it is dropped.
@@ -160,18 +160,18 @@ fn the_value_is_dropped_once(rt: HostRuntime) {
     let drops = AtomicUsize::new(0);
     let (mutex, _token) = mutex_alone(&rt, rt.alloc(), Counts(&drops));
     let value = mutex.into_inner();
-    same(&rt, drops.load(SeqCst), 0);
+    check_eq(&rt, drops.load(SeqCst), 0);
     drop(value);
-    same(&rt, drops.load(SeqCst), 1);
+    check_eq(&rt, drops.load(SeqCst), 1);
 }
 
 #[test]
 fn the_value_is_dropped_with_its_mutex(rt: HostRuntime) {
     let drops = AtomicUsize::new(0);
     let (mutex, _token) = mutex_alone(&rt, rt.alloc(), Counts(&drops));
-    same(&rt, drops.load(SeqCst), 0);
+    check_eq(&rt, drops.load(SeqCst), 0);
     drop(mutex);
-    same(&rt, drops.load(SeqCst), 1);
+    check_eq(&rt, drops.load(SeqCst), 1);
 }
 
 // Puts another value in place of the one that a mutex has, under its guard: how often a value had
@@ -194,9 +194,9 @@ fn drops_by_writing<'d, R: Wait>(
 fn a_value_that_is_replaced_is_dropped_once(rt: HostRuntime) {
     let drops = AtomicUsize::new(0);
     let (mutex, mut token) = mutex_alone(&rt, rt.alloc(), Counts(&drops));
-    same(&rt, drops_by_writing(&rt, &mutex, &mut token, &drops), 1);
+    check_eq(&rt, drops_by_writing(&rt, &mutex, &mut token, &drops), 1);
     drop(mutex);
-    same(&rt, drops.load(SeqCst), 2);
+    check_eq(&rt, drops.load(SeqCst), 2);
 }
 
 #[test]
@@ -204,8 +204,8 @@ fn a_full_lot_gives_the_value_back(rt: HostRuntime) {
     let (lot, mut token) = lone(&rt, rt.alloc());
     let mutex = mutex_of(&rt, &lot, &mut token, 8);
     let refused = Mutex::new(&lot, &mut token, 9).err();
-    same(&rt, refused, Some((Fault::LotFull, 9)));
-    same(&rt, mutex.into_inner(), 8);
+    check_eq(&rt, refused, Some((Fault::LotFull, 9)));
+    check_eq(&rt, mutex.into_inner(), 8);
 }
 
 // A mutex that goes about with a thread of its lot.
@@ -251,6 +251,6 @@ fn double_inside<R: Wait>(rt: &R, mutex: &Mutex<Room>, token: &mut Token) -> u64
 #[test]
 fn a_mutex_stands_inside_another(rt: HostRuntime) {
     let (mutex, mut token) = mutex_alone(&rt, rt.alloc(), Room::new(&rt, rt.alloc()));
-    same(&rt, double_inside(&rt, &mutex, &mut token), 2);
-    same(&rt, double_inside(&rt, &mutex, &mut token), 4);
+    check_eq(&rt, double_inside(&rt, &mutex, &mut token), 2);
+    check_eq(&rt, double_inside(&rt, &mutex, &mut token), 4);
 }

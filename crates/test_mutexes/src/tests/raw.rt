@@ -7,7 +7,7 @@ ghost use Rattle.std.specs.Arc.{arc_value};
 ghost use Rattle.parking_lot_core.specs.Tokens.{IsTicketOf, IsTokenOf};
 ghost use Rattle.parking_lot.specs.Names.{lot_of};
 
-use super::{holds, next_of, same};
+use super::{check, next_of, check_eq};
 use moved::{hold_and_move, wait_moved};
 use parking_lot::lock_api::RawMutex as RawLock;
 use parking_lot::{ParkingLot, RawMutex, Ticket, Token};
@@ -30,8 +30,8 @@ fn stands<R: Wait + Abort>(
     requires { IsTokenOf lot.now token.old × (lot_of mutex.now ≡ lot.now) }
     ensures { IsTokenOf lot.now token.new }
 {
-    same(rt, mutex.is_locked(token), locked);
-    same(rt, lot.queued(rt, token, mutex.key()), 0);
+    check_eq(rt, mutex.is_locked(token), locked);
+    check_eq(rt, lot.queued(rt, token, mutex.key()), 0);
 }
 
 const TURNS: usize = 1_000_000;
@@ -143,9 +143,9 @@ fn play<R: Threads + Wait + Abort + Sync>(rt: &R, alloc: Global, part: Part<'_>)
             drop(token.leave());
         },
     );
-    holds(rt, ended.is_ok());
+    check(rt, ended.is_ok());
     stands(rt, lot, mutex, &mut token, false);
-    holds(rt, try_alone(rt, mutex, &mut token));
+    check(rt, try_alone(rt, mutex, &mut token));
     told.content.load(SeqCst)
 }
 
@@ -177,7 +177,7 @@ fn try_alone<R: Wait>(rt: &R, mutex: &RawMutex, token: &mut Token) -> bool
 
 #[test]
 fn one_of_two_tries_gets_a_free_mutex(rt: HostRuntime) {
-    same(&rt, play(&rt, rt.alloc(), Part::Try), 1);
+    check_eq(&rt, play(&rt, rt.alloc(), Part::Try), 1);
 }
 
 fn await_flag<R: Wait>(rt: &R, flag: &AtomicBool) {
@@ -234,5 +234,5 @@ fn lock_held<R: Wait>(rt: &R, mutex: &RawMutex, token: &mut Token, held: &Atomic
 
 #[test]
 fn a_release_wakes_who_waits(rt: HostRuntime) {
-    same(&rt, play(&rt, rt.alloc(), Part::Meet), 2);
+    check_eq(&rt, play(&rt, rt.alloc(), Part::Meet), 2);
 }

@@ -3,7 +3,7 @@ ghost use Rattle.std.specs.Prelude.{All};
 ghost use Rattle.std.specs.Arc.{arc_value};
 ghost use Rattle.parking_lot_core.specs.Tokens.{IsTicketOf, IsTokenOf};
 
-use super::{holds, next_of, same};
+use super::{check, next_of, check_eq};
 use parking_lot::{
     Condvar, FairMutex, Fault, Mutex, Once, OnceCell, ParkingLot, RecursiveRwLock, ReentrantMutex,
     RwLock, Semaphore, Ticket, Token,
@@ -64,8 +64,8 @@ fn make_all<A: Abort>(rt: &A, lot: Arc<ParkingLot>, tickets: Vec<Ticket>)
 {
     let mut tickets = tickets;
     match next_of(&lot, &mut tickets) {
-        Some(ticket) => holds(rt, all_are_made(&lot, ticket)),
-        None => holds(rt, false),
+        Some(ticket) => check(rt, all_are_made(&lot, ticket)),
+        None => check(rt, false),
     }
 }
 
@@ -73,6 +73,6 @@ fn make_all<A: Abort>(rt: &A, lot: Arc<ParkingLot>, tickets: Vec<Ticket>)
 fn a_lot_is_made_or_refused_and_its_locks_are_made(rt: HostRuntime) {
     match ParkingLot::new(rt.alloc(), WORDS, 2) {
         Ok((lot, tickets)) => make_all(&rt, lot, tickets),
-        Err(fault) => same(&rt, fault, Fault::NoMemory),
+        Err(fault) => check_eq(&rt, fault, Fault::NoMemory),
     }
 }

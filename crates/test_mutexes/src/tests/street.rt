@@ -4,7 +4,7 @@ ghost use Rattle.std.specs.Arc.{arc_value};
 ghost use Rattle.parking_lot_core.specs.Tokens.{IsTicketOf, IsTokenOf};
 ghost use Rattle.parking_lot.specs.Names.{lot_of};
 
-use super::{keep, mutex_of, same, seats};
+use super::{keep, mutex_of, check_eq, seats};
 use parking_lot::{Mutex, ParkingLot, Ticket, Token};
 use std::alloc::Global;
 use std::process::Abort;
@@ -95,5 +95,5 @@ fn play<R: Threads + Wait + Abort + Sync>(rt: &R, alloc: Global) -> u64 {
 #[test]
 fn eight_threads_add_under_many_mutexes(rt: HostRuntime) {
     let found = play(&rt, rt.alloc());
-    same(&rt, found, (MUTEXES * THREADS * ROUNDS) as u64);
+    check_eq(&rt, found, (MUTEXES * THREADS * ROUNDS) as u64);
 }

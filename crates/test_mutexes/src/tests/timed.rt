@@ -3,7 +3,7 @@ ghost use Rattle.std.specs.Prelude.{◌≤◌};
 ghost use Rattle.parking_lot_core.specs.Tokens.{IsTicketOf, IsTokenOf};
 ghost use Rattle.parking_lot.specs.Names.{lot_of};
 
-use super::{fair_mutex_alone, mutex_alone, mutex_of, next_of, same, seats};
+use super::{fair_mutex_alone, mutex_alone, mutex_of, next_of, check_eq, seats};
 use parking_lot::{Clock, Mutex, TickClock, Ticket, Token, lock_api};
 use std::sync::Wait;
 use std::time::Duration;
@@ -104,14 +104,14 @@ fn gives_up_and_gets<M: lock_api::RawMutexTimed, R: Wait>(
 fn who_waits_gives_up_in_time(rt: HostRuntime) {
     let (mutex, mut token) = mutex_alone(&rt, rt.alloc(), 0u64);
     let seen = gives_up_and_gets(&rt, &mutex, &mut token);
-    same(&rt, seen, [true, true, false]);
+    check_eq(&rt, seen, [true, true, false]);
 }
 
 #[test]
 fn who_waits_for_a_fair_mutex_gives_up_in_time(rt: HostRuntime) {
     let (mutex, mut token) = fair_mutex_alone(&rt, rt.alloc(), 0);
     let seen = gives_up_and_gets(&rt, &mutex, &mut token);
-    same(&rt, seen, [true, true, false]);
+    check_eq(&rt, seen, [true, true, false]);
 }
 
 // Whether it gets the mutex past the deadline: free, held by another thread, and free again.
@@ -140,5 +140,5 @@ fn a_free_mutex_is_got_past_the_deadline(rt: HostRuntime) {
         panic!(rt; "no second thread");
     };
     let got = tries_in_turn(&rt, &mutex, &mut holder, waiter);
-    same(&rt, got, [true, false, true]);
+    check_eq(&rt, got, [true, false, true]);
 }

@@ -2,7 +2,7 @@
 ghost use Rattle.run_signals.specs.OnceUsers.{IsTokenOf, lot_of};
 
 use super::crowds::{Part, play};
-use super::{cell_of, holds, same, seats};
+use super::{cell_of, check, check_eq, seats};
 use parking_lot_core::Token;
 use run_signals::OnceCell;
 use std::alloc::Global;
@@ -42,7 +42,7 @@ fn finds<R: Wait + Abort>(
     requires { IsTokenOf (lot_of cell.now) token.old }
     ensures { IsTokenOf (lot_of cell.now) token.new }
 {
-    same(rt, value_of(rt, cell, token, runs, fails), wanted);
+    check_eq(rt, value_of(rt, cell, token, runs, fails), wanted);
 }
 
 // A cell that one thread has for itself.
@@ -58,17 +58,17 @@ fn cell_alone<A: Abort>(rt: &A, alloc: Global) -> (OnceCell<u64>, Token)
 fn a_value_is_made_once(rt: HostRuntime) {
     let (mut cell, mut token) = cell_alone(&rt, rt.alloc());
     let runs = AtomicUsize::new(0);
-    holds(&rt, cell.get().is_none());
+    check(&rt, cell.get().is_none());
     finds(&rt, &cell, &mut token, &runs, true, None);
-    holds(&rt, cell.get().is_none());
+    check(&rt, cell.get().is_none());
     finds(&rt, &cell, &mut token, &runs, false, Some(1));
     finds(&rt, &cell, &mut token, &runs, false, Some(1));
-    same(&rt, cell.get().copied(), Some(1));
-    same(&rt, runs.load(SeqCst), 2);
+    check_eq(&rt, cell.get().copied(), Some(1));
+    check_eq(&rt, runs.load(SeqCst), 2);
     if let Some(value) = cell.get_mut() {
         *value = 5;
     }
-    same(&rt, cell.into_inner(), Some(5));
+    check_eq(&rt, cell.into_inner(), Some(5));
 }
 
 // The value, which can't fail to be made.
@@ -89,10 +89,10 @@ fn a_value_that_cannot_fail_is_made_once(rt: HostRuntime) {
     let (cell, mut token) = cell_alone(&rt, rt.alloc());
     let runs = AtomicUsize::new(0);
     finds(&rt, &cell, &mut token, &runs, true, None);
-    same(&rt, sure_value_of(&rt, &cell, &mut token, &runs), 8);
-    same(&rt, sure_value_of(&rt, &cell, &mut token, &runs), 8);
+    check_eq(&rt, sure_value_of(&rt, &cell, &mut token, &runs), 8);
+    check_eq(&rt, sure_value_of(&rt, &cell, &mut token, &runs), 8);
     finds(&rt, &cell, &mut token, &runs, true, Some(8));
-    same(&rt, runs.load(SeqCst), 2);
+    check_eq(&rt, runs.load(SeqCst), 2);
 }
 
 const ASKERS: usize = 10;
@@ -128,7 +128,7 @@ pub(super) fn shared_value_of<R: Wait>(
 
 #[test]
 fn ten_threads_ask_at_once(rt: HostRuntime) {
-    same(
+    check_eq(
         &rt,
         play(&rt, rt.alloc(), ASKERS, Part::Ask),
         (true, false, 1),

@@ -5,7 +5,7 @@ ghost use Rattle.run_signals.specs.OnceUsers.{IsTicketOf, IsTokenOf, lot_of};
 use super::cells::shared_value_of;
 use super::meets::{call_beside, let_go, run_long, wait_beside};
 use super::timed::{fail_long, race, wait_long};
-use super::{cell_of, count_run, fail, once_of, same, seats};
+use super::{cell_of, count_run, fail, once_of, check_eq, seats};
 use parking_lot_core::{ParkingLot, Ticket, Token};
 use run_signals::{Once, OnceCell};
 use std::alloc::Global;
@@ -106,7 +106,7 @@ pub(super) fn play<R: Threads + Wait + Abort + Sync>(
     let cell = cell_of(rt, &lot, &mut token);
     let room = Room { once, cell };
     if matches!(part, Part::Meet { poisoned: true }) {
-        same(rt, fail(rt, &room.once, &mut token), "failed");
+        check_eq(rt, fail(rt, &room.once, &mut token), "failed");
     }
     let told = Told {
         came: AtomicUsize::new(0),
@@ -134,5 +134,5 @@ pub(super) fn play<R: Threads + Wait + Abort + Sync>(
 
 #[test]
 fn ten_threads_come_at_once(rt: HostRuntime) {
-    same(&rt, play(&rt, rt.alloc(), 10, Part::Call), (true, true, 1));
+    check_eq(&rt, play(&rt, rt.alloc(), 10, Part::Call), (true, true, 1));
 }

@@ -3,7 +3,7 @@ ghost use Rattle.std.specs.Prelude.{◌≡◌};
 ghost use Rattle.run_signals.specs.OnceUsers.{IsTokenOf, lot_of};
 
 use super::crowds::{Part, Told, play};
-use super::{count_run, same};
+use super::{count_run, check_eq};
 use parking_lot_core::{ParkingLot, Token};
 use run_signals::{Once, OnceFault, OnceState};
 use std::sync::Wait;
@@ -90,11 +90,11 @@ pub(super) fn let_go<R: Wait>(
 #[test]
 fn who_comes_beside_a_run_waits_for_its_end(rt: HostRuntime) {
     let found = play(&rt, rt.alloc(), 4, Part::Meet { poisoned: false });
-    same(&rt, found, (true, true, 0));
+    check_eq(&rt, found, (true, true, 0));
 }
 
 #[test]
 fn who_comes_beside_a_forced_run_waits_for_it(rt: HostRuntime) {
     let found = play(&rt, rt.alloc(), 4, Part::Meet { poisoned: true });
-    same(&rt, found, (true, true, 0));
+    check_eq(&rt, found, (true, true, 0));
 }

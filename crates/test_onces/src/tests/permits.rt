@@ -17,7 +17,7 @@ const MOST_PERMITS: u64 = 4611686018427387904;
 
 /// Asserts that the thing found is the thing wanted. The tests share this one assertion, since each
 /// is proved where it stands.
-fn same<T: PartialEq + Debug + Drop>(rt: &impl Abort, found: T, wanted: T) {
+fn check_eq<T: PartialEq + Debug + Drop>(rt: &impl Abort, found: T, wanted: T) {
     assert_eq!(rt; found, wanted);
 }
 
@@ -79,7 +79,7 @@ fn has_free(rt: &impl Abort, semaphore: &Semaphore, token: &mut Token, wanted: u
     requires { IsTokenOf (lot_of semaphore.now) token.old }
     ensures { IsTokenOf (lot_of semaphore.now) token.new }
 {
-    same(rt, semaphore.available(token), wanted);
+    check_eq(rt, semaphore.available(token), wanted);
 }
 
 // Whether a try gets a permit. It is given back.
@@ -139,7 +139,7 @@ fn waits_until<R: Wait>(
 #[test]
 fn as_many_have_a_permit_as_there_are(rt: HostRuntime) {
     let (_lot, semaphore, mut token) = alone(&rt, rt.alloc(), 2);
-    same(&rt, semaphore.permits(), 2);
+    check_eq(&rt, semaphore.permits(), 2);
     has_free(&rt, &semaphore, &mut token, 2);
     let first = semaphore.acquire(&rt, &mut token);
     has_free(&rt, &semaphore, &mut token, 1);
@@ -149,7 +149,7 @@ fn as_many_have_a_permit_as_there_are(rt: HostRuntime) {
     first.release(&rt, &mut token);
     let given = tries(&rt, &semaphore, &mut token);
     second.release(&rt, &mut token);
-    same(&rt, (refused, given), (false, true));
+    check_eq(&rt, (refused, given), (false, true));
     has_free(&rt, &semaphore, &mut token, 2);
 }
 
@@ -162,14 +162,14 @@ fn a_wait_that_gives_up_leaves_nothing_behind(rt: HostRuntime) {
     let past = waits_until(&rt, &semaphore, &mut token, &clock, 0);
     let queued = lot.queued(&rt, &mut token, semaphore.key());
     permit.release(&rt, &mut token);
-    same(&rt, (in_time, past, queued), (false, false, 0));
+    check_eq(&rt, (in_time, past, queued), (false, false, 0));
     // Past the deadline too a permit that is free is given.
-    same(
+    check_eq(
         &rt,
         waits_until(&rt, &semaphore, &mut token, &clock, 0),
         true,
     );
-    same(&rt, waits_for(&rt, &semaphore, &mut token, &clock, 0), true);
+    check_eq(&rt, waits_for(&rt, &semaphore, &mut token, &clock, 0), true);
     has_free(&rt, &semaphore, &mut token, 1);
 }
 
@@ -179,10 +179,10 @@ fn a_semaphore_may_have_very_many_permits(rt: HostRuntime) {
     let permit = semaphore.acquire(&rt, &mut token);
     let left = semaphore.available(&mut token);
     permit.release(&rt, &mut token);
-    same(&rt, left, MOST_PERMITS - 1);
+    check_eq(&rt, left, MOST_PERMITS - 1);
     has_free(&rt, &semaphore, &mut token, MOST_PERMITS);
     // The lot has no second word.
-    same(
+    check_eq(
         &rt,
         matches!(Semaphore::new(&lot, &mut token, 1), Err(Fault::LotFull)),
         true,

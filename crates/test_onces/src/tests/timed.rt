@@ -4,7 +4,7 @@ ghost use Rattle.run_signals.specs.OnceUsers.{IsTokenOf, lot_of};
 
 use super::crowds::{Part, Told, play};
 use super::meets::await_flag;
-use super::{count_run, fail, once_alone, same};
+use super::{count_run, fail, once_alone, check_eq};
 use parking_lot_core::{Clock, Fault, TickClock, Token};
 use run_signals::{Once, OnceFault};
 use std::sync::Wait;
@@ -64,29 +64,29 @@ fn is_just_past(clock: &TickClock, time: u64) -> bool
 fn who_waits_for_no_run_gives_up_in_time(rt: HostRuntime) {
     let (once, mut token) = once_alone(&rt, rt.alloc());
     let clock = TickClock::starting_at(FAR);
-    same(&rt, wait_within(&rt, &once, &mut token, &clock, 30), "no");
-    same(&rt, is_just_past(&clock, FAR + 30), true);
-    same(
+    check_eq(&rt, wait_within(&rt, &once, &mut token, &clock, 30), "no");
+    check_eq(&rt, is_just_past(&clock, FAR + 30), true);
+    check_eq(
         &rt,
         wait_before(&rt, &once, &mut token, &clock, FAR + 80),
         "no",
     );
-    same(&rt, is_just_past(&clock, FAR + 80), true);
+    check_eq(&rt, is_just_past(&clock, FAR + 80), true);
 }
 
 #[test]
 fn who_comes_late_is_told_of_the_run_before(rt: HostRuntime) {
     let (once, mut token) = once_alone(&rt, rt.alloc());
     let clock = TickClock::starting_at(FAR);
-    same(&rt, fail(&rt, &once, &mut token), "failed");
-    same(
+    check_eq(&rt, fail(&rt, &once, &mut token), "failed");
+    check_eq(
         &rt,
         wait_before(&rt, &once, &mut token, &clock, 0),
         "poisoned",
     );
     let runs = AtomicUsize::new(0);
-    same(&rt, count_run(&rt, &once, &mut token, &runs), "poisoned");
-    same(
+    check_eq(&rt, count_run(&rt, &once, &mut token, &runs), "poisoned");
+    check_eq(
         &rt,
         wait_within(&rt, &once, &mut token, &clock, 5),
         "poisoned",
@@ -98,10 +98,10 @@ fn a_run_is_done_past_the_deadline_too(rt: HostRuntime) {
     let (once, mut token) = once_alone(&rt, rt.alloc());
     let clock = TickClock::starting_at(FAR);
     let runs = AtomicUsize::new(0);
-    same(&rt, wait_before(&rt, &once, &mut token, &clock, 0), "no");
-    same(&rt, count_run(&rt, &once, &mut token, &runs), "ok");
-    same(&rt, wait_before(&rt, &once, &mut token, &clock, 0), "yes");
-    same(&rt, wait_within(&rt, &once, &mut token, &clock, 0), "yes");
+    check_eq(&rt, wait_before(&rt, &once, &mut token, &clock, 0), "no");
+    check_eq(&rt, count_run(&rt, &once, &mut token, &runs), "ok");
+    check_eq(&rt, wait_before(&rt, &once, &mut token, &clock, 0), "yes");
+    check_eq(&rt, wait_within(&rt, &once, &mut token, &clock, 0), "yes");
 }
 
 // A call whose closure waits to be let go, and fails.
@@ -165,17 +165,17 @@ pub(super) fn race<R: Wait>(rt: &R, once: &Once, token: &mut Token, with: &Told)
 #[test]
 fn a_run_that_ends_in_time_is_waited_for(rt: HostRuntime) {
     let (content, done, _) = play(&rt, rt.alloc(), 4, Part::InTime { fails: false });
-    same(&rt, (content, done), (true, true));
+    check_eq(&rt, (content, done), (true, true));
 }
 
 #[test]
 fn who_waits_is_told_of_a_run_that_fails(rt: HostRuntime) {
     let (content, done, _) = play(&rt, rt.alloc(), 4, Part::InTime { fails: true });
-    same(&rt, (content, done), (true, false));
+    check_eq(&rt, (content, done), (true, false));
 }
 
 #[test]
 fn waits_that_give_up_race_the_end_of_a_run(rt: HostRuntime) {
     let (content, done, gave_up) = play(&rt, rt.alloc(), 5, Part::Race);
-    same(&rt, (content, done, gave_up >= 2), (true, true, true));
+    check_eq(&rt, (content, done, gave_up >= 2), (true, true, true));
 }

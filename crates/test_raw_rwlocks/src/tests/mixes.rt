@@ -5,7 +5,7 @@ ghost use Rattle.parking_lot.specs.Names.{IsExclusiveOf, IsSharedOf, IsUpgradabl
 
 use super::crowds::{Part, play};
 use super::fixtures::Inside;
-use super::holds;
+use super::check;
 use parking_lot::lock_api_rw::{
     RawRwLock as RawLock, RawRwLockDowngrade, RawRwLockFair, RawRwLockTimed, RawRwLockUpgrade,
     RawRwLockUpgradeDowngrade, RawRwLockUpgradeFair, RawRwLockUpgradeTimed,
@@ -304,7 +304,7 @@ pub(super) fn mix<const RECURSIVE: bool, R: Wait>(
 
 #[test]
 fn six_threads_mix_all_calls(rt: HostRuntime) -> Result<(), Fail> {
-    holds(
+    check(
         &rt,
         play::<false, HostRuntime>(&rt, rt.alloc(), 6, Part::Mix)?,
     );
@@ -313,7 +313,7 @@ fn six_threads_mix_all_calls(rt: HostRuntime) -> Result<(), Fail> {
 
 #[test]
 fn six_threads_mix_all_calls_of_a_recursive_lock(rt: HostRuntime) -> Result<(), Fail> {
-    holds(
+    check(
         &rt,
         play::<true, HostRuntime>(&rt, rt.alloc(), 6, Part::Mix)?,
     );

@@ -10,7 +10,7 @@ ghost use Rattle.parking_lot_core.specs.Tokens.{IsTicketOf, IsTokenOf};
 ghost use Rattle.parking_lot.specs.Names.{lot_of_rwlock};
 
 use super::fixtures::seats;
-use super::holds;
+use super::check;
 use comers::come_later;
 use holders::hold;
 use parking_lot::{ParkingLot, RawRwLock, Ticket, Token};
@@ -24,7 +24,7 @@ use std::thread::{Threads, map_vec};
 
 // Asserts that the thing found is the thing wanted. All tests share this one assertion, since each
 // is proved where it stands.
-fn same<T: PartialEq + Debug + Drop>(rt: &impl Abort, found: T, wanted: T) {
+fn check_eq<T: PartialEq + Debug + Drop>(rt: &impl Abort, found: T, wanted: T) {
     assert_eq!(rt; found, wanted);
 }
 
@@ -80,6 +80,6 @@ fn play_within<const RECURSIVE: bool, R: Threads + Wait + Sync + Abort>(
             take_part(rt, lot, lock, &mut token, scene, told)
         },
     );
-    holds(rt, ended.is_ok_and(|ended| ended.iter().all(|well| *well)));
-    holds(rt, told.came.load(SeqCst) == 3 && told.inside.wrongs() == 0);
+    check(rt, ended.is_ok_and(|ended| ended.iter().all(|well| *well)));
+    check(rt, told.came.load(SeqCst) == 3 && told.inside.wrongs() == 0);
 }

@@ -6,7 +6,7 @@ ghost use Rattle.parking_lot.specs.Names.{IsSharedOf, lot_of_rwlock, word_of_rwl
 use super::crowds::{Part, Told, play};
 use super::fixtures::{await_flag, comes_to, lock_alone, queue_up};
 use super::{
-    FREE, READ, UPGRADABLE, WRITTEN, goes, goes_upgradable, goes_writing, holds, look, look_and_go,
+    FREE, READ, UPGRADABLE, WRITTEN, goes, goes_upgradable, goes_writing, check, look, look_and_go,
 };
 use parking_lot::lock_api_rw::{
     RawRwLock as RawLock, RawRwLockTimed, RawRwLockUpgrade, RawRwLockUpgradeTimed,
@@ -207,8 +207,8 @@ fn all_give_up<const RECURSIVE: bool>(rt: &impl Wait, alloc: Global) -> Result<b
 
 #[test]
 fn who_waits_gives_up_in_time(rt: HostRuntime) -> Result<(), Fail> {
-    holds(&rt, all_give_up::<false>(&rt, rt.alloc())?);
-    holds(&rt, all_give_up::<true>(&rt, rt.alloc())?);
+    check(&rt, all_give_up::<false>(&rt, rt.alloc())?);
+    check(&rt, all_give_up::<true>(&rt, rt.alloc())?);
     Ok(())
 }
 
@@ -333,7 +333,7 @@ pub(super) fn read_on<const RECURSIVE: bool, R: Wait>(
 
 #[test]
 fn a_writer_that_gives_up_lets_readers_in(rt: HostRuntime) -> Result<(), Fail> {
-    holds(
+    check(
         &rt,
         play::<false, HostRuntime>(&rt, rt.alloc(), 3, Part::LetIn(false))?,
     );
@@ -342,7 +342,7 @@ fn a_writer_that_gives_up_lets_readers_in(rt: HostRuntime) -> Result<(), Fail> {
 
 #[test]
 fn an_upgrade_that_gives_up_lets_readers_in(rt: HostRuntime) -> Result<(), Fail> {
-    holds(
+    check(
         &rt,
         play::<false, HostRuntime>(&rt, rt.alloc(), 3, Part::LetIn(true))?,
     );

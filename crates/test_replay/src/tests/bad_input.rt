@@ -1,6 +1,6 @@
 //! Bad input, with the exact text and the status that it leads to.
 
-use super::{leads_both_to, replayed_over, same};
+use super::{leads_both_to, replayed_over, check_eq};
 use core_base::{ListQueues, Queues};
 use core_queues::BucketQueues;
 use std::alloc::{AllocError, Global};
@@ -202,8 +202,8 @@ fn bad_inputs_have_their_texts(rt: HostRuntime) {
 /// An input leads to this text and this status over a kind of queues.
 fn ends<Q: Queues + Drop>(rt: &impl Abort, alloc: Global, input: &[u8], wanted: &[u8], ended: u8) {
     let (text, status) = replayed_over::<Q, _>(alloc, input);
-    same(rt, (input, text.as_slice()), (input, wanted));
-    same(rt, (input, status), (input, ended));
+    check_eq(rt, (input, text.as_slice()), (input, wanted));
+    check_eq(rt, (input, status), (input, ended));
 }
 
 /// A lock of a kind behind three threads, with a number.

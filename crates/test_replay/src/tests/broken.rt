@@ -1,7 +1,7 @@
 //! A short run whose devices fail, are interrupted, or move one byte at a time, at each of its bytes.
 
 use super::devices::{Refusal, Short, Stumbling};
-use super::{leads_both_to, leads_to, replayed, replayed_in_pieces, same};
+use super::{leads_both_to, leads_to, replayed, replayed_in_pieces, check_eq};
 use core_queues::BucketQueues;
 use lot_replay::start::start;
 use std::alloc::{AllocError, Global};
@@ -85,11 +85,11 @@ fn a_read_that_fails_leaves_the_lines_before(rt: HostRuntime) -> Result<(), Fail
     for before in 0..input.len() + 1 {
         let (_, wanted) = told_within(rt.alloc(), before)?;
         let (text, status) = replayed_in_pieces(rt.alloc(), &input.as_slice()[..before], 1, true);
-        same(&rt, (before, text.as_slice()), (before, wanted.as_slice()));
-        same(&rt, (before, status), (before, 4));
+        check_eq(&rt, (before, text.as_slice()), (before, wanted.as_slice()));
+        check_eq(&rt, (before, status), (before, 4));
         let (text, status) = stumbled(rt.alloc(), input.as_slice(), before, ErrorKind::TimedOut);
-        same(&rt, (before, text.as_slice()), (before, wanted.as_slice()));
-        same(&rt, (before, status), (before, 4));
+        check_eq(&rt, (before, text.as_slice()), (before, wanted.as_slice()));
+        check_eq(&rt, (before, status), (before, 4));
     }
     Ok(())
 }
@@ -177,13 +177,13 @@ fn run_into(
     );
     let wanted = told.as_slice().get(..room).unwrap_or(told.as_slice());
     let ended = if room < told.len() { 4 } else { 0 };
-    same(rt, (room, writer.taken.as_slice()), (room, wanted));
-    same(
+    check_eq(rt, (room, writer.taken.as_slice()), (room, wanted));
+    check_eq(
         rt,
         (room, width, refusal, status),
         (room, width, refusal, ended),
     );
-    same(rt, (room, errors.len()), (room, 0));
+    check_eq(rt, (room, errors.len()), (room, 0));
     Ok(())
 }
 
@@ -216,9 +216,9 @@ fn a_usage_that_fails_leaves_the_bytes_before(rt: HostRuntime) {
             );
             let wanted = usage.get(..room).unwrap_or(usage);
             let ended = if room < usage.len() { 4 } else { 2 };
-            same(&rt, (room, errors.taken.as_slice()), (room, wanted));
-            same(&rt, (room, status), (room, ended));
-            same(&rt, (room, text.len()), (room, 0));
+            check_eq(&rt, (room, errors.taken.as_slice()), (room, wanted));
+            check_eq(&rt, (room, status), (room, ended));
+            check_eq(&rt, (room, text.len()), (room, 0));
         }
     }
 }

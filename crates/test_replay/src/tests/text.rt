@@ -1,7 +1,7 @@
 //! Which lines have a meaning and which have none, how lines are read, and how outcomes are
 //! printed.
 
-use super::{holds, same};
+use super::{check, check_eq};
 use arrayvec::ArrayVec;
 use lot_text::{
     Command, LINE_LEN, Name, NamedCall, NamedTurn, Page, Reading, meaning, print_turn, read_line,
@@ -300,7 +300,7 @@ const MALFORMED_WAITS: &[&str] = &[
 // where it stands.
 fn means(rt: &impl Abort, line: &str, wanted: Option<Command>) {
     let as_wanted = meaning(line.as_bytes()) == wanted;
-    same(rt, (line, as_wanted), (line, true));
+    check_eq(rt, (line, as_wanted), (line, true));
 }
 
 fn mean_nothing(rt: &impl Abort, lines: &[&str]) {
@@ -345,7 +345,7 @@ fn malformed_lines_mean_nothing(rt: HostRuntime) {
 
 #[test]
 fn each_form_has_its_meaning(rt: HostRuntime) {
-    holds(&rt, locks(Kind::Mutex).is_some());
+    check(&rt, locks(Kind::Mutex).is_some());
     means(&rt, "lock m mutex", locks(Kind::Mutex));
     means(&rt, "threads 1024", Some(Command::Threads(1024)));
     let many = Command::Threads(9_999_999_999_999_999_999);
@@ -439,7 +439,7 @@ fn waits(rt: &impl Abort, line: &str, timed: bool) {
 #[test]
 fn calls_of_a_condition_variable_have_their_meaning(rt: HostRuntime) {
     let condvar = is_there("c", Kind::Condvar);
-    holds(&rt, condvar.is_some());
+    check(&rt, condvar.is_some());
     means(&rt, "lock c condvar", condvar);
     let one = NamedCall::Notify { all: false };
     begins_of(&rt, "3 begin notify_one c", one, "c");
@@ -462,13 +462,13 @@ fn is_told_apart(word: &str) -> bool {
 #[test]
 fn names_are_told_apart(rt: HostRuntime) {
     for word in ["a", "z9", "abcdefghijklmno9"] {
-        same(&rt, (word, is_told_apart(word)), (word, true));
+        check_eq(&rt, (word, is_told_apart(word)), (word, true));
     }
 }
 
 // Reads on, and comes to this.
 fn reads(rt: &impl Abort, bytes: &mut &[u8], line: &mut ArrayVec<u8, LINE_LEN>, wanted: Reading) {
-    same(rt, read_line(bytes, line), wanted);
+    check_eq(rt, read_line(bytes, line), wanted);
 }
 
 #[test]
@@ -477,7 +477,7 @@ fn reads_lines(rt: HostRuntime) {
     let mut bytes = b"show\n\n0 go".as_slice();
     for want in [b"show".as_slice(), b"", b"0 go"] {
         reads(&rt, &mut bytes, &mut line, Reading::Line);
-        same(&rt, line.as_slice(), want);
+        check_eq(&rt, line.as_slice(), want);
     }
     reads(&rt, &mut bytes, &mut line, Reading::End);
 }
@@ -504,6 +504,6 @@ fn printed(alloc: Global, outcome: Outcome) -> Vec<u8> {
 fn prints_outcomes(rt: HostRuntime) {
     for (outcome, want) in OUTCOMES {
         let text = printed(rt.alloc(), *outcome);
-        same(&rt, text.as_slice(), want.as_bytes());
+        check_eq(&rt, text.as_slice(), want.as_bytes());
     }
 }

@@ -7,7 +7,7 @@ use super::fair::{Giver, give};
 use super::guards::read_twice;
 use super::values::read_together;
 use super::{
-    Lock, end_reader, end_writer, holds, keep, read_upgradable, replace, same, seats, value_of,
+    Lock, end_reader, end_writer, check, keep, read_upgradable, replace, check_eq, seats, value_of,
     write,
 };
 use parking_lot::{ParkingLot, Ticket, Token};
@@ -312,15 +312,15 @@ fn play_in<const RECURSIVE: bool, R: Threads + Wait + Abort + Sync>(
 #[test]
 fn eight_threads_read_what_they_wrote(rt: HostRuntime) {
     let found = play::<false, HostRuntime>(&rt, rt.alloc(), 8, Part::Add(Way::Downgrade));
-    same(&rt, found, (true, 800));
+    check_eq(&rt, found, (true, 800));
     let found = play_in::<false, HostRuntime>(&rt, rt.alloc(), 63, 8, Part::Add(Way::Downgrade));
-    same(&rt, found, (true, 800));
+    check_eq(&rt, found, (true, 800));
 }
 
 #[test]
 fn upgrades_let_nobody_write_between(rt: HostRuntime) {
     let found = play::<false, HostRuntime>(&rt, rt.alloc(), 6, Part::Add(Way::Upgrade));
-    same(&rt, found, (true, 600));
+    check_eq(&rt, found, (true, 600));
 }
 
 // Ten threads find what they wrote between them.
@@ -328,8 +328,8 @@ fn all_come<const RECURSIVE: bool, R: Threads + Wait + Abort + Sync>(rt: &R, all
     let written = AtomicU64::new(0);
     let found = play::<RECURSIVE, R>(rt, alloc, 10, Part::Come(&written));
     let times = written.load(SeqCst);
-    holds(rt, 500 < times);
-    same(rt, found, (true, times));
+    check(rt, 500 < times);
+    check_eq(rt, found, (true, times));
 }
 
 #[test]
@@ -342,14 +342,14 @@ fn ten_threads_read_and_write(rt: HostRuntime) {
 #[test]
 fn readers_find_no_writer_in_the_act(rt: HostRuntime) {
     let found = play::<false, HostRuntime>(&rt, rt.alloc(), 6, Part::Tear(0));
-    same(&rt, found, (true, 10));
+    check_eq(&rt, found, (true, 10));
 }
 
 // A writer, five upgraders and five readers.
 #[test]
 fn upgraders_find_no_writer_in_the_act(rt: HostRuntime) {
     let found = play::<false, HostRuntime>(&rt, rt.alloc(), 11, Part::Tear(5));
-    same(&rt, found, (true, 15));
+    check_eq(&rt, found, (true, 15));
     let found = play_in::<false, HostRuntime>(&rt, rt.alloc(), 63, 11, Part::Tear(5));
-    same(&rt, found, (true, 15));
+    check_eq(&rt, found, (true, 15));
 }

@@ -6,7 +6,7 @@ ghost use Rattle.parking_lot.specs.Names.{lot_of_rwlock};
 use super::crowds::{Part, play};
 use super::guards::is_waited_for;
 use super::{
-    Lock, end_reader, end_upgradable, end_writer, holds, read, read_upgradable, value_of, write,
+    Lock, end_reader, end_upgradable, end_writer, check, read, read_upgradable, value_of, write,
 };
 use parking_lot::{ParkingLot, Token};
 use std::alloc::Global;
@@ -119,7 +119,7 @@ pub(super) fn give<const RECURSIVE: bool, R: Wait>(
 
 fn all_give<R: Threads + Wait + Abort + Sync>(rt: &R, alloc: Global, bumps: bool) {
     for giver in [Giver::Reader, Giver::Upgradable, Giver::Writer] {
-        holds(
+        check(
             rt,
             play::<false, R>(rt, alloc, 2, Part::Give(giver, bumps)).0,
         );

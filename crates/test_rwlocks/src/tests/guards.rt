@@ -7,7 +7,7 @@ ghost use Rattle.parking_lot.specs.Names.{lot_of_rwlock};
 use super::crowds::{Part, play};
 use super::{
     Lock, comes_upgradable, end_reader, end_upgradable, end_writer, lock_alone, read,
-    read_upgradable, reads, same, write, writes,
+    read_upgradable, reads, check_eq, write, writes,
 };
 use parking_lot::{ParkingLot, RecursiveRwLock, RwLock, Token};
 use std::process::Abort;
@@ -70,11 +70,11 @@ fn all_keep_out<R: Wait + Abort>(rt: &R, lock: &Lock<false>, token: &mut Token)
     requires { IsTokenOf (lot_of_rwlock lock.now) token.old }
 {
     let reader = beside_reader(rt, lock, token);
-    same(rt, reader, Some([true, true, false, true, false]));
+    check_eq(rt, reader, Some([true, true, false, true, false]));
     let upgradable = beside_upgradable(rt, lock, token);
-    same(rt, upgradable, Some([true, false, false, true, false]));
+    check_eq(rt, upgradable, Some([true, false, false, true, false]));
     let writer = beside_writer(rt, lock, token);
-    same(rt, writer, [false, false, false, true, true]);
+    check_eq(rt, writer, [false, false, false, true, true]);
 }
 
 #[test]
@@ -90,11 +90,11 @@ fn public_names_are_of_these_locks(rt: HostRuntime) {
     let (normal, mut token) = lock_alone(&rt, rt.alloc(), 0, false);
     let normal: RwLock<u64> = normal;
     let normal: Lock<false> = normal;
-    same(&rt, normal.is_locked(&mut token), false);
+    check_eq(&rt, normal.is_locked(&mut token), false);
     let (recursive, mut token) = lock_alone(&rt, rt.alloc(), 0, false);
     let recursive: RecursiveRwLock<u64> = recursive;
     let recursive: Lock<true> = recursive;
-    same(&rt, recursive.is_locked(&mut token), false);
+    check_eq(&rt, recursive.is_locked(&mut token), false);
 }
 
 // Tells that the thread has the lock. Whether somebody comes to wait then, for the lock or for its
@@ -145,11 +145,11 @@ pub(super) fn read_twice<const RECURSIVE: bool, R: Wait>(
 #[test]
 fn a_waiting_writer_keeps_a_reader_out(rt: HostRuntime) {
     let seen = play::<false, HostRuntime>(&rt, rt.alloc(), 2, Part::ReadTwice);
-    same(&rt, seen, (true, 7));
+    check_eq(&rt, seen, (true, 7));
 }
 
 #[test]
 fn who_reads_a_recursive_lock_reads_again_beside_a_waiting_writer(rt: HostRuntime) {
     let seen = play::<true, HostRuntime>(&rt, rt.alloc(), 2, Part::ReadTwice);
-    same(&rt, seen, (true, 7));
+    check_eq(&rt, seen, (true, 7));
 }

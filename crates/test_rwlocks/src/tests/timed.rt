@@ -6,7 +6,7 @@ ghost use Rattle.parking_lot.specs.Names.{lot_of_rwlock};
 
 use super::{
     Lock, Upgradable, Writer, end_reader, end_upgradable, end_writer, lock_alone, read,
-    read_upgradable, same, write,
+    read_upgradable, check_eq, write,
 };
 use parking_lot::{Clock, TickClock, Token};
 use std::sync::Wait;
@@ -188,7 +188,7 @@ fn who_waits_gives_up_in_time(rt: HostRuntime) {
     let (lock, mut token) = lock_alone(&rt, rt.alloc(), 0, false);
     let within = come_beside_a_writer(&rt, &lock, &mut token, false);
     let until = come_beside_a_writer(&rt, &lock, &mut token, true);
-    same(&rt, [within, until], [[false; 3]; 2]);
+    check_eq(&rt, [within, until], [[false; 3]; 2]);
     let upgraded = upgrades_beside_a_reader(&rt, &lock, &mut token);
-    same(&rt, upgraded, Some([[Some(false); 2], [Some(true); 2]]));
+    check_eq(&rt, upgraded, Some([[Some(false); 2], [Some(true); 2]]));
 }

@@ -6,7 +6,7 @@ ghost use Rattle.parking_lot_core.specs.Tokens.{IsTokenOf};
 ghost use Rattle.parking_lot.specs.Names.{lot_of_rwlock};
 
 use super::crowds::{Part, play};
-use super::{Lock, Upgradable, end_reader, lock_alone, next_of, read, read_upgradable, same};
+use super::{Lock, Upgradable, end_reader, lock_alone, next_of, read, read_upgradable, check_eq};
 use parking_lot::{ParkingLot, RwLock, Token};
 use std::alloc::Global;
 use std::process::Abort;
@@ -49,7 +49,7 @@ pub(super) fn read_together<const RECURSIVE: bool, R: Wait>(
 fn four_threads_read_a_value_at_once(rt: HostRuntime) {
     let inside = AtomicUsize::new(0);
     let found = play::<false, HostRuntime>(&rt, rt.alloc(), 4, Part::Meet(&inside, 4));
-    same(&rt, found, (true, 0));
+    check_eq(&rt, found, (true, 0));
 }
 
 // Two guards of one thread show the value at once: what they show.
@@ -117,13 +117,13 @@ fn convert_in<R: Wait>(rt: &R, lock: &Lock<false>, token: &mut Token) -> Option<
 #[test]
 fn rights_show_the_value_through_conversions(rt: HostRuntime) {
     let (lock, mut token) = lock_alone(&rt, rt.alloc(), 5, false);
-    same(&rt, shown_twice(&rt, &lock, &mut token), Some((5, 5)));
-    same(
+    check_eq(&rt, shown_twice(&rt, &lock, &mut token), Some((5, 5)));
+    check_eq(
         &rt,
         convert_twice(&rt, &lock, &mut token),
         [None, Some([5, 6, 6, 6])],
     );
-    same(&rt, lock.into_inner(), 6);
+    check_eq(&rt, lock.into_inner(), 6);
 }
 
 // A value whose drops are counted.
@@ -164,14 +164,14 @@ fn counts(drops: &AtomicU64) -> u64 {
 fn a_value_is_dropped_once(rt: HostRuntime) {
     let drops = AtomicU64::new(0);
     let value = used(&rt, rt.alloc(), &drops).into_inner();
-    same(&rt, counts(&drops), 0);
+    check_eq(&rt, counts(&drops), 0);
     drop(value);
-    same(&rt, counts(&drops), 1);
+    check_eq(&rt, counts(&drops), 1);
     drop(used(&rt, rt.alloc(), &drops));
-    same(&rt, counts(&drops), 2);
+    check_eq(&rt, counts(&drops), 2);
     let mut lock = used(&rt, rt.alloc(), &drops);
     *lock.get_mut() = Counted { drops: &drops };
-    same(&rt, counts(&drops), 3);
+    check_eq(&rt, counts(&drops), 3);
     drop(lock);
-    same(&rt, counts(&drops), 4);
+    check_eq(&rt, counts(&drops), 4);
 }

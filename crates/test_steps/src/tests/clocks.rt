@@ -1,19 +1,19 @@
 //! Deadlines at their bounds, and the clock of the system.
-use super::{holds, same};
+use super::{check, check_eq};
 use core_base::{Clock, SystemClock, TickClock, to_deadline};
 use std::process::Abort;
 use std::time::Duration;
 
 #[test]
 fn deadlines_are_sums(rt: HostRuntime) {
-    same(&rt, to_deadline(5, Duration::from_micros(2)), Some(2_005));
-    same(
+    check_eq(&rt, to_deadline(5, Duration::from_micros(2)), Some(2_005));
+    check_eq(
         &rt,
         to_deadline(0, Duration::from_nanos(u64::MAX)),
         Some(u64::MAX),
     );
-    same(&rt, to_deadline(1, Duration::from_nanos(u64::MAX)), None);
-    same(&rt, to_deadline(0, Duration::from_secs(u64::MAX)), None);
+    check_eq(&rt, to_deadline(1, Duration::from_nanos(u64::MAX)), None);
+    check_eq(&rt, to_deadline(0, Duration::from_secs(u64::MAX)), None);
 }
 
 #[test]
@@ -22,17 +22,17 @@ fn the_system_clock_goes_on(rt: HostRuntime) {
     let before = clock.now();
     clock.pause(u64::MAX);
     clock.pause(20_000);
-    holds(&rt, clock.now().saturating_sub(before) >= 20_000);
+    check(&rt, clock.now().saturating_sub(before) >= 20_000);
 }
 
 #[test]
 fn a_look_takes_a_nanosecond(rt: HostRuntime) {
     let clock = TickClock::new();
-    same(&rt, (clock.now(), clock.now()), (0, 1));
+    check_eq(&rt, (clock.now(), clock.now()), (0, 1));
     clock.pause(u64::MAX);
-    same(&rt, clock.now(), 2);
+    check_eq(&rt, clock.now(), 2);
     let far = TickClock::starting_at(1000);
-    same(&rt, far.now(), 1000);
+    check_eq(&rt, far.now(), 1000);
     far.restart();
-    same(&rt, far.now(), 1000);
+    check_eq(&rt, far.now(), 1000);
 }

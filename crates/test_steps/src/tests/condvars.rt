@@ -1,7 +1,7 @@
 //! Calls of a condition variable alone, by the values that words would have.
 ghost use Rattle.steps_condvar.specs.CondvarSteps.{HasMutexKey};
 
-use super::{ends_as, holds, same};
+use super::{ends_as, check, check_eq};
 use core_base::{Keys, Note, Op, Requeue, Want};
 use spec_locks::{Answer, CondvarCall, Outcome};
 use std::process::Abort;
@@ -53,7 +53,7 @@ fn onward(rt: &impl Abort, place: CondvarPlace, reply: Reply) -> CondvarPlace
 fn does(rt: &impl Abort, place: CondvarPlace, act: Act)
     requires { HasMutexKey place }
 {
-    holds(rt, place.act(3) == act);
+    check(rt, place.act(3) == act);
 }
 
 /// Where a call goes on behind some turns.
@@ -130,14 +130,14 @@ const STANDS: &[Turn] = &[
 fn a_wait_shows_its_mutex_stands_and_releases(rt: HostRuntime) {
     let enters = CondvarPlace::first(WAIT);
     does(&rt, enters, ENTERS);
-    holds(&rt, !enters.owes_on(3, 3));
+    check(&rt, !enters.owes_on(3, 3));
     let shows = onward(&rt, enters, Reply::Done);
     let op = Op::Exchange { from: 0, to: 6 };
     does(&rt, shows, Act::Word { lock: 3, op });
-    holds(&rt, shows.owes_on(3, 3) && !shows.owes_on(3, 5));
+    check(&rt, shows.owes_on(3, 3) && !shows.owes_on(3, 5));
     let asleep = follow(&rt, shows, STANDS);
-    same(&rt, asleep.outcome(), Outcome::Sleep);
-    holds(&rt, asleep.late_key(3).is_none());
+    check_eq(&rt, asleep.outcome(), Outcome::Sleep);
+    check(&rt, asleep.late_key(3).is_none());
 }
 
 const FINDS_ANOTHER_MUTEX: &[Turn] = &[
@@ -162,15 +162,15 @@ const FINDS_ITS_MUTEX_LOCKED: &[Turn] = &[(Reply::Value(1), None), (Reply::Value
 #[test]
 fn who_is_woken_locks_its_mutex_again(rt: HostRuntime) {
     let taken = onward(&rt, asleep(&rt, WAIT), Reply::TakenBy(2));
-    same(&rt, taken.taker(), Some(2));
-    same(&rt, taken.wants(), Some(Want::Exclusive));
+    check_eq(&rt, taken.taker(), Some(2));
+    check_eq(&rt, taken.wants(), Some(Want::Exclusive));
     let locks = onward(&rt, taken, Reply::Woken(Note::Normal));
-    holds(&rt, locks.retries());
+    check(&rt, locks.retries());
     let op = Op::Exchange { from: 0, to: 1 };
     does(&rt, locks, Act::Word { lock: 5, op });
     ends(&rt, locks, Reply::Value(0), Answer::Ok);
     let decides = follow(&rt, locks, FINDS_ITS_MUTEX_LOCKED);
-    holds(&rt, decides.looking().is_some());
+    check(&rt, decides.looking().is_some());
 }
 
 const IS_HANDED_ITS_MUTEX: &[Turn] = &[
@@ -181,12 +181,12 @@ const IS_HANDED_ITS_MUTEX: &[Turn] = &[
 #[test]
 fn who_is_moved_may_be_handed_its_mutex(rt: HostRuntime) {
     let moved = onward(&rt, asleep(&rt, WAIT_TIMED), Reply::MovedTo(10));
-    same(&rt, moved.late_key(3), Some(10));
+    check_eq(&rt, moved.late_key(3), Some(10));
     let has = follow(&rt, moved, IS_HANDED_ITS_MUTEX);
-    same(&rt, has.outcome(), Outcome::Sleep);
+    check_eq(&rt, has.outcome(), Outcome::Sleep);
     let accepts = onward(&rt, has, Reply::Woken(Note::HandOff));
     does(&rt, accepts, Act::Accept);
-    holds(&rt, !accepts.retries());
+    check(&rt, !accepts.retries());
     ends(&rt, accepts, Reply::Done, Answer::Notified);
 }
 
@@ -216,9 +216,9 @@ const TAKES_ITSELF: &[Turn] = &[
 #[test]
 fn a_notification_may_come_beside_the_release(rt: HostRuntime) {
     let takes = follow(&rt, releases(&rt, WAIT), SEES_WHO_WAITS);
-    holds(&rt, takes.owes_on(3, 5));
+    check(&rt, takes.owes_on(3, 5));
     let locks = follow(&rt, takes, TAKES_ITSELF);
-    holds(&rt, locks.retries());
+    check(&rt, locks.retries());
     ends(&rt, locks, Reply::Value(0), Answer::Ok);
 }
 
@@ -239,9 +239,9 @@ const GIVES_UP_MOVED: &[Turn] = &[
 #[test]
 fn a_timed_wait_leaves_the_queue_in_which_it_stands(rt: HostRuntime) {
     let late = asleep(&rt, WAIT_TIMED);
-    same(&rt, late.late_key(3), Some(6));
+    check_eq(&rt, late.late_key(3), Some(6));
     let locks = follow(&rt, late, GIVES_UP);
-    holds(&rt, !locks.retries());
+    check(&rt, !locks.retries());
     ends(&rt, locks, Reply::Value(0), Answer::TimedOut);
     let locks = follow(&rt, late, GIVES_UP_MOVED);
     ends(&rt, locks, Reply::Value(0), Answer::Notified);
@@ -251,7 +251,7 @@ fn a_timed_wait_leaves_the_queue_in_which_it_stands(rt: HostRuntime) {
 fn nobody_is_notified_where_nobody_waits(rt: HostRuntime) {
     for (all, none) in [(false, Answer::No), (true, Answer::Number(0))] {
         let looks = CondvarPlace::first(CondvarCall::Notify { all });
-        holds(&rt, looks.mutex().is_none());
+        check(&rt, looks.mutex().is_none());
         ends(&rt, looks, Reply::Value(0), none);
         let missed = onward(&rt, notifies(&rt, all), Reply::Value(8));
         ends(&rt, missed, Reply::Done, none);
@@ -294,8 +294,8 @@ const MOVES_THE_FIRST: &[Turn] = &[
 #[test]
 fn the_first_is_moved_to_an_owned_mutex(rt: HostRuntime) {
     let again = notifies(&rt, false);
-    holds(&rt, again.owes_on(3, 3) && again.owes_on(3, 5));
-    holds(&rt, !again.owes_on(3, 4));
+    check(&rt, again.owes_on(3, 3) && again.owes_on(3, 5));
+    check(&rt, !again.owes_on(3, 4));
     notification(&rt, false, MOVES_THE_FIRST, Answer::Yes);
 }
 

@@ -1,6 +1,6 @@
 //! Words and notes of hand-overs, against tables worked out by hand.
 
-use super::holds;
+use super::check;
 use core_base::{Note, Op, Want};
 use spec_locks::{Access, RwLockCall};
 use std::process::Abort;
@@ -44,7 +44,7 @@ fn exchanges(taken: Taken, seen: u64) -> Act {
 /// An exclusive owner that has taken these stores this word.
 fn stores_word(rt: &impl Abort, taken: Taken, word: u64) {
     let op = Op::Store(word);
-    holds(rt, stores(taken) == Act::HandOver { lock: 0, op });
+    check(rt, stores(taken) == Act::HandOver { lock: 0, op });
 }
 
 #[test]
@@ -64,12 +64,12 @@ fn an_upgradable_owner_hands_over_where_there_is_room(rt: HostRuntime) {
     let upgradable = Some(Want::Upgradable);
     let (lock, op) = (0, exchange(21, 21));
     let found = exchanges(taken(0, upgradable, false), 21);
-    holds(&rt, found == Act::HandOver { lock, op });
+    check(&rt, found == Act::HandOver { lock, op });
     let op = exchange(69, 48);
     let found = exchanges(taken(0, upgradable, true), 69);
-    holds(&rt, found == Act::Word { lock, op });
+    check(&rt, found == Act::Word { lock, op });
     let found = exchanges(taken(0, None, true), 69);
-    holds(&rt, found == Act::HandOver { lock, op });
+    check(&rt, found == Act::HandOver { lock, op });
 }
 
 /// Returns the threads that an upgradable owner wakes, which has taken another such for a word, and
@@ -88,8 +88,8 @@ fn wakes(seen: u64) -> Option<Wakes> {
 
 #[test]
 fn who_is_not_handed_the_lock_hears_a_normal_note(rt: HostRuntime) {
-    holds(&rt, wakes(69) == Some(Wakes::All(Note::Normal)));
-    holds(&rt, wakes(53).is_none());
+    check(&rt, wakes(69) == Some(Wakes::All(Note::Normal)));
+    check(&rt, wakes(53).is_none());
 }
 
 #[test]
@@ -97,7 +97,7 @@ fn a_bump_begins_with_a_look(rt: HostRuntime) {
     let (lock, op) = (0, Op::Load);
     for access in [Access::Shared, Access::Upgradable, Access::Exclusive] {
         let first = RwLockCallPlace::first(RwLockCall::Bump(access));
-        holds(
+        check(
             &rt,
             first.act(0, admission(false)) == Act::Word { lock, op },
         );
@@ -113,6 +113,6 @@ fn bumps_at(recursive: bool, seen: u64) -> bool {
 
 #[test]
 fn a_bump_goes_on_where_somebody_waits(rt: HostRuntime) {
-    holds(&rt, bumps_at(false, 41) && bumps_at(true, 25));
-    holds(&rt, !bumps_at(true, 41) && !bumps_at(false, 33));
+    check(&rt, bumps_at(false, 41) && bumps_at(true, 25));
+    check(&rt, !bumps_at(true, 41) && !bumps_at(false, 33));
 }

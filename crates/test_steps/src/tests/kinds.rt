@@ -1,5 +1,5 @@
 //! Kinds and what they have.
-use super::{holds, same};
+use super::{check, check_eq};
 use spec_locks::{
     Access, Call, CondvarCall, Downgrade, Kind, MutexCall, OnceCall, Patience, RwLockCall,
     SemaphoreCall,
@@ -56,12 +56,12 @@ const RWLOCK_CALLS: &[RwLockCall] = &[
 
 /// These kinds have a call of the lock 3, and the others don't.
 fn belongs(rt: &impl Abort, call: Call, kinds: &[Kind], others: &[Kind]) {
-    same(rt, call.lock(), 3);
+    check_eq(rt, call.lock(), 3);
     for kind in kinds {
-        holds(rt, kind.has_call(call));
+        check(rt, kind.has_call(call));
     }
     for kind in others {
-        holds(rt, !kind.has_call(call));
+        check(rt, !kind.has_call(call));
     }
 }
 
@@ -69,15 +69,15 @@ fn belongs(rt: &impl Abort, call: Call, kinds: &[Kind], others: &[Kind]) {
 fn a_limit_fits_from_the_threads_to_the_greatest(rt: HostRuntime) {
     for row in LIMITS {
         let (limit, _) = *row;
-        same(&rt, (limit, Kind::RwLock { limit }.fits(2)), *row);
-        same(&rt, (limit, Kind::Recursive { limit }.fits(2)), *row);
+        check_eq(&rt, (limit, Kind::RwLock { limit }.fits(2)), *row);
+        check_eq(&rt, (limit, Kind::Recursive { limit }.fits(2)), *row);
     }
     for row in PERMITS {
         let (permits, _) = *row;
-        same(&rt, (permits, Kind::Semaphore { permits }.fits(2)), *row);
+        check_eq(&rt, (permits, Kind::Semaphore { permits }.fits(2)), *row);
     }
     for kind in [Kind::Mutex, Kind::Fair, Kind::Condvar, Kind::Once] {
-        holds(&rt, kind.fits(1024));
+        check(&rt, kind.fits(1024));
     }
 }
 
@@ -122,8 +122,8 @@ fn both_reader_writer_locks_have_their_calls(rt: HostRuntime) {
 
 /// A call of the condition variable 3 that needs a right to this lock.
 fn needs(rt: &impl Abort, call: Call, mutex: Option<usize>, right_to: usize) {
-    same(rt, call.mutex(), mutex);
-    same(rt, call.needs_right_to(), right_to);
+    check_eq(rt, call.mutex(), mutex);
+    check_eq(rt, call.needs_right_to(), right_to);
 }
 
 #[test]
@@ -145,9 +145,9 @@ fn a_wait_needs_a_right_to_its_mutex(rt: HostRuntime) {
 
 #[test]
 fn kinds_are_told_apart(rt: HostRuntime) {
-    holds(
+    check(
         &rt,
         Kind::Mutex.is_plain_mutex() && !Kind::Fair.is_plain_mutex(),
     );
-    holds(&rt, Kind::Condvar.is_condvar() && !Kind::Once.is_condvar());
+    check(&rt, Kind::Condvar.is_condvar() && !Kind::Once.is_condvar());
 }

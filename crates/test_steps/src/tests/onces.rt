@@ -1,5 +1,5 @@
 //! Calls of a `Once` alone, by the values that their word would have.
-use super::{ends_as, holds, same};
+use super::{ends_as, check, check_eq};
 use core_base::{Keys, Note, Op, Want};
 use spec_locks::{Answer, OnceCall, OnceState, Outcome};
 use std::process::Abort;
@@ -19,7 +19,7 @@ fn onward(rt: &impl Abort, place: OncePlace, reply: Reply) -> OncePlace {
 
 /// This is what it does, of a call of the `Once` 3.
 fn does(rt: &impl Abort, place: OncePlace, act: Act) {
-    holds(rt, place.act(3) == act);
+    check(rt, place.act(3) == act);
 }
 
 /// This is the step that it takes on the word.
@@ -77,7 +77,7 @@ fn a_call_runs_its_closure_and_wakes_who_waits(rt: HostRuntime) {
     let loads = OncePlace::first(OnceCall::CallOnce { forced: false });
     steps(&rt, loads, Op::Load);
     let runs = follow(&rt, loads, BEGINS);
-    same(&rt, runs.outcome(), Outcome::Closure(OnceState::New));
+    check_eq(&rt, runs.outcome(), Outcome::Closure(OnceState::New));
     let leaves = follow(&rt, runs, CLOSES);
     ends_as(&rt, &leaves.next(Reply::Done), Answer::Ok);
 }
@@ -91,8 +91,8 @@ fn is_refused(call: OnceCall) -> bool {
 #[test]
 fn a_call_of_a_poisoned_once_goes_on_by_force_alone(rt: HostRuntime) {
     for forced in [false, true] {
-        same(&rt, is_refused(OnceCall::CallOnce { forced }), !forced);
-        same(&rt, is_refused(OnceCall::Wait { forced }), !forced);
+        check_eq(&rt, is_refused(OnceCall::CallOnce { forced }), !forced);
+        check_eq(&rt, is_refused(OnceCall::Wait { forced }), !forced);
     }
 }
 
@@ -102,7 +102,7 @@ const BEGINS_POISONED: &[Turn] = &[(Reply::Value(2), None), (Reply::Value(2), No
 fn a_forced_run_that_fails_poisons_again(rt: HostRuntime) {
     let looks = OncePlace::first(OnceCall::CallOnce { forced: true });
     let runs = follow(&rt, looks, BEGINS_POISONED);
-    same(&rt, runs.outcome(), Outcome::Closure(OnceState::Poisoned));
+    check_eq(&rt, runs.outcome(), Outcome::Closure(OnceState::Poisoned));
     let closes = onward(&rt, runs, Reply::Closed { succeeded: false });
     ends_as(&rt, &closes.next(Reply::Value(4)), Answer::Failed);
 }
@@ -133,11 +133,11 @@ const FALLS_ASLEEP: &[Turn] = &[(Reply::Parked(true), None), (Reply::Done, None)
 #[test]
 fn who_waits_sleeps_until_it_is_woken(rt: HostRuntime) {
     let checks = follow(&rt, decides(&rt), ENTERS);
-    same(&rt, checks.wants(), Some(Want::Wait));
+    check_eq(&rt, checks.wants(), Some(Want::Wait));
     let asleep = follow(&rt, checks, FALLS_ASLEEP);
-    same(&rt, asleep.outcome(), Outcome::Sleep);
+    check_eq(&rt, asleep.outcome(), Outcome::Sleep);
     let again = onward(&rt, asleep, Reply::Woken(Note::Normal));
-    holds(&rt, again.retries());
+    check(&rt, again.retries());
     ends_as(&rt, &again.next(Reply::Value(1)), Answer::Ok);
 }
 
@@ -172,7 +172,7 @@ const GIVES_UP_BESIDE: &[Turn] = &[
 #[test]
 fn who_has_a_deadline_gives_up_its_sleep(rt: HostRuntime) {
     let timed = asleep(&rt, OnceCall::WaitTimed);
-    holds(&rt, timed.late_line().is_some());
+    check(&rt, timed.late_line().is_some());
     for turns in [GIVES_UP_ALONE, GIVES_UP_BESIDE] {
         let leaves = follow(&rt, timed, turns);
         ends_as(&rt, &leaves.next(Reply::Done), Answer::No);
@@ -182,7 +182,7 @@ fn who_has_a_deadline_gives_up_its_sleep(rt: HostRuntime) {
 #[test]
 fn nobody_else_gives_up(rt: HostRuntime) {
     let waits = asleep(&rt, OnceCall::Wait { forced: false });
-    holds(&rt, waits.late_line().is_none());
+    check(&rt, waits.late_line().is_none());
     does(&rt, onward(&rt, waits, Reply::Late), Act::Sleep);
 }
 

@@ -1,9 +1,9 @@
 //! The places of any sort of lock: what a thread does there, and where it goes on.
-use super::{holds, same};
+use super::{check, check_eq};
 use core_base::{Keys, Note};
 use lot_steps::{
     Act, Answer, Call, Entry, HandOffAt, Kind, LockAt, MutexCall, MutexPlace, Op, Outcome, Owners,
-    Phase, Place, Reply, UnlockAt, Wakes, advance, has_right,
+    Phase, Place, Reply, UnlockAt, Wakes, call_step, has_right,
 };
 use spec_locks::{OnceCall, Patience, SemaphoreCall};
 use std::process::Abort;
@@ -36,7 +36,7 @@ fn step(rt: &impl Abort, place: Place, reply: Reply) -> (Place, Act) {
     match place {
         Place::Mutex { lock: 3, .. }
         | Place::Once { lock: 3, .. }
-        | Place::Semaphore { lock: 3, .. } => advance(place, reply),
+        | Place::Semaphore { lock: 3, .. } => call_step(place, reply),
         _ => panic!(rt; "it is in no call of the lock 3"),
     }
 }
@@ -44,7 +44,7 @@ fn step(rt: &impl Abort, place: Place, reply: Reply) -> (Place, Act) {
 /// By a reply it comes to a place at which it does this.
 fn comes_to(rt: &impl Abort, place: Place, reply: Reply, act: Act) -> Place {
     let (next, found) = step(rt, place, reply);
-    holds(rt, found == act);
+    check(rt, found == act);
     next
 }
 
@@ -58,8 +58,8 @@ fn a_call_says_what_it_needs(rt: HostRuntime) {
         (MutexCall::UnlockFair, true, false),
         (MutexCall::Bump, true, false),
     ] {
-        same(&rt, has_right(call(name), 1, owned, 0), owner_may);
-        same(&rt, has_right(call(name), 0, owned, 0), other_may);
+        check_eq(&rt, has_right(call(name), 1, owned, 0), owner_may);
+        check_eq(&rt, has_right(call(name), 0, owned, 0), other_may);
     }
 }
 
@@ -71,21 +71,21 @@ const OWNED: Owners = Owners {
 #[test]
 fn a_release_wakes_the_one_that_it_took(rt: HostRuntime) {
     let start = first(Kind::Mutex, MutexCall::Unlock);
-    holds(&rt, !start.is_idle());
+    check(&rt, !start.is_idle());
     let (lock, op) = (3, Op::Sub(1));
-    holds(&rt, act_at(&rt, start) == Act::Word { lock, op });
+    check(&rt, act_at(&rt, start) == Act::Word { lock, op });
     let enter = comes_to(&rt, start, Reply::Value(3), Act::Enter(Keys::One(6)));
-    holds(&rt, enter.owes_on(3));
-    same(&rt, start.owners_after(1, 3, OWNED).exclusive, None);
+    check(&rt, enter.owes_on(3));
+    check_eq(&rt, start.owners_after(1, 3, OWNED).exclusive, None);
     let (_, act) = step(&rt, start, Reply::Value(1));
-    same(&rt, act.outcome(), Outcome::End(Answer::Ok));
+    check_eq(&rt, act.outcome(), Outcome::End(Answer::Ok));
 }
 
 #[test]
 fn a_release_ends_behind_its_wake(rt: HostRuntime) {
     let leave = mutex(MutexPlace::Unlock(UnlockAt::Leave { any: true }));
     let end = comes_to(&rt, leave, Reply::Done, Act::End(Answer::Ok));
-    holds(&rt, end.is_idle());
+    check(&rt, end.is_idle());
 }
 
 /// A thread that another has taken in a timed lock.
@@ -98,24 +98,24 @@ const TAKEN: MutexPlace = MutexPlace::Lock {
 #[test]
 fn a_woken_thread_retries(rt: HostRuntime) {
     let taken = mutex(TAKEN);
-    same(&rt, act_at(&rt, taken).outcome(), Outcome::Sleep);
-    let woken = taken.after(Reply::Woken(Note::Normal));
-    holds(&rt, woken.retries_on(3));
+    check_eq(&rt, act_at(&rt, taken).outcome(), Outcome::Sleep);
+    let woken = taken.next_place(Reply::Woken(Note::Normal));
+    check(&rt, woken.retries_on(3));
     let (lock, op) = (3, Op::Load);
-    holds(&rt, act_at(&rt, woken) == Act::Word { lock, op });
+    check(&rt, act_at(&rt, woken) == Act::Word { lock, op });
 }
 
 #[test]
 fn who_retries_may_look_again(rt: HostRuntime) {
-    let woken = mutex(TAKEN).after(Reply::Woken(Note::Normal));
-    match woken.after(Reply::Value(1)).looking() {
+    let woken = mutex(TAKEN).next_place(Reply::Woken(Note::Normal));
+    match woken.next_place(Reply::Value(1)).looking() {
         Some(again) => {
-            holds(&rt, act_at(&rt, again) == act_at(&rt, woken));
-            holds(&rt, again.retries_on(3));
+            check(&rt, act_at(&rt, again) == act_at(&rt, woken));
+            check(&rt, again.retries_on(3));
         }
         None => panic!(rt; "it looks no more"),
     }
-    holds(&rt, woken.after(Reply::Value(3)).looking().is_none());
+    check(&rt, woken.next_place(Reply::Value(3)).looking().is_none());
 }
 
 const HANDS_OVER: Act = Act::HandOver {
@@ -133,18 +133,18 @@ fn a_bump_hands_the_mutex_over_and_enters_again(rt: HostRuntime) {
     let start = first(Kind::Mutex, MutexCall::Bump);
     comes_to(&rt, start, Reply::Value(1), Act::End(Answer::Ok));
     let enter = comes_to(&rt, start, Reply::Value(3), Act::Enter(Keys::One(6)));
-    holds(&rt, enter.owes_on(3));
+    check(&rt, enter.owes_on(3));
     let (take, _) = step(&rt, enter, Reply::Done);
     let took = Reply::Took {
         any: true,
         none_left: false,
     };
     let store = comes_to(&rt, take, took, HANDS_OVER);
-    same(&rt, store.owners_after(1, 3, OWNED).exclusive, None);
+    check_eq(&rt, store.owners_after(1, 3, OWNED).exclusive, None);
     let leave = comes_to(&rt, store, Reply::Value(3), LEAVES);
     let (again, act) = step(&rt, leave, Reply::Done);
-    same(&rt, act.outcome(), Outcome::Step);
-    holds(&rt, !again.owes_on(3));
+    check_eq(&rt, act.outcome(), Outcome::Step);
+    check(&rt, !again.owes_on(3));
     comes_to(&rt, again, Reply::Value(0), Act::End(Answer::Ok));
 }
 
@@ -152,7 +152,7 @@ fn a_bump_hands_the_mutex_over_and_enters_again(rt: HostRuntime) {
 fn a_fair_release_beside_nobody_lets_go(rt: HostRuntime) {
     let start = first(Kind::Fair, MutexCall::Unlock);
     let fair = first(Kind::Mutex, MutexCall::UnlockFair);
-    holds(&rt, act_at(&rt, start) == act_at(&rt, fair));
+    check(&rt, act_at(&rt, start) == act_at(&rt, fair));
     comes_to(&rt, start, Reply::Value(1), Act::End(Answer::Ok));
     let store = mutex(MutexPlace::HandOff {
         bumps: false,
@@ -162,17 +162,17 @@ fn a_fair_release_beside_nobody_lets_go(rt: HostRuntime) {
         },
     });
     let (lock, op) = (3, Op::Store(0));
-    holds(&rt, act_at(&rt, store) == Act::Word { lock, op });
+    check(&rt, act_at(&rt, store) == Act::Word { lock, op });
 }
 
 #[test]
 fn a_thread_accepts_what_it_was_handed(rt: HostRuntime) {
     let by_another = Reply::HandedBy { by: 1, alone: true };
-    let handed = mutex(TAKEN).after(by_another);
-    holds(&rt, act_at(&rt, handed) == Act::Sleep);
-    let woken = handed.after(Reply::Woken(Note::HandOff));
-    holds(&rt, act_at(&rt, woken) == Act::Accept);
-    holds(&rt, !woken.retries_on(3));
+    let handed = mutex(TAKEN).next_place(by_another);
+    check(&rt, act_at(&rt, handed) == Act::Sleep);
+    let woken = handed.next_place(Reply::Woken(Note::HandOff));
+    check(&rt, act_at(&rt, woken) == Act::Accept);
+    check(&rt, !woken.retries_on(3));
     comes_to(&rt, woken, Reply::Done, Act::End(Answer::Yes));
 }
 
@@ -183,15 +183,15 @@ const CALL_ONCE: Call = Call::Once {
 
 #[test]
 fn a_call_of_a_once_begins_with_a_look(rt: HostRuntime) {
-    holds(&rt, has_right(CALL_ONCE, 0, Owners::NOBODY, 0));
+    check(&rt, has_right(CALL_ONCE, 0, Owners::NOBODY, 0));
     let start = Place::first(Kind::Once, CALL_ONCE);
-    holds(&rt, !start.is_idle());
+    check(&rt, !start.is_idle());
     let (lock, op) = (3, Op::Load);
-    holds(&rt, act_at(&rt, start) == Act::Word { lock, op });
+    check(&rt, act_at(&rt, start) == Act::Word { lock, op });
     let op = Op::Exchange { from: 0, to: 4 };
     comes_to(&rt, start, Reply::Value(0), Act::Word { lock, op });
     let end = comes_to(&rt, start, Reply::Value(1), Act::End(Answer::Ok));
-    holds(&rt, end.is_idle());
+    check(&rt, end.is_idle());
 }
 
 #[test]
@@ -205,9 +205,9 @@ fn the_end_of_a_run_owes_a_wake_to_who_waits(rt: HostRuntime) {
     };
     let running = Owners::NOBODY.with_phase(Phase::InProgress(1));
     let closed = close.owners_after(1, 12, running).phase;
-    holds(&rt, matches!(closed, Phase::Done));
+    check(&rt, matches!(closed, Phase::Done));
     let enter = comes_to(&rt, close, Reply::Value(12), Act::Enter(Keys::One(6)));
-    holds(&rt, enter.owes_on(3) && !enter.owes_on(2));
+    check(&rt, enter.owes_on(3) && !enter.owes_on(2));
     comes_to(&rt, close, Reply::Value(4), Act::End(Answer::Ok));
 }
 
@@ -220,14 +220,14 @@ const SEMAPHORE: Kind = Kind::Semaphore { permits: 2 };
 #[test]
 fn a_release_of_a_permit_needs_one(rt: HostRuntime) {
     let call = semaphore_call(SemaphoreCall::Release);
-    holds(&rt, has_right(call, 0, Owners::NOBODY, 1));
-    holds(&rt, !has_right(call, 0, Owners::NOBODY, 0));
+    check(&rt, has_right(call, 0, Owners::NOBODY, 1));
+    check(&rt, !has_right(call, 0, Owners::NOBODY, 0));
     let start = Place::first(SEMAPHORE, call);
     let (lock, op) = (3, Op::Add(2));
-    holds(&rt, act_at(&rt, start) == Act::Word { lock, op });
-    same(&rt, start.shares_after(1, 2), Some(1));
+    check(&rt, act_at(&rt, start) == Act::Word { lock, op });
+    check_eq(&rt, start.shares_after(1, 2), Some(1));
     let enter = comes_to(&rt, start, Reply::Value(1), Act::Enter(Keys::One(6)));
-    holds(&rt, enter.owes_on(3) && !enter.owes_on(2));
+    check(&rt, enter.owes_on(3) && !enter.owes_on(2));
     comes_to(&rt, start, Reply::Value(2), Act::End(Answer::Ok));
 }
 
@@ -237,12 +237,12 @@ fn a_free_permit_is_taken_at_once(rt: HostRuntime) {
     let start = Place::first(SEMAPHORE, call);
     let (lock, op) = (3, Op::Exchange { from: 5, to: 3 });
     let decide = comes_to(&rt, start, Reply::Value(5), Act::Word { lock, op });
-    same(&rt, decide.shares_after(5, 1), Some(2));
-    same(&rt, decide.shares_after(3, 1), None);
-    holds(&rt, decide.looking().is_none());
+    check_eq(&rt, decide.shares_after(5, 1), Some(2));
+    check_eq(&rt, decide.shares_after(3, 1), None);
+    check(&rt, decide.looking().is_none());
     comes_to(&rt, decide, Reply::Value(5), Act::End(Answer::Yes));
     let op = Op::Exchange { from: 0, to: 1 };
     let marks = comes_to(&rt, decide, Reply::Value(0), Act::Word { lock, op });
-    holds(&rt, marks.looking().is_some());
+    check(&rt, marks.looking().is_some());
     comes_to(&rt, marks, Reply::Value(1), Act::Enter(Keys::One(6)));
 }

@@ -1,7 +1,7 @@
 //! The texts, and each call once with ample memory.
 ghost use Rattle.std.specs.Prelude.{◌≡◌, ◌<◌, ◌≤◌, length, vec_capacity, vec_len};
 
-use super::{holds, same};
+use super::{check, check_eq};
 use core_base::{
     Fault, Key, ListQueues, LockPicker, Op, Pick, Picker, Queues, Requeue, Waiter, Want, main_key,
     second_key,
@@ -41,7 +41,7 @@ fn behind_seven(rt: &impl Abort, alloc: Global) -> Vec<usize>
 fn counts<Q: Queues + Drop>(rt: &impl Abort, queues: &Q, wanted: &[(Key, usize)]) {
     for row in wanted {
         let (key, _) = *row;
-        same(rt, (key, queues.count(key)), *row);
+        check_eq(rt, (key, queues.count(key)), *row);
     }
 }
 
@@ -49,7 +49,7 @@ fn counts<Q: Queues + Drop>(rt: &impl Abort, queues: &Q, wanted: &[(Key, usize)]
 fn stand<Q: Queues + Drop>(rt: &impl Abort, queues: &Q, wanted: &[(usize, Option<Key>)]) {
     for row in wanted {
         let (thread, _) = *row;
-        same(rt, (thread, queues.key_of(thread)), *row);
+        check_eq(rt, (thread, queues.key_of(thread)), *row);
     }
 }
 
@@ -57,7 +57,7 @@ fn stand<Q: Queues + Drop>(rt: &impl Abort, queues: &Q, wanted: &[(usize, Option
 fn firsts<Q: Queues + Drop>(rt: &impl Abort, queues: &mut Q, wanted: &[(Key, Option<usize>)]) {
     for row in wanted {
         let (key, _) = *row;
-        same(rt, (key, queues.take_first(key)), *row);
+        check_eq(rt, (key, queues.take_first(key)), *row);
     }
 }
 
@@ -98,7 +98,7 @@ fn takes_all_behind_what_was_taken<Q: Queues + Drop>(rt: &impl Abort, alloc: Glo
     let mut queues = two_lines::<Q>(rt, alloc);
     let mut out = behind_seven(rt, alloc);
     queues.take_all(6, &mut out);
-    same(rt, out.as_slice(), [7, 0, 2, 4].as_slice());
+    check_eq(rt, out.as_slice(), [7, 0, 2, 4].as_slice());
     counts(rt, &queues, &[(6, 0), (7, 2)]);
 }
 
@@ -174,7 +174,7 @@ fn picks_readers_and_the_first_who_wants_more<Q: Queues + Drop>(
         for (recursive, taken) in [(false, picks.normal), (true, picks.recursive)] {
             let picker = LockPicker::new(picks.start, recursive);
             let found = taken_by::<Q>(alloc, picks.wants, picker)?;
-            same(rt, found.as_slice(), taken);
+            check_eq(rt, found.as_slice(), taken);
         }
     }
     Ok(())
@@ -184,7 +184,7 @@ fn takes_by_turns_and_keeps_the_order<Q: Queues + Drop>(rt: &impl Abort, alloc: 
     let mut queues = two_lines::<Q>(rt, alloc);
     let mut out = behind_seven(rt, alloc);
     queues.take_by(6, LockPicker::Readers, &mut out);
-    same(rt, out.as_slice(), [7, 2].as_slice());
+    check_eq(rt, out.as_slice(), [7, 2].as_slice());
     let wanted = [
         (6, Some(0)),
         (6, Some(4)),
@@ -210,7 +210,7 @@ fn line_is<Q: Queues + Drop>(
             thread: *thread,
             want: *want,
         };
-        same(rt, waiter, wanted);
+        check_eq(rt, waiter, wanted);
         place = next;
     }
     Some(place)
@@ -259,12 +259,12 @@ const REQUEUED: &[Requeued] = &[
 fn requeues_behind_the_last<Q: Queues + Drop>(rt: &impl Abort, alloc: Global) {
     for wanted in REQUEUED {
         let mut queues = two_lines::<Q>(rt, alloc);
-        same(rt, queues.requeue(6, 7, wanted.op), wanted.answer);
+        check_eq(rt, queues.requeue(6, 7, wanted.op), wanted.answer);
         for (key, line) in [(6, wanted.from), (7, wanted.to)] {
-            same(rt, queues.count(key), line.len());
-            holds(rt, line_is(rt, &queues, key, line).is_some());
+            check_eq(rt, queues.count(key), line.len());
+            check(rt, line_is(rt, &queues, key, line).is_some());
         }
-        same(rt, queues.requeue(8, 7, wanted.op), (None, 0));
+        check_eq(rt, queues.requeue(8, 7, wanted.op), (None, 0));
     }
 }
 
@@ -276,14 +276,14 @@ fn walks_a_line<Q: Queues + Drop>(rt: &impl Abort, alloc: Global) {
         (4, Want::Upgradable),
     ];
     match line_is(rt, &queues, 6, &line) {
-        Some(place) => same(rt, queues.find(6, place), None),
+        Some(place) => check_eq(rt, queues.find(6, place), None),
         None => panic!(rt; "the line is too short"),
     }
 }
 
 fn refuses_too_much_memory<Q: Queues + Drop>(rt: &impl Abort, alloc: Global) {
     let refused = Q::with_capacity(alloc, usize::MAX).err();
-    same(rt, refused, Some(Fault::NoMemory));
+    check_eq(rt, refused, Some(Fault::NoMemory));
 }
 
 /// Takes all under a key of queues of four threads: these, in order.
@@ -299,7 +299,7 @@ fn takes_all<Q: Queues + Drop>(
 {
     let mut out = Vec::with_capacity(alloc, 4)?;
     queues.take_all(key, &mut out);
-    same(rt, out.as_slice(), wanted);
+    check_eq(rt, out.as_slice(), wanted);
     Ok(())
 }
 
@@ -312,8 +312,8 @@ fn moves_between_keys_of_one_bucket<Q: Queues + Drop>(
     queues.append(0, 0, Want::Exclusive);
     queues.append(2, 1, Want::Exclusive);
     queues.append(0, 2, Want::Exclusive);
-    same(rt, queues.take_first(0), Some(0));
-    same(rt, queues.requeue(0, 2, Requeue::All), (None, 1));
+    check_eq(rt, queues.take_first(0), Some(0));
+    check_eq(rt, queues.requeue(0, 2, Requeue::All), (None, 1));
     takes_all(rt, alloc, &mut queues, 2, &[1, 2])?;
     takes_all(rt, alloc, &mut queues, 0, &[])
 }
@@ -357,7 +357,7 @@ fn tells_the_bucket_of_a_key(rt: HostRuntime) -> Result<(), Fail> {
         let (threads, _, key, _) = *row;
         let queues = BucketQueues::with_capacity(rt.alloc(), threads)?;
         let found = (threads, queues.buckets(), key, queues.bucket(key));
-        same(&rt, found, *row);
+        check_eq(&rt, found, *row);
     }
     Ok(())
 }
@@ -376,7 +376,7 @@ fn keys_of_one_bucket_keep_their_own_order(rt: HostRuntime) -> Result<(), Fail> 
     queues.append(0, 3, Want::Shared);
     let mut out = Vec::with_capacity(rt.alloc(), 4)?;
     queues.take_by(0, LockPicker::Readers, &mut out);
-    same(&rt, out.as_slice(), [2, 3].as_slice());
+    check_eq(&rt, out.as_slice(), [2, 3].as_slice());
     queues.remove(0);
     firsts(&rt, &mut queues, &[(0, None), (2, Some(1)), (2, None)]);
     stand(&rt, &queues, &[(1, None)]);
@@ -400,7 +400,7 @@ const FAULTS: &[(Fault, &str)] = &[
 
 fn tells(rt: &impl Abort, alloc: Global, fault: Fault, text: &str) {
     match fault.to_string(alloc) {
-        Ok(told) => same(rt, told.as_str(), text),
+        Ok(told) => check_eq(rt, told.as_str(), text),
         Err(_) => panic!(rt; "no memory"),
     }
 }
@@ -431,12 +431,12 @@ const OPERATIONS: &[(Op, u64, u64)] = &[
 fn applies_operations(rt: HostRuntime) {
     for row in OPERATIONS {
         let (op, seen, _) = *row;
-        same(&rt, (op, seen, op.apply(seen)), *row);
+        check_eq(&rt, (op, seen, op.apply(seen)), *row);
     }
 }
 
 #[test]
 fn numbers_keys(rt: HostRuntime) {
-    same(&rt, (main_key(0), second_key(0)), (0, 1));
-    same(&rt, (main_key(3), second_key(3)), (6, 7));
+    check_eq(&rt, (main_key(0), second_key(0)), (0, 1));
+    check_eq(&rt, (main_key(3), second_key(3)), (6, 7));
 }

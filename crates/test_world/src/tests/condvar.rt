@@ -1,5 +1,5 @@
 //! Worlds of condition variables.
-use super::holds;
+use super::check;
 use super::scripts::Line::{Calls, GoesOn, Rests, Shows, Takes};
 use super::scripts::{DONE, Line, plays, plays_anew, surprise, world_of};
 use core_base::{ListQueues, Want};
@@ -104,9 +104,9 @@ fn wait_and_leave(
     threads: usize,
     meanwhile: &[Line],
 ) {
-    holds(rt, all_wait(world, threads));
+    check(rt, all_wait(world, threads));
     plays(rt, world, meanwhile);
-    holds(rt, all_leave(world, threads));
+    check(rt, all_leave(world, threads));
 }
 
 const IS_NOTIFIED: &[Line] = &[
@@ -295,7 +295,7 @@ const OVERTAKEN: &[Line] = &[
 fn beside_an_unlocked_mutex_the_first_is_woken_and_the_rest_are_moved(rt: HostRuntime) {
     let mut world = world_of(&rt, rt.alloc(), KINDS, 5);
     wait_and_leave(&rt, &mut world, 3, THE_REST_ARE_MOVED);
-    holds(&rt, all_wait(&mut world, 3));
+    check(&rt, all_wait(&mut world, 3));
     plays(&rt, &mut world, OVERTAKEN);
 }
 

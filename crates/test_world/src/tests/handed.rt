@@ -1,7 +1,7 @@
 //! Reader-writer locks that are handed over.
 use super::scripts::Line::{Calls, GoesOn, Rests, Shows};
 use super::scripts::{DONE, Line, plays, plays_anew, world_of};
-use super::{holds, same};
+use super::{check, check_eq};
 use core_base::{ListQueues, Want};
 use lot_world::{Call, Kind, Outcome, Owner, World};
 use spec_locks::{Access, Patience, RwLockCall};
@@ -91,7 +91,7 @@ const OWNERS: &[(Owner, usize)] = &[(Owner::Pending, 3), (Owner::Shared, 1), (Ow
 fn is_owned<A: Abort>(rt: &A, alloc: Global, world: &World<ListQueues>) {
     assert!(rt; world.locks() == 1);
     match world.owners(0).collect::<Vec<(Owner, usize)>>(alloc) {
-        Ok(owners) => same(rt, owners.as_slice(), OWNERS),
+        Ok(owners) => check_eq(rt, owners.as_slice(), OWNERS),
         Err(_) => panic!(rt; "no memory"),
     }
 }
@@ -172,8 +172,8 @@ fn a_lock_is_filled_from_the_step_on_by_which_it_is_full(rt: HostRuntime) {
     let mut world = world_of(&rt, rt.alloc(), &[NARROW], 2);
     plays(&rt, &mut world, READS);
     assert!(rt; world.locks() == 1);
-    holds(&rt, !world.filled(0));
+    check(&rt, !world.filled(0));
     plays(&rt, &mut world, LEAVES_IT_FULL);
     assert!(rt; world.locks() == 1);
-    holds(&rt, world.filled(0));
+    check(&rt, world.filled(0));
 }

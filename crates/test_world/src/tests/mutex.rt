@@ -1,7 +1,7 @@
 //! Worlds of mutexes.
 use super::scripts::Line::{Calls, GoesOn, Rests, Shows, Takes};
 use super::scripts::{DONE, Line, plays, plays_anew, runs, world_of};
-use super::{holds, same};
+use super::{check, check_eq};
 use core_base::{ListQueues, Want};
 use lot_steps::Owners;
 use lot_world::{Answer, Call, Debt, Kind, MutexCall, Outcome, Owner, OwnersOf, Step, Turn, World};
@@ -84,7 +84,7 @@ fn who_shares_is_listed_behind_the_owners(rt: HostRuntime) {
     let shares = [1, 2, 0];
     let owners = OwnersOf::new(owners, shares.as_slice());
     match owners.collect::<Vec<(Owner, usize)>>(rt.alloc()) {
-        Ok(listed) => same(&rt, listed.as_slice(), LISTED),
+        Ok(listed) => check_eq(&rt, listed.as_slice(), LISTED),
         Err(_) => panic!(rt; "no memory"),
     }
 }
@@ -174,7 +174,7 @@ fn tells<A: Abort>(rt: &A, alloc: Global, world: &mut World<ListQueues>) {
         panic!(rt; "no memory");
     }
     runs(rt, world, RUN, &mut outcomes);
-    same(rt, outcomes.as_slice(), TOLD);
+    check_eq(rt, outcomes.as_slice(), TOLD);
 }
 
 const STRANGER: &[Line] = &[Rests(1, 0, None), GoesOn(9, Outcome::NotNow)];
@@ -184,7 +184,7 @@ fn a_run_is_its_steps(rt: HostRuntime) {
     let mut world = world_of(&rt, rt.alloc(), &[Kind::Mutex, Kind::Mutex], 3);
     tells(&rt, rt.alloc(), &mut world);
     assert!(rt; world.threads() == 3 && world.locks() == 2);
-    same(&rt, world.kind(1), Kind::Mutex);
-    holds(&rt, world.place(2).is_idle());
+    check_eq(&rt, world.kind(1), Kind::Mutex);
+    check(&rt, world.place(2).is_idle());
     plays(&rt, &mut world, STRANGER);
 }

@@ -1,7 +1,7 @@
 //! Worlds of a `Once`.
 use super::scripts::Line::{Calls, GoesOn, Rests, Shows, Takes};
 use super::scripts::{DONE, Line, plays_anew};
-use super::{holds, same};
+use super::{check, check_eq};
 use core_base::{Note, Want};
 use lot_steps::{Answer, Call, Kind, Place, Reply};
 use lot_world::{Debt, Outcome, Owner, Turn};
@@ -49,11 +49,11 @@ fn who_waits_for_a_run_tries_again_when_woken(rt: HostRuntime) {
             at: LookAt::Taken { by: 2 },
         },
     };
-    same(&rt, taken.taker(), Some(2));
-    same(&rt, taken.wants(), Some(Want::Wait));
-    holds(&rt, taken.late_key().is_none());
-    let again = taken.after(Reply::Woken(Note::Normal));
-    holds(&rt, again.retries_on(3) && again.looking().is_none());
+    check_eq(&rt, taken.taker(), Some(2));
+    check_eq(&rt, taken.wants(), Some(Want::Wait));
+    check(&rt, taken.late_key().is_none());
+    let again = taken.next_place(Reply::Woken(Note::Normal));
+    check(&rt, again.retries_on(3) && again.looking().is_none());
 }
 
 const POISONS: &[Line] = &[

@@ -1,6 +1,6 @@
 ghost use Rattle.std.specs.Prelude.{◌≡◌};
 
-use super::{holds, same};
+use super::{check, check_eq};
 use core_base::Keys;
 use spec_locks::{Access, Answer, Downgrade, Patience};
 use std::process::Abort;
@@ -60,8 +60,8 @@ fn gives(purpose: RwLockPurpose, word: u64) -> (u64, Act) {
 
 // The word that a call leaves, and its first act that is no operation on it.
 fn comes_to(rt: &impl Abort, found: (u64, Act), wanted: (u64, Act)) {
-    same(rt, found.0, wanted.0);
-    holds(rt, found.1 == wanted.1);
+    check_eq(rt, found.0, wanted.0);
+    check(rt, found.1 == wanted.1);
 }
 
 const OK: Act = Act::End(Answer::Ok);

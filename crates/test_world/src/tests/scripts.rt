@@ -3,7 +3,7 @@
 ghost use Rattle.std.specs.Prelude.{◌≤◌, ◌≡◌, All, length, true};
 ghost use Rattle.spec_locks.specs.Kinds.{fits};
 
-use super::same;
+use super::check_eq;
 use core_base::{ListQueues, Queues, Want};
 use core_queues::BucketQueues;
 use lot_world::{Answer, Call, Debt, Kind, Outcome, Owner, Step, Turn, World};
@@ -89,7 +89,7 @@ pub fn surprise<Q: Queues + Drop>(
 /// Each line of the script goes as it says. All scripts share this one assertion, since each is
 /// proved where it stands.
 pub fn plays<Q: Queues + Drop>(rt: &impl Abort, world: &mut World<Q>, script: &[Line]) {
-    same(rt, surprise(world, script), None);
+    check_eq(rt, surprise(world, script), None);
 }
 
 /// A run of these steps goes to its end.
@@ -99,7 +99,7 @@ pub fn runs(
     steps: &[Step],
     outcomes: &mut Vec<Outcome>,
 ) {
-    same(rt, world.run(steps, outcomes), Ok(()));
+    check_eq(rt, world.run(steps, outcomes), Ok(()));
 }
 
 /// A world of locks of these kinds, and of so many threads, over one list. It gives up where memory

@@ -2,7 +2,7 @@
 ghost use Rattle.std.specs.Prelude.{◌≤◌, ◌≡◌, true};
 ghost use Rattle.spec_locks.specs.Kinds.{fits};
 
-use super::same;
+use super::check_eq;
 use super::scripts::{runs, world_of};
 use core_base::ListQueues;
 use lot_world::{Answer, Call, Kind, MutexCall, Outcome, Step, Turn, World};
@@ -48,24 +48,24 @@ const OWNS: Outcome = Outcome::End(Answer::Ok);
 
 /// A thread locks a mutex, and those before it wait for it in their order.
 fn line_up(rt: &impl Abort, world: &mut World<ListQueues>, last: usize) {
-    same(rt, done(world, last, 0, MutexCall::Lock), OWNS);
+    check_eq(rt, done(world, last, 0, MutexCall::Lock), OWNS);
     for thread in 0..last {
         let told = done(world, thread, 0, MutexCall::Lock);
-        same(rt, told, Outcome::Sleep);
+        check_eq(rt, told, Outcome::Sleep);
     }
-    same(rt, first_waiter(world, 0), Some(0));
+    check_eq(rt, first_waiter(world, 0), Some(0));
 }
 
 /// The mutex goes from one to the next.
 fn follow(rt: &impl Abort, world: &mut World<ListQueues>, last: usize) {
     let mut owner = last;
     for thread in 0..last {
-        same(rt, done(world, owner, 0, MutexCall::Unlock), OWNS);
-        same(rt, world.solo(thread), OWNS);
+        check_eq(rt, done(world, owner, 0, MutexCall::Unlock), OWNS);
+        check_eq(rt, world.solo(thread), OWNS);
         owner = thread;
     }
-    same(rt, done(world, owner, 0, MutexCall::Unlock), OWNS);
-    same(rt, word_of(world, 0), Some(0));
+    check_eq(rt, done(world, owner, 0, MutexCall::Unlock), OWNS);
+    check_eq(rt, word_of(world, 0), Some(0));
 }
 
 /// The last thread owns a mutex, and all others wait for it. It goes from one to the next.
@@ -126,7 +126,7 @@ fn a_run_of_100_000_steps_goes_to_its_end(rt: HostRuntime) {
     let mut world = world_of(&rt, rt.alloc(), &[Kind::Mutex], 2);
     let mut outcomes = Vec::new(rt.alloc());
     runs(&rt, &mut world, &steps, &mut outcomes);
-    same(&rt, outcomes.len(), 100_000);
-    same(&rt, first_wrong(outcomes.as_slice()), None);
-    same(&rt, word_of(&world, 0), Some(0));
+    check_eq(&rt, outcomes.len(), 100_000);
+    check_eq(&rt, first_wrong(outcomes.as_slice()), None);
+    check_eq(&rt, word_of(&world, 0), Some(0));
 }

@@ -3,7 +3,7 @@ use Rattle.lot_text.specs.Reads.{TakesLine}
 use Rattle.lot_text.specs.Grammar.{meaning}
 use Rattle.lot_text.proofs.SentLemmas.{puts_then, puts_nothing}
 use Rattle.lot_replay.specs.Stages.{after_line}
-use Rattle.lot_replay.specs.Sessions.{stage_of}
+use Rattle.lot_replay.specs.Sessions.{replay_stage_of}
 use Rattle.lot_replay.specs.Answers.{last_line, last_status}
 use Rattle.lot_replay.specs.Fronts.{RefusesRead}
 use Rattle.lot_replay.specs.declared.state.Refusal.TheVariants.{Malformed}
@@ -44,7 +44,7 @@ returns-in-Some-refusal g c =
     let refusal = c.in-Some-refusal.refusal in
     let counted = c.in-Some-checked_add.ensures.1 in
     let known = known_read _ _ _ i.0 c.loop.number next c.in-Some.front.lines _ _ _ i.1 read counted in
-    let refuses = subst (λ o. RefusesRead o (stage_of c.answer_shown.new.state.session) (g.R.Read.remaining c.loop.reader) (g.R.Read.remaining c.answer_shown.new.reader)) c.in-Some-refusal.is c.in-Some.ensures.1 in
+    let refuses = subst (λ o. RefusesRead o (replay_stage_of c.answer_shown.new.state.session) (g.R.Read.remaining c.loop.reader) (g.R.Read.remaining c.answer_shown.new.reader)) c.in-Some-refusal.is c.in-Some.ensures.1 in
     let puts = puts_then _ _ _ c.args.page.now c.loop.page c.answer_shown.new.page i.0 read.1 i.2 read.5 in
     let last = last_line refusal next in (
       told ++ last,
@@ -100,8 +100,8 @@ returns-in-Err g c =
     let next = c.in-Some-checked_add.next in
     let known = known_read _ _ _ i.0 c.loop.number next c.in-Some.front.lines _ _ _ i.1 read c.in-Some-checked_add.ensures.1 in
     let puts = puts_then _ _ _ c.args.page.now c.loop.page c.answer_shown.new.page i.0 read.1 i.2 read.5 in
-    let stage = stage_of c.answer_shown.new.state.session in
-    let left = stage_of c.answer.new.self.session in
+    let stage = replay_stage_of c.answer_shown.new.state.session in
+    let left = replay_stage_of c.answer.new.self.session in
     let line = c.as_slice.result.now in
     let takes = subst (TakesLine (g.R.Read.remaining c.answer_shown.new.reader) (g.R.Read.remaining c.read_line.new.reader)) (sym c.as_slice.ensures.value) c.in-Line.ensures.0 in
     let refusal = c.in-Err.refusal in
@@ -122,8 +122,8 @@ returns-then-is_lost-2 g c =
     let next = c.in-Some-checked_add.next in
     let known = known_read _ _ _ i.0 c.loop.number next c.in-Some.front.lines _ _ _ i.1 read c.in-Some-checked_add.ensures.1 in
     let puts = puts_then _ _ _ c.args.page.now c.loop.page c.answer_shown.new.page i.0 read.1 i.2 read.5 in
-    let stage = stage_of c.answer_shown.new.state.session in
-    let left = stage_of c.answer.new.self.session in
+    let stage = replay_stage_of c.answer_shown.new.state.session in
+    let left = replay_stage_of c.answer.new.self.session in
     let line = c.as_slice.result.now in
     let takes = subst (TakesLine (g.R.Read.remaining c.answer_shown.new.reader) (g.R.Read.remaining c.read_line.new.reader)) (sym c.as_slice.ensures.value) c.in-Line.ensures.0 in
     let said = as_answered (meaning line) (after_line stage line) c.in_default-answer.field-0 stage left _ _ c.answer_shown.new.page c.answer.new.page c.in_default-answer.ensures in
@@ -139,8 +139,8 @@ loop-preserved g c =
     let next = c.in-Some-checked_add.next in
     let known = known_read _ _ _ i.0 c.loop.number next c.in-Some.front.lines _ _ _ i.1 read c.in-Some-checked_add.ensures.1 in
     let puts = puts_then _ _ _ c.args.page.now c.loop.page c.answer_shown.new.page i.0 read.1 i.2 read.5 in
-    let stage = stage_of c.answer_shown.new.state.session in
-    let left = stage_of c.answer.new.self.session in
+    let stage = replay_stage_of c.answer_shown.new.state.session in
+    let left = replay_stage_of c.answer.new.self.session in
     let line = c.as_slice.result.now in
     let takes = subst (TakesLine (g.R.Read.remaining c.answer_shown.new.reader) (g.R.Read.remaining c.read_line.new.reader)) (sym c.as_slice.ensures.value) c.in-Line.ensures.0 in
     let said = as_answered (meaning line) (after_line stage line) c.in_default-answer.field-0 stage left _ _ c.answer_shown.new.page c.answer.new.page c.in_default-answer.ensures in

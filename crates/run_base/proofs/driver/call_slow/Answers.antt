@@ -8,9 +8,9 @@ use Rattle.run_base.specs.Calls.{beginning}
 use Rattle.run_base.specs.Fitting.{AreWordsFor, Fits, IsOver, IsStopped, call_purpose}
 use Rattle.run_base.specs.declared.driver.Stop.{Stop}
 use Rattle.run_base.specs.declared.driver.Stop.TheVariants.{Paused}
-use Rattle.run_base.specs.Paths.{Runs, Walks}
+use Rattle.run_base.specs.Paths.{RunsTo, Walks}
 use Rattle.run_base.specs.Stages.{stage_of}
-use Rattle.run_base.specs.Words.{kind_in, at_in, alone}
+use Rattle.run_base.specs.Words.{kind_in, at_in, single_word}
 use Rattle.run_base.specs.declared.words.Words.{Words}
 use Rattle.run_base.proofs.Behind.{fits_behind, over_behind, path_behind, words_behind, alone_at, never_pauses}
 use Rattle.run_base.proofs.driver.call_slow.Goals as goal
@@ -18,7 +18,7 @@ use Rattle.run_base.proofs.driver.call_slow.Goals as goal
 pub run-requires-clause-words : goal.run-requires-clause-words
 run-requires-clause-words g c = let word = c.args.word in
     subst (λ (words : Words). AreWordsFor c.place_behind-start.result (kind_in words) (at_in words)) (sym c.alone.ensures)
-    (subst (λ (p : Place). AreWordsFor p (kind_in (alone c.args.word)) (at_in (alone c.args.word))) (sym c.place_behind-start.ensures)
+    (subst (λ (p : Place). AreWordsFor p (kind_in (single_word c.args.word)) (at_in (single_word c.args.word))) (sym c.place_behind-start.ensures)
     (words_behind word c.requires.own.2 c.args.call c.args.seen c.requires.own.3))
 
 pub run-requires-clause-start : goal.run-requires-clause-start
@@ -30,7 +30,7 @@ run-requires-clause-start g c = let v = view_of c.args.token.now in (
 pub returns-clause-path : goal.returns-clause-path
 returns-clause-path g c = λ before saw. let n = c.args.word.number in let at = ap at_in c.alone.ensures ∙ alone_at c.args.word c.requires.own.2 in let answer = c.in-Ended.answer in
     let walks : Walks (at_in c.alone.result) c.place_behind-start.result (view_of c.args.token.now).steps (view_of c.run.new.token).steps c.in-Ended.answer
-    = subst (Runs (at_in c.alone.result) c.place_behind-start.result (view_of c.args.token.now).steps (view_of c.run.new.token).steps) c.in-Ended.is c.run.ensures.path in
+    = subst (RunsTo (at_in c.alone.result) c.place_behind-start.result (view_of c.args.token.now).steps (view_of c.run.new.token).steps) c.in-Ended.is c.run.ensures.path in
     path_behind n c.args.call c.args.seen before (view_of c.args.token.now).steps (view_of c.run.new.token).steps answer
     (subst (λ (at : ℕ → ℕ). Walks at (next_place (beginning c.args.word.number c.args.call) (Value c.args.seen)) (view_of c.args.token.now).steps (view_of c.run.new.token).steps c.in-Ended.answer) at
     (subst (λ (p : Place). Walks (at_in c.alone.result) p (view_of c.args.token.now).steps (view_of c.run.new.token).steps c.in-Ended.answer) c.place_behind-start.ensures walks)) saw

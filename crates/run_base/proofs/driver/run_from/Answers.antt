@@ -7,7 +7,7 @@ use Rattle.core_words.specs.declared.owners.Ownership.{Ownership}
 use Rattle.parking_lot_core.specs.Tokens.{view_of, last_of}
 use Rattle.run_base.specs.Fitting.{CallPurpose, Fits, ReachedBy, IsOver, AreWordsFor, answer_of, call_purpose}
 use Rattle.run_base.specs.Paths.{closure_of}
-use Rattle.run_base.specs.Stages.{stage_of, inside_of}
+use Rattle.run_base.specs.Stages.{stage_of, section_view}
 use Rattle.run_base.specs.Words.{kind_in, at_in}
 use Rattle.run_base.proofs.Ending.{closed, closes_outside, end_of, ended, outside}
 use Rattle.run_base.proofs.Leading.{places_lead, fits_from, words_from}
@@ -28,18 +28,18 @@ loop-init g c = record {
 
 pub loop-preserved : goal.loop-preserved
 loop-preserved g c = let p = c.loop.place in let t = c.turn-reply in let reply = t.result in let new = t.new.token in
-    let before = c.loop.invariant in let next = c.go_on-act.ensures.place in let from = c.go_from-act.ensures.place in
+    let before = c.loop.invariant in let next = c.advance-act.ensures.place in let from = c.go_from-act.ensures.place in
     let none : answer_of (next_act c.loop.place c.turn-reply.result) ≡ None = search rules in
     let reached : (base : List Ownership) → Fits (IsUp g.C.Clock.tells c.args.limit) base c.args.start (stage_of c.args.token.now c.args.inside) → ReachedBy (IsUp g.C.Clock.tells c.args.limit) base (call_purpose c.loop.place) (next_place c.loop.place c.turn-reply.result) None (stage_of c.turn-reply.new.token c.turn-reply.new.section)
     = λ (base : List Ownership) fits. subst (λ (o : Option Answer). ReachedBy (IsUp g.C.Clock.tells c.args.limit) base (call_purpose c.loop.place) (next_place c.loop.place c.turn-reply.result) o (stage_of c.turn-reply.new.token c.turn-reply.new.section)) none (t.ensures.reached base (before.fits base fits)) in
     let words_then = subst (λ (q : Place). AreWordsFor q (kind_in c.args.words) (at_in c.args.words)) (sym next) (words_on p reply (kind_in c.args.words) (at_in c.args.words) before.words) in
-    let goes_from : (base : List Ownership) → Fits (IsUp g.C.Clock.tells c.args.limit) base c.args.start (stage_of c.args.token.now c.args.inside) → Fits (IsUp g.C.Clock.tells c.args.limit) base c.go_from-act.new.place (stage_of c.turn-reply.new.token c.turn-reply.new.section) × (call_purpose c.go_from-act.new.place ≡ call_purpose c.go_on-act.new.self)
-    = λ (base : List Ownership) fits. fits_from (IsUp g.C.Clock.tells c.args.limit) (kind_in c.args.words) (at_in c.args.words) base c.go_on-act.new.self c.go_from-act.new.place (stage_of new t.new.section) from words_then
+    let goes_from : (base : List Ownership) → Fits (IsUp g.C.Clock.tells c.args.limit) base c.args.start (stage_of c.args.token.now c.args.inside) → Fits (IsUp g.C.Clock.tells c.args.limit) base c.go_from-act.new.place (stage_of c.turn-reply.new.token c.turn-reply.new.section) × (call_purpose c.go_from-act.new.place ≡ call_purpose c.advance-act.new.self)
+    = λ (base : List Ownership) fits. fits_from (IsUp g.C.Clock.tells c.args.limit) (kind_in c.args.words) (at_in c.args.words) base c.advance-act.new.self c.go_from-act.new.place (stage_of new t.new.section) from words_then
     (subst (λ (q : Place). Fits (IsUp g.C.Clock.tells c.args.limit) base q (stage_of c.turn-reply.new.token c.turn-reply.new.section)) (sym next) (reached base fits).0) in record {
       turns = (tt, tt);
       own = ((t.ensures.own.0.0, t.ensures.own.0.1 ∙ before.own.0.1), t.ensures.own.1);
-      path = comes_from (at_in c.args.words) c.args.start c.go_on-act.new.self c.go_from-act.new.place (view_of c.args.token.now).steps (view_of new).steps (comes_on (at_in c.args.words) c.args.start p c.go_on-act.new.self (view_of c.args.token.now).steps (view_of c.loop.token).steps (view_of new).steps reply t.ensures.told.0 before.path t.ensures.told.1 t.ensures.told.2 next) from;
-      words = words_from (kind_in c.args.words) (at_in c.args.words) c.go_on-act.new.self c.go_from-act.new.place from words_then;
+      path = comes_from (at_in c.args.words) c.args.start c.advance-act.new.self c.go_from-act.new.place (view_of c.args.token.now).steps (view_of new).steps (comes_on (at_in c.args.words) c.args.start p c.advance-act.new.self (view_of c.args.token.now).steps (view_of c.loop.token).steps (view_of new).steps reply t.ensures.told.0 before.path t.ensures.told.1 t.ensures.told.2 next) from;
+      words = words_from (kind_in c.args.words) (at_in c.args.words) c.advance-act.new.self c.go_from-act.new.place from words_then;
       fits = λ (base : List Ownership) fits. (goes_from base fits).0;
       act = c.go_from-act.ensures.act;
       aim = (goes_from c.requires.start.0 c.requires.start.1).1 ∙ ap call_purpose next ∙ (reached c.requires.start.0 c.requires.start.1).1 ∙ before.aim;
@@ -54,13 +54,13 @@ pub returns-in-Some-answer_of-clause-stopped : goal.returns-in-Some-answer_of-cl
 returns-in-Some-answer_of-clause-stopped g c = let p = c.loop.place in let t = c.turn-reply in let new = t.new.token in let before = c.loop.invariant in let answer = c.in-Some-answer_of.answer in
     let is : answer_of (next_act c.loop.place c.turn-reply.result) ≡ Some c.in-Some-answer_of.answer = search rules in
     λ (base : List Ownership) fits. let over = subst (λ (o : Option Answer). ReachedBy (IsUp g.C.Clock.tells c.args.limit) base (call_purpose c.loop.place) (next_place c.loop.place c.turn-reply.result) o (stage_of c.turn-reply.new.token c.turn-reply.new.section)) is (t.ensures.reached base (before.fits base fits)) in
-    subst (λ (aim : CallPurpose). IsOver (IsUp g.C.Clock.tells c.args.limit) base aim c.in-Some-answer_of.answer (stage_of c.turn-reply.new.token None)) before.aim (ended (IsUp g.C.Clock.tells c.args.limit) base (view_of new).owns (call_purpose p) answer (inside_of t.new.section) (last_of new) (view_of new).steps over)
+    subst (λ (aim : CallPurpose). IsOver (IsUp g.C.Clock.tells c.args.limit) base aim c.in-Some-answer_of.answer (stage_of c.turn-reply.new.token None)) before.aim (ended (IsUp g.C.Clock.tells c.args.limit) base (view_of new).owns (call_purpose p) answer (section_view t.new.section) (last_of new) (view_of new).steps over)
 
 pub end-requires-in-Some-answer_of : goal.end-requires-in-Some-answer_of
 end-requires-in-Some-answer_of g c = let start = c.requires.start in let p = c.loop.place in let t = c.turn-reply in let new = t.new.token in let answer = c.in-Some-answer_of.answer in
     let is : answer_of (next_act c.loop.place c.turn-reply.result) ≡ Some c.in-Some-answer_of.answer = search rules in
     let over = subst (λ (o : Option Answer). ReachedBy (IsUp g.C.Clock.tells c.args.limit) c.requires.start.0 (call_purpose c.loop.place) (next_place c.loop.place c.turn-reply.result) o (stage_of c.turn-reply.new.token c.turn-reply.new.section)) is (t.ensures.reached start.0 (c.loop.invariant.fits start.0 start.1)) in
-    outside (IsUp g.C.Clock.tells c.args.limit) start.0 (view_of new).owns (call_purpose p) answer (inside_of t.new.section) (last_of new) (view_of new).steps over
+    outside (IsUp g.C.Clock.tells c.args.limit) start.0 (view_of new).owns (call_purpose p) answer (section_view t.new.section) (last_of new) (view_of new).steps over
 
 pub end-requires : goal.end-requires
 end-requires g c = let start = c.requires.start in let p = c.loop.place in let words = c.args.words in let st = stage_of c.loop.token c.loop.section in
@@ -72,17 +72,17 @@ pub returns-in-Some-closure_of-clause-stopped : goal.returns-in-Some-closure_of-
 returns-in-Some-closure_of-clause-stopped g c = let p = c.loop.place in let words = c.args.words in let before = c.loop.invariant in let token = c.loop.token in let st = stage_of c.loop.token c.loop.section in
     let is : closure_of (act_of c.loop.place) ≡ Some c.in-Some-closure_of.state = sym (ap closure_of c.loop.invariant.act) ∙ sym c.closure_of.ensures ∙ c.in-Some-closure_of.is in
     λ (base : List Ownership) fits. let needs = (places_lead (IsUp g.C.Clock.tells c.args.limit) (kind_in words) (at_in words) base p st before.words (before.fits base fits)).0 in
-    closed (IsUp g.C.Clock.tells c.args.limit) base (view_of token).owns (call_purpose c.args.start) p c.in-Some-closure_of.state (inside_of c.loop.section) (last_of token) (view_of token).steps is
+    closed (IsUp g.C.Clock.tells c.args.limit) base (view_of token).owns (call_purpose c.args.start) p c.in-Some-closure_of.state (section_view c.loop.section) (last_of token) (view_of token).steps is
     (closes_outside (kind_in words) (at_in words) st (act_of p) c.in-Some-closure_of.state is needs) (before.fits base fits) before.aim
 
-pub go_on-act-requires-clause-shown : goal.go_on-act-requires-clause-shown
-go_on-act-requires-clause-shown g c = shows_keys c.loop.place c.turn-reply.result (kind_in c.args.words) (at_in c.args.words) c.loop.invariant.words
+pub advance-act-requires-clause-shown : goal.advance-act-requires-clause-shown
+advance-act-requires-clause-shown g c = shows_keys c.loop.place c.turn-reply.result (kind_in c.args.words) (at_in c.args.words) c.loop.invariant.words
 
 pub go_from-act-requires-clause-words : goal.go_from-act-requires-clause-words
-go_from-act-requires-clause-words g c = subst (λ (q : Place). AreWordsFor q (kind_in c.args.words) (at_in c.args.words)) (sym c.go_on-act.ensures.place)
+go_from-act-requires-clause-words g c = subst (λ (q : Place). AreWordsFor q (kind_in c.args.words) (at_in c.args.words)) (sym c.advance-act.ensures.place)
     (words_on c.loop.place c.turn-reply.result (kind_in c.args.words) (at_in c.args.words) c.loop.invariant.words)
 
 pub go_from-act-requires-clause-act : goal.go_from-act-requires-clause-act
 go_from-act-requires-clause-act g c =
     let none : answer_of (next_act c.loop.place c.turn-reply.result) ≡ None = search rules in
-    c.go_on-act.ensures.act ∙ does_next c.loop.place c.turn-reply.result none ∙ sym (ap act_of c.go_on-act.ensures.place)
+    c.advance-act.ensures.act ∙ does_next c.loop.place c.turn-reply.result none ∙ sym (ap act_of c.advance-act.ensures.place)

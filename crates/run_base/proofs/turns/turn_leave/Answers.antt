@@ -4,12 +4,12 @@ use Rattle.steps_base.specs.declared.acts.Act as act
 use Rattle.steps_base.specs.declared.acts.Reply.TheVariants.{Done}
 use Rattle.core_base.specs.declared.notes.Note.{Note}
 use Rattle.core_words.specs.declared.views.View.{View}
-use Rattle.run_base.specs.Stages.{MayLeave, inside_of}
+use Rattle.run_base.specs.Stages.{MayLeave, section_view}
 use Rattle.run_base.proofs.TurnsOn.{needs_by, turned_by}
 use Rattle.run_base.proofs.turns.turn_leave.Goals as goal
 
 pub leave-requires : goal.leave-requires
-leave-requires g c = (c.requires.1.0, c.requires.1.2, subst (λ (note : Note). MayLeave note (inside_of c.args.section.now)) (sym c.note_of.ensures) (needs_by (IsUp g.C.Clock.tells c.args._limit) c.args.lot.now c.args._words c.requires.0 (act.TheVariants.Leave c.args._keys c.args.wakes) c.args.token.now c.args.section.now c.requires.1 c.requires.2))
+leave-requires g c = (c.requires.1.0, c.requires.1.2, subst (λ (note : Note). MayLeave note (section_view c.args.section.now)) (sym c.note_of.ensures) (needs_by (IsUp g.C.Clock.tells c.args._limit) c.args.lot.now c.args._words c.requires.0 (act.TheVariants.Leave c.args._keys c.args.wakes) c.args.token.now c.args.section.now c.requires.1 c.requires.2))
 
 pub returns : goal.returns
 returns g c = λ p at is.

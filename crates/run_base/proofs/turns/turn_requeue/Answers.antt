@@ -5,7 +5,7 @@ use Rattle.steps_base.specs.declared.acts.Reply.TheVariants.{Requeued}
 use Rattle.std.specs.Prelude.{length}
 use Rattle.core_base.specs.Requeues.{moved_by}
 use Rattle.parking_lot_core.specs.Tokens.{last_of, view_of}
-use Rattle.run_base.specs.Stages.{Inside, stage, taken_of}
+use Rattle.run_base.specs.Stages.{SectionView, stage, taken_waiter}
 use Rattle.run_base.specs.Telling.{line_in}
 use Rattle.run_base.proofs.TurnsOn.{needs_by, turned_by}
 use Rattle.run_base.proofs.turns.turn_requeue.Goals as goal
@@ -17,4 +17,4 @@ pub returns-clause-done : goal.returns-clause-done
 returns-clause-done g c = λ p at is.
     turned_by (IsUp g.C.Clock.tells c.args._limit) c.args.lot.now c.args._words p c.args._token.now c.args._token.now c.args.section.now c.requeue.new.section (act.TheVariants.Requeue c.args.from c.args.to c.args.how) (Requeued c.requeue.result.0 c.requeue.result.1) is refl at
     (at.0, refl) c.requeue.ensures.did.0
-    (taken_of c.args.how (line_in c.args.from c.args.section.now), length (moved_by c.args.how (line_in c.args.from c.args.section.now)), c.requeue.ensures.number, ap (λ (i : Option Inside). stage (view_of c.args._token.now).owns i (last_of c.args._token.now) (view_of c.args._token.now).steps) c.requeue.ensures.did.1) refl
+    (taken_waiter c.args.how (line_in c.args.from c.args.section.now), length (moved_by c.args.how (line_in c.args.from c.args.section.now)), c.requeue.ensures.number, ap (λ (i : Option SectionView). stage (view_of c.args._token.now).owns i (last_of c.args._token.now) (view_of c.args._token.now).steps) c.requeue.ensures.did.1) refl

@@ -3,7 +3,7 @@ use Rattle.core_base.specs.Clocks.{IsUp}
 use Rattle.steps_base.specs.declared.acts.Act as act
 use Rattle.steps_base.specs.declared.acts.Reply.TheVariants.{Done}
 use Rattle.parking_lot_core.specs.Tokens.{last_of, view_of}
-use Rattle.run_base.specs.Stages.{Inside, stage}
+use Rattle.run_base.specs.Stages.{SectionView, stage}
 use Rattle.run_base.proofs.TurnsOn.{needs_by, turned_by}
 use Rattle.run_base.proofs.turns.turn_stand.Goals as goal
 
@@ -14,4 +14,4 @@ pub returns-clause-done : goal.returns-clause-done
 returns-clause-done g c = λ p at is.
     turned_by (IsUp g.C.Clock.tells c.args._limit) c.args.lot.now c.args._words p c.args.token.now c.args.token.now c.args.section.now c.stand.new.section (act.TheVariants.Stand c.args.key c.args.want) Done is refl at
     (at.0, refl) c.stand.ensures.same.0
-    (ap (λ (i : Option Inside). stage (view_of c.args.token.now).owns i (last_of c.args.token.now) (view_of c.args.token.now).steps) c.stand.ensures.same.1) refl
+    (ap (λ (i : Option SectionView). stage (view_of c.args.token.now).owns i (last_of c.args.token.now) (view_of c.args.token.now).steps) c.stand.ensures.same.1) refl

@@ -3,7 +3,7 @@ use Rattle.core_base.specs.Clocks.{IsUp}
 use Rattle.steps_base.specs.declared.acts.Act as act
 use Rattle.steps_base.specs.declared.acts.Whom as whom
 use Rattle.steps_base.specs.declared.acts.Reply.TheVariants.{Took}
-use Rattle.run_base.specs.Stages.{first_in}
+use Rattle.run_base.specs.Stages.{front_waiter}
 use Rattle.run_base.specs.Telling.{line_in}
 use Rattle.run_base.proofs.TurnsOn.{needs_by, turned_by}
 use Rattle.run_base.proofs.turns.turn_take_first.Goals as goal
@@ -15,4 +15,4 @@ pub returns-clause-done : goal.returns-clause-done
 returns-clause-done g c = λ p at is.
     turned_by (IsUp g.C.Clock.tells c.args._limit) c.args.lot.now c.args._words p c.args._token.now c.args._token.now c.args.section.now c.take_first.new.section (act.TheVariants.Take c.args.key whom.TheVariants.First) (Took c.take_first.result.0 c.take_first.result.1) is refl at
     (at.0, refl) c.take_first.ensures.did.0
-    ((first_in (line_in c.args.key c.args.section.now), c.take_first.ensures.any, c.take_first.ensures.did.1), refl, refl, refl) refl
+    ((front_waiter (line_in c.args.key c.args.section.now), c.take_first.ensures.any, c.take_first.ensures.did.1), refl, refl, refl) refl

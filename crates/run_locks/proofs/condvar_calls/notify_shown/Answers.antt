@@ -2,7 +2,7 @@ use Rattle.std.proofs.Common.{ℕ, None, refl, subst, sym}
 use Rattle.steps_condvar.specs.declared.notify.NotifyAt.TheVariants as notify
 use Rattle.run_base.specs.Paths.{Walks}
 use Rattle.run_base.specs.Telling.{owns_of, steps_of}
-use Rattle.run_base.specs.Turns.{HasEnded, IsAt}
+use Rattle.run_base.specs.Turns.{HasEnded, IsAtPlace}
 use Rattle.run_locks.specs.CondvarCalls.{notify_slow}
 use Rattle.run_locks.specs.CondvarCourses.{notify_at}
 use Rattle.run_locks.specs.declared.condvar_courses.Pair.{Pair}
@@ -11,7 +11,7 @@ use Rattle.run_locks.proofs.condvar_calls.notify_shown.Goals as goal
 
 pub notify_through-requires : goal.notify_through-requires
 notify_through-requires g c = let own = c.requires.own in
-    subst (λ (pair : Pair). IsAt ⊥ c.args.lot.now pair.words (notify_at pair.condvar pair.mutex c.args.all notify.Enter) c.args.token.now None) (sym c.pair_of.ensures)
+    subst (λ (pair : Pair). IsAtPlace ⊥ c.args.lot.now pair.words (notify_at pair.condvar pair.mutex c.args.all notify.Enter) c.args.token.now None) (sym c.pair_of.ensures)
     (own.0.0, both_of c.args.lot.now.words c.args.condvar c.args.mutex own.1 own.0.1, tt, ((own.3, own.0.3), words_beside c.args.condvar c.args.mutex own.4 own.2 own.0.2), (owns_of c.args.token.now, (refl, refl)))
 
 pub returns-clause-own : goal.returns-clause-own

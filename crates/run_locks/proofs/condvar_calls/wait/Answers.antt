@@ -3,7 +3,7 @@ use Rattle.core_base.specs.Clocks.{IsUp}
 use Rattle.steps_condvar.specs.declared.wait.WaitAt.TheVariants as wait
 use Rattle.run_base.specs.Paths.{Walks}
 use Rattle.run_base.specs.Telling.{owns_of, steps_of}
-use Rattle.run_base.specs.Turns.{HasEnded, IsAt}
+use Rattle.run_base.specs.Turns.{HasEnded, IsAtPlace}
 use Rattle.run_locks.specs.CondvarCalls.{wait_begin}
 use Rattle.run_locks.specs.CondvarCourses.{wait_at}
 use Rattle.run_locks.specs.declared.condvar_courses.Pair.{Pair}
@@ -12,7 +12,7 @@ use Rattle.run_locks.proofs.condvar_calls.wait.Goals as goal
 
 pub wait_through-requires : goal.wait_through-requires
 wait_through-requires g c = let own = c.requires.own in
-    subst (λ (pair : Pair). IsAt (IsUp g.C.Clock.tells c.args.limit) c.args.lot.now pair.words (wait_at pair.condvar pair.mutex c.args.timed wait.Enter) c.args.token.now None) (sym c.pair_of.ensures)
+    subst (λ (pair : Pair). IsAtPlace (IsUp g.C.Clock.tells c.args.limit) c.args.lot.now pair.words (wait_at pair.condvar pair.mutex c.args.timed wait.Enter) c.args.token.now None) (sym c.pair_of.ensures)
     (own.0.0, both_of c.args.lot.now.words c.args.condvar c.args.mutex own.1 own.0.1, tt, ((own.3, own.0.3), words_beside c.args.condvar c.args.mutex own.4 own.2 own.0.2), (owns_of c.args.token.now, (c.requires.owned, (refl, refl))))
 
 pub returns-clause-own : goal.returns-clause-own

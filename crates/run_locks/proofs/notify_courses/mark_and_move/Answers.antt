@@ -64,7 +64,7 @@ rest-requires-clause-at g c = let pair = c.args.pair in let at = notify_at pair.
     let found = c.turn_word-found.result in let changed : c.turn_word-found.result ≢ c.turn_word-seen.result = search rules in
     let missed = comes looked (Value found) c.turn_word-found.new.token c.args.section c.turn_word-found.ensures refl (next_place (at (notify.Set seen)) (Value found))
     (refl, set_again pair.condvar pair.mutex c.args.all seen found (is_locked found) changed refl) in
-    let there = named missed (sym (c.after-next.ensures ∙ ap (λ (p : Place). next_place p (Value found)) c.notifies-place.ensures)) in
+    let there = named missed (sym (c.next_place-next.ensures ∙ ap (λ (p : Place). next_place p (Value found)) c.notifies-place.ensures)) in
     there.at
 
 pub returns : goal.returns
@@ -76,5 +76,5 @@ returns g c = let pair = c.args.pair in let at = notify_at pair.condvar pair.mut
     let found = c.turn_word-found.result in let changed : c.turn_word-found.result ≢ c.turn_word-seen.result = search rules in
     let missed = comes looked (Value found) c.turn_word-found.new.token c.args.section c.turn_word-found.ensures refl (next_place (at (notify.Set seen)) (Value found))
     (refl, set_again pair.condvar pair.mutex c.args.all seen found (is_locked found) changed refl) in
-    let there = named missed (sym (c.after-next.ensures ∙ ap (λ (p : Place). next_place p (Value found)) c.notifies-place.ensures)) in
+    let there = named missed (sym (c.next_place-next.ensures ∙ ap (λ (p : Place). next_place p (Value found)) c.notifies-place.ensures)) in
     there.ends c.rest.result c.rest.new.token c.rest.ensures

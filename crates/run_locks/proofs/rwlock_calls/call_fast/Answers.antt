@@ -10,7 +10,7 @@ use Rattle.core_words.specs.Steps.{after_step}
 use Rattle.core_words.specs.declared.owners.Ownership.{Ownership}
 use Rattle.parking_lot_core.specs.Tokens.{view_of}
 use Rattle.run_locks.specs.Courses.{course_of}
-use Rattle.run_locks.specs.Halves.{HasEnded}
+use Rattle.run_locks.specs.Halves.{HasEndedRwLock}
 use Rattle.run_locks.specs.declared.rwlock_courses.Course.TheVariants.{Ends, Takes, GoesOn}
 use Rattle.run_locks.proofs.RwLockCalling.{ended_on, may_start, path_ended, rest_fits, saw, started, wakes_at_once}
 use Rattle.run_locks.proofs.RwLockCourses.{ends_with, takes_at}
@@ -47,7 +47,7 @@ pub returns-then-found-seen-clause-over : goal.returns-then-found-seen-clause-ov
 returns-then-found-seen-clause-over g c = let goes : course_of c.args.settings.now.admission c.args.purpose c.word-seen.result ≡ Takes = search rules in
     let found : c.word_again-found.result ≡ c.word-seen.result = search rules in
     let up = IsUp g.C.Clock.tells c.args._limit.now in let exchange = Exchange c.word-seen.result c.taken-to.result in let by = ap (Exchange c.word-seen.result) c.taken-to.ensures in
-    subst (λ (answer : Answer). HasEnded (IsUp g.C.Clock.tells c.args._limit.now) c.args.word.now c.args.settings.now.admission c.args.purpose answer c.args.token.now c.word_again-found.new.token) (sym c.answer_with.ensures)
+    subst (λ (answer : Answer). HasEndedRwLock (IsUp g.C.Clock.tells c.args._limit.now) c.args.word.now c.args.settings.now.admission c.args.purpose answer c.args.token.now c.word_again-found.new.token) (sym c.answer_with.ensures)
     (ended_behind up c.args.word.now c.requires.own.2 c.args.settings.now.admission c.requires.own.4 c.args.purpose c.word-seen.result c.args.token.now c.word-seen.new.token
     (c.word-seen.ensures.own.0.1, subst (λ (o : Op). view_of c.word-seen.new.token ≡ after_step c.args.word.now.kind (word_index c.args.word.now.number c.args.word.now.kind) o c.word-seen.result (view_of c.args.token.now)) c.opening.ensures c.word-seen.ensures.stepped, c.word-seen.ensures.own.1, c.word-seen.ensures.coded)
     (takes_at c.args.word.now.number c.args.settings.now.admission c.args.purpose c.word-seen.result goes) (entered (patience_of c.args.purpose)) c.word_again-found.new.token (search rules) c.requires.right.0 c.requires.right.1

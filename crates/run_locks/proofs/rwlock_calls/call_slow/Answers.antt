@@ -7,7 +7,7 @@ use Rattle.run_base.specs.Stages.{stage_of}
 use Rattle.steps_rwlock.specs.declared.purposes.RwLockPurpose.{RwLockPurpose}
 use Rattle.lot_steps.specs.Steps.{next_place}
 use Rattle.parking_lot_core.specs.Tokens.{view_of}
-use Rattle.run_locks.specs.Halves.{HasBegun, HasEnded}
+use Rattle.run_locks.specs.Halves.{HasBegunRwLock, HasEndedRwLock}
 use Rattle.run_locks.specs.declared.rwlock_calls.Rest.TheVariants.{GoesOn}
 use Rattle.run_locks.proofs.RwLockHalves.{ended_on_going, fits_on}
 use Rattle.run_locks.proofs.rwlock_calls.call_slow.Goals as goal
@@ -21,8 +21,8 @@ rest_slow-requires-clause-fits g c = let begun = c.requires.begun in (
 
 pub returns-clause-over : goal.returns-clause-over
 returns-clause-over g c = λ before base begins begun.
-    subst (λ (q : RwLockPurpose). HasEnded (IsUp g.C.Clock.tells c.args.limit.now) c.args.word.now c.args.admission.now q c.rest_slow.result before c.rest_slow.new.token) c.lasting.ensures
+    subst (λ (q : RwLockPurpose). HasEndedRwLock (IsUp g.C.Clock.tells c.args.limit.now) c.args.word.now c.args.admission.now q c.rest_slow.result before c.rest_slow.new.token) c.lasting.ensures
     (ended_on_going (IsUp g.C.Clock.tells c.args.limit.now) c.args.word.now c.requires.own.2 c.args.admission.now c.requires.own.4 c.lasting.result.now c.args.seen before c.args.token.now c.rest_slow.new.token c.rest_slow.result
-    (subst (λ (q : RwLockPurpose). HasBegun c.args.word.now c.args.admission.now q (GoesOn c.args.seen) before c.args.token.now) (sym c.lasting.ensures) begun) c.rest_slow.ensures.own.1 base
+    (subst (λ (q : RwLockPurpose). HasBegunRwLock c.args.word.now c.args.admission.now q (GoesOn c.args.seen) before c.args.token.now) (sym c.lasting.ensures) begun) c.rest_slow.ensures.own.1 base
     (subst (λ (q : RwLockPurpose). BeginsWith c.args.word.now.number q base (view_of before).owns) (sym c.lasting.ensures) begins)
     c.rest_slow.ensures.path c.rest_slow.ensures.over)

@@ -6,7 +6,7 @@ use Rattle.run_base.specs.RwLockCalls.{BeginsWith, rwlock_deciding}
 use Rattle.run_base.specs.Stages.{stage_of}
 use Rattle.steps_rwlock.specs.declared.purposes.RwLockPurpose.{RwLockPurpose}
 use Rattle.parking_lot_core.specs.Tokens.{view_of}
-use Rattle.run_locks.specs.Halves.{HasBegun, HasEnded}
+use Rattle.run_locks.specs.Halves.{HasBegunRwLock, HasEndedRwLock}
 use Rattle.run_locks.specs.declared.rwlock_calls.Rest.TheVariants.{Missed}
 use Rattle.run_locks.proofs.RwLockHalves.{ended_missed, reached_missed}
 use Rattle.run_locks.proofs.rwlock_calls.missed.Goals as goal
@@ -20,8 +20,8 @@ rest_missed-requires-clause-reached g c = let begun = c.requires.begun in (
 
 pub returns-clause-over : goal.returns-clause-over
 returns-clause-over g c = λ before base begins begun.
-    subst (λ (q : RwLockPurpose). HasEnded (IsUp g.C.Clock.tells c.args.limit.now) c.args.word.now c.args.admission.now q c.rest_missed.result before c.rest_missed.new.token) c.lasting.ensures
+    subst (λ (q : RwLockPurpose). HasEndedRwLock (IsUp g.C.Clock.tells c.args.limit.now) c.args.word.now c.args.admission.now q c.rest_missed.result before c.rest_missed.new.token) c.lasting.ensures
     (ended_missed (IsUp g.C.Clock.tells c.args.limit.now) c.args.word.now c.requires.own.2 c.args.admission.now c.requires.own.4 c.lasting.result.now c.args.seen c.args.found before c.args.token.now
-    (subst (λ (q : RwLockPurpose). HasBegun c.args.word.now c.args.admission.now q (Missed c.args.seen c.args.found) before c.args.token.now) (sym c.lasting.ensures) begun) c.rest_missed.new.token c.rest_missed.result c.rest_missed.ensures.own.1 base
+    (subst (λ (q : RwLockPurpose). HasBegunRwLock c.args.word.now c.args.admission.now q (Missed c.args.seen c.args.found) before c.args.token.now) (sym c.lasting.ensures) begun) c.rest_missed.new.token c.rest_missed.result c.rest_missed.ensures.own.1 base
     (subst (λ (q : RwLockPurpose). BeginsWith c.args.word.now.number q base (view_of before).owns) (sym c.lasting.ensures) begins)
     c.rest_missed.ensures.path c.rest_missed.ensures.over)

@@ -9,13 +9,13 @@ use Rattle.run_base.specs.Fitting.{AreWordsFor, Fits, IsOver, call_purpose}
 use Rattle.run_base.specs.Paths.{Walks}
 use Rattle.run_base.specs.RwLockCalls.{rwlock_begin}
 use Rattle.run_base.specs.Stages.{stage_of}
-use Rattle.run_base.specs.Words.{alone, at_in, kind_in}
+use Rattle.run_base.specs.Words.{single_word, at_in, kind_in}
 use Rattle.run_locks.proofs.RwLockCalling.{rwlock_alone, words_after}
 use Rattle.run_locks.proofs.rwlock_calls.rest_slow.Goals as goal
 
 pub run_out-requires-clause-words : goal.run_out-requires-clause-words
 run_out-requires-clause-words g c = let start : c.place_behind-start.result ≡ next_place (rwlock_begin c.args.word.now.number c.args.admission.now c.args.purpose.now) (Value c.args.seen) = search rules in
-    subst (λ (p : Place). AreWordsFor p (kind_in (alone c.args.word.now)) (at_in (alone c.args.word.now))) (sym start)
+    subst (λ (p : Place). AreWordsFor p (kind_in (single_word c.args.word.now)) (at_in (single_word c.args.word.now))) (sym start)
     (words_after c.args.word.now c.requires.own.2 c.args.admission.now c.args.purpose.now c.args.seen c.requires.own.3)
 
 pub run_out-requires-clause-fits : goal.run_out-requires-clause-fits
@@ -25,7 +25,7 @@ run_out-requires-clause-fits g c = let start : c.place_behind-start.result ≡ n
 pub returns-clause-path : goal.returns-clause-path
 returns-clause-path g c = let start : c.place_behind-start.result ≡ next_place (rwlock_begin c.args.word.now.number c.args.admission.now c.args.purpose.now) (Value c.args.seen) = search rules in
     subst (λ (at : ℕ → ℕ). Walks at (next_place (rwlock_begin c.args.word.now.number c.args.admission.now c.args.purpose.now) (Value c.args.seen)) (view_of c.args.token.now).steps (view_of c.run_out.new.token).steps c.run_out.result) (rwlock_alone c.args.word.now c.requires.own.2)
-    (subst (λ (p : Place). Walks (at_in (alone c.args.word.now)) p (view_of c.args.token.now).steps (view_of c.run_out.new.token).steps c.run_out.result) start c.run_out.ensures.path)
+    (subst (λ (p : Place). Walks (at_in (single_word c.args.word.now)) p (view_of c.args.token.now).steps (view_of c.run_out.new.token).steps c.run_out.result) start c.run_out.ensures.path)
 
 pub returns-clause-over : goal.returns-clause-over
 returns-clause-over g c = λ (base : List Ownership) fits. let start : c.place_behind-start.result ≡ next_place (rwlock_begin c.args.word.now.number c.args.admission.now c.args.purpose.now) (Value c.args.seen) = search rules in

@@ -41,12 +41,12 @@ rest-requires-clause-at g c = let pair = c.args.pair in let at = wait_at pair.co
     c.turn_sleep-reply.new.token c.turn_sleep-reply.new.section) c.waits-place.ensures c.turn_sleep-reply.ensures.turned in
     let awake = turns_to here c.turn_sleep-reply.result c.turn_sleep-reply.new.token c.turn_sleep-reply.new.section turned
     (next_place (at (wait.Asleep Listed)) c.turn_sleep-reply.result) (refl, sleeps_on pair.condvar pair.mutex c.args.timed c.turn_sleep-reply.result) in
-    let there = named awake (sym (c.after-next.ensures ∙ ap (λ (p : Place). next_place p c.turn_sleep-reply.result) c.waits-place.ensures)) in
+    let there = named awake (sym (c.next_place-next.ensures ∙ ap (λ (p : Place). next_place p c.turn_sleep-reply.result) c.waits-place.ensures)) in
     there.at
 
 pub rest-requires-clause-call : goal.rest-requires-clause-call
 rest-requires-clause-call g c =
-    subst IsOfCondvar (sym (c.after-next.ensures ∙ ap (λ (p : Place). next_place p c.turn_sleep-reply.result) c.waits-place.ensures)) tt
+    subst IsOfCondvar (sym (c.next_place-next.ensures ∙ ap (λ (p : Place). next_place p c.turn_sleep-reply.result) c.waits-place.ensures)) tt
 
 pub returns : goal.returns
 returns g c = let pair = c.args.pair in let at = wait_at pair.condvar pair.mutex c.args.timed in let up = IsUp g.C.Clock.tells c.args.limit in
@@ -55,5 +55,5 @@ returns g c = let pair = c.args.pair in let at = wait_at pair.condvar pair.mutex
     c.turn_sleep-reply.new.token c.turn_sleep-reply.new.section) c.waits-place.ensures c.turn_sleep-reply.ensures.turned in
     let awake = turns_to here c.turn_sleep-reply.result c.turn_sleep-reply.new.token c.turn_sleep-reply.new.section turned
     (next_place (at (wait.Asleep Listed)) c.turn_sleep-reply.result) (refl, sleeps_on pair.condvar pair.mutex c.args.timed c.turn_sleep-reply.result) in
-    let there = named awake (sym (c.after-next.ensures ∙ ap (λ (p : Place). next_place p c.turn_sleep-reply.result) c.waits-place.ensures)) in
+    let there = named awake (sym (c.next_place-next.ensures ∙ ap (λ (p : Place). next_place p c.turn_sleep-reply.result) c.waits-place.ensures)) in
     there.ends c.rest.result c.rest.new.token c.rest.ensures

@@ -36,7 +36,7 @@ rest-requires-clause-at g c = let pair = c.args.pair in let at = wait_at pair.co
     let found = c.turn_word-found.result in let changed : c.turn_word-found.result ≢ c.args.seen = search rules in
     let missed = comes here (Value found) c.turn_word-found.new.token c.args.section c.turn_word-found.ensures is (next_place p (Value found))
     (refl, decides_again pair.condvar pair.mutex c.args.timed c.args.seen found (is_locked found) changed refl) in
-    let there = named missed (sym (c.after-next.ensures ∙ ap (λ (q : Place). next_place q (Value found)) (c.waits-place.ensures ∙ ap at c.locks.ensures))) in
+    let there = named missed (sym (c.next_place-next.ensures ∙ ap (λ (q : Place). next_place q (Value found)) (c.waits-place.ensures ∙ ap at c.locks.ensures))) in
     there.at
 
 pub returns : goal.returns
@@ -47,5 +47,5 @@ returns g c = let pair = c.args.pair in let at = wait_at pair.condvar pair.mutex
     let found = c.turn_word-found.result in let changed : c.turn_word-found.result ≢ c.args.seen = search rules in
     let missed = comes here (Value found) c.turn_word-found.new.token c.args.section c.turn_word-found.ensures is (next_place p (Value found))
     (refl, decides_again pair.condvar pair.mutex c.args.timed c.args.seen found (is_locked found) changed refl) in
-    let there = named missed (sym (c.after-next.ensures ∙ ap (λ (q : Place). next_place q (Value found)) (c.waits-place.ensures ∙ ap at c.locks.ensures))) in
+    let there = named missed (sym (c.next_place-next.ensures ∙ ap (λ (q : Place). next_place q (Value found)) (c.waits-place.ensures ∙ ap at c.locks.ensures))) in
     there.ends c.rest.result c.rest.new.token c.rest.ensures

@@ -3,7 +3,7 @@ ghost use Rattle.std.specs.Prelude.{◌≡◌};
 ghost use Rattle.parking_lot_core.specs.Tokens.{IsTokenOf};
 ghost use Rattle.parking_lot.specs.Names.{lot_of};
 
-use super::super::same;
+use super::super::check_eq;
 use super::timed::give_back;
 use super::{Part, Told, await_flag, play, sees_waiter};
 use parking_lot::lock_api::{RawMutex as RawLock, RawMutexTimed as RawTimedLock};
@@ -78,5 +78,5 @@ pub(super) fn hold_and_move<R: Wait>(
 
 #[test]
 fn who_was_moved_elsewhere_and_is_late_leaves_that_queue(rt: HostRuntime) {
-    same(&rt, play(&rt, rt.alloc(), Part::Move), 2);
+    check_eq(&rt, play(&rt, rt.alloc(), Part::Move), 2);
 }

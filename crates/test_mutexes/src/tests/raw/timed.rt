@@ -3,7 +3,7 @@ ghost use Rattle.std.specs.Prelude.{IfSome};
 ghost use Rattle.parking_lot_core.specs.Tokens.{IsTokenOf};
 ghost use Rattle.parking_lot.specs.Names.{lot_of};
 
-use super::super::{holds, same};
+use super::super::{check, check_eq};
 use super::{Part, await_flag, play, seats, stands};
 use parking_lot::lock_api::{RawMutex as RawLock, RawMutexTimed as RawTimedLock};
 use parking_lot::{RawMutex, TickClock, Token};
@@ -31,7 +31,7 @@ fn who_holds_a_mutex_waits_for_it_in_vain(rt: HostRuntime) {
         stands(&rt, &lot, &mutex, &mut token, true);
     }
     mutex.unlock(&rt, &mut token, guard);
-    holds(&rt, !mutex.is_locked(&mut token));
+    check(&rt, !mutex.is_locked(&mut token));
 }
 
 // Unlocks, if it was got. Whether it was.
@@ -71,7 +71,7 @@ fn takes_a_free_one<M: RawTimedLock, R: Wait>(rt: &R, mutex: &M, token: &mut M::
 #[test]
 fn a_free_mutex_is_taken_though_the_time_is_up(rt: HostRuntime) {
     let (_lot, mutex, mut token, _others) = seats(&rt, rt.alloc(), 0);
-    holds(&rt, takes_a_free_one(&rt, &mutex, &mut token));
+    check(&rt, takes_a_free_one(&rt, &mutex, &mut token));
 }
 
 // Once the mutex is held, waits for it, up to a deadline that doesn't come or without a limit.
@@ -98,7 +98,7 @@ pub(super) fn wait_for_held<R: Wait>(
 #[test]
 fn a_release_wakes_who_waits_with_a_limit(rt: HostRuntime) {
     for deadline in [Some(u64::MAX), None] {
-        same(&rt, play(&rt, rt.alloc(), Part::MeetTimed(deadline)), 2);
+        check_eq(&rt, play(&rt, rt.alloc(), Part::MeetTimed(deadline)), 2);
     }
 }
 
@@ -134,7 +134,7 @@ pub(super) fn race<R: Wait>(
 #[test]
 fn deadlines_race_releases(rt: HostRuntime) {
     let (got, hits) = (AtomicU64::new(0), AtomicU64::new(0));
-    same(&rt, play(&rt, rt.alloc(), Part::Race(&got, &hits)), 2);
-    holds(&rt, got.load(SeqCst) > 0);
-    same(&rt, hits.load(SeqCst), got.load(SeqCst));
+    check_eq(&rt, play(&rt, rt.alloc(), Part::Race(&got, &hits)), 2);
+    check(&rt, got.load(SeqCst) > 0);
+    check_eq(&rt, hits.load(SeqCst), got.load(SeqCst));
 }

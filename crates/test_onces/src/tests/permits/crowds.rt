@@ -2,7 +2,7 @@
 ghost use Rattle.std.specs.Prelude.{◌≡◌, ◌≤◌};
 ghost use Rattle.run_signals.specs.SemaphoreUsers.{IsTicketOf, IsTokenOf, lot_of};
 
-use super::{same, seats, semaphore_of};
+use super::{check_eq, seats, semaphore_of};
 use parking_lot_core::{ParkingLot, TickClock, Ticket, Token};
 use run_signals::Semaphore;
 use std::alloc::Global;
@@ -241,29 +241,29 @@ fn play<R: Threads + Wait + Abort + Sync>(
 #[test]
 fn six_threads_count_under_one_permit(rt: HostRuntime) {
     let found = play(&rt, rt.alloc(), 6, 1, Part::Count);
-    same(&rt, found, (true, 1, 6 * TIMES));
+    check_eq(&rt, found, (true, 1, 6 * TIMES));
 }
 
 #[test]
 fn no_more_hold_a_permit_than_there_are(rt: HostRuntime) {
     let (content, most, _) = play(&rt, rt.alloc(), 6, 3, Part::Count);
-    same(&rt, (content, most <= 3), (true, true));
+    check_eq(&rt, (content, most <= 3), (true, true));
 }
 
 #[test]
 fn waits_that_give_up_lose_no_permit(rt: HostRuntime) {
     let found = play(&rt, rt.alloc(), 4, 1, Part::CountInTime);
-    same(&rt, found, (true, 1, 4 * TIMES));
+    check_eq(&rt, found, (true, 1, 4 * TIMES));
 }
 
 #[test]
 fn two_hold_a_permit_at_once(rt: HostRuntime) {
     let (content, _, _) = play(&rt, rt.alloc(), 2, 2, Part::Meet);
-    same(&rt, content, true);
+    check_eq(&rt, content, true);
 }
 
 #[test]
 fn a_release_wakes_who_waits(rt: HostRuntime) {
     let (content, _, _) = play(&rt, rt.alloc(), 2, 1, Part::Wake);
-    same(&rt, content, true);
+    check_eq(&rt, content, true);
 }

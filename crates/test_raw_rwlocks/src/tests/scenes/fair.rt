@@ -4,7 +4,7 @@ ghost use Rattle.parking_lot.specs.Names.{lot_of_rwlock};
 
 use super::super::fixtures::lock_alone;
 use super::scene::{ALL, Coming, Manner, READERS, Scene, WRITERS};
-use super::{play, play_within, same};
+use super::{play, play_within, check_eq};
 use parking_lot::lock_api_rw::{
     RawRwLock as RawLock, RawRwLockFair, RawRwLockUpgrade, RawRwLockUpgradeFair,
 };
@@ -113,6 +113,6 @@ fn goes_alone<const RECURSIVE: bool, R: Wait>(
 #[test]
 fn who_is_alone_keeps_its_right_as_it_bumps(rt: HostRuntime) -> Result<(), Fail> {
     let (lock, mut token) = lock_alone::<false>(rt.alloc(), 2)?;
-    same(&rt, goes_alone(&rt, &lock, &mut token), [true, true, true]);
+    check_eq(&rt, goes_alone(&rt, &lock, &mut token), [true, true, true]);
     Ok(())
 }

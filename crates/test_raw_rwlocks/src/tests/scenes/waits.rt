@@ -4,7 +4,7 @@ ghost use Rattle.parking_lot.specs.Names.{lot_of_rwlock};
 
 use super::super::fixtures::{comes_to, seats};
 use super::scene::{ALL, Coming, Manner, READERS, Scene, WRITERS};
-use super::{holds, play};
+use super::{check, play};
 use parking_lot::lock_api_rw::RawRwLock as RawLock;
 use parking_lot::{Fault, RawRwLock, Ticket};
 use std::alloc::Global;
@@ -52,8 +52,8 @@ fn all_meet<const RECURSIVE: bool, R: Threads + Wait + Sync>(
 
 #[test]
 fn readers_meet(rt: HostRuntime) -> Result<(), Fail> {
-    holds(&rt, all_meet::<false, HostRuntime>(&rt, rt.alloc())?);
-    holds(&rt, all_meet::<true, HostRuntime>(&rt, rt.alloc())?);
+    check(&rt, all_meet::<false, HostRuntime>(&rt, rt.alloc())?);
+    check(&rt, all_meet::<true, HostRuntime>(&rt, rt.alloc())?);
     Ok(())
 }
 

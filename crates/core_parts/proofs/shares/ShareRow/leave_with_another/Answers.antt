@@ -1,5 +1,5 @@
 use Rattle.std.proofs.Common.{◌<◌, ◌+◌, ◌≡◌, ◌≢◌, ◌∙◌, ℕ, [], ◌∷◌, None, Some, ap, arith, sym}
-use Rattle.core_parts.specs.Shares.{in_hand, tag_in, times}
+use Rattle.core_parts.specs.Shares.{slot_in_hand, tag_in, times}
 use Rattle.core_parts.proofs.ShareKeeps.{halves, laid_down, leave_at, one_here, other_place, two_else}
 use Rattle.core_parts.proofs.shares.ShareRow.leave_with_another.Goals as goal
 
@@ -14,7 +14,7 @@ store-requires g c = let row = c.args.self.now in let sized = row.sized in let w
       c.exchange.ensures.0 ∙ c.requires.inside.1.0,
       below,
       leave_at g.T.Shared.fits g.T.Shared.tag row.table.shared.table_id.slots c.exchange.new.seat.id at old c.exchange.new.seat.me row.table.shared.key (at ∷ []) (at ∷ at ∷ []) (old.0.knows + 1)
-          (tag_in g.T.Shared.tag (in_hand c.exchange.new.seat.me.1)) (Some c.args.value) None within
+          (tag_in g.T.Shared.tag (slot_in_hand c.exchange.new.seat.me.1)) (Some c.args.value) None within
           c.args.entered.inside c.exchange.ensures.3 c.requires.inside.1.2 c.requires.inside.1.3 else' (λ k ne. two_else at k ne) balance (some', c.requires.fits) (λ _ _. c.requires.tag)
           (λ _. laid_down g.T.Shared.fits g.T.Shared.tag at old c.exchange.new.seat.me (Some c.args.value) c.exchange.ensures.3),
     )
@@ -24,6 +24,6 @@ split_seat-another-requires g c = let row = c.args.self.now in let sized = row.s
     let some' : 0 < row.table.shared.table_id.words = omega arith in (
       c.store.ensures.0 ∙ (c.exchange.ensures.0 ∙ c.requires.inside.1.0),
       some',
-      halves (g.T.Shared.fits row.table.shared.key) g.T.Shared.tag c.store.new.seat.id at c.store.new.seat.me.0 c.exchange.new.seat.me.0.key (tag_in g.T.Shared.tag (in_hand c.exchange.new.seat.me.1))
+      halves (g.T.Shared.fits row.table.shared.key) g.T.Shared.tag c.store.new.seat.id at c.store.new.seat.me.0 c.exchange.new.seat.me.0.key (tag_in g.T.Shared.tag (slot_in_hand c.exchange.new.seat.me.1))
           (ap (λ m. m.0) c.store.ensures.2),
     )

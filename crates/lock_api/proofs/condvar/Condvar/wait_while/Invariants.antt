@@ -3,7 +3,7 @@ use denote.Param.Always.{always_mut}
 use Rattle.std.specs.Iterator.Runs.{CallKeepsClosure}
 use Rattle.lock_api.specs.Conditions.{WaitedOrNot}
 use Rattle.lock_api.specs.Guards.{lock_of}
-use Rattle.lock_api.specs.Waits.{Waits}
+use Rattle.lock_api.specs.Waits.{WaitsAnyTimes}
 use Rattle.spec_locks.specs.declared.outcomes.Answer.TheVariants as answers
 use Rattle.lock_api.proofs.condvar.Condvar.wait_while.Given as goal
 
@@ -12,7 +12,7 @@ invariant-loop g l = record {
   turns : (goal.iterator-loop g).can_next l.iterator' × (goal.iterator-loop g).is_finite l.iterator';
   thread : g.R.RawMutex.RawMutex.is_token_of (g.R.RawCondvar.lot_of l.self) l.token;
   stays : WaitedOrNot g.R.RawMutex.RawMutex.stays l.fn.token l.token;
-  waits : Waits (g.R.RawCondvar.waited l.fn.self (lock_of l.fn.guard) false answers.Ok) l.fn.token l.token;
+  waits : WaitsAnyTimes (g.R.RawCondvar.waited l.fn.self (lock_of l.fn.guard) false answers.Ok) l.fn.token l.token;
   guard : lock_of l.guard ≡ lock_of l.fn.guard;
   callable : always_mut g.F.FnMut l.condition;
   kept : CallKeepsClosure g.F.FnMut l.initial.condition → l.condition ≡ l.initial.condition;

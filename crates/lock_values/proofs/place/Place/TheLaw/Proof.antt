@@ -38,8 +38,8 @@ use Rattle.atomic_table.specs.Seated.{halved, unused}
 use Rattle.core_words.specs.declared.views.View.{View}
 use Rattle.core_words.specs.contracts.views.View as view
 use Rattle.lock_values.specs.Owning.{alone, among}
-use Rattle.lock_values.specs.Ownership.{PlaceId, Rec, Phase, rec_coded, seat_coded, offset, content, Id, state, Inv, kept, place_shares}
-use Rattle.lock_values.specs.Ownership.Phase.{read}
+use Rattle.lock_values.specs.Ownership.{PlaceId, Rec, PlacePhase, rec_coded, seat_coded, offset, content, Id, state, Inv, kept, place_shares}
+use Rattle.lock_values.specs.Ownership.PlacePhase.{read}
 use Rattle.lock_values.proofs.Fresh.{Fresh, fresh}
 use Rattle.lock_values.specs.contracts.place.Place as C
 use Rattle.lock_values.proofs.place.Place.TheLaw.Statement.{statement}
@@ -140,7 +140,7 @@ module _ {M : Type 1} {𝓤 : Ura M} (𝓛 : Logic 𝓤) (m : Member) (d : Place
       use1 𝓛 (‵ (flft μ q)) (𝓛.lfts.lft_join μ q) $ move ! (0 ∷ 2 ∷ []) $ use2 𝓛 (raw (lfts 𝓛 ts)) (apply∗ 𝓤 (A.lft μ q) (lfts 𝓛 ts)) $ move ! (1 ∷ []) $ fpick ! (λ a. fsplit ! $
       use0 𝓛 (later (some (λ (ε : GName). ‵ (Rows ε)))) (via 𝓤 _ (entries_new halved 𝓛 0 (λ _. (full_share, (rec_coded cv).code D₀))) (basic 𝓛 (ex 𝓤 (λ (ε : GName). ⟦ Rows ε ⟧)))) $ await ! tt $ pick ! (λ ε. fpack ! (Rec View) (unused (rec_coded cv).code ε 0) D₀ $
       name_new ! tt ((seat_coded cv).code (0, V₀)) (λ δ. let t : Id = (κ, (ε, δ)) in fjoin ! $ fpack ! (ℕ × View) (λ g. fsep (fobs δ ((seat_coded cv).code g)) (fauth δ ((seat_coded cv).code g))) (0, V₀) $
-      move ! (0 ∷ 3 ∷ []) $ fjoin ! $ move ! (1 ∷ 2 ∷ []) $ fjoin ! $ fjoin ! $ fpack ! (Phase View) (state cv (alone d.at) (among d.at) d.table R b e t) (read a []) $
+      move ! (0 ∷ 3 ∷ []) $ fjoin ! $ move ! (1 ∷ 2 ∷ []) $ fjoin ! $ fjoin ! $ fpack ! (PlacePhase View) (state cv (alone d.at) (among d.at) d.table R b e t) (read a []) $
       use1 𝓛 (later (‵ (finv (In t)))) (𝓛.invs.inv_new (In t)) $ await ! tt $
       use0 𝓛 (‵ (before κ κ)) (before-Incl 𝓛 κ κ (Incl-refl κ)) $ fjoin ! $ fpack ! Id (λ s. kept R cv (alone d.at) (among d.at) d.table b o s κ) t $ now ! $ done !))))
 

@@ -4,7 +4,7 @@ use Rattle.std.specs.Prelude.{slice_index_or}
 use Rattle.core_base.specs.Lines.{line, threads_of}
 use Rattle.core_base.specs.Requeues.{taken_by, moved_by}
 use Rattle.steps_base.specs.declared.acts.Reply.TheVariants.{Requeued, TakenBy, MovedTo}
-use Rattle.lot_machine.specs.Machine.{State, lines_from, places_told, listed, moved_threads, left_behind, queues_requeued}
+use Rattle.lot_machine.specs.Machine.{State, lines_from, places_told, listed, moved_threads, left_in_line, queues_requeued}
 use Rattle.lot_machine.proofs.QueueLemmas.{told_count, lines_requeued, line_left, line_here}
 use Rattle.lot_machine.proofs.machine.Machine.requeue.Goals as goal
 
@@ -37,6 +37,6 @@ returns-clause-reply g c =
     let q = line c.args.from waiting in
     let number : c.one_if_some.result + c.requeue-first.result.1 ≡ length (listed (taken_by c.args.how q)) + length (moved_by c.args.how q) =
     (λ i. (c.one_if_some.ensures.number ∙ ap (λ o. length (listed o)) c.requeue-first.ensures.taken) i + c.requeue-first.ensures.number.0 i) in
-    let left : c.is_empty.result ≡ (length (left_behind c.args.how q) == 0) =
+    let left : c.is_empty.result ≡ (length (left_in_line c.args.how q) == 0) =
     c.is_empty.ensures ∙ ap (λ x. length x == 0) (line_here n c.args.from (g.Q.Queues.waiting c.requeue-first.new.self) within ∙ line_left c.args.from c.args.to c.args.how waiting (g.Q.Queues.waiting c.requeue-first.new.self) c.requires.keys.2 c.requeue-first.ensures.lines) in
     rw (← c.self.view_is, line_here n c.args.from waiting within) (λ i. Requeued (number i) (left i))

@@ -4,7 +4,7 @@ use Rattle.std.specs.Prelude.{slice_set}
 use Rattle.core_base.specs.Lines.{line, threads_of}
 use Rattle.core_base.specs.Picks.{lock_picked, without_lock_picked}
 use Rattle.steps_base.specs.declared.acts.Reply.TheVariants.{Picked, TakenBy}
-use Rattle.lot_machine.specs.Machine.{State, lines_from, places_told, sharers, successor_from, want_of_successor}
+use Rattle.lot_machine.specs.Machine.{State, lines_from, places_told, sharers_in_hand, successor_from, want_of_successor}
 use Rattle.lot_machine.proofs.QueueLemmas.{told_count, lines_picked, line_then_picked, line_here}
 use Rattle.lot_machine.proofs.machine.Machine.take_picked.Goals as goal
 
@@ -35,7 +35,7 @@ returns-clause-reply g c =
     let left : c.is_empty.result ≡ (length (without_lock_picked c.args.start c.args.recursive c.args.key (line c.args.key waiting)) == 0) =
     c.is_empty.ensures ∙ ap (λ q. length q == 0) (line_here n c.args.key (g.Q.Queues.waiting c.take_by.new.self) within ∙ line_then_picked c.args.key c.args.start c.args.recursive waiting (g.Q.Queues.waiting c.take_by.new.self) (rw c.new.ensures at c.take_by.ensures.lines)) in
     let back = with_items_is c.self.inside.places c.tell_each.new.places (ap length told ∙ told_count (TakenBy c.args.thread) (threads_of who) c.self.inside.places.items ∙ sym c.self.inside.places.ok.0) in
-    let sharing : c.sharers.result ≡ sharers c.args.thread (places_told (TakenBy c.args.thread) (threads_of who) c.self.inside.places.items) = c.sharers.ensures ∙ ap (sharers c.args.thread) (c.as_slice-places.ensures.value ∙ back ∙ told) in
+    let sharing : c.sharers.result ≡ sharers_in_hand c.args.thread (places_told (TakenBy c.args.thread) (threads_of who) c.self.inside.places.items) = c.sharers.ensures ∙ ap (sharers_in_hand c.args.thread) (c.as_slice-places.ensures.value ∙ back ∙ told) in
     let more : c.want_of_successor.result ≡ want_of_successor (successor_from c.args.thread 0 (places_told (TakenBy c.args.thread) (threads_of who) c.self.inside.places.items)) =
     c.want_of_successor.ensures ∙ ap want_of_successor (c.find_successor.ensures ∙ ap (successor_from c.args.thread 0) (c.as_slice-places.ensures.value ∙ back ∙ told)) in
     rw (← c.self.view_is, line_here n c.args.key waiting within) (λ i. Picked (sharing i) (more i) (left i))

@@ -1,6 +1,6 @@
 use Rattle.std.proofs.Common.{◌≡◌, ◌∙◌, ◌++◌, [], append-nil, cond, not, eq-eqb, ap, sym, subst, refl, rules}
 use Rattle.core_base.specs.declared.ops.Op.TheVariants.{Exchange}
-use Rattle.run_base.specs.Calls.{Releases, TookIfParked}
+use Rattle.run_base.specs.Calls.{TookIfSeen, TookIfParked}
 use Rattle.run_base.specs.Paths.{mutex_at, step}
 use Rattle.run_base.specs.Telling.{steps_of}
 use Rattle.spec_locks.specs.declared.calls.MutexCall.TheVariants.{UnlockFair}
@@ -22,7 +22,7 @@ returns-then-seen-eq-LOCKED-clause-over c = let mutex = c.args.self.now in let n
     ∙ ap (λ b. cond b (stepping v at (Exchange 1 0) seen) (stepping (takes_in v (piece_of mutex.word Exclusive)) at (Exchange 1 0) seen)) (eq-eqb seen 1 one) in
     let added = ap (λ (v : View). v.steps) left ∙ ap (λ (k : WordKind). v.steps ++ step (word_index n k) (Exchange 1 0) seen) mutex.drawn.1 in
     let stays : StaysAs old new = search rules in
-    let released : Releases n UnlockFair (steps_of old) (steps_of new) (last_of new) = (
+    let released : TookIfSeen n UnlockFair (steps_of old) (steps_of new) (last_of new) = (
       seen,
       [],
       added ∙ sym (append-nil (steps_of old ++ step (mutex_at n) (Exchange 1 0) seen)),

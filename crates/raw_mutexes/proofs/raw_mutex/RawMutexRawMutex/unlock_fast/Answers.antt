@@ -1,7 +1,7 @@
 use Rattle.std.proofs.Common.{◌≡◌, ◌∙◌, ◌++◌, [], append-nil, false, ap, sym, subst, refl, rules}
 use Rattle.core_base.specs.declared.ops.Op.TheVariants.{Sub}
 use Rattle.spec_locks.specs.declared.calls.MutexCall.TheVariants.{Unlock}
-use Rattle.run_base.specs.Calls.{Releases, TookIfParked}
+use Rattle.run_base.specs.Calls.{TookIfSeen, TookIfParked}
 use Rattle.run_base.specs.Paths.{mutex_at, step}
 use Rattle.run_base.specs.Telling.{steps_of}
 use Rattle.steps_mutex.specs.MutexSteps.{is_parked}
@@ -19,6 +19,6 @@ returns-then-leave_open-eq-LOCKED-clause-over c = let mutex = c.args.self.now in
     let none : is_parked seen ≡ false = subst (λ k. is_parked k ≡ false) (sym one) refl in
     let added : steps_of new ≡ steps_of old ++ step (mutex_at n) (Sub 1) seen = ap (λ (v : View). v.steps) c.leave_open.ensures.stepped ∙ ap (λ (k : WordKind). (view_of old).steps ++ step (word_index n k) (Sub 1) seen) mutex.drawn.1 in
     let stays : StaysAs old new = search rules in
-    let released : Releases n Unlock (steps_of old) (steps_of new) (last_of new) =
+    let released : TookIfSeen n Unlock (steps_of old) (steps_of new) (last_of new) =
     (seen, [], added ∙ sym (append-nil (steps_of old ++ step (mutex_at n) (Sub 1) seen)), subst (λ b. TookIfParked n b [] (last_of new)) (sym none) (refl, c.leave_open.ensures.own.1)) in
     (stays, path_at_once n Unlock seen (view_of old).steps (view_of new).steps none added, released)

@@ -1,7 +1,7 @@
 use Rattle.std.proofs.Common.{◌≡◌, ◌∙◌, ◌++◌, ◌∷◌, true, false, ap, sym, subst, rules}
 use Rattle.core_base.specs.declared.ops.Op.TheVariants.{Load}
 use Rattle.steps_mutex.specs.MutexSteps.{is_parked}
-use Rattle.run_base.specs.MutexFitting.{held}
+use Rattle.run_base.specs.MutexFitting.{mutex_ownership}
 use Rattle.run_base.specs.Paths.{mutex_at, step}
 use Rattle.spec_locks.specs.declared.calls.MutexCall.TheVariants.{Bump}
 use Rattle.core_words.specs.Steps.{has}
@@ -20,6 +20,6 @@ bump_slow-requires-clause-begun g c = let n = c.args.self.now.word.number in let
     let stays : (view_of mid).owns ≡ (view_of old).owns = search rules in
     let number : new.number ≡ old.number = search rules in
     let steps : (view_of new).steps ≡ (view_of old).steps ++ step (mutex_at n) Load seen = ap (λ (v : View). v.steps) c.join.ensures.joined ∙ ap (λ (v : View). v.steps) c.step-seen.ensures.stepped in
-    let owns : (view_of new).owns ≡ held n ∷ (view_of old).owns = ap (λ (v : View). v.owns) c.join.ensures.joined ∙ ap (λ os. held n ∷ os) stays in
-    let has_it : has (held n) (held n ∷ (view_of old).owns) ≡ true = search rules in
-    (old, (number, steps, owns, (parked, subst (λ os. has (held n) os ≡ true) (sym owns) has_it)))
+    let owns : (view_of new).owns ≡ mutex_ownership n ∷ (view_of old).owns = ap (λ (v : View). v.owns) c.join.ensures.joined ∙ ap (λ os. mutex_ownership n ∷ os) stays in
+    let has_it : has (mutex_ownership n) (mutex_ownership n ∷ (view_of old).owns) ≡ true = search rules in
+    (old, (number, steps, owns, (parked, subst (λ os. has (mutex_ownership n) os ≡ true) (sym owns) has_it)))

@@ -3,7 +3,7 @@ use Rattle.spec_locks.specs.declared.outcomes.Answer.TheVariants as answers
 use Rattle.core_words.specs.declared.views.View.{View}
 use Rattle.steps_semaphore.specs.SemaphoreSteps.{is_free}
 use Rattle.run_base.specs.Telling.{steps_of}
-use Rattle.run_signals.specs.SemaphoreCalls.{answer_by}
+use Rattle.run_signals.specs.SemaphoreCalls.{permit_answer}
 use Rattle.run_signals.proofs.SemaphoreCalling.{misses_all, sees_none, tries_on, tries_well}
 use Rattle.run_signals.proofs.semaphore.Semaphore.try_acquire.Goals as goal
 
@@ -30,4 +30,4 @@ returns-clause-path g c = let n = c.args.self.now.word.number in
     let free : is_free c.look-seen.result ≡ true = search rules in
     let more : is_free c.take-found.result ≡ true = search rules in
     let other : c.take-found.result ≢ c.look-seen.result = search rules in
-    tries_on n c.look-seen.result c.take-found.result (steps_of c.args.token.now) (steps_of c.look-seen.new.token) (steps_of c.take-found.new.token) (steps_of c.retry.new.token) (answer_by answers.Yes c.retry.result) free more c.look-seen.ensures.looked.2 c.take-found.ensures.found.2 other c.retry.ensures.path
+    tries_on n c.look-seen.result c.take-found.result (steps_of c.args.token.now) (steps_of c.look-seen.new.token) (steps_of c.take-found.new.token) (steps_of c.retry.new.token) (permit_answer answers.Yes c.retry.result) free more c.look-seen.ensures.looked.2 c.take-found.ensures.found.2 other c.retry.ensures.path
