@@ -3,7 +3,7 @@ ghost use Rattle.std.specs.Prelude.{◌<◌, ◌≤◌};
 ghost use Rattle.parking_lot.specs.Names.{IsTokenOf, lot_of};
 
 use super::rooms::{Room, look, room_for};
-use super::{Limit, TURNS, check, is_just_past, check_eq, wait};
+use super::{Limit, TURNS, check, check_eq, is_just_past, wait};
 use parking_lot::{TickClock, Token};
 use std::alloc::Global;
 use std::process::Abort;

@@ -2,7 +2,7 @@
 ghost use Rattle.std.specs.Prelude.{◌≡◌, ◌≤◌, All};
 ghost use Rattle.parking_lot.specs.Names.{IsTicketOf, IsTokenOf, lock_of, lot_of, lot_of_condvar};
 
-use super::{Limit, condvar_of, check, mutex_of, seats, wait};
+use super::{Limit, check, condvar_of, mutex_of, seats, wait};
 use parking_lot::{Condvar, Mutex, MutexGuard, TickClock, Ticket, Token};
 use std::alloc::Global;
 use std::process::Abort;

@@ -6,7 +6,7 @@ ghost use Rattle.parking_lot.specs.Names.{IsTicketOf, IsTokenOf, lot_of, lot_of_
 use super::alone::wait_turns;
 use super::many::{Whom, add_and_wait, notify_in_turn, notify_slow};
 use super::two::{Way, bump_until_notified, come_with_another, lock_and_wait, notify};
-use super::{condvar_of, check, mutex_of, seats};
+use super::{check, condvar_of, mutex_of, seats};
 use parking_lot::{Condvar, Mutex, ParkingLot, Ticket, Token};
 use std::alloc::Global;
 use std::process::Abort;

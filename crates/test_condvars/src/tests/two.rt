@@ -3,7 +3,7 @@ ghost use Rattle.std.specs.Prelude.{◌≡◌};
 ghost use Rattle.parking_lot.specs.Names.{IsTokenOf, lot_of};
 
 use super::rooms::{Part, Room, look, play};
-use super::{Ended, Limit, TURNS, is_just_past, check_eq, wait, wait_long};
+use super::{Ended, Limit, TURNS, check_eq, is_just_past, wait, wait_long};
 use parking_lot::{Fault, ParkingLot, TickClock, Token};
 use std::sync::Wait;
 use std::sync::atomic::AtomicBool;

@@ -3,7 +3,7 @@ ghost use Rattle.std.specs.Prelude.{◌≡◌, ◌<◌, ◌≤◌};
 ghost use Rattle.parking_lot_core.specs.Tokens.{IsSameThread, IsTicketOf, IsTokenOf};
 
 use super::parts::{Part, play};
-use super::{Task, check, in_section, lot_of, check_eq, ticket_of, word_of};
+use super::{Task, check, check_eq, in_section, lot_of, ticket_of, word_of};
 use core_base::main_key;
 use core_queues::{bits_for, bucket_among};
 use parking_lot_core::{Key, Keys, Note, ParkingLot, Requeue, Ticket, Token, WordKind};

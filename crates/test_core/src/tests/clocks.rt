@@ -1,7 +1,7 @@
 //! Clocks, and sleepers whose time is up.
 ghost use Rattle.parking_lot_core.specs.Tokens.{IsTokenOf, IsSameThread};
 
-use super::{Task, in_section, mutex_of, check_eq};
+use super::{Task, check_eq, in_section, mutex_of};
 use core_base::TickClock;
 use parking_lot_core::{Clock, Key, Note, ParkingLot, Slept, Token, Want, Word};
 use std::alloc::Global;

@@ -8,7 +8,7 @@ ghost use Rattle.parking_lot_core.specs.Tokens.{IsNewTicketOf, IsSameThread, IsT
 use super::mutexes::{try_lock, unlock};
 use super::several::told_to;
 use super::threads::try_hand_over;
-use super::{Task, in_section, next_of, check_eq, seats_of, sleep};
+use super::{Task, check_eq, in_section, next_of, seats_of, sleep};
 use parking_lot_core::{Key, Keys, Note, ParkingLot, Ticket, Token, Want, Word};
 use std::sync::Wait;
 

@@ -7,7 +7,7 @@ ghost use Rattle.parking_lot_core.specs.Tokens.{IsTokenOf, IsSameThread};
 use super::clocks::told_until;
 use super::mutexes::try_lock;
 use super::threads::try_hand_over;
-use super::{Task, check, in_section, mutex_of, check_eq, word_of};
+use super::{Task, check, check_eq, in_section, mutex_of, word_of};
 use core_base::TickClock;
 use parking_lot_core::{Key, ParkingLot, Token, Want, Word, WordKind};
 use std::sync::Wait;

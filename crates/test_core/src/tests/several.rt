@@ -11,7 +11,7 @@ ghost use Rattle.parking_lot_core.specs.declared.tokens.Did.TheVariants.{Nothing
 
 use super::mutexes::try_lock;
 use super::parts::{Part, Score, play_beside};
-use super::{Task, in_section, check_eq, seats_of, ticket_of, told};
+use super::{Task, check_eq, in_section, seats_of, ticket_of, told};
 use parking_lot_core::{
     Key, Keys, Note, ParkingLot, Right, Section, Ticket, Token, Want, Word, WordKind,
 };

@@ -12,7 +12,7 @@ ghost use Rattle.parking_lot_core.specs.declared.tokens.Did.TheVariants.{Nothing
 use super::buckets::lie_apart;
 use super::mutexes::{try_lock, unlock};
 use super::several::append_three;
-use super::{Task, check, in_section, lot_of, mutex_of, check_eq};
+use super::{Task, check, check_eq, in_section, lot_of, mutex_of};
 use core_words::laws::mutex_may_step;
 use parking_lot_core::{
     Did, Fault, Key, Keys, Note, Op, ParkingLot, Requeue, Section, SectionRecord, Ticket, Token,

@@ -9,7 +9,7 @@ ghost use Rattle.parking_lot_core.specs.Tokens.{IsTokenOf, IsSameThread};
 use super::clocks::told_until;
 use super::mutexes::{try_lock, unlock};
 use super::parts::{Part, play};
-use super::{Task, delay, in_section, check_eq, sleep, until_taken};
+use super::{Task, check_eq, delay, in_section, sleep, until_taken};
 use core_base::TickClock;
 use parking_lot_core::{Key, Keys, Note, ParkingLot, Right, Token, Want, Word};
 use std::sync::Wait;

@@ -2,8 +2,8 @@
 //! lines and by each thread.
 ghost use Rattle.std.specs.Prelude.{◌≤◌, length};
 
-use super::checked::{Checked, Stop};
 use super::check_eq;
+use super::checked::{Checked, Stop};
 use super::scripts::{Deed, Line, Script, play, play_all};
 use core_base::{ListQueues, Queues};
 use core_queues::BucketQueues;

@@ -1,8 +1,8 @@
 //! Random walks over worlds of all kinds of locks, from fixed seeds.
 ghost use Rattle.std.specs.Prelude.{◌≤◌, ◌<◌};
 
-use super::checked::{Checked, Stop};
 use super::check_eq;
+use super::checked::{Checked, Stop};
 use core_base::{ListQueues, Queues};
 use core_queues::BucketQueues;
 use spec_locks::{

@@ -3,7 +3,7 @@ ghost use Rattle.std.specs.Prelude.{◌≡◌, Ok, refl};
 ghost use Rattle.parking_lot_core.specs.Tokens.{IsTokenOf};
 ghost use Rattle.parking_lot.specs.Names.{lot_of, lot_of_rwlock};
 
-use super::{mutex_alone, rwlock_alone, check_eq};
+use super::{check_eq, mutex_alone, rwlock_alone};
 use crate::{Entry, Slot};
 use indexmap::IndexMap;
 use lock_values::{Mapped, Shows, ShowsMut};

@@ -4,8 +4,8 @@ ghost use Rattle.std.specs.Arc.{arc_value};
 ghost use Rattle.parking_lot_core.specs.Tokens.{IsTicketOf, IsTokenOf};
 ghost use Rattle.parking_lot.specs.Names.{lot_of};
 
-use super::parts::{Point, TheX};
 use super::check_eq;
+use super::parts::{Point, TheX};
 use super::texts::text_of;
 use parking_lot::{
     Fault, ParkingLot, ReentrantMutex, ReentrantMutexGuard, Ticket, Token, advance_count,

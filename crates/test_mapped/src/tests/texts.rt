@@ -3,7 +3,7 @@ ghost use Rattle.std.specs.Prelude.{◌≡◌};
 ghost use Rattle.parking_lot_core.specs.Tokens.{IsTokenOf};
 ghost use Rattle.parking_lot.specs.Names.{lot_of, lot_of_rwlock};
 
-use super::{lone, mutex_alone, rwlock_alone, check_eq};
+use super::{check_eq, lone, mutex_alone, rwlock_alone};
 use parking_lot::{Condvar, Fault, Mutex, Once, RwLock, Token};
 use std::alloc::Global;
 use std::fmt::Debug;

@@ -5,7 +5,7 @@ ghost use Rattle.parking_lot.specs.Names.{lot_of};
 
 use super::fair::{GivesUp, give_up, take_and_keep};
 use super::fair_unlocks::{take_in_turn, unlock_in_turn};
-use super::{fair_mutex_of, keep, mutex_of, check_eq, seats};
+use super::{check_eq, fair_mutex_of, keep, mutex_of, seats};
 use parking_lot::{FairMutex, Mutex, ParkingLot, Ticket, Token, lock_api};
 use std::alloc::Global;
 use std::process::Abort;

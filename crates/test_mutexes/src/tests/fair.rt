@@ -4,7 +4,7 @@ ghost use Rattle.parking_lot_core.specs.Tokens.{IsTokenOf};
 ghost use Rattle.parking_lot.specs.Names.{lock_of, lot_of};
 
 use super::crowds::{Part, for_rooms};
-use super::{fair_mutex_alone, check_eq};
+use super::{check_eq, fair_mutex_alone};
 use parking_lot::{Key, Mutex, MutexGuard, ParkingLot, RawFairMutex, Token, lock_api};
 use std::sync::Wait;
 use std::sync::atomic::AtomicBool;

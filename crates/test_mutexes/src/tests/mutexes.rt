@@ -4,7 +4,7 @@ ghost use Rattle.std.specs.Arc.{arc_value};
 ghost use Rattle.parking_lot_core.specs.Tokens.{IsTokenOf};
 ghost use Rattle.parking_lot.specs.Names.{lock_of, lot_of, value_of};
 
-use super::{check, lone, mutex_alone, mutex_of, check_eq};
+use super::{check, check_eq, lone, mutex_alone, mutex_of};
 use parking_lot::{Fault, Mutex, MutexGuard, Token};
 use std::alloc::Global;
 use std::mem;

@@ -7,7 +7,7 @@ ghost use Rattle.std.specs.Arc.{arc_value};
 ghost use Rattle.parking_lot_core.specs.Tokens.{IsTicketOf, IsTokenOf};
 ghost use Rattle.parking_lot.specs.Names.{lot_of};
 
-use super::{check, next_of, check_eq};
+use super::{check, check_eq, next_of};
 use moved::{hold_and_move, wait_moved};
 use parking_lot::lock_api::RawMutex as RawLock;
 use parking_lot::{ParkingLot, RawMutex, Ticket, Token};

@@ -3,7 +3,7 @@ ghost use Rattle.std.specs.Prelude.{All};
 ghost use Rattle.std.specs.Arc.{arc_value};
 ghost use Rattle.parking_lot_core.specs.Tokens.{IsTicketOf, IsTokenOf};
 
-use super::{check, next_of, check_eq};
+use super::{check, check_eq, next_of};
 use parking_lot::{
     Condvar, FairMutex, Fault, Mutex, Once, OnceCell, ParkingLot, RecursiveRwLock, ReentrantMutex,
     RwLock, Semaphore, Ticket, Token,

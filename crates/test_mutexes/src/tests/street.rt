@@ -4,7 +4,7 @@ ghost use Rattle.std.specs.Arc.{arc_value};
 ghost use Rattle.parking_lot_core.specs.Tokens.{IsTicketOf, IsTokenOf};
 ghost use Rattle.parking_lot.specs.Names.{lot_of};
 
-use super::{keep, mutex_of, check_eq, seats};
+use super::{check_eq, keep, mutex_of, seats};
 use parking_lot::{Mutex, ParkingLot, Ticket, Token};
 use std::alloc::Global;
 use std::process::Abort;

@@ -3,7 +3,7 @@ ghost use Rattle.std.specs.Prelude.{◌≤◌};
 ghost use Rattle.parking_lot_core.specs.Tokens.{IsTicketOf, IsTokenOf};
 ghost use Rattle.parking_lot.specs.Names.{lot_of};
 
-use super::{fair_mutex_alone, mutex_alone, mutex_of, next_of, check_eq, seats};
+use super::{check_eq, fair_mutex_alone, mutex_alone, mutex_of, next_of, seats};
 use parking_lot::{Clock, Mutex, TickClock, Ticket, Token, lock_api};
 use std::sync::Wait;
 use std::time::Duration;

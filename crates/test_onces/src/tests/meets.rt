@@ -3,7 +3,7 @@ ghost use Rattle.std.specs.Prelude.{◌≡◌};
 ghost use Rattle.run_signals.specs.OnceUsers.{IsTokenOf, lot_of};
 
 use super::crowds::{Part, Told, play};
-use super::{count_run, check_eq};
+use super::{check_eq, count_run};
 use parking_lot_core::{ParkingLot, Token};
 use run_signals::{Once, OnceFault, OnceState};
 use std::sync::Wait;

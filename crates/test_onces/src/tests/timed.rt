@@ -4,7 +4,7 @@ ghost use Rattle.run_signals.specs.OnceUsers.{IsTokenOf, lot_of};
 
 use super::crowds::{Part, Told, play};
 use super::meets::await_flag;
-use super::{count_run, fail, once_alone, check_eq};
+use super::{check_eq, count_run, fail, once_alone};
 use parking_lot_core::{Clock, Fault, TickClock, Token};
 use run_signals::{Once, OnceFault};
 use std::sync::Wait;

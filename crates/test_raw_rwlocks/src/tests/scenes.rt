@@ -9,8 +9,8 @@ ghost use Rattle.std.specs.Prelude.{◌≡◌, ◌≤◌};
 ghost use Rattle.parking_lot_core.specs.Tokens.{IsTicketOf, IsTokenOf};
 ghost use Rattle.parking_lot.specs.Names.{lot_of_rwlock};
 
-use super::fixtures::seats;
 use super::check;
+use super::fixtures::seats;
 use comers::come_later;
 use holders::hold;
 use parking_lot::{ParkingLot, RawRwLock, Ticket, Token};

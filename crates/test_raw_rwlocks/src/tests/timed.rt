@@ -6,7 +6,7 @@ ghost use Rattle.parking_lot.specs.Names.{IsSharedOf, lot_of_rwlock, word_of_rwl
 use super::crowds::{Part, Told, play};
 use super::fixtures::{await_flag, comes_to, lock_alone, queue_up};
 use super::{
-    FREE, READ, UPGRADABLE, WRITTEN, goes, goes_upgradable, goes_writing, check, look, look_and_go,
+    FREE, READ, UPGRADABLE, WRITTEN, check, goes, goes_upgradable, goes_writing, look, look_and_go,
 };
 use parking_lot::lock_api_rw::{
     RawRwLock as RawLock, RawRwLockTimed, RawRwLockUpgrade, RawRwLockUpgradeTimed,

@@ -1,6 +1,6 @@
 //! Bad input, with the exact text and the status that it leads to.
 
-use super::{leads_both_to, replayed_over, check_eq};
+use super::{check_eq, leads_both_to, replayed_over};
 use core_base::{ListQueues, Queues};
 use core_queues::BucketQueues;
 use std::alloc::{AllocError, Global};

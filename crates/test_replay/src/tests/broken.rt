@@ -1,7 +1,7 @@
 //! A short run whose devices fail, are interrupted, or move one byte at a time, at each of its bytes.
 
 use super::devices::{Refusal, Short, Stumbling};
-use super::{leads_both_to, leads_to, replayed, replayed_in_pieces, check_eq};
+use super::{check_eq, leads_both_to, leads_to, replayed, replayed_in_pieces};
 use core_queues::BucketQueues;
 use lot_replay::start::start;
 use std::alloc::{AllocError, Global};

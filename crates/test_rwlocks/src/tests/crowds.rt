@@ -7,7 +7,7 @@ use super::fair::{Giver, give};
 use super::guards::read_twice;
 use super::values::read_together;
 use super::{
-    Lock, end_reader, end_writer, check, keep, read_upgradable, replace, check_eq, seats, value_of,
+    Lock, check, check_eq, end_reader, end_writer, keep, read_upgradable, replace, seats, value_of,
     write,
 };
 use parking_lot::{ParkingLot, Ticket, Token};

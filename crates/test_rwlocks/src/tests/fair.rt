@@ -6,7 +6,7 @@ ghost use Rattle.parking_lot.specs.Names.{lot_of_rwlock};
 use super::crowds::{Part, play};
 use super::guards::is_waited_for;
 use super::{
-    Lock, end_reader, end_upgradable, end_writer, check, read, read_upgradable, value_of, write,
+    Lock, check, end_reader, end_upgradable, end_writer, read, read_upgradable, value_of, write,
 };
 use parking_lot::{ParkingLot, Token};
 use std::alloc::Global;

@@ -6,8 +6,8 @@ ghost use Rattle.parking_lot.specs.Names.{lot_of_rwlock};
 
 use super::crowds::{Part, play};
 use super::{
-    Lock, comes_upgradable, end_reader, end_upgradable, end_writer, lock_alone, read,
-    read_upgradable, reads, check_eq, write, writes,
+    Lock, check_eq, comes_upgradable, end_reader, end_upgradable, end_writer, lock_alone, read,
+    read_upgradable, reads, write, writes,
 };
 use parking_lot::{ParkingLot, RecursiveRwLock, RwLock, Token};
 use std::process::Abort;

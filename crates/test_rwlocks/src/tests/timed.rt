@@ -5,8 +5,8 @@ ghost use Rattle.parking_lot_core.specs.Tokens.{IsTokenOf};
 ghost use Rattle.parking_lot.specs.Names.{lot_of_rwlock};
 
 use super::{
-    Lock, Upgradable, Writer, end_reader, end_upgradable, end_writer, lock_alone, read,
-    read_upgradable, check_eq, write,
+    Lock, Upgradable, Writer, check_eq, end_reader, end_upgradable, end_writer, lock_alone, read,
+    read_upgradable, write,
 };
 use parking_lot::{Clock, TickClock, Token};
 use std::sync::Wait;

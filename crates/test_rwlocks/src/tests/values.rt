@@ -6,7 +6,7 @@ ghost use Rattle.parking_lot_core.specs.Tokens.{IsTokenOf};
 ghost use Rattle.parking_lot.specs.Names.{lot_of_rwlock};
 
 use super::crowds::{Part, play};
-use super::{Lock, Upgradable, end_reader, lock_alone, next_of, read, read_upgradable, check_eq};
+use super::{Lock, Upgradable, check_eq, end_reader, lock_alone, next_of, read, read_upgradable};
 use parking_lot::{ParkingLot, RwLock, Token};
 use std::alloc::Global;
 use std::process::Abort;

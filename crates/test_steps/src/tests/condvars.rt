@@ -1,7 +1,7 @@
 //! Calls of a condition variable alone, by the values that words would have.
 ghost use Rattle.steps_condvar.specs.CondvarSteps.{HasMutexKey};
 
-use super::{ends_as, check, check_eq};
+use super::{check, check_eq, ends_as};
 use core_base::{Keys, Note, Op, Requeue, Want};
 use spec_locks::{Answer, CondvarCall, Outcome};
 use std::process::Abort;

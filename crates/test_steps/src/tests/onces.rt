@@ -1,5 +1,5 @@
 //! Calls of a `Once` alone, by the values that their word would have.
-use super::{ends_as, check, check_eq};
+use super::{check, check_eq, ends_as};
 use core_base::{Keys, Note, Op, Want};
 use spec_locks::{Answer, OnceCall, OnceState, Outcome};
 use std::process::Abort;

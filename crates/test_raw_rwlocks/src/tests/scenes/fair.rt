@@ -4,7 +4,7 @@ ghost use Rattle.parking_lot.specs.Names.{lot_of_rwlock};
 
 use super::super::fixtures::lock_alone;
 use super::scene::{ALL, Coming, Manner, READERS, Scene, WRITERS};
-use super::{play, play_within, check_eq};
+use super::{check_eq, play, play_within};
 use parking_lot::lock_api_rw::{
     RawRwLock as RawLock, RawRwLockFair, RawRwLockUpgrade, RawRwLockUpgradeFair,
 };
