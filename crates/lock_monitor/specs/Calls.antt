@@ -12,7 +12,8 @@ abbrev pub MayRun : {F U : Type 0} → Shared F (MutBor Token × Unit {0}) (U ×
 MayRun g f lot = (token : MutBor Token) → IsTokenOf lot token.now → g.pre f (token, tt)
 
 -- it gives one back that is of the lot still
-abbrev pub GivesTokenBack : {F U : Type 0} → Shared F (MutBor Token × Unit {0}) (U × (MutBor Token × Unit {0}))
+abbrev pub GivesTokenBack : {F U : Type 0}
+    → Shared F (MutBor Token × Unit {0}) (U × (MutBor Token × Unit {0}))
     → F → ParkingLot → Type 0
 GivesTokenBack {U = U} g f lot = (entered left : MutBor Token) (answer : U) → IsTokenOf lot entered.now
     → g.post f (entered, tt) (answer, (left, tt)) → IsTokenOf lot left.now

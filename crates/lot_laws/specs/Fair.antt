@@ -62,7 +62,8 @@ FairReleaseComesTo r s s2 word t x =
 
 -- a step of any thread, from w to v
 pub record IsFair (w v : State) : Type 0 where
-  pub gives : (t l : ℕ) → OwnerReleasesFairly w t l → OwnsOn v t l ⊎ (HandsMutexOver w v t l ⊎ LetsMutexGo w v t l)
+  pub gives : (t l : ℕ) → OwnerReleasesFairly w t l
+      → OwnsOn v t l ⊎ (HandsMutexOver w v t l ⊎ LetsMutexGo w v t l)
   -- the waiter that it has taken was the first of the queue
   pub takes : (t l u : ℕ) → OwnerReleasesFairly w t l → IsTaken (lock_state v l) t u Exclusive
       → IsTaken (lock_state w l) t u Exclusive ⊎ (first_thread (lock_state w l).queue ≡ Some u)

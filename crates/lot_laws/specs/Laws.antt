@@ -27,12 +27,12 @@ abbrev step_of_turn : ℕ → Turn → Step
 step_of_turn t x = record { thread = t; turn = x }
 
 -- a thread begins a call of the mutex
-abbrev begins_call : ℕ → MutexCall → Step
-begins_call t c = step_of_turn t (Begin (call.Mutex 0 c))
+abbrev call_turn : ℕ → MutexCall → Step
+call_turn t c = step_of_turn t (Begin (call.Mutex 0 c))
 
 -- and goes on
-abbrev goes_on_step : ℕ → Step
-goes_on_step t = step_of_turn t Go
+abbrev go_turn : ℕ → Step
+go_turn t = step_of_turn t Go
 
 -- three threads and a mutex
 abbrev pub three : State
@@ -40,10 +40,10 @@ three = opening (kind.Mutex ∷ []) 3
 
 -- Thread 0 locks it. Threads 1 and 2 wait for it in this order. Thread 0 unlocks it fairly.
 abbrev pub row : List Step
-row = begins_call 0 Lock ∷ goes_on_step 0
-    ∷ begins_call 1 Lock ∷ goes_on_step 1 ∷ goes_on_step 1 ∷ goes_on_step 1 ∷ goes_on_step 1 ∷ goes_on_step 1 ∷ goes_on_step 1
-    ∷ begins_call 2 Lock ∷ goes_on_step 2 ∷ goes_on_step 2 ∷ goes_on_step 2 ∷ goes_on_step 2 ∷ goes_on_step 2
-    ∷ begins_call 0 UnlockFair ∷ goes_on_step 0 ∷ goes_on_step 0 ∷ goes_on_step 0 ∷ goes_on_step 0 ∷ goes_on_step 0 ∷ []
+row = call_turn 0 Lock ∷ go_turn 0
+    ∷ call_turn 1 Lock ∷ go_turn 1 ∷ go_turn 1 ∷ go_turn 1 ∷ go_turn 1 ∷ go_turn 1 ∷ go_turn 1
+    ∷ call_turn 2 Lock ∷ go_turn 2 ∷ go_turn 2 ∷ go_turn 2 ∷ go_turn 2 ∷ go_turn 2
+    ∷ call_turn 0 UnlockFair ∷ go_turn 0 ∷ go_turn 0 ∷ go_turn 0 ∷ go_turn 0 ∷ go_turn 0 ∷ []
 
 -- the outcome of each step
 abbrev pub row_told : List Outcome

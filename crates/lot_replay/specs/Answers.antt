@@ -20,8 +20,8 @@ MayTakeMemory said (running names w) = is_drain said ≡ true
 
 -- `said` is what a line means, `wanted` is the stage and the text that are right, and `Wrote` says
 -- which text was written; of a line that is refused nothing is written, and the stage stays
-abbrev pub AnswersTo : Option Command → Option (ReplayStage × List ℕ) → Result (Unit {0}) Refusal → ReplayStage
-    → ReplayStage → (List ℕ → Type 0) → Type 0
+abbrev pub AnswersTo : Option Command → Option (ReplayStage × List ℕ) → Result (Unit {0}) Refusal
+    → ReplayStage → ReplayStage → (List ℕ → Type 0) → Type 0
 AnswersTo said None (Ok _) old new Wrote = ⊥
 AnswersTo said None (Err Malformed) old new Wrote = (new ≡ old) × Wrote []
 AnswersTo said None (Err NoMemory) old new Wrote = ⊥

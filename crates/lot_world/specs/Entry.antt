@@ -12,7 +12,8 @@ state_where_inside (Some t) w go = go t
 -- steps of whoever is inside the section of the second queue, while somebody is
 abbrev pub state_out_of_second : ℕ → State → State
 state_out_of_second zero w = w
-state_out_of_second (suc n) w = state_where_inside (section_at w 1) w (λ t. state_out_of_second n (after w (go_of t)))
+state_out_of_second (suc n) w =
+    state_where_inside (section_at w 1) w (λ t. state_out_of_second n (after w (go_of t)))
 
 -- then whoever is inside the other one goes on alone until it rests
 abbrev pub state_out_of_main : State → State

@@ -38,7 +38,8 @@ impl<const RECURSIVE: bool> RawRwLock<RECURSIVE> {
             (λ _. SawReadersFull (word_of self.now).number
             (admission_of self.now) access.Shared token.old token.new) }
         ensures left { IfOk result (λ entered. IfNone entered
-            (LeftGivingUp (word_of self.now).number (admission_of self.now) (Enter access.Shared Timed) token.new)) }
+            (LeftGivingUp (word_of self.now).number (admission_of self.now)
+            (Enter access.Shared Timed) token.new)) }
         ensures late { IfOk result (λ entered. IfNone entered (IsUp C.tells limit.entry)) }
     {
         match self
@@ -70,7 +71,8 @@ impl<const RECURSIVE: bool> RawRwLock<RECURSIVE> {
             (λ _. SawReadersFull (word_of self.now).number
             (admission_of self.now) access.Upgradable token.old token.new) }
         ensures left { IfOk result (λ entered. IfNone entered
-            (LeftGivingUp (word_of self.now).number (admission_of self.now) (Enter access.Upgradable Timed) token.new)) }
+            (LeftGivingUp (word_of self.now).number (admission_of self.now)
+            (Enter access.Upgradable Timed) token.new)) }
         ensures late { IfOk result (λ entered. IfNone entered (IsUp C.tells limit.entry)) }
     {
         match self
@@ -97,7 +99,8 @@ impl<const RECURSIVE: bool> RawRwLock<RECURSIVE> {
             (Enter access.Exclusive Timed)
             (answer_by result) token.old token.new }
         ensures left { IfNone result
-            (LeftGivingUp (word_of self.now).number (admission_of self.now) (Enter access.Exclusive Timed) token.new) }
+            (LeftGivingUp (word_of self.now).number (admission_of self.now)
+            (Enter access.Exclusive Timed) token.new) }
         ensures late { IfNone result (IsUp C.tells limit.entry) }
     {
         match self

@@ -275,7 +275,8 @@ impl LotRwLock {
             (λ fault. SawReadersFull (word_in self.now).number
             (admission_in self.now) access token.old token.new) }
         ensures left { IfOk result (λ entered. IfNone entered
-            (LeftGivingUp (word_in self.now).number (admission_in self.now) (Enter access patience) token.new)) }
+            (LeftGivingUp (word_in self.now).number (admission_in self.now)
+            (Enter access patience) token.new)) }
     {
         match self.enter_fast(token, limit, access, patience) {
             Ok(entered) => entered,

@@ -80,7 +80,8 @@ FitsNotify c m all base (notify.Move locked) st = InBothSections c m base st
 FitsNotify c m all base (notify.Clear any) st = (all ≡ false) × HasMovedInSection c m all 1 base st
 FitsNotify c m all base (notify.MarkMoved number) st = HasMovedInSection c m all number base st
 FitsNotify c m all base (notify.Leave any number) st =
-    ((number ≡ 0) × InBothSections c m base st × SawElse c m st.steps) ⊎ HasMovedInSection c m all number base st
+    ((number ≡ 0) × InBothSections c m base st × SawElse c m st.steps)
+    ⊎ HasMovedInSection c m all number base st
 
 -- the answer of a notification from its second look on, by the section that it left: it saw another mutex
 -- shown, or none, and did nothing; or it moved waiters, and one that notifies all tells the record's number

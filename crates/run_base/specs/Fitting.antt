@@ -202,7 +202,8 @@ module _ (up : Type 0) where
 
   -- from where it looks at the word once more, it goes on too
   abbrev pub LooksLeadOn : List Ownership → Place → Stage → Type 0
-  LooksLeadOn base p st = (q : Place) → looking p ≡ Some q → Fits base q st × (call_purpose q ≡ call_purpose p)
+  LooksLeadOn base p st =
+      (q : Place) → looking p ≡ Some q → Fits base q st × (call_purpose q ≡ call_purpose p)
 
   -- each place's act is one that the thread may take, and each reply leads to a place that fits
   abbrev pub PlacesLead : Type 0

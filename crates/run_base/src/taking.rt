@@ -129,7 +129,8 @@ pub(crate) fn requeue(
         × (from ≢ to) }
     ensures did { IsSectionOf _lot.now section.new × (section_view section.new
         ≡ with_moved (length (moved_by how (line_in from section.old)))
-        (took_as (did.Requeue from to how) (listed (taken_waiter how (line_in from section.old))) (section_view section.old))) }
+        (took_as (did.Requeue from to how) (listed (taken_waiter how (line_in from section.old)))
+        (section_view section.old))) }
     ensures number { result.0 ≡ length (listed (taken_waiter how (line_in from section.old)))
         + length (moved_by how (line_in from section.old)) }
     ensures left { AreQueued (requeued how from to (waiting_of section.old)) section.new

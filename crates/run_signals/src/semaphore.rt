@@ -192,7 +192,8 @@ impl Semaphore {
         requires { IsTokenOf (lot_of self.now) token.old }
         ensures token { IsTokenOf (lot_of self.now) token.new × StaysAs token.old token.new }
         ensures permit { semaphore_of result ≡ self.now }
-        ensures path { HasWalkedSemaphore (number_of self.now) (Acquire Patient) answers.Ok token.old token.new }
+        ensures path { HasWalkedSemaphore (number_of self.now) (Acquire Patient) answers.Ok
+            token.old token.new }
     {
         match self.wait(rt, token, FOR_EVER, false) {
             Some(permit) => permit,

@@ -202,7 +202,8 @@ NotifiesTell =
 abbrev pub LooksTell : Type 0
 LooksTell =
     (v : CondvarSite) (s : LockState) (t c : ℕ) (all : Bool)
-    → CallOfTwoFollows c (mutex_shown (deeds.word_showing v.shown)) (Look all) (Value (deeds.word_showing v.shown))
+    → CallOfTwoFollows c (mutex_shown (deeds.word_showing v.shown)) (Look all)
+    (Value (deeds.word_showing v.shown))
     (look_event c (deeds.word_showing v.shown)) v.shown s s t
     (condvar_next (Look all) (Value (deeds.word_showing v.shown)))
 

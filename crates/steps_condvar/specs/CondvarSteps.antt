@@ -165,7 +165,8 @@ asleep_next s reply = behind_release (stands_after s reply)
 
 abbrev pub release_next : Stands → MutexPlace → Reply → WaitAt
 release_next s at reply =
-    if comes_from_another reply then wait.Release (stands_after s reply) at else released s (mutex_next at reply)
+    if comes_from_another reply then wait.Release (stands_after s reply) at
+    else released s (mutex_next at reply)
 
 abbrev pub next_wait : ℕ → Bool → WaitAt → Reply → Next WaitAt
 next_wait m timed wait.Enter Done = At wait.Show

@@ -591,17 +591,17 @@ is_ready t l a p stands up = by_at p.purpose p.at stands.place stands.decided up
     by_parking q m parking.Clear up = tt
     by_parking q m parking.GiveUp up = tt
 
-    park_or_mark : (m : Line) (x : ParkAt) (q : RwLockPurpose) → StandsAt q p.retries (parks_at m x) → IsWaiting t l a q
-    park_or_mark m x (purpose.Enter y how) h = tt
-    park_or_mark m x (purpose.Upgrade how) h = tt
-    park_or_mark Main x (purpose.Release access.Shared) h = absurd h
-    park_or_mark Second x (purpose.Release access.Shared) h = absurd h
-    park_or_mark Main x (purpose.Release access.Upgradable) h = absurd h
-    park_or_mark Second x (purpose.Release access.Upgradable) h = absurd h
-    park_or_mark Main x (purpose.Release access.Exclusive) h = absurd h
-    park_or_mark Second x (purpose.Release access.Exclusive) h = absurd h
-    park_or_mark Main x (purpose.Downgrade d) h = absurd h
-    park_or_mark Second x (purpose.Downgrade d) h = absurd h
+    waits : (m : Line) (x : ParkAt) (q : RwLockPurpose) → StandsAt q p.retries (parks_at m x) → IsWaiting t l a q
+    waits m x (purpose.Enter y how) h = tt
+    waits m x (purpose.Upgrade how) h = tt
+    waits Main x (purpose.Release access.Shared) h = absurd h
+    waits Second x (purpose.Release access.Shared) h = absurd h
+    waits Main x (purpose.Release access.Upgradable) h = absurd h
+    waits Second x (purpose.Release access.Upgradable) h = absurd h
+    waits Main x (purpose.Release access.Exclusive) h = absurd h
+    waits Second x (purpose.Release access.Exclusive) h = absurd h
+    waits Main x (purpose.Downgrade d) h = absurd h
+    waits Second x (purpose.Downgrade d) h = absurd h
 
     rolls_back : (q : RwLockPurpose) → StandsAt q p.retries at.RollBack → IsWaiting t l a q
     rolls_back (purpose.Enter y how) h = tt
@@ -623,11 +623,11 @@ is_ready t l a p stands up = by_at p.purpose p.at stands.place stands.decided up
     by_at q at.First s h up = tt
     by_at q at.Load s h up = tt
     by_at q (at.Decide seen) s h up = h
-    by_at q (at.Park x) s h up = (by_parking q Main x up, park_or_mark Main x q s)
+    by_at q (at.Park x) s h up = (by_parking q Main x up, waits Main x q s)
     by_at q at.Look s h up = tt
     by_at q (at.Count seen) s h up = tt
     by_at q at.Marked s h up = tt
-    by_at q (at.Aside x) s h up = (by_parking q Second x up, park_or_mark Second x q s)
+    by_at q (at.Aside x) s h up = (by_parking q Second x up, waits Second x q s)
     by_at q at.RollBack s h up = rolls_back q s
     by_at q at.GiveWay s h up = gives q s
     by_at q (at.Wake m x) s h up = tt
