@@ -1,8 +1,8 @@
 -- One of several condition variables, and the steps of waits on it.
-use Rattle.std.specs.Prelude.{◌≡◌, ℕ, List, slice_index_or}
+use Rattle.std.specs.Prelude.{◌≡◌, ◌⊎◌, ℕ, List, slice_index_or}
 use Rattle.lock_api.specs.Waits.{WaitsAnyTimes}
 use Rattle.spec_locks.specs.declared.outcomes.Answer.{Answer}
-use Rattle.spec_locks.specs.declared.outcomes.Answer.TheVariants.{TwoMutexes}
+use Rattle.spec_locks.specs.declared.outcomes.Answer.TheVariants.{Notified, TimedOut, TwoMutexes}
 
 -- the one at a place is like this
 abbrev pub At : {X : Type 0} → List X → ℕ → (X → Type 0) → Type 0
@@ -19,3 +19,10 @@ WaitsAtLast {Token = Token} waited answer old new = (last : Token)
 abbrev pub WaitsOften : {Token : Type 0} → (Answer → Token → Token → Type 0) → Answer
     → Token → Token → Type 0
 WaitsOften waited answer old new = WaitsAnyTimes (WaitsAtLast waited answer) old new
+
+-- any number of such waits that were notified, and behind them one more at most, whose time was up
+abbrev pub WaitsOftenInTime : {Token : Type 0} → (Answer → Token → Token → Type 0)
+    → Token → Token → Type 0
+WaitsOftenInTime {Token = Token} waited old new = (last : Token)
+    × WaitsOften waited Notified old last
+    × ((new ≡ last) ⊎ WaitsAtLast waited TimedOut last new)

@@ -9,7 +9,7 @@ ghost use Rattle.core_base.specs.Clocks.{HasPassed};
 ghost use Rattle.lock_raw.specs.Answers.{late_answer};
 ghost use Rattle.lock_api.specs.Conditions.{WaitedOrNot};
 ghost use Rattle.lock_api.specs.Guards.{lock_of, value_of};
-ghost use Rattle.lock_monitor.specs.Conditions.{WaitsAtLast, WaitsOften};
+ghost use Rattle.lock_monitor.specs.Conditions.{WaitsAtLast, WaitsOften, WaitsOftenInTime};
 ghost use Rattle.spec_locks.specs.declared.outcomes.Answer.TheVariants as answers;
 
 use core_base::Clock;
@@ -120,6 +120,8 @@ pub(crate) fn wait_while_until_on<
     ensures token { R.RawMutex.is_token_of (R.lot_of condvar.now) token.new
         × WaitedOrNot R.RawMutex.stays token.old token.new }
     ensures guard { lock_of result.0 ≡ lock_of guard.entry }
+    ensures path { WaitsOftenInTime (R.waited condvar.now (lock_of guard.entry) true)
+        token.old token.new }
     ensures ended { AnsweredAt F.step (CallKeepsClosure F.FnMut condition) condition
         result.1 (value_of result.0) }
     ensures late { result.1 ≡ true → HasPassed (C.tells clock.now) deadline }

@@ -7,7 +7,7 @@ ghost use Rattle.core_base.specs.Clocks.{HasPassed};
 ghost use Rattle.lock_raw.specs.Answers.{late_answer};
 ghost use Rattle.lock_api.specs.Conditions.{WaitedOrNot};
 ghost use Rattle.lock_api.specs.Guards.{lock_of, value_of};
-ghost use Rattle.lock_monitor.specs.Conditions.{At, WaitsAtLast, WaitsOften};
+ghost use Rattle.lock_monitor.specs.Conditions.{At, WaitsAtLast, WaitsOften, WaitsOftenInTime};
 ghost use Rattle.spec_locks.specs.declared.outcomes.Answer.TheVariants as answers;
 
 use crate::monitor::Monitor;
@@ -135,6 +135,8 @@ impl<R: RawCondvarTimed, T, const N: usize> Monitor<R, T, N> {
         ensures token { R.RawMutex.is_token_of (R.RawMutex.lot_of self.now.0) token.new
             × WaitedOrNot R.RawMutex.stays token.old token.new }
         ensures guard { lock_of result.0 ≡ self.now.0 }
+        ensures path { At self.now.1 at (λ condvar. WaitsOftenInTime
+            (R.waited condvar self.now.0 true) token.old token.new) }
         ensures ended { AnsweredAt F.step (CallKeepsClosure F.FnMut condition) condition
             result.1 (value_of result.0) }
         ensures late { result.1 ≡ true → HasPassed (C.tells clock.now) deadline }

@@ -1,8 +1,10 @@
-use Rattle.std.proofs.Common.{◌∙◌, ap, inl, refl}
+use Rattle.std.proofs.Common.{◌∙◌, ap, inl, refl, true}
 use denote.Param.Always.{mut_next}
 use denote.Param.Members.{was_Called}
 use Rattle.lock_api.proofs.Stays.{stays_behind}
-use Rattle.lock_api.proofs.WaitsOn.{late_or_holds, not_begun}
+use Rattle.lock_api.specs.Guards.{lock_of}
+use Rattle.lock_api.proofs.WaitsOn.{late_or_holds, not_begun, not_late, waits_in_time, waits_so_far}
+use Rattle.lock_monitor.specs.Conditions.{WaitsAtLast}
 use Rattle.lock_monitor.proofs.retries.wait_while_until_on.Goals as goal
 
 pub loop-init : goal.loop-init
@@ -10,6 +12,7 @@ loop-init g c = record {
   turns = (tt, tt);
   thread = c.requires.token;
   stays = inl refl;
+  waits = (0, refl);
   guard = refl;
   passed = not_begun;
   callable = c.requires.callable;
@@ -21,6 +24,7 @@ loop-preserved g c = record {
   turns = (tt, tt);
   thread = c.wait_until_on-back.ensures.token.0;
   stays = stays_behind g.R.RawMutex.RawMutex.stays g.R.RawMutex.RawMutex.stays_on _ _ _ c.loop.invariant.stays c.wait_until_on-back.ensures.token.1;
+  waits = waits_so_far (λ mutex. WaitsAtLast (g.R.RawCondvar.waited c.args.condvar.now mutex true)) _ _ _ _ _ _ c.loop.invariant.guard (not_late (WaitsAtLast (g.R.RawCondvar.waited c.args.condvar.now _ true)) c.loop.late _ _ c.if-late.false c.loop.invariant.waits) c.wait_until_on-back.ensures.path;
   guard = c.wait_until_on-back.ensures.guard ∙ c.loop.invariant.guard;
   passed = c.wait_until_on-back.ensures.late;
   callable = mut_next g.F.FnMut _ _ _ _ _ (record { met = c.condition-holds.ensures.met }) refl c.loop.invariant.callable;
@@ -38,6 +42,9 @@ returns-then-late-clause-token g c = (c.loop.invariant.thread, c.loop.invariant.
 
 pub returns-then-late-clause-guard : goal.returns-then-late-clause-guard
 returns-then-late-clause-guard g c = c.loop.invariant.guard
+
+pub returns-then-late-clause-path : goal.returns-then-late-clause-path
+returns-then-late-clause-path g c = waits_in_time (WaitsAtLast (g.R.RawCondvar.waited c.args.condvar.now (lock_of c.args.guard) true)) c.loop.late _ _ c.loop.invariant.waits
 
 pub returns-then-late-clause-ended : goal.returns-then-late-clause-ended
 returns-then-late-clause-ended g c = (_, _, _, _, record { met = c.condition-holds.ensures.met }, refl, c.loop.invariant.kept)

@@ -4,6 +4,8 @@ use Rattle.std.specs.Iterator.Runs.{CallKeepsClosure}
 use Rattle.core_base.specs.Clocks.{HasPassed}
 use Rattle.lock_api.specs.Conditions.{WaitedOrNot}
 use Rattle.lock_api.specs.Guards.{lock_of}
+use Rattle.lock_api.proofs.WaitsOn.{WaitedSoFar}
+use Rattle.lock_monitor.specs.Conditions.{WaitsAtLast}
 use Rattle.lock_monitor.proofs.retries.wait_while_until_on.Given as goal
 
 abbrev pub invariant-loop : goal.invariant-loop
@@ -11,6 +13,7 @@ invariant-loop g l = record {
   turns : (goal.iterator-loop g).can_next l.iterator' × (goal.iterator-loop g).is_finite l.iterator';
   thread : g.R.RawMutex.RawMutex.is_token_of (g.R.RawCondvar.lot_of l.condvar) l.token;
   stays : WaitedOrNot g.R.RawMutex.RawMutex.stays l.fn.token l.token;
+  waits : WaitedSoFar (WaitsAtLast (g.R.RawCondvar.waited l.fn.condvar (lock_of l.fn.guard) true)) l.late l.fn.token l.token;
   guard : lock_of l.guard ≡ lock_of l.fn.guard;
   passed : l.late ≡ true → HasPassed (g.C.Clock.tells l.clock) l.deadline;
   callable : always_mut g.F.FnMut l.condition;
