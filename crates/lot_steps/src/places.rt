@@ -95,8 +95,8 @@ impl Place {
         }
     }
 
-    /// The step of `call_step`, of a place that is kept: a running thread copies none of it.
-    pub fn advance(&mut self, reply: Reply) -> Act
+    /// The step of `advance`, of a place that is kept: a running thread copies none of it.
+    pub fn advance_in_place(&mut self, reply: Reply) -> Act
         requires keys { HasKeys self.old }
         requires shown { ShowsKeys self.old reply }
         ensures place { self.new ≡ next_place self.old reply }
@@ -393,13 +393,13 @@ pub fn has_right(call: Call, thread: usize, owners: Owners, shares: usize) -> bo
 }
 
 /// The step of every call, with what the thread does next in place of what it is told.
-pub fn call_step(place: Place, reply: Reply) -> (Place, Act)
+pub fn advance(place: Place, reply: Reply) -> (Place, Act)
     requires keys { HasKeys place }
     requires shown { ShowsKeys place reply }
     ensures place { result.0 ≡ next_place place reply }
     ensures act { result.1 ≡ next_act place reply }
 {
     let mut next = place;
-    let act = next.advance(reply);
+    let act = next.advance_in_place(reply);
     (next, act)
 }

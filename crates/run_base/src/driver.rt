@@ -195,7 +195,7 @@ pub fn run_from<'a, R: Wait, C: Clock>(
             return Stop::Paused { place, state };
         }
         let reply = turn(rt, lot, token, words, limit, &mut section, place, act);
-        act = place.advance(reply);
+        act = place.advance_in_place(reply);
         if let Some(answer) = answer_of(act) {
             end(section);
             return Stop::Ended(answer);

@@ -19,7 +19,7 @@ ghost use Rattle.run_base.specs.Telling.{owns_of, steps_of};
 ghost use Rattle.run_base.specs.Words.{single_word, kind_in, at_in};
 
 use crate::rwlock_courses::{Course, Settings, answer_with, course_of, opening};
-use lot_steps::{Place, Reply, call_step};
+use lot_steps::{Place, Reply, advance};
 use parking_lot_core::pauses::{SHORT_PAUSE, pause};
 use parking_lot_core::{Clock, Op, ParkingLot, Token, Word};
 use run_base::driver::{Stop, answer_of, run};
@@ -256,7 +256,7 @@ fn rest_missed<R: Wait, C: Clock>(
         (stage_of token.new None) }
 {
     let place = deciding(word.number(), *admission, *purpose, expected);
-    let (next, act) = call_step(place, Reply::Value(found));
+    let (next, act) = advance(place, Reply::Value(found));
     match answer_of(act) {
         Some(answer) => answer,
         None => {

@@ -17,7 +17,7 @@ ghost use Rattle.run_base.specs.Stages.{stage_of};
 ghost use Rattle.run_base.specs.Telling.{owns_of, steps_of};
 ghost use Rattle.run_signals.specs.OnceCalls.{EndedAndWoke, EndsRun, HasLookedFirst, LookOwns, LooksBy, MeetsOnce};
 
-use lot_steps::{Place, Reply, call_step};
+use lot_steps::{Place, Reply, advance};
 use parking_lot_core::{Clock, Op, ParkingLot, Token, Word};
 use run_base::driver::{NO_LIMIT, Stop, answer_of, run};
 use run_base::words::Words;
@@ -71,7 +71,7 @@ pub(crate) fn begin_slow<R: Wait, C: Clock>(
         lock: word.number(),
         at: OncePlace::first(call),
     };
-    let (next, act) = call_step(first, Reply::Value(seen));
+    let (next, act) = advance(first, Reply::Value(seen));
     if let Some(answer) = answer_of(act) {
         return Look::Ended(answer);
     }

@@ -3,7 +3,7 @@ use super::{check, check_eq};
 use core_base::{Keys, Note};
 use lot_steps::{
     Act, Answer, Call, Entry, HandOffAt, Kind, LockAt, MutexCall, MutexPlace, Op, Outcome, Owners,
-    Phase, Place, Reply, UnlockAt, Wakes, call_step, has_right,
+    Phase, Place, Reply, UnlockAt, Wakes, advance, has_right,
 };
 use spec_locks::{OnceCall, Patience, SemaphoreCall};
 use std::process::Abort;
@@ -36,7 +36,7 @@ fn step(rt: &impl Abort, place: Place, reply: Reply) -> (Place, Act) {
     match place {
         Place::Mutex { lock: 3, .. }
         | Place::Once { lock: 3, .. }
-        | Place::Semaphore { lock: 3, .. } => call_step(place, reply),
+        | Place::Semaphore { lock: 3, .. } => advance(place, reply),
         _ => panic!(rt; "it is in no call of the lock 3"),
     }
 }

@@ -28,18 +28,18 @@ loop-init g c = record {
 
 pub loop-preserved : goal.loop-preserved
 loop-preserved g c = let p = c.loop.place in let t = c.turn-reply in let reply = t.result in let new = t.new.token in
-    let before = c.loop.invariant in let next = c.advance-act.ensures.place in let from = c.go_from-act.ensures.place in
+    let before = c.loop.invariant in let next = c.advance_in_place-act.ensures.place in let from = c.go_from-act.ensures.place in
     let none : answer_of (next_act c.loop.place c.turn-reply.result) ≡ None = search rules in
     let reached : (base : List Ownership) → Fits (IsUp g.C.Clock.tells c.args.limit) base c.args.start (stage_of c.args.token.now c.args.inside) → ReachedBy (IsUp g.C.Clock.tells c.args.limit) base (call_purpose c.loop.place) (next_place c.loop.place c.turn-reply.result) None (stage_of c.turn-reply.new.token c.turn-reply.new.section)
     = λ (base : List Ownership) fits. subst (λ (o : Option Answer). ReachedBy (IsUp g.C.Clock.tells c.args.limit) base (call_purpose c.loop.place) (next_place c.loop.place c.turn-reply.result) o (stage_of c.turn-reply.new.token c.turn-reply.new.section)) none (t.ensures.reached base (before.fits base fits)) in
     let words_then = subst (λ (q : Place). AreWordsFor q (kind_in c.args.words) (at_in c.args.words)) (sym next) (words_on p reply (kind_in c.args.words) (at_in c.args.words) before.words) in
-    let goes_from : (base : List Ownership) → Fits (IsUp g.C.Clock.tells c.args.limit) base c.args.start (stage_of c.args.token.now c.args.inside) → Fits (IsUp g.C.Clock.tells c.args.limit) base c.go_from-act.new.place (stage_of c.turn-reply.new.token c.turn-reply.new.section) × (call_purpose c.go_from-act.new.place ≡ call_purpose c.advance-act.new.self)
-    = λ (base : List Ownership) fits. fits_from (IsUp g.C.Clock.tells c.args.limit) (kind_in c.args.words) (at_in c.args.words) base c.advance-act.new.self c.go_from-act.new.place (stage_of new t.new.section) from words_then
+    let goes_from : (base : List Ownership) → Fits (IsUp g.C.Clock.tells c.args.limit) base c.args.start (stage_of c.args.token.now c.args.inside) → Fits (IsUp g.C.Clock.tells c.args.limit) base c.go_from-act.new.place (stage_of c.turn-reply.new.token c.turn-reply.new.section) × (call_purpose c.go_from-act.new.place ≡ call_purpose c.advance_in_place-act.new.self)
+    = λ (base : List Ownership) fits. fits_from (IsUp g.C.Clock.tells c.args.limit) (kind_in c.args.words) (at_in c.args.words) base c.advance_in_place-act.new.self c.go_from-act.new.place (stage_of new t.new.section) from words_then
     (subst (λ (q : Place). Fits (IsUp g.C.Clock.tells c.args.limit) base q (stage_of c.turn-reply.new.token c.turn-reply.new.section)) (sym next) (reached base fits).0) in record {
       turns = (tt, tt);
       own = ((t.ensures.own.0.0, t.ensures.own.0.1 ∙ before.own.0.1), t.ensures.own.1);
-      path = comes_from (at_in c.args.words) c.args.start c.advance-act.new.self c.go_from-act.new.place (view_of c.args.token.now).steps (view_of new).steps (comes_on (at_in c.args.words) c.args.start p c.advance-act.new.self (view_of c.args.token.now).steps (view_of c.loop.token).steps (view_of new).steps reply t.ensures.told.0 before.path t.ensures.told.1 t.ensures.told.2 next) from;
-      words = words_from (kind_in c.args.words) (at_in c.args.words) c.advance-act.new.self c.go_from-act.new.place from words_then;
+      path = comes_from (at_in c.args.words) c.args.start c.advance_in_place-act.new.self c.go_from-act.new.place (view_of c.args.token.now).steps (view_of new).steps (comes_on (at_in c.args.words) c.args.start p c.advance_in_place-act.new.self (view_of c.args.token.now).steps (view_of c.loop.token).steps (view_of new).steps reply t.ensures.told.0 before.path t.ensures.told.1 t.ensures.told.2 next) from;
+      words = words_from (kind_in c.args.words) (at_in c.args.words) c.advance_in_place-act.new.self c.go_from-act.new.place from words_then;
       fits = λ (base : List Ownership) fits. (goes_from base fits).0;
       act = c.go_from-act.ensures.act;
       aim = (goes_from c.requires.start.0 c.requires.start.1).1 ∙ ap call_purpose next ∙ (reached c.requires.start.0 c.requires.start.1).1 ∙ before.aim;
@@ -75,14 +75,14 @@ returns-in-Some-closure_of-clause-stopped g c = let p = c.loop.place in let word
     closed (IsUp g.C.Clock.tells c.args.limit) base (view_of token).owns (call_purpose c.args.start) p c.in-Some-closure_of.state (section_view c.loop.section) (last_of token) (view_of token).steps is
     (closes_outside (kind_in words) (at_in words) st (act_of p) c.in-Some-closure_of.state is needs) (before.fits base fits) before.aim
 
-pub advance-act-requires-clause-shown : goal.advance-act-requires-clause-shown
-advance-act-requires-clause-shown g c = shows_keys c.loop.place c.turn-reply.result (kind_in c.args.words) (at_in c.args.words) c.loop.invariant.words
+pub advance_in_place-act-requires-clause-shown : goal.advance_in_place-act-requires-clause-shown
+advance_in_place-act-requires-clause-shown g c = shows_keys c.loop.place c.turn-reply.result (kind_in c.args.words) (at_in c.args.words) c.loop.invariant.words
 
 pub go_from-act-requires-clause-words : goal.go_from-act-requires-clause-words
-go_from-act-requires-clause-words g c = subst (λ (q : Place). AreWordsFor q (kind_in c.args.words) (at_in c.args.words)) (sym c.advance-act.ensures.place)
+go_from-act-requires-clause-words g c = subst (λ (q : Place). AreWordsFor q (kind_in c.args.words) (at_in c.args.words)) (sym c.advance_in_place-act.ensures.place)
     (words_on c.loop.place c.turn-reply.result (kind_in c.args.words) (at_in c.args.words) c.loop.invariant.words)
 
 pub go_from-act-requires-clause-act : goal.go_from-act-requires-clause-act
 go_from-act-requires-clause-act g c =
     let none : answer_of (next_act c.loop.place c.turn-reply.result) ≡ None = search rules in
-    c.advance-act.ensures.act ∙ does_next c.loop.place c.turn-reply.result none ∙ sym (ap act_of c.advance-act.ensures.place)
+    c.advance_in_place-act.ensures.act ∙ does_next c.loop.place c.turn-reply.result none ∙ sym (ap act_of c.advance_in_place-act.ensures.place)

@@ -17,12 +17,12 @@ use Rattle.run_base.proofs.Turning.{words_on}
 use Rattle.run_locks.proofs.rwlock_calls.rest_missed.Goals as goal
 
 pub run_out-requires-clause-words : goal.run_out-requires-clause-words
-run_out-requires-clause-words g c = let next : c.call_step-next.result.0 ≡ next_place (rwlock_deciding c.args.word.now.number c.args.admission.now c.args.purpose.now c.args.expected) (Value c.args.found) = search rules in
+run_out-requires-clause-words g c = let next : c.advance-next.result.0 ≡ next_place (rwlock_deciding c.args.word.now.number c.args.admission.now c.args.purpose.now c.args.expected) (Value c.args.found) = search rules in
     subst (λ (p : Place). AreWordsFor p (kind_in (single_word c.args.word.now)) (at_in (single_word c.args.word.now))) (sym next)
     (words_on (rwlock_deciding c.args.word.now.number c.args.admission.now c.args.purpose.now c.args.expected) (Value c.args.found) (kind_in (single_word c.args.word.now)) (at_in (single_word c.args.word.now)) (c.requires.own.3, rwlock_kinds c.args.word.now c.requires.own.2, rwlock_alone c.args.word.now c.requires.own.2))
 
 pub run_out-requires-clause-fits : goal.run_out-requires-clause-fits
-run_out-requires-clause-fits g c = let next : c.call_step-next.result.0 ≡ next_place (rwlock_deciding c.args.word.now.number c.args.admission.now c.args.purpose.now c.args.expected) (Value c.args.found) = search rules in
+run_out-requires-clause-fits g c = let next : c.advance-next.result.0 ≡ next_place (rwlock_deciding c.args.word.now.number c.args.admission.now c.args.purpose.now c.args.expected) (Value c.args.found) = search rules in
     let none : answer_of (next_act (rwlock_deciding c.args.word.now.number c.args.admission.now c.args.purpose.now c.args.expected) (Value c.args.found)) ≡ None = search rules in
     let reached = subst (λ (o : Option Answer). ReachedBy (IsUp g.C.Clock.tells c.args.limit.now) c.requires.reached.0 (of_rwlock c.args.word.now.number c.args.admission.now c.args.purpose.now) (next_place (rwlock_deciding c.args.word.now.number c.args.admission.now c.args.purpose.now c.args.expected) (Value c.args.found)) o (stage_of c.args.token.now None)) none c.requires.reached.1 in
     (c.requires.reached.0, subst (λ (p : Place). Fits (IsUp g.C.Clock.tells c.args.limit.now) c.requires.reached.0 p (stage_of c.args.token.now None)) (sym next) reached.0)
@@ -36,12 +36,12 @@ returns-in-Some-clause-over g c = let some : answer_of (next_act (rwlock_decidin
     λ (base : List Ownership) reached. subst (λ (o : Option Answer). ReachedBy (IsUp g.C.Clock.tells c.args.limit.now) base (of_rwlock c.args.word.now.number c.args.admission.now c.args.purpose.now) (next_place (rwlock_deciding c.args.word.now.number c.args.admission.now c.args.purpose.now c.args.expected) (Value c.args.found)) o (stage_of c.args.token.now None)) some reached
 
 pub returns-in-None-clause-path : goal.returns-in-None-clause-path
-returns-in-None-clause-path g c = let next : c.call_step-next.result.0 ≡ next_place (rwlock_deciding c.args.word.now.number c.args.admission.now c.args.purpose.now c.args.expected) (Value c.args.found) = search rules in
+returns-in-None-clause-path g c = let next : c.advance-next.result.0 ≡ next_place (rwlock_deciding c.args.word.now.number c.args.admission.now c.args.purpose.now c.args.expected) (Value c.args.found) = search rules in
     inr (subst (λ (at : ℕ → ℕ). Walks at (next_place (rwlock_deciding c.args.word.now.number c.args.admission.now c.args.purpose.now c.args.expected) (Value c.args.found)) (view_of c.args.token.now).steps (view_of c.run_out.new.token).steps c.run_out.result) (rwlock_alone c.args.word.now c.requires.own.2)
     (subst (λ (p : Place). Walks (at_in (single_word c.args.word.now)) p (view_of c.args.token.now).steps (view_of c.run_out.new.token).steps c.run_out.result) next c.run_out.ensures.path))
 
 pub returns-in-None-clause-over : goal.returns-in-None-clause-over
-returns-in-None-clause-over g c = let next : c.call_step-next.result.0 ≡ next_place (rwlock_deciding c.args.word.now.number c.args.admission.now c.args.purpose.now c.args.expected) (Value c.args.found) = search rules in
+returns-in-None-clause-over g c = let next : c.advance-next.result.0 ≡ next_place (rwlock_deciding c.args.word.now.number c.args.admission.now c.args.purpose.now c.args.expected) (Value c.args.found) = search rules in
     let none : answer_of (next_act (rwlock_deciding c.args.word.now.number c.args.admission.now c.args.purpose.now c.args.expected) (Value c.args.found)) ≡ None = search rules in
     λ (base : List Ownership) reached. let goes = subst (λ (o : Option Answer). ReachedBy (IsUp g.C.Clock.tells c.args.limit.now) base (of_rwlock c.args.word.now.number c.args.admission.now c.args.purpose.now) (next_place (rwlock_deciding c.args.word.now.number c.args.admission.now c.args.purpose.now c.args.expected) (Value c.args.found)) o (stage_of c.args.token.now None)) none reached in
     subst (λ (aim : CallPurpose). IsOver (IsUp g.C.Clock.tells c.args.limit.now) base aim c.run_out.result (stage_of c.run_out.new.token None)) (ap call_purpose next ∙ goes.1)

@@ -23,47 +23,47 @@ returns-in-Some-clause-path g c = let n = c.args.word.number in let call = c.arg
 
 pub returns-in-Ended-clause-path : goal.returns-in-Ended-clause-path
 returns-in-Ended-clause-path g c = let n = c.args.word.number in let call = c.args.call in
-    let next : c.call_step-next.result.0 ≡ next_place (once_begin c.args.word.number c.args.call) (Value c.args.seen) = search rules in
-    let walks = subst (RunsTo (at_in c.alone.result) c.call_step-next.result.0 (steps_of c.args.token.now) (steps_of c.run.new.token)) c.in-Ended.is c.run.ensures.path in
+    let next : c.advance-next.result.0 ≡ next_place (once_begin c.args.word.number c.args.call) (Value c.args.seen) = search rules in
+    let walks = subst (RunsTo (at_in c.alone.result) c.advance-next.result.0 (steps_of c.args.token.now) (steps_of c.run.new.token)) c.in-Ended.is c.run.ensures.path in
     λ before saw. looks_on n call c.args.seen (steps_of before) (steps_of c.args.token.now) (steps_of c.run.new.token) c.in-Ended.answer saw.1
     (subst (λ (at : ℕ → ℕ). Walks at (next_place (once_begin c.args.word.number c.args.call) (Value c.args.seen)) (steps_of c.args.token.now) (steps_of c.run.new.token) c.in-Ended.answer) (ap at_in c.alone.ensures ∙ once_alone c.args.word c.requires.own.2)
     (subst (λ (p : Place). Walks (at_in c.alone.result) p (steps_of c.args.token.now) (steps_of c.run.new.token) c.in-Ended.answer) next walks))
 
 pub run-requires-clause-start : goal.run-requires-clause-start
 run-requires-clause-start g c = let n = c.args.word.number in let call = c.args.call in let base = owns_of c.requires.seen.0 in
-    let next : c.call_step-next.result.0 ≡ next_place (once_begin c.args.word.number c.args.call) (Value c.args.seen) = search rules in
+    let next : c.advance-next.result.0 ≡ next_place (once_begin c.args.word.number c.args.call) (Value c.args.seen) = search rules in
     let none : answer_of (next_act (once_begin c.args.word.number c.args.call) (Value c.args.seen)) ≡ None = search rules in
     let on = on_aim n (IsUp g.C.Clock.tells c.args.limit) call c.args.seen base (stage_of c.args.token.now None) none (c.requires.seen.1.2 call) in
     (base, subst (λ (p : Place). Fits (IsUp g.C.Clock.tells c.args.limit) (owns_of c.requires.seen.0) p (stage_of c.args.token.now None)) (sym next) on.0)
 
 pub returns-in-Ended-clause-over : goal.returns-in-Ended-clause-over
 returns-in-Ended-clause-over g c = let n = c.args.word.number in let call = c.args.call in
-    let next : c.call_step-next.result.0 ≡ next_place (once_begin c.args.word.number c.args.call) (Value c.args.seen) = search rules in
+    let next : c.advance-next.result.0 ≡ next_place (once_begin c.args.word.number c.args.call) (Value c.args.seen) = search rules in
     let none : answer_of (next_act (once_begin c.args.word.number c.args.call) (Value c.args.seen)) ≡ None = search rules in
     λ (before : Token) saw. let base = owns_of before in let on = on_aim n (IsUp g.C.Clock.tells c.args.limit) call c.args.seen base (stage_of c.args.token.now None) none (saw.2 call) in
     let fits = subst (λ (p : Place). Fits (IsUp g.C.Clock.tells c.args.limit) (owns_of before) p (stage_of c.args.token.now None)) (sym next) on.0 in
-    let stopped = subst (λ (stop : Stop). IsStopped (IsUp g.C.Clock.tells c.args.limit) (owns_of before) (call_purpose c.call_step-next.result.0) stop (stage_of c.run.new.token None)) c.in-Ended.is (c.run.ensures.stopped base fits) in
+    let stopped = subst (λ (stop : Stop). IsStopped (IsUp g.C.Clock.tells c.args.limit) (owns_of before) (call_purpose c.advance-next.result.0) stop (stage_of c.run.new.token None)) c.in-Ended.is (c.run.ensures.stopped base fits) in
     (subst (λ (aim : CallPurpose). IsStopped (IsUp g.C.Clock.tells c.args.limit) (owns_of before) aim (Ended c.in-Ended.answer) (stage_of c.run.new.token None)) (ap call_purpose next ∙ on.1) stopped).1
 
 pub returns-in-Paused-clause-path : goal.returns-in-Paused-clause-path
 returns-in-Paused-clause-path g c = let n = c.args.word.number in let call = c.args.call in let base = owns_of c.requires.seen.0 in
-    let next : c.call_step-next.result.0 ≡ next_place (once_begin c.args.word.number c.args.call) (Value c.args.seen) = search rules in
+    let next : c.advance-next.result.0 ≡ next_place (once_begin c.args.word.number c.args.call) (Value c.args.seen) = search rules in
     let none : answer_of (next_act (once_begin c.args.word.number c.args.call) (Value c.args.seen)) ≡ None = search rules in
     let on = on_aim n (IsUp g.C.Clock.tells c.args.limit) call c.args.seen base (stage_of c.args.token.now None) none (c.requires.seen.1.2 call) in
     let fits = subst (λ (p : Place). Fits (IsUp g.C.Clock.tells c.args.limit) (owns_of c.requires.seen.0) p (stage_of c.args.token.now None)) (sym next) on.0 in
-    let stopped = subst (λ (stop : Stop). IsStopped (IsUp g.C.Clock.tells c.args.limit) (owns_of c.requires.seen.0) (call_purpose c.call_step-next.result.0) stop (stage_of c.run.new.token None)) c.in-Paused.is (c.run.ensures.stopped base fits) in
+    let stopped = subst (λ (stop : Stop). IsStopped (IsUp g.C.Clock.tells c.args.limit) (owns_of c.requires.seen.0) (call_purpose c.advance-next.result.0) stop (stage_of c.run.new.token None)) c.in-Paused.is (c.run.ensures.stopped base fits) in
     let closure = paused (IsUp g.C.Clock.tells c.args.limit) n call base c.in-Paused.place c.in-Paused.state (stage_of c.run.new.token None)
     (subst (λ (aim : CallPurpose). IsStopped (IsUp g.C.Clock.tells c.args.limit) (owns_of c.requires.seen.0) aim (Paused c.in-Paused.place c.in-Paused.state) (stage_of c.run.new.token None)) (ap call_purpose next ∙ on.1) stopped) in
-    let path = subst (RunsTo (at_in c.alone.result) c.call_step-next.result.0 (steps_of c.args.token.now) (steps_of c.run.new.token)) c.in-Paused.is c.run.ensures.path in
-    let comes = comes_by (at_in c.alone.result) n c.call_step-next.result.0 (next_place (once_begin n call) (Value c.args.seen)) c.in-Paused.place (in_closure n closure.forced closure.poisoned) (steps_of c.args.token.now) (steps_of c.run.new.token) (ap at_in c.alone.ensures ∙ once_alone c.args.word c.requires.own.2) next closure.there path in
+    let path = subst (RunsTo (at_in c.alone.result) c.advance-next.result.0 (steps_of c.args.token.now) (steps_of c.run.new.token)) c.in-Paused.is c.run.ensures.path in
+    let comes = comes_by (at_in c.alone.result) n c.advance-next.result.0 (next_place (once_begin n call) (Value c.args.seen)) c.in-Paused.place (in_closure n closure.forced closure.poisoned) (steps_of c.args.token.now) (steps_of c.run.new.token) (ap at_in c.alone.ensures ∙ once_alone c.args.word c.requires.own.2) next closure.there path in
     λ before saw. (closure.forced, closure.poisoned, closure.call, closure.told, looks_to n call c.args.seen (steps_of before) (steps_of c.args.token.now) (steps_of c.run.new.token) (in_closure n closure.forced closure.poisoned) saw.1 comes)
 
 pub returns-in-Paused-clause-over : goal.returns-in-Paused-clause-over
 returns-in-Paused-clause-over g c = let n = c.args.word.number in let call = c.args.call in
-    let next : c.call_step-next.result.0 ≡ next_place (once_begin c.args.word.number c.args.call) (Value c.args.seen) = search rules in
+    let next : c.advance-next.result.0 ≡ next_place (once_begin c.args.word.number c.args.call) (Value c.args.seen) = search rules in
     let none : answer_of (next_act (once_begin c.args.word.number c.args.call) (Value c.args.seen)) ≡ None = search rules in
     λ (before : Token) saw. let base = owns_of before in let on = on_aim n (IsUp g.C.Clock.tells c.args.limit) call c.args.seen base (stage_of c.args.token.now None) none (saw.2 call) in
     let fits = subst (λ (p : Place). Fits (IsUp g.C.Clock.tells c.args.limit) (owns_of before) p (stage_of c.args.token.now None)) (sym next) on.0 in
-    let stopped = subst (λ (stop : Stop). IsStopped (IsUp g.C.Clock.tells c.args.limit) (owns_of before) (call_purpose c.call_step-next.result.0) stop (stage_of c.run.new.token None)) c.in-Paused.is (c.run.ensures.stopped base fits) in
+    let stopped = subst (λ (stop : Stop). IsStopped (IsUp g.C.Clock.tells c.args.limit) (owns_of before) (call_purpose c.advance-next.result.0) stop (stage_of c.run.new.token None)) c.in-Paused.is (c.run.ensures.stopped base fits) in
     (paused (IsUp g.C.Clock.tells c.args.limit) n call base c.in-Paused.place c.in-Paused.state (stage_of c.run.new.token None)
     (subst (λ (aim : CallPurpose). IsStopped (IsUp g.C.Clock.tells c.args.limit) (owns_of before) aim (Paused c.in-Paused.place c.in-Paused.state) (stage_of c.run.new.token None)) (ap call_purpose next ∙ on.1) stopped)).owns
