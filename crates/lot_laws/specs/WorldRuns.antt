@@ -23,15 +23,15 @@ use Rattle.lot_laws.specs.Owing.{OwesSince}
 use Rattle.lot_laws.specs.Promises.{IsKept}
 
 -- words and queues are as they were
-abbrev pub LeavesWordsAndQueues : State → State → Type 0
-LeavesWordsAndQueues w v = ((l : ℕ) → word_at v l ≡ word_at w l)
+abbrev pub KeepsWordsAndQueues : State → State → Type 0
+KeepsWordsAndQueues w v = ((l : ℕ) → word_at v l ≡ word_at w l)
     × ((key : ℕ) → queue_at v key ≡ queue_at w key)
 
 -- a thread that begins a call, looks at a word once more or is late changes no word and no queue
 abbrev pub TouchesOnlyByGoing : State → Turn → State → Type 0
-TouchesOnlyByGoing w (turn.TheVariants.Begin c) v = LeavesWordsAndQueues w v
-TouchesOnlyByGoing w turn.TheVariants.Spin v = LeavesWordsAndQueues w v
-TouchesOnlyByGoing w turn.TheVariants.Late v = LeavesWordsAndQueues w v
+TouchesOnlyByGoing w (turn.TheVariants.Begin c) v = KeepsWordsAndQueues w v
+TouchesOnlyByGoing w turn.TheVariants.Spin v = KeepsWordsAndQueues w v
+TouchesOnlyByGoing w turn.TheVariants.Late v = KeepsWordsAndQueues w v
 TouchesOnlyByGoing w x v = Unit {0}
 
 -- another thread that sleeps does so on, unless this one has it in hand

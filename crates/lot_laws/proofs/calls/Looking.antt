@@ -45,7 +45,7 @@ use Rattle.spec_locks.specs.Runs.{LocksState, GoesOn, Stays}
 use Rattle.spec_locks.specs.Sites.{idle}
 use Rattle.lot_laws.specs.Refinement.{lock_state, locks_of, call_on_both, stance_of}
 use Rattle.lot_laws.specs.Locations.{nowhere, location_by}
-use Rattle.lot_laws.specs.WorldRuns.{LeavesWordsAndQueues}
+use Rattle.lot_laws.specs.WorldRuns.{KeepsWordsAndQueues}
 use Rattle.lot_laws.specs.SitesOf.{FitsCondvar, FitsItsLock, Goes, IsInductive, rules_in}
 use Rattle.lot_laws.proofs.calls.Beside.{looks_beside}
 use Rattle.lot_laws.proofs.machine.Parts.{parts_at}
@@ -64,8 +64,8 @@ set_keeps f (x ∷ xs) (suc i) zero y d e = refl
 set_keeps f (x ∷ xs) (suc i) (suc k) y d e = set_keeps f xs i k y d e
 
 -- a load changes no word
-load_untouched : (w : State) (t l : ℕ) (p : Place) (a : Act) → a ≡ Word l Load → LeavesWordsAndQueues w (state_after_act w t p a)
-load_untouched w t l p a loads = subst (λ x. LeavesWordsAndQueues w (state_after_act w t p x)) (sym loads)
+load_untouched : (w : State) (t l : ℕ) (p : Place) (a : Act) → a ≡ Word l Load → KeepsWordsAndQueues w (state_after_act w t p a)
+load_untouched w t l p a loads = subst (λ x. KeepsWordsAndQueues w (state_after_act w t p x)) (sym loads)
     ((λ k. set_keeps (λ x. x.word) w.locks l k _ (unlocked kind.TheVariants.Mutex) refl), λ key. refl)
 
 -- it has come on in the same call, beside the same mutex
@@ -247,7 +247,7 @@ module _ (w : State) (t : ℕ) (there : t < length w.places) (q : Place) (is : l
   pub looks_now : can_go looked t ≡ true
   looks_now = rw (here, looks.loads) refl
 
-  pub looks_untouched : LeavesWordsAndQueues w (state_after_go looked t)
+  pub looks_untouched : KeepsWordsAndQueues w (state_after_go looked t)
   looks_untouched = load_untouched looked t looks.loaded (place_at looked t) (act_of (place_at looked t)) (ap act_of here ∙ looks.loads)
 
   pub locks_same : (k : ℕ) → lock_state looked k ≡ lock_state w k

@@ -44,11 +44,11 @@ use Rattle.steps_base.specs.declared.acts.Whom.{Whom}
 use Rattle.steps_base.specs.declared.acts.Whom.TheVariants as whom
 use Rattle.steps_base.specs.Acts.{takes_effect, holds}
 use Rattle.lot_laws.specs.Refinement.{ChangesOneThing}
-use Rattle.lot_laws.specs.WorldRuns.{LeavesWordsAndQueues, TouchesOnlyByGoing}
+use Rattle.lot_laws.specs.WorldRuns.{KeepsWordsAndQueues, TouchesOnlyByGoing}
 
 -- a thread that looks at the word once more changes none
 spun_touches : (w : State) (t : ℕ) → t < length w.places → (o : Option Place) → looking (place_at w t) ≡ o
-    → LeavesWordsAndQueues w (state_after_look w t o)
+    → KeepsWordsAndQueues w (state_after_look w t o)
 spun_touches w t there None is = (λ l. refl, λ key. refl)
 spun_touches w t there (Some q) is = looks_untouched w t there q is
 
@@ -206,7 +206,7 @@ one_thing w s steady = either (is_possible w s) refl
 
 -- ---------------------------------------------------------------- turns that touch nothing
 
-late_touches : (w : State) (t : ℕ) (o : Option ℕ) → LeavesWordsAndQueues w (state_after_late_on w t o)
+late_touches : (w : State) (t : ℕ) (o : Option ℕ) → KeepsWordsAndQueues w (state_after_late_on w t o)
 late_touches w t None = (λ l. refl, λ key. refl)
 late_touches w t (Some key) = (λ l. refl, λ key. refl)
 
