@@ -3,7 +3,7 @@ ghost use Rattle.std.specs.Prelude.{All, IfSome};
 ghost use Rattle.std.specs.Arc.{arc_value};
 ghost use Rattle.parking_lot.specs.Names.{IsTicketOf, lot_of};
 
-use super::same;
+use super::check_eq;
 use parking_lot::{Fault, Mutex, ParkingLot, Ticket};
 use std::alloc::AllocError;
 use std::sync::{Arc, Wait};
@@ -61,6 +61,6 @@ fn a_thread_that_is_spawned(rt: HostRuntime) -> Result<(), Fail> {
     add(&rt, &total, token.leave());
     other.join(&rt);
     let total = Arc::try_unwrap(total).map(|total| total.into_inner());
-    same(&rt, total.ok(), Some(2));
+    check_eq(&rt, total.ok(), Some(2));
     Ok(())
 }
