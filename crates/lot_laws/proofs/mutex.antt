@@ -3,8 +3,10 @@ pub mod Hands
 pub mod Words
 pub mod Sections
 pub mod Acts
+pub mod Moves
 pub mod Kept
 pub mod Rows
 pub mod Events
+pub mod Steps
 pub mod Owing
 pub mod Promises

@@ -14,7 +14,6 @@ pub mod TakesKept
 pub mod PicksKept
 pub mod MovesKept
 pub mod SitesKept
-pub mod SectionsKept
 pub mod TurnsKept
 pub mod Opening
 pub mod Held

@@ -1,5 +1,6 @@
 //! A shared counter, queues of workers, a try with a limit, a cache, a table that is filled once, a
-//! value that is made once, a function that locks again, a pool, two accounts, and a part of a value.
+//! value that is made once, a function that locks again, a pool, two accounts, a part of a value,
+//! and a thread that is spawned.
 mod accounts;
 mod cache;
 mod door;
@@ -7,6 +8,7 @@ mod pool;
 mod prices;
 mod rates;
 mod register;
+mod spawned;
 mod table;
 mod visits;
 mod workers;

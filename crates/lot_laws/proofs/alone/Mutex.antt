@@ -49,7 +49,7 @@ use Rattle.steps_base.specs.declared.acts.Whom as whoms
 use Rattle.lot_laws.proofs.sites.SitesKept.{go_by, unshared_at, single_at, alone_at}
 use Rattle.steps_base.specs.declared.owners.Owners.{Owners}
 use Rattle.steps_base.specs.Owners.{with_exclusive}
-use Rattle.lot_laws.proofs.mutex.Kept.{gone_goes}
+use Rattle.lot_laws.proofs.mutex.Kept.{goes_mutex}
 use Rattle.lot_laws.proofs.machine.AtPlaces.{coded_for, rules_for, owns}
 use Rattle.lot_laws.proofs.alone.Leads.{Leads, leads_rest, leads_step, leads_more, leads_so}
 use Rattle.lot_laws.proofs.alone.Acts.{Facing, Faces, word_faces, faces_into, leave_faces, wake_faces, hand_faces, accept_faces, park_faces, unparked_faces, remove_faces, take_faces, act_led}
@@ -347,7 +347,7 @@ module _ (t l : ℕ) where
         steady_then = here.steady
 
         goes : (whom : Option ℕ) × Goes w taken_then l (acts t (take_deeds whom))
-        goes = gone_goes w t f.steady f.shape f.thread l taking f.place f.lock refl
+        goes = let g = goes_mutex w t l taking f.steady f.shape f.thread f.lock f.place refl in (g.whom, g.goes)
 
         held : hand_at (place_at taken_then x.thread) l ≡ hand t false
         held = first_held goes.0 goes.1

@@ -46,7 +46,7 @@ use Rattle.lot_laws.proofs.condvar.Replies as hears
 use Rattle.lot_laws.proofs.condvar.Replies.{at_it, may_hear, notifier_hears, word_is}
 use Rattle.lot_laws.proofs.condvar.MutexUntouched as condvar
 use Rattle.lot_laws.proofs.condvar.MutexUntouched.{there_deeds, works_there}
-use Rattle.lot_laws.proofs.mutex.Acts.{IsOfWord, works_at}
+use Rattle.lot_laws.proofs.mutex.Acts.{IsOfWord, owned_by, works_at}
 
 module _ (w : State) (t l m : ℕ) (all : Bool) (steady : IsInductive w) (is_there : t < length w.places) (apart : m ≢ l)
     (sort_l : (rules_in w l).sort ≡ locks.Condvar) (sort_m : (rules_in w m).sort ≡ locks.Mutex)
@@ -165,7 +165,7 @@ module _ (w : State) (t l m : ℕ) (all : Bool) (steady : IsInductive w) (is_the
           → condvar_owners (notifies at) t seen (owners_at w m) ≡ owners_at w m → IsOfWord (does at)
           → (laws.after_all r (does at) here t).lock.exclusive ≡ here.lock.exclusive → FitsItsLock w (condvar_goes l then_there)
           → KeptBeside at f
-      works_beside beside stays same same_taken does_next unowned of_word keeps fits = works_at w t m steady is_there sort_m (condvar_goes l then_there) alike fits (Condvar l (notifies at)) f lock (does at) of_word refl follows.needed
+      works_beside beside stays same same_taken does_next unowned of_word keeps fits = works_at w t m steady is_there sort_m (condvar_goes l then_there) alike fits (Condvar l (notifies at)) f lock (does at) (owned_by r (does at) here t of_word) refl follows.needed
           (follows.role ∙ sym does_next ∙ sym (role_beside l m apart then_there beside)) (unowned ∙ sym (ap (with_exclusive (owners_at w m)) keeps)) coded
           (location_beside l m apart then_there beside ∙ same ∙ sym (location_beside l m apart (At (notifies at)) refl) ∙ sym (ap (λ q. location_at q m) is))
           (ap (λ q. taken_at q m) is ∙ taken_beside l m apart (At (notifies at)) refl ∙ sym same_taken ∙ sym (taken_beside l m apart then_there beside))

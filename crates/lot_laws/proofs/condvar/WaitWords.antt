@@ -50,7 +50,7 @@ use Rattle.lot_laws.proofs.sites.StandsKept.{Alike, AlikeBeside}
 use Rattle.lot_laws.proofs.condvar.TwoParts.{Beside, alike_there, role_beside, nothing_else, location_beside, taken_beside}
 use Rattle.lot_laws.proofs.condvar.Replies as hears
 use Rattle.lot_laws.proofs.condvar.Replies.{taken_by_wait, waiter_hears}
-use Rattle.lot_laws.proofs.mutex.Acts.{IsOfWord, works_at}
+use Rattle.lot_laws.proofs.mutex.Acts.{IsOfWord, owned_by, works_at}
 use Rattle.steps_base.specs.declared.acts.Act.{Act}
 
 module _ (w : State) (t l m : ℕ) (timed : Bool) (steady : IsInductive w) (is_there : t < length w.places) (apart : m ≢ l)
@@ -150,7 +150,7 @@ module _ (w : State) (t l m : ℕ) (timed : Bool) (steady : IsInductive w) (is_t
         → FitsItsLock w (condvar_goes l (in_wait m timed next)) → IsOfWord does → KeepsOthers at
         → Goes w (put (state_after_operation w t (Condvar l (waits at)) m op) t (condvar_goes l (in_wait m timed next))) m
         (acts t does)
-    works stays same fits of_word others = works_at w t m steady is_there sort (condvar_goes l (in_wait m timed next)) (alike at is (in_wait m timed next) stays) fits (Condvar l (waits at)) op lt does of_word refl f.needed
+    works stays same fits of_word others = works_at w t m steady is_there sort (condvar_goes l (in_wait m timed next)) (alike at is (in_wait m timed next) stays) fits (Condvar l (waits at)) op lt does (owned_by r does here t of_word) refl f.needed
         (f.role ∙ unwoken does (waiter_next m next) of_word ∙ sym (does_next next stays.0))
         (others ∙ ap (with_exclusive (owners_at w m)) (subst (λ v. (condvar_owners (waits at) t v (owners_at w m)).exclusive ≡ (laws.after_all r (waiter_deeds at None (Value v)) here t).lock.exclusive) (sym (steady.sites.word m)) leaves.owner))
         (subst (λ v. apply op v ≡ code r (laws.after_all r (waiter_deeds at None (Value v)) here t)) (sym (steady.sites.word m)) leaves.word)

@@ -118,7 +118,7 @@ module _ (w : State) (t l : ℕ) (steady : IsInductive w) (there : t < length w.
 -- ---------------------------------------------------------------- they are told so
 
 module _ (w : State) (t l : ℕ) (steady : IsInductive w) (there : t < length w.places) (own : IsOf l (place_at w t)) (r : Rules)
-    (rules : rules_in w l ≡ r) (readers : has_readers r.sort ≡ true) (x : Move) (same_row : profile (place_at w t) ≡ x.row)
+    (rules : rules_in w l ≡ r) (x : Move) (same_row : profile (place_at w t) ≡ x.row)
     (hears : Hears) where
   abbrev now : Site
   now = lock_by w l r

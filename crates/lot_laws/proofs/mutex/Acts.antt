@@ -25,7 +25,7 @@ use Rattle.lot_laws.proofs.machine.Parts.{lock_in, parts_at, LetGo, stays, untak
 use Rattle.lot_laws.proofs.sites.OneStep.{AreSingle, Steps, same_filled, steps_by, queued_without}
 use Rattle.lot_laws.proofs.sites.LawsKept.{after_same, needed_same}
 use Rattle.lot_laws.proofs.sites.StandsKept.{AlikeBeside}
-use Rattle.lot_laws.proofs.sites.Following.{NoHandOff, lock_by, operated, parks, lates}
+use Rattle.lot_laws.proofs.sites.Following.{lock_by, operated, parks, lates}
 use Rattle.steps_base.specs.Moves.{AreLeaving}
 use Rattle.core_base.specs.declared.notes.Note.TheVariants.{Normal}
 use Rattle.steps_base.specs.declared.acts.Reply.TheVariants.{Woken}
@@ -49,22 +49,21 @@ IsOfWord (Case (Enter Exclusive) ∷ End ∷ []) = Unit {0}
 IsOfWord ds = ⊥
 
 -- nothing but the owner and the bit changes
-record OwnedBy (r : Rules) (ds : List Deed) (s : Site) (t : ℕ) : Type 0 where
-  single : AreSingle ds
-  plain : NoHandOff ds
-  lock : (laws.after_all r ds s t).lock ≡ record s.lock { exclusive = (laws.after_all r ds s t).lock.exclusive }
-  aside : (laws.after_all r ds s t).aside_parked ≡ s.aside_parked
+pub record OwnedBy (r : Rules) (ds : List Deed) (s : Site) (t : ℕ) : Type 0 where
+  pub single : AreSingle ds
+  pub lock : (laws.after_all r ds s t).lock ≡ record s.lock { exclusive = (laws.after_all r ds s t).lock.exclusive }
+  pub aside : (laws.after_all r ds s t).aside_parked ≡ s.aside_parked
 
-owned_by : (r : Rules) (ds : List Deed) (s : Site) (t : ℕ) → IsOfWord ds → OwnedBy r ds s t
-owned_by r [] s t h = record { single = tt; plain = tt; lock = refl; aside = refl }
-owned_by r (End ∷ []) s t h = record { single = (tt, tt); plain = tt; lock = refl; aside = refl }
-owned_by r (Mark Main ∷ []) s t h = record { single = (tt, tt); plain = tt; lock = refl; aside = refl }
-owned_by r (Clear Main ∷ []) s t h = record { single = (tt, tt); plain = tt; lock = refl; aside = refl }
-owned_by r (MarkOwned ∷ []) s t h = record { single = (tt, tt); plain = tt; lock = refl; aside = refl }
-owned_by r (MarkBrought ∷ []) s t h = record { single = (tt, tt); plain = tt; lock = refl; aside = refl }
-owned_by r (Case (Leave Exclusive) ∷ []) s t h = record { single = (tt, tt); plain = ((λ k. k), tt); lock = refl; aside = refl }
-owned_by r (Case (Leave Exclusive) ∷ End ∷ []) s t h = record { single = (tt, (tt, tt)); plain = ((λ k. k), tt); lock = refl; aside = refl }
-owned_by r (Case (Enter Exclusive) ∷ End ∷ []) s t h = record { single = (tt, (tt, tt)); plain = ((λ k. k), tt); lock = refl; aside = refl }
+pub owned_by : (r : Rules) (ds : List Deed) (s : Site) (t : ℕ) → IsOfWord ds → OwnedBy r ds s t
+owned_by r [] s t h = record { single = tt; lock = refl; aside = refl }
+owned_by r (End ∷ []) s t h = record { single = (tt, tt); lock = refl; aside = refl }
+owned_by r (Mark Main ∷ []) s t h = record { single = (tt, tt); lock = refl; aside = refl }
+owned_by r (Clear Main ∷ []) s t h = record { single = (tt, tt); lock = refl; aside = refl }
+owned_by r (MarkOwned ∷ []) s t h = record { single = (tt, tt); lock = refl; aside = refl }
+owned_by r (MarkBrought ∷ []) s t h = record { single = (tt, tt); lock = refl; aside = refl }
+owned_by r (Case (Leave Exclusive) ∷ []) s t h = record { single = (tt, tt); lock = refl; aside = refl }
+owned_by r (Case (Leave Exclusive) ∷ End ∷ []) s t h = record { single = (tt, (tt, tt)); lock = refl; aside = refl }
+owned_by r (Case (Enter Exclusive) ∷ End ∷ []) s t h = record { single = (tt, (tt, tt)); lock = refl; aside = refl }
 owned_by r ds s t h = absurd h
 
 -- the bit is read off the word
@@ -89,16 +88,13 @@ module _ (w : State) (t m : ℕ) (steady : IsInductive w) (is_there : t < length
   plain_so h = absurd (let e : false ≡ true = sym unshared ∙ h in cc)
 
   -- a step on the word, by what the laws of its place conclude
-  module _ (before : Place) (op : Op) (lt : m < length w.locks) (ds : List Deed) (of_word : IsOfWord ds)
+  module _ (before : Place) (op : Op) (lt : m < length w.locks) (ds : List Deed) (by_owner : OwnedBy r ds here t)
       (no_share : shares_after before (word_at w m) (share_at w m t) ≡ None)
       (needed : laws.AllNeeded r ds here t) (role : (laws.after_all r ds here t).role t ≡ role_on p2 m)
       (owner : (owners_after before t (word_at w m) (owners_at w m)) ≡ with_exclusive (owners_at w m) (laws.after_all r ds here t).lock.exclusive)
       (coded : apply op (word_at w m) ≡ code r (laws.after_all r ds here t)) (same_location : location_at p2 m ≡ location_at (place_at w t) m) (same_hand : taken_at (place_at w t) m ≡ taken_at p2 m) where
     abbrev behind : Site
     behind = laws.after_all r ds here t
-
-    by_owner : OwnedBy r ds here t
-    by_owner = owned_by r ds here t of_word
 
     lock_then : lock_in (operated w t before m op) (λ u. taken_at (place_at w u) m) ≡ behind.lock
     lock_then = ap (λ x. lock_seen (shares_then (shares_at w m) t x) (owners_after before t (word_at w m) (owners_at w m)) (queue_at w (2 * m)) (queue_at w (2 * m + 1)) (λ u. taken_at (place_at w u) m)) no_share
@@ -122,7 +118,7 @@ module _ (w : State) (t m : ℕ) (steady : IsInductive w) (is_there : t < length
         (sym role ∙ sym (ap (λ (s : Site). s.role t) same_behind))
 
     pub works_at : Goes w (put (state_after_operation w t before m op) t p2) m (acts t ds)
-    works_at = acting.word_goes w t m steady is_there r refl p2 alike fits before lt (rw steady.numbers.locks lt) op ds (λ h. by_owner.plain) steps
+    works_at = acting.word_goes w t m steady is_there r refl p2 alike fits before lt (rw steady.numbers.locks lt) op ds (λ h. plain_so h) steps
         (coded ∙ sym (ap (code r) same_behind) ∙ sym (ap (code r) steps.site)) same_location
 
   -- ---------------------------------------------------------------- sections

@@ -1,258 +1,548 @@
 -- A thread goes on: every lock is a site again. Here a call of a mutex.
-use Rattle.std.proofs.Common.{ℕ, Bool, true, false, Option, Some, None, if◌then◌else◌, ◌==◌, ◌&&◌, not, ◌≡◌, ◌≢◌, ◌+◌, ◌*◌, ◌<◌, ◌⊎◌, List, [], ◌∷◌, length, map, drop, is_none, inl, inr, refl, sym, ◌∙◌, ap, subst, arith}
-use Rattle.lot_laws.proofs.once.Kept.{goes_once}
-use Rattle.lot_laws.proofs.semaphore.Kept.{goes_semaphore}
-use Rattle.std.proofs.lemmas.Bool.{eqb-true}
+use Rattle.std.proofs.Common.{ℕ, Bool, true, false, Option, Some, None, if◌then◌else◌, ◌==◌, ◌≡◌, ◌≢◌, ◌+◌, ◌*◌, ◌<◌, ◌⊎◌, List, [], ◌∷◌, ◌++◌, length, map, drop, is_none, inl, inr, refl, sym, ◌∙◌, ap, subst, arith}
+use Rattle.core_base.specs.declared.keys.Keys.{Keys}
 use Rattle.core_base.specs.declared.keys.Keys.TheVariants.{One}
+use Rattle.core_base.specs.declared.notes.Note.TheVariants.{Normal, HandOff as HandOffNote}
 use Rattle.core_base.specs.declared.ops.Op.{Op}
-use Rattle.core_base.specs.declared.ops.Op as op
+use Rattle.core_base.specs.declared.ops.Op.TheVariants as ops
 use Rattle.core_base.specs.declared.wants.Waiter.{Waiter}
+use Rattle.core_base.specs.declared.wants.Want.{Want}
 use Rattle.core_base.specs.declared.wants.Want.TheVariants.{Exclusive}
-use Rattle.core_base.specs.Lines.{without, first_of, times}
+use Rattle.core_base.specs.Lines.{first_of, times}
+use Rattle.core_base.specs.Words.{apply}
+use Rattle.steps_base.specs.declared.acts.Act.{Act}
+use Rattle.steps_base.specs.declared.acts.Act.TheVariants as act
+use Rattle.steps_base.specs.declared.acts.Check.{Check}
+use Rattle.steps_base.specs.declared.acts.Next.{Next}
+use Rattle.steps_base.specs.declared.acts.Next.TheVariants as next
+use Rattle.steps_base.specs.declared.acts.Reply.{Reply}
+use Rattle.steps_base.specs.declared.acts.Reply.TheVariants.{Done, Value, Parked, Took, Removed, HandedBy, TakenBy, Late}
+use Rattle.steps_base.specs.declared.acts.Wakes.{Wakes}
+use Rattle.steps_base.specs.declared.acts.Whom.TheVariants as whoms
+use Rattle.steps_base.specs.Acts.{holds, wakes_taken}
+use Rattle.steps_base.specs.Calls.{CallFollows}
+use Rattle.steps_base.specs.Moves.{Accepts, AreLeaving, GoesIn, GoesOut, LeavesLine, Parks, TellsHanded, inside_of, location_of, location_then, row_of}
+use Rattle.steps_base.specs.Owners.{with_exclusive}
+use Rattle.steps_base.specs.Profiles.{Profile, in_hand}
+use Rattle.steps_base.specs.Locations.{Location}
+use Rattle.spec_locks.specs.Locks.{HasTakenNobody, IsLockState, IsSuccessor, Rules, first_thread, let_go}
+use Rattle.spec_locks.specs.Locks as locks
+use Rattle.spec_locks.specs.Sites.{Case, Clear, Deed, End, FindNobody, In, Line, Main, Mark, MarkBrought, MarkOwned, Site, idle, is_empty}
+use Rattle.spec_locks.specs.Codes.{aside_in, code}
+use Rattle.spec_locks.specs.Deeds.{case_of}
+use Rattle.spec_locks.specs.Deeds as laws
+use Rattle.spec_locks.specs.Picks.{queued_of}
+use Rattle.steps_mutex.specs.declared.places.MutexPlace.{MutexPlace}
+use Rattle.steps_mutex.specs.declared.places.MutexPlace.TheVariants.{HandOff}
+use Rattle.steps_mutex.specs.declared.hand_off.HandOffAt.TheVariants as hand_off
+use Rattle.steps_mutex.specs.MutexDeeds.{mutex_deeds, queued, take_deeds}
+use Rattle.steps_mutex.specs.MutexLaws.{Follows, HandsOverToHeir, IsAt, LeavesMutex, MayHear, heir, mutex_row, next_row, role_next}
+use Rattle.steps_mutex.specs.MutexProfiles.{mutex_late_line}
+use Rattle.steps_mutex.specs.MutexSteps.{hand_off_word, mutex_act, mutex_next, mutex_owners}
+use Rattle.steps_mutex.proofs.MutexCode.{mutex_hand_overs_code, mutex_steps_code}
+use Rattle.steps_mutex.proofs.MutexFit.{mutex_steps_follow}
+use Rattle.steps_mutex.proofs.MutexTells.{mutex_steps_tell}
 use Rattle.lot_steps.specs.declared.places.Place.{Place}
 use Rattle.lot_steps.specs.declared.places.Place.TheVariants.{Idle, Mutex, RwLock, Once, Condvar, Semaphore}
-use Rattle.steps_mutex.specs.declared.lock.Entry.{Entry}
-use Rattle.steps_mutex.specs.declared.lock.Entry.TheVariants as entries
-use Rattle.steps_mutex.specs.declared.places.MutexPlace.{MutexPlace}
-use Rattle.steps_mutex.specs.declared.places.MutexPlace.TheVariants.{Lock, TryLock, Unlock, UnlockFair, Bump, HandOff}
-use Rattle.steps_mutex.specs.declared.lock.LockAt.{LockAt}
-use Rattle.steps_mutex.specs.declared.lock.LockAt.TheVariants as lock
-use Rattle.steps_mutex.specs.declared.unlock.UnlockAt.{UnlockAt}
-use Rattle.steps_mutex.specs.declared.unlock.UnlockAt.TheVariants as unlock
-use Rattle.steps_mutex.specs.declared.hand_off.HandOffAt.{HandOffAt}
-use Rattle.steps_mutex.specs.declared.hand_off.HandOffAt.TheVariants as hand_off
-use Rattle.steps_base.specs.declared.acts.Act.{Act}
-use Rattle.steps_base.specs.declared.acts.Act as act
-use Rattle.steps_base.specs.declared.acts.Check.TheVariants.{WordIs}
-use Rattle.steps_base.specs.declared.acts.Wakes as wakes
-use Rattle.steps_base.specs.declared.acts.Reply.TheVariants.{Parked, Removed, Took, TakenBy, Value}
-use Rattle.steps_mutex.specs.declared.places.TheConstants.{NOT_PARKED}
-use Rattle.steps_base.specs.declared.acts.Whom as whoms
-use Rattle.steps_mutex.specs.MutexSteps.{is_locked, is_parked, lock_act, unlock_act, hand_off_act, mutex_act}
-use Rattle.lot_steps.specs.Steps.{next_place, act_of}
-use Rattle.spec_locks.specs.Locks.{one_if_some, TakeFirst}
-use Rattle.spec_locks.specs.Codes.{bit}
-use Rattle.spec_locks.specs.Sites.{Main, Second, End, is_empty, found, leaves, In, Out, Case, FindNobody}
-use Rattle.lot_machine.specs.Machine.{State, place_at, word_at, owners_at, queue_at, section_at, can_do, put, state_with_sections, queues_with_last, queues_without, queues_without_first, state_after_reply, state_after_taking, is_there, reply_to}
-use Rattle.lot_machine.specs.Fits.{IsWellFormed, PlaceFits}
-use Rattle.lot_laws.specs.Refinement.{taken_at}
-use Rattle.spec_locks.specs.Picks.{queued_of}
-use Rattle.lot_laws.specs.MutexDeeds.{mutex_role, mutex_location, acts, deeds, mutex_deeds, queued}
-use Rattle.lot_laws.specs.Locations.{Location, nowhere, location, location_at}
-use Rattle.lot_laws.specs.SitesOf.{AreCounted, IsInductive, Goes, stood_in}
-use Rattle.lot_machine.proofs.Shape.{main_line_there, main_key_there}
-use Rattle.lot_laws.proofs.machine.Parts.{base_at, same, own_stance, inside_is, role_of, role_here, IsMutexOf, own_of, IsSingle}
-use Rattle.lot_laws.proofs.mutex.Words.{Fits, own_role, ends, looks, at_first, at_load, at_decide_free, at_decide_one, at_clear, at_release_clear, at_try, at_subtract, at_unlock_fair, at_bump, at_store_none}
-use Rattle.lot_laws.proofs.sites.OneStep.{empty_line}
-use Rattle.lot_laws.proofs.sites.SitesKept.{go_by, goes_steady, site_l, word_l, word_keeps, place_keeps, enter_keeps, leave_keeps, one_held, release_wakes, tells, hands_over, take_keeps, mutexes_at}
-use Rattle.lot_laws.proofs.mutex.Waiters.{stands_or_sleeps}
-use Rattle.lot_laws.proofs.sites.StandsKept.{in_main}
+use Rattle.lot_steps.specs.Steps.{act_of, mutex_goes, next_place, profile}
+use Rattle.lot_machine.specs.Machine.{State, are_free, can_do, hand_over_told, section_is_free as is_free_in, is_there, owners_at, place_at, put, queue_at, queues_without_first, reply_to, section_at, kind_at, state_after_act, state_after_hand_over, state_after_late_under, state_after_operation, state_after_reply, state_after_taking, unshared_then, word_at}
+use Rattle.lot_machine.specs.Fits.{GivesUpTimed, IsWellFormed, PlaceFits}
+use Rattle.lot_machine.proofs.Shape.{main_key_there, main_line_there}
+use Rattle.lot_laws.specs.Refinement.{lock_state, taken_at}
+use Rattle.lot_laws.specs.MutexDeeds.{acts, claims_of, deeds}
+use Rattle.lot_laws.specs.Locations.{hand, location, location_at}
+use Rattle.lot_laws.specs.SitesOf.{ActsNeeded, AreCounted, FitsItsLock, Goes, IsInductive, after_acts, carried_at, hand_at, is_mutex, key_of, rules_in, stood_in}
+use Rattle.lot_laws.proofs.calls.LockEvents.{Befalls}
+use Rattle.lot_laws.proofs.calls.OtherCalls.{IsCalm, WakesOwn, befalls, befalls_nobody}
+use Rattle.lot_laws.proofs.hands.Handed.{handed_is}
+use Rattle.lot_laws.proofs.hands.Moved.{accepts, tells_handed, told_hears}
+use Rattle.lot_laws.proofs.machine.AtPlaces.{in_no_hand}
+use Rattle.lot_laws.proofs.machine.Parts.{IsOf, IsSingle, base_at, differ, free_of, location_here, mutex, next_of, of_single, own_stance, role_here, same, untaken}
+use Rattle.lot_laws.proofs.mutex.Acts.{IsOfWord, OwnedBy, owned_by, works_at}
+use Rattle.lot_laws.proofs.mutex.Hands.{accepts as has_now, first_goes, tries}
+use Rattle.lot_laws.proofs.mutex.Moves.{MutexMoves, StoresNothing, TakesFirst, Works, mutex_acts_move, mutex_hears, mutex_late_move, mutex_move, owner_alone}
+use Rattle.lot_laws.proofs.mutex.Sections.{exclusive_wanted, hands_to}
+use Rattle.lot_laws.proofs.mutex.Waiters.{CallsMutex, IsHeldThere, SleepsAt, WasGivenThere, calls_mutex_at, given_there, held_there, stands_or_sleeps}
+use Rattle.lot_laws.proofs.once.Kept.{goes_once}
+use Rattle.lot_laws.proofs.rwlock.Kept.{AreCalm, calm_case, handed_calm, left_calm, left_wakes}
 use Rattle.lot_laws.proofs.rwlock.Steps.{rwlock_goes_on}
-use Rattle.lot_laws.proofs.sites.SectionsKept.{park_keeps, remove_keeps, nobody_keeps}
+use Rattle.lot_laws.proofs.semaphore.Kept.{goes_semaphore}
+use Rattle.lot_laws.proofs.sites.ActsKept.{finds_none, lock_by, nobody_goes}
+use Rattle.lot_laws.proofs.sites.MovesKept.{IsFollowed, entered_hears, goes_in, goes_out, leaves_main, left_hears, location_is, needed_by, own_by, parked_hears, parks_or_turns, removed_main, there_is}
+use Rattle.lot_laws.proofs.sites.OneStep.{empty_line}
+use Rattle.lot_laws.proofs.sites.SitesKept.{go_by, goes_steady, hands_over, one_held}
+use Rattle.lot_laws.proofs.sites.StandsKept.{in_main, own_alike}
+use Rattle.lot_laws.proofs.sites.StandsMoved.{mutex_rules}
+use Rattle.lot_laws.proofs.sites.TakesAt.{behind_take, member}
+use Rattle.lot_laws.proofs.sites.WakesAt.{IsWokenAt}
 
 pub none_is : (x : Option ℕ) → is_none x ≡ true → x ≡ None
 none_is None h = refl
 none_is (Some y) h = absurd cc
 
-owned_3 : (e : Option ℕ) → 3 ≡ one_if_some e + 2 * 1 → e ≢ None
-owned_3 None h e = omega arith
-owned_3 (Some x) h e = cc
+-- where a place leads, its row does
+goes_row : (l : ℕ) (n : Next MutexPlace) → profile (mutex_goes l n) ≡ row_of (next_row n)
+goes_row l (next.At p) = refl
+goes_row l (next.End answer) = refl
 
-module _ (w : State) (t : ℕ) (steady : IsInductive w) (shape : IsWellFormed w) (there : t < length w.places) where
-  -- the thread does at the lock l what its act does
-  abbrev GoesWith : ℕ → MutexPlace → Option ℕ → Act → Type 0
-  GoesWith l at whom a = Goes w (go_by w t (Mutex l at) a) l (deeds t at whom (reply_to w t a))
+role_is : (n : Next MutexPlace) → role_next n ≡ (row_of (next_row n)).role
+role_is (next.At p) = refl
+role_is (next.End answer) = refl
 
-  -- for each thread that it takes, or hands the lock
-  abbrev GoesBy : ℕ → MutexPlace → Act → Type 0
-  GoesBy l at a = (whom : Option ℕ) × GoesWith l at whom a
+-- ---------------------------------------------------------------- deeds that leave the others as they are
+
+word_calm : (ds : List Deed) → IsOfWord ds → AreCalm ds
+word_calm [] h = tt
+word_calm (End ∷ []) h = tt
+word_calm (Mark Main ∷ []) h = tt
+word_calm (Clear Main ∷ []) h = tt
+word_calm (MarkOwned ∷ []) h = tt
+word_calm (MarkBrought ∷ []) h = tt
+word_calm (Case (locks.Leave Exclusive) ∷ []) h = tt
+word_calm (Case (locks.Leave Exclusive) ∷ End ∷ []) h = tt
+word_calm (Case (locks.Enter Exclusive) ∷ End ∷ []) h = tt
+word_calm ds h = absurd h
+
+takes_calm : (who : Option ℕ) → AreCalm (take_deeds who)
+takes_calm None = tt
+takes_calm (Some u) = tt
+
+wakes_any : (keys : Keys) (hand : Option Bool) (any : Bool) → hand ≡ in_hand any false → (ds : List Deed) → AreLeaving ds
+    → WakesOwn hand (act.Leave keys (wakes_taken any Normal)) (case_of hand ds)
+wakes_any keys hand false f ds h = subst (λ x. IsCalm (case_of x ds)) (sym f) (left_calm ds h)
+wakes_any keys hand true f ds h = inl (f, (refl, ap (λ x. case_of x ds) f ∙ left_wakes ds h))
+
+tells_any : (keys : Keys) (hand : Option Bool) (any : Bool) → hand ≡ in_hand any true → (ds : List Deed) → AreLeaving ds
+    → WakesOwn hand (act.Leave keys (wakes_taken any HandOffNote)) (case_of hand ds)
+tells_any keys hand false f ds h = subst (λ x. IsCalm (case_of x ds)) (sym f) (left_calm ds h)
+tells_any keys hand true f ds h = inr (f, (refl, subst (λ x. IsCalm (case_of x ds)) (sym f) (handed_calm ds h)))
+
+-- no place but the store of a hand-off has the mutex claimed
+deeds_plain : (t : ℕ) (p : MutexPlace) (who : Option ℕ) (told : Reply) → StoresNothing p → deeds t p who told ≡ acts t (mutex_deeds p who told)
+deeds_plain t (HandOff bumps (hand_off.Store any none_left)) who told h = absurd h
+deeds_plain t (HandOff bumps at) who told h = refl
+deeds_plain t p who told h = refl
+
+-- ---------------------------------------------------------------- one thread
+
+module _ (w : State) (t l : ℕ) (at : MutexPlace) (steady : IsInductive w) (shape : IsWellFormed w) (there : t < length w.places)
+    (lt : l < length w.locks) (is : place_at w t ≡ Mutex l at) where
+  fits_now : is_mutex (kind_at w l) ≡ true
+  fits_now = let c : FitsItsLock w (Mutex l at) = subst (FitsItsLock w) is (steady.stands.calls t) in c
+
+  pub rules_are : rules_in w l ≡ mutex
+  rules_are = mutex_rules (kind_at w l) fits_now
+
+  pub sort_is : (rules_in w l).sort ≡ locks.Mutex
+  sort_is = ap (λ (r : Rules). r.sort) rules_are
+
+  timed : GivesUpTimed at
+  timed = let fits : PlaceFits (length w.locks) (Mutex l at) = subst (PlaceFits (length w.locks)) is (shape.places t) in fits.1
+
+  pub own : IsOf l (place_at w t)
+  own = rw is refl
+
+  same_row : profile (place_at w t) ≡ mutex_row at
+  same_row = ap profile is
+
+  abbrev r : Rules
+  r = rules_in w l
+
+  abbrev here : Site
+  here = lock_by w l r
+
+  pub at_now : IsAt r here t at
+  at_now = record { sort = sort_is; site = steady.sites.site l; role = role_here l (place_at w t) own ∙ ap (λ (y : Profile). y.role) same_row }
+
+  fits_next : (n : Next MutexPlace) → FitsItsLock w (mutex_goes l n)
+  fits_next (next.At p) = fits_now
+  fits_next (next.End answer) = tt
+
+  -- tells what its laws conclude
+  abbrev Followed : Option ℕ → Reply → Type 0
+  Followed who told = IsFollowed w t l steady there own r refl (mutex_move at) same_row who told (next_place (place_at w t) told)
+
+  followed : (who : Option ℕ) (told : Reply) → MayHear r here t at who told → Followed who told
+  followed who told hears = let f = mutex_steps_follow r here t at who told at_now hears in record {
+    of = next_of l (place_at w t) told own;
+    fits = subst (λ q. FitsItsLock w (next_place q told)) (sym is) (fits_next (mutex_next at told));
+    row = ap (λ q. profile (next_place q told)) is ∙ goes_row l (mutex_next at told);
+    needed = f.needed;
+    role = f.role ∙ role_is (mutex_next at told);
+  }
+
+  abbrev deeds_of : Option ℕ → Reply → List Deed
+  deeds_of who told = mutex_deeds at who told
+
+  abbrev case_at : Option ℕ → Reply → Option locks.LockCase
+  case_at who told = case_of (mutex_row at).carries (deeds_of who told)
+
+  -- ---------------------------------------------------------------- each act
+
+  abbrev Then : Place → Act → State
+  Then q y = put (state_after_act w t (Mutex l at) y) t (next_place q (reply_to w t y))
+
+  -- it hands the mutex over to its heir, and whom it has in hand is told of it
+  abbrev HandsOn : Place → Act → Option ℕ → Type 0
+  HandsOn q y who = (alone : Bool) × (case_at who (reply_to w t y) ≡ Some (locks.HandOff Exclusive (heir who))) × Befalls w (Then q y) t l (HandedBy t alone) × (taken_at (place_at w t) l ≡ None)
+
+  -- its deeds as it goes on from a place, what they make of its call, and of those of the others
+  pub record GoesFrom (q : Place) (y : Act) : Type 0 where
+    pub whom : Option ℕ
+    pub goes : Goes w (Then q y) l (deeds t at whom (reply_to w t y))
+    pub tells : CallFollows r here.lock t l (mutex_row at) (deeds_of whom (reply_to w t y)) (next_row (mutex_next at (reply_to w t y)))
+    pub others : WakesOwn (mutex_row at).carries y (case_at whom (reply_to w t y)) ⊎ HandsOn q y whom
+    -- and that it is in nobody's hand then
+    pub unheld : (location_then (mutex_move at) (reply_to w t y)).hand ≡ None
+
+  -- where nobody claims the mutex then
+  plainly : {q : Place} {y : Act} (who : Option ℕ) → deeds t at who (reply_to w t y) ≡ acts t (deeds_of who (reply_to w t y))
+      → Goes w (Then q y) l (acts t (deeds_of who (reply_to w t y))) → MayHear r here t at who (reply_to w t y) → reply_to w t y ≢ Late
+      → (location_then (mutex_move at) (reply_to w t y)).hand ≡ None → WakesOwn (mutex_row at).carries y (case_at who (reply_to w t y)) ⊎ HandsOn q y who → GoesFrom q y
+  plainly {q = q} {y = y} who same_deeds goes hears now unheld others = record {
+    whom = who;
+    goes = subst (Goes w (Then q y) l) (sym same_deeds) goes;
+    tells = mutex_steps_tell r here t l at who (reply_to w t y) at_now hears now;
+    others = others;
+    unheld = unheld;
+  }
+
+  calm_by : (ds : List Deed) {x : List Deed} → x ≡ ds → AreCalm ds → IsCalm (case_of (mutex_row at).carries x)
+  calm_by ds e h = subst (λ (x : List Deed). IsCalm (case_of (mutex_row at).carries x)) (sym e) (calm_case (mutex_row at).carries ds h)
+
+  section : key_of l Main < length w.sections
+  section = main_key_there w l shape lt
+
+  line : key_of l Main < length w.queues
+  line = main_line_there w l shape lt
+
+  word_is : word_at w l ≡ code r here
+  word_is = steady.sites.word l
 
   -- one operation on the word
-  fitted : (l : ℕ) (at : MutexPlace) → place_at w t ≡ Mutex l at → l < length w.locks → (f : Op)
-      → ((x : ℕ) → Fits l (base_at w l) (owners_at w l) (queue_at w (2 * l)) (queue_at w (2 * l + 1)) (place_at w) t x at f)
-      → Goes w (go_by w t (Mutex l at) (act.TheVariants.Word l f)) l (acts t (mutex_deeds at None (Value (word_at w l))))
-  fitted l at is lt f fits = word_keeps w t l at steady is there lt f (fits (word_at w l) is (site_l w t l at steady is there) (word_l w t l at steady is there))
-
-  line : (l : ℕ) → l < length w.locks → 2 * l < length w.queues
-  line l lt = main_line_there w l shape lt
-
-  key : (l : ℕ) → l < length w.locks → 2 * l < length w.sections
-  key l lt = main_key_there w l shape lt
-
-  pub enters : (l : ℕ) (at at2 : MutexPlace) → place_at w t ≡ Mutex l at → l < length w.locks → is_none (section_at w (2 * l)) ≡ true → taken_at (Mutex l at) l ≡ None → taken_at (Mutex l at2) l ≡ None → (mutex_role at).inside ≡ None → (mutex_role at).empty ≡ None → mutex_role at2 ≡ record (mutex_role at) { inside = Some Main }
-      → mutex_location at2 ≡ record (mutex_location at) { inside = Some Main }
-      → Goes w (put (state_with_sections w (One (2 * l)) (Some t)) t (Mutex l at2)) l (acts t (In Main ∷ []))
-  enters l at at2 is lt free none none2 i e d s = enter_keeps w t l at steady is there (key l lt) (Mutex l at2) refl none none2 (none_is (section_at w (2 * l)) free) i e (own_role l (Mutex l at2) at2 refl ∙ d) s
-
-  -- it looks, and does nothing
-  pub looked : (l : ℕ) (at at2 : MutexPlace) → place_at w t ≡ Mutex l at → taken_at (Mutex l at) l ≡ None
-      → taken_at (Mutex l at2) l ≡ None → mutex_role at2 ≡ mutex_role at → mutex_location at2 ≡ mutex_location at
-      → Goes w (put w t (Mutex l at2)) l []
-  looked l at at2 is none none2 d s = place_keeps w t l at steady is there (Mutex l at2) [] refl
-      (looks l (base_at w l) (word_at w l) (word_at w l) (owners_at w l) (queue_at w (2 * l)) (queue_at w (2 * l + 1)) (place_at w) t (Mutex l at2) (site_l w t l at steady is there) (mutex_role at) (own_role l (place_at w t) at is) (ap (λ y. taken_at y l) is ∙ none) none2 refl
-      (own_role l (Mutex l at2) at2 refl ∙ d)) s
-
-  -- tells what a thread does about the word that it saw, by its two tests
-  decided_by : ℕ → ℕ → Bool → Bool → Act
-  decided_by l x a b =
-      if not a then act.TheVariants.Word l (op.TheVariants.Exchange x (x + 1))
-      else if b then act.TheVariants.Word l (op.TheVariants.Exchange 1 3)
-      else act.TheVariants.Enter (One (2 * l))
-
-  decided_kept : (l : ℕ) (e : Entry) (r : Bool) (x : ℕ) → place_at w t ≡ Mutex l (Lock e r (lock.Decide x)) → l < length w.locks
-      → (a b : Bool) → is_locked x ≡ a → (x == 1) ≡ b → can_do w (decided_by l x a b) ≡ true
-      → GoesWith l (Lock e r (lock.Decide x)) None (decided_by l x a b)
-  unfolding decided_by
-  decided_kept l e r x is lt false b ea eb can = fitted l (Lock e r (lock.Decide x)) is lt (op.TheVariants.Exchange x (x + 1)) (at_decide_free l _ _ _ _ _ t e r x ea)
-  decided_kept l e r x is lt true true ea eb can = let z : x ≡ 1 = eqb-true x 1 eb in rw z (fitted l (Lock e r (lock.Decide 1)) (rw z at is) lt (op.TheVariants.Exchange 1 3) (at_decide_one l _ _ _ _ _ t e r))
-  decided_kept l e r x is lt true false ea eb can = enters l (Lock e r (lock.Decide x)) (Lock e r lock.Check) is lt can refl refl refl refl refl refl
-
-  parked_kept : (l : ℕ) (e : Entry) (r : Bool) → place_at w t ≡ Mutex l (Lock e r lock.Check) → l < length w.locks
-      → GoesWith l (Lock e r lock.Check) None (act.TheVariants.Park l (2 * l) (WordIs 3) Exclusive)
-  parked_kept l e r is lt = either (word_at w l == 3) refl
+  on_word : (op : Op) → mutex_act l at ≡ act.Word l op → deeds t at None (Value (word_at w l)) ≡ acts t (deeds_of None (Value (word_at w l)))
+      → MayHear r here t at None (Value (code r here)) → OwnedBy r (deeds_of None (Value (word_at w l))) here t
+      → (location_of (mutex_move at)).hand ≡ None → location_then (mutex_move at) (Value (word_at w l)) ≡ location_of (mutex_move at)
+      → WakesOwn (mutex_row at).carries (act.Word l op) (case_at None (Value (word_at w l))) ⊎ HandsOn (place_at w t) (act.Word l op) None
+      → GoesFrom (place_at w t) (act.Word l op)
+  on_word op e same_deeds may by_owner free goes others = plainly None same_deeds
+      (works_at w t l steady there sort_is p2 (own_alike l (place_at w t) p2 own f.of) f.fits (Mutex l at) op lt (deeds_of None (Value (word_at w l))) by_owner refl f.needed
+      (f.role ∙ sym (role_here l p2 f.of ∙ ap (λ (y : Profile). y.role) f.row))
+      (owner_alone at t (word_at w l) (owners_at w l) ∙ ap (with_exclusive (owners_at w l)) (subst (λ v. (mutex_owners at t v (owners_at w l)).exclusive ≡ (laws.after_all r (deeds_of None (Value v)) here t).lock.exclusive) (sym word_is) leaves.owner))
+      (subst (λ v. apply op v ≡ code r (laws.after_all r (deeds_of None (Value v)) here t)) (sym word_is) leaves.word)
+      (location_here l p2 f.of ∙ same_location ∙ sym (location_here l (place_at w t) own))
+      (free_of (place_at w t) l (of_single l (place_at w t) own) (ap (λ (y : Location). y.hand) was ∙ free) ∙ sym (free_of p2 l (of_single l p2 f.of) (ap (λ (y : Location). y.hand) (same_location ∙ was) ∙ free))))
+      sees (λ x. cc) (ap (λ (y : Location). y.hand) goes ∙ free) others
     where
-      again : (b : Bool) → mutex_role (Lock e (b && not false) (lock.Leave false)) ≡ mutex_role (Lock e b lock.Check)
-      again true = refl
-      again false = refl
+      sees : MayHear r here t at None (Value (word_at w l))
+      sees = subst (λ v. MayHear r here t at None (Value v)) (sym word_is) may
 
-      either : (b : Bool) → (word_at w l == 3) ≡ b → Goes w (put (if b then record w { queues = queues_with_last w.queues (2 * l) t Exclusive } else w) t (next_place (Mutex l (Lock e r lock.Check)) (Parked b))) l (deeds t (Lock e r lock.Check) None (Parked b))
-      either true f = let z : word_at w l ≡ 3 = eqb-true (word_at w l) 3 f in
-          park_keeps w t l (Lock e r lock.Check) steady is there (line l lt) (Mutex l (Lock e (r && not true) (lock.Leave true))) refl refl refl refl (ap is_parked z) (owned_3 (owners_at w l).exclusive (subst (λ x. x ≡ one_if_some (owners_at w l).exclusive + 2 * bit (is_parked x)) z (word_l w t l (Lock e r lock.Check) steady is there))) refl refl refl
-          (own_role l (Mutex l (Lock e (r && not true) (lock.Leave true))) (Lock e (r && not true) (lock.Leave true)) refl) refl
-      either false f = looked l (Lock e r lock.Check) (Lock e (r && not false) (lock.Leave false)) is refl refl (again r) refl
+      leaves : LeavesMutex r here t at None op (owners_at w l)
+      leaves = mutex_steps_code r here t l at None op (owners_at w l) at_now may e refl
 
-  removed_kept : (l : ℕ) (e : Entry) (r : Bool) → place_at w t ≡ Mutex l (Lock e r lock.Remove) → l < length w.locks
-      → GoesWith l (Lock e r lock.Remove) None (act.TheVariants.Remove (2 * l))
-  removed_kept l e r is lt = either (length (without t (queue_at w (2 * l))) == 0) (empty_line (without t (queue_at w (2 * l))))
+      p2 : Place
+      p2 = next_place (place_at w t) (Value (word_at w l))
+
+      f : Followed None (Value (word_at w l))
+      f = followed None (Value (word_at w l)) sees
+
+      was : location (place_at w t) ≡ location_of (mutex_move at)
+      was = location_is w t l steady there own r refl (mutex_move at) same_row
+
+      same_location : location p2 ≡ location (place_at w t)
+      same_location = there_is w t l steady there own r refl (mutex_move at) same_row None (Value (word_at w l)) p2 f ∙ goes ∙ sym was
+
+  -- whom it has in hand it has taken, or handed the mutex
+  held_so : (any c b : Bool) → (location_of (mutex_move at)).carries ≡ in_hand any c → (u : ℕ) → hand_at (place_at w u) l ≡ hand t b → b ≡ c
+  held_so any c b carries u held = by_any any (sym (ap (λ (y : Location). y.carries) (location_here l (place_at w t) own ∙ location_is w t l steady there own r refl (mutex_move at) same_row) ∙ carries) ∙ steady.stands.hands.taken t u l b held)
     where
-      either : (b : Bool) → is_empty (map queued_of (without t (queue_at w (2 * l)))) ≡ b → Goes w (put (record w { queues = queues_without w.queues t }) t (next_place (Mutex l (Lock e r lock.Remove)) (Removed b))) l (deeds t (Lock e r lock.Remove) None (Removed b))
-      either true f = remove_keeps w t l (Lock e r lock.Remove) steady is there (line l lt) (Mutex l (Lock e r lock.Clear)) refl refl refl refl refl refl (own_role l (Mutex l (Lock e r lock.Clear)) (Lock e r lock.Clear) refl ∙ rw f refl) refl
-      either false f = remove_keeps w t l (Lock e r lock.Remove) steady is there (line l lt) (Mutex l (Lock e r lock.GiveUp)) refl refl refl refl refl refl (own_role l (Mutex l (Lock e r lock.GiveUp)) (Lock e r lock.GiveUp) refl ∙ rw f refl) refl
+      by_any : (any : Bool) → in_hand any c ≡ Some b → b ≡ c
+      by_any true e = let f : c ≡ b = cc in sym f
+      by_any false e = absurd cc
 
-  -- it leaves its section with nobody in hand
-  goes_away : (l : ℕ) (at : MutexPlace) (p2 : Place) → place_at w t ≡ Mutex l at → l < length w.locks → IsMutexOf l p2
-      → taken_at (Mutex l at) l ≡ None → taken_at p2 l ≡ None → role_of p2 ≡ leaves (mutex_role at)
-      → (mutex_role at).inside ≡ Some Main → (mutex_role at).wakes ≡ None → (mutex_location at).carries ≡ None
-      → location p2 ≡ record (mutex_location at) { inside = None }
-      → Goes w (put (state_with_sections w (One (2 * l)) None) t p2) l (acts t (Out ∷ []))
-  goes_away l at p2 is lt of none none2 d i k c s = leave_keeps w t l at steady is there (key l lt) p2 of none none2 (role_here l p2 (own_of l p2 of) ∙ d) i k c s
+  calls_it : (u : ℕ) → CallsMutex l (place_at w u)
+  calls_it u = calls_mutex_at w l (place_at w u) (steady.stands.calls u) rules_are
 
-  leaves_kept : (l : ℕ) (e : Entry) (r b : Bool) → place_at w t ≡ Mutex l (Lock e r (lock.Leave b)) → l < length w.locks
-      → GoesWith l (Lock e r (lock.Leave b)) None (act.TheVariants.Leave (One (2 * l)) wakes.TheVariants.Nobody)
-  leaves_kept l e r true is lt = goes_away l (Lock e r (lock.Leave true)) (Mutex l (Lock e r lock.Asleep)) is lt refl refl refl refl refl refl refl refl
-  leaves_kept l e r false is lt = goes_away l (Lock e r (lock.Leave false)) (Mutex l (Lock e r lock.Load)) is lt refl refl refl refl refl refl refl refl
+  -- so each of them tries again, or has the mutex
+  tries_again : (any : Bool) → (location_of (mutex_move at)).carries ≡ in_hand any false → (u : ℕ) (b : Bool) → hand_at (place_at w u) l ≡ hand t b → IsWokenAt w t l Normal (place_at w u)
+  tries_again any carries u b held = let k : IsHeldThere l t (place_at w u) = held_there (place_at w u) t l (calls_it u) (held ∙ ap (hand t) (held_so any false b carries u held)) in
+      record { lets = tries l t (place_at w u) k; goes = k.woken.location; alike = k.woken.others; fits = k.woken.fits tt w (steady.stands.calls u) }
 
-  pub lock_kept : (l : ℕ) (e : Entry) (r : Bool) (a : LockAt) → place_at w t ≡ Mutex l (Lock e r a) → l < length w.locks
-      → can_do w (lock_act l a) ≡ true → GoesWith l (Lock e r a) None (lock_act l a)
-  unfolding decided_by
-  lock_kept l e r lock.First is lt can = fitted l (Lock e r lock.First) is lt (op.TheVariants.Exchange 0 1) (at_first l _ _ _ _ _ t e r)
-  lock_kept l e r lock.Load is lt can = fitted l (Lock e r lock.Load) is lt op.TheVariants.Load (at_load l _ _ _ _ _ t e r)
-  lock_kept l e r (lock.Decide x) is lt can = decided_kept l e r x is lt (is_locked x) (x == 1) refl refl can
-  lock_kept l e r lock.Check is lt can = parked_kept l e r is lt
-  lock_kept l e r (lock.Leave b) is lt can = leaves_kept l e r b is lt
-  lock_kept l e r lock.Asleep is lt can = absurd cc
-  lock_kept l e r (lock.Taken by) is lt can = absurd cc
-  lock_kept l e r (lock.Handed by) is lt can = absurd cc
-  lock_kept l e r lock.Accept is lt can = place_keeps w t l (Lock e r lock.Accept) steady is there Idle (End ∷ []) tt
-      (ends l (base_at w l) (word_at w l) (word_at w l) (owners_at w l) (queue_at w (2 * l)) (queue_at w (2 * l + 1)) (place_at w) t Idle (site_l w t l (Lock e r lock.Accept) steady is there) (mutex_role (Lock e r lock.Accept)) (own_role l (place_at w t) (Lock e r lock.Accept) is)
-      (ap (λ y. taken_at y l) is) refl refl refl refl refl refl refl) refl
-  lock_kept l e r lock.Remove is lt can = removed_kept l e r is lt
-  lock_kept l e r lock.Clear is lt can = fitted l (Lock e r lock.Clear) is lt (op.TheVariants.And NOT_PARKED) (at_clear l _ _ _ _ _ t e r)
-  lock_kept l e r lock.GiveUp is lt can = goes_away l (Lock e r lock.GiveUp) Idle is lt tt refl refl refl refl refl refl refl
+  has_it : (any : Bool) → (location_of (mutex_move at)).carries ≡ in_hand any true → (u : ℕ) (b : Bool) → hand_at (place_at w u) l ≡ hand t b → IsWokenAt w t l HandOffNote (place_at w u)
+  has_it any carries u b held = let k : WasGivenThere l t (place_at w u) = given_there (place_at w u) t l (calls_it u) (held ∙ ap (hand t) (held_so any true b carries u held)) in
+      record { lets = has_now l t t (place_at w u) k; goes = k.told.location; alike = k.told.others; fits = k.told.fits tt w (steady.stands.calls u) }
 
-  -- where a take of u leads
-  record TakesTo (l : ℕ) (at : MutexPlace) (u : ℕ) (b : Bool) : Type 0 where
-    pub of : IsMutexOf l (next_place (Mutex l at) (Took true b))
-    pub none : taken_at (next_place (Mutex l at) (Took true b)) l ≡ None
-    pub role : role_of (next_place (Mutex l at) (Took true b)) ≡ record (mutex_role at) { wakes = None; carries = true; covers = true; empty = found Main b }
-    pub does : deeds t at (Some u) (Took true b) ≡ acts t (Case (TakeFirst (queued u)) ∷ [])
-    pub stands : location (next_place (Mutex l at) (Took true b)) ≡ record (mutex_location at) { carries = Some false }
+  -- ---------------------------------------------------------------- by each act but the store of a hand-off
 
-  -- the first of the line, if any, is taken
-  takes : (l : ℕ) (at : MutexPlace) → place_at w t ≡ Mutex l at → l < length w.locks → taken_at (Mutex l at) l ≡ None → mutex_location at ≡ record nowhere { inside = Some Main } → (mutex_role at).carries ≡ false → (mutex_role at).wakes ≢ Some Second
-      → (queue_at w (2 * l) ≡ [] → Goes w (put (record w { queues = queues_without_first w.queues (2 * l) }) t (next_place (Mutex l at) (Took false true))) l (deeds t at None (Took false true)))
-      → ((u : ℕ) (b : Bool) → TakesTo l at u b) → GoesBy l at (act.TheVariants.Take (2 * l) whoms.TheVariants.First)
-  takes l at is lt none s c v empty to = by_line (queue_at w (2 * l)) refl
-    where
-      some : (x : Waiter) (rest : List Waiter) → queue_at w (2 * l) ≡ x ∷ rest → Goes w (put (state_after_reply (record w { queues = queues_without_first w.queues (2 * l) }) x.thread (TakenBy t)) t (next_place (Mutex l at) (Took true (length rest == 0)))) l (deeds t at (Some x.thread) (Took true (length rest == 0)))
-      some x rest e = elim (stands_or_sleeps (place_at w x.thread) l (mutexes_at w t l at steady is x.thread) stands_there) [
-        | inl within ↦ absurd (apart ((site_l w t l at steady is there).alone x.thread t Main (inside_is (place_at w x.thread) l ∙ within) (inside_is (place_at w t) l ∙ ap (λ (y : Location). y.inside) here)))
-        | inr a ↦ rw ((to x.thread (length rest == 0)).does) (take_keeps w t l at steady is there (line l lt) x rest e a stands_there apart (next_place (Mutex l at) (Took true (length rest == 0))) (to x.thread (length rest == 0)).of none (to x.thread (length rest == 0)).none
-            (ap (λ (y : Location). y.carries) s) (ap (λ (y : Location). y.hand) s) (ap (λ (y : Location). y.inside) s) c v
-            (role_here l (next_place (Mutex l at) (Took true (length rest == 0))) (own_of l (next_place (Mutex l at) (Took true (length rest == 0))) (to x.thread (length rest == 0)).of) ∙ (to x.thread (length rest == 0)).role ∙ ap (λ b. record (mutex_role at) { wakes = None; carries = true; covers = true; empty = found Main b }) (sym (empty_line rest)))
-            (to x.thread (length rest == 0)).stands)
-      ]
+  module _ (nothing : StoresNothing at) where
+    simply : {q : Place} {y : Act} (who : Option ℕ) → Goes w (Then q y) l (acts t (deeds_of who (reply_to w t y))) → MayHear r here t at who (reply_to w t y)
+        → reply_to w t y ≢ Late → (location_then (mutex_move at) (reply_to w t y)).hand ≡ None → WakesOwn (mutex_row at).carries y (case_at who (reply_to w t y)) → GoesFrom q y
+    simply {q = q} {y = y} who goes hears now unheld own_others = plainly {q = q} {y = y} who (deeds_plain t at who (reply_to w t y) nothing) goes hears now unheld (inl own_others)
+
+    works : (op : Op) → mutex_act l at ≡ act.Word l op → Works (mutex_move at) (mutex_hears at) → GoesFrom (place_at w t) (act.Word l op)
+    works op e g = on_word op e (deeds_plain t at None (Value (word_at w l)) nothing) (g.may r here t) (owned_by r (deeds_of None (Value (word_at w l))) here t (g.deeds (word_at w l))) g.free (g.goes (word_at w l))
+        (inl (calm_by (deeds_of None (Value (word_at w l))) refl (word_calm (deeds_of None (Value (word_at w l))) (g.deeds (word_at w l)))))
+
+    into : (keys : Keys) → keys ≡ One (key_of l Main) → are_free w keys ≡ true → GoesIn (mutex_move at) (mutex_hears at) Main Done → GoesFrom (place_at w t) (act.Enter keys)
+    into keys e free g = subst (λ k. GoesFrom (place_at w t) (act.Enter k)) (sym e) (simply None
+        (goes_in w t l steady there own r refl (mutex_move at) same_row (mutex_hears at) Main Done (next_place (place_at w t) Done) section is_free_now g (λ h. followed None Done h))
+        (entered_hears w t l steady there own r refl (mutex_move at) same_row (mutex_hears at) Main Done is_free_now g) (λ x. cc) (ap (λ (y : Location). y.hand) g.goes ∙ g.free) (calm_by (In Main ∷ []) g.deeds tt))
+      where
+        is_free_now : section_at w (key_of l Main) ≡ None
+        is_free_now = none_is (section_at w (key_of l Main)) (subst (λ k. are_free w k ≡ true) e free)
+
+    out_of : (keys : Keys) (wakes : Wakes) → keys ≡ One (key_of l Main) → GoesOut (mutex_move at) (mutex_hears at) Main wakes → GoesFrom (place_at w t) (act.Leave keys wakes)
+    out_of keys wakes e g = subst (λ k. GoesFrom (place_at w t) (act.Leave k wakes)) (sym e) (simply None
+        (goes_out w t l steady there own r refl (mutex_move at) same_row (mutex_hears at) Main wakes (next_place (place_at w t) Done) section g (λ h. followed None Done h) (tries_again g.any g.carries))
+        (left_hears w t l steady there own r refl (mutex_move at) same_row (mutex_hears at) Main wakes g) (λ x. cc) (ap (λ (y : Location). y.hand) g.goes ∙ g.free)
+        (subst (λ x. WakesOwn (mutex_row at).carries (act.Leave (One (key_of l Main)) x) (case_at None Done)) (sym g.notes) (wakes_any (One (key_of l Main)) (mutex_row at).carries g.any g.carries (deeds_of None Done) g.deeds)))
+
+    tells_all : (keys : Keys) (wakes : Wakes) → keys ≡ One (key_of l Main) → TellsHanded (mutex_move at) (mutex_hears at) wakes → GoesFrom (place_at w t) (act.Leave keys wakes)
+    tells_all keys wakes e g = subst (λ k. GoesFrom (place_at w t) (act.Leave k wakes)) (sym e) (simply None
+        (tells_handed w t l steady there own r refl (mutex_move at) same_row (mutex_hears at) wakes g (next_place (place_at w t) Done) section (followed None Done done) (has_it g.any (ap (λ (y : Location). y.carries) g.was)))
+        done (λ x. cc) (ap (λ (y : Location). y.hand) g.goes)
+        (subst (λ x. WakesOwn (mutex_row at).carries (act.Leave (One (key_of l Main)) x) (case_at None Done)) (sym g.notes) (tells_any (One (key_of l Main)) (mutex_row at).carries g.any (ap (λ (y : Location). y.carries) g.was) (deeds_of None Done) g.deeds)))
+      where
+        done : MayHear r here t at None Done
+        done = told_hears w t l steady there own r refl (mutex_move at) same_row (mutex_hears at) wakes g
+
+    accepted : Accepts (mutex_move at) (mutex_hears at) → GoesFrom (place_at w t) act.Accept
+    accepted g = simply None (accepts w t l steady there own r refl (mutex_move at) same_row (mutex_hears at) g (next_place (place_at w t) Done) (λ h. followed None Done h))
+        (g.may r here t) (λ x. cc) (ap (λ (y : Location). y.hand) g.goes) (calm_by (End ∷ []) g.deeds tt)
+
+    parked : (k key : ℕ) (check : Check) (want : Want) → k ≡ l → key ≡ key_of l Main → Parks (mutex_move at) (mutex_hears at) Main check want → GoesFrom (place_at w t) (act.Park k key check want)
+    parked k key check x ke e g = subst (λ j. GoesFrom (place_at w t) (act.Park j key check x)) (sym ke) (subst (λ j. GoesFrom (place_at w t) (act.Park l j check x)) (sym e) (simply None
+        (parks_or_turns w t l steady there own r refl (mutex_move at) same_row (mutex_hears at) Main check x line g (λ b h. followed None (Parked b) h))
+        (parked_hears w t l steady there own r refl (mutex_move at) same_row (mutex_hears at) Main check x g (holds check (word_at w l)) refl) (λ x. cc) (then_free (holds check (word_at w l))) (calmly (holds check (word_at w l)))))
+      where
+        calmly : (b : Bool) → IsCalm (case_at None (Parked b))
+        calmly true = calm_by (Case (locks.Park x) ∷ []) g.parks tt
+        calmly false = calm_by [] g.turns tt
+
+        then_free : (b : Bool) → (location_then (mutex_move at) (Parked b)).hand ≡ None
+        then_free true = ap (λ (y : Location). y.hand) g.parked
+        then_free false = ap (λ (y : Location). y.hand) g.turned
+
+    left : (key : ℕ) → key ≡ key_of l Main → LeavesLine (mutex_move at) (mutex_hears at) Main → GoesFrom (place_at w t) (act.Remove key)
+    left key e g = subst (λ j. GoesFrom (place_at w t) (act.Remove j)) (sym e) (simply None
+        (leaves_main w t l steady there own r refl (mutex_move at) same_row (mutex_hears at) g (λ b h. followed None (Removed b) h))
+        (removed_main w t l steady there own r refl (mutex_move at) same_row (mutex_hears at) g) (λ x. cc) (ap (λ (y : Location). y.hand) (g.goes _)) (calm_by (Case locks.Late ∷ []) (g.deeds _) tt))
+
+    -- the first of the line, if any, is taken
+
+    module _ (g : TakesFirst (mutex_move at) (mutex_hears at)) where
+      is_now : location_at (place_at w t) l ≡ inside_of Main
+      is_now = location_here l (place_at w t) own ∙ location_is w t l steady there own r refl (mutex_move at) same_row ∙ g.was
+
+      bare : carried_at (place_at w t) l ≡ None
+      bare = ap (λ (y : Location). y.carries) is_now
+
+      nobody : HasTakenNobody (lock_state w l) t
+      nobody = in_no_hand w steady t l (λ h. let e : ◌≡◌ {A = Option Bool} None (Some false) = sym bare ∙ h in cc)
+
+      hand_now : taken_at (place_at w t) l ≡ None
+      hand_now = free_of (place_at w t) l (of_single l (place_at w t) own) (ap (λ (y : Location). y.hand) (sym (location_here l (place_at w t) own) ∙ is_now))
+
+      -- where it is then
+      is_then : (who : Option ℕ) (any none_left : Bool) → Followed who (Took any none_left) → location (next_place (place_at w t) (Took any none_left)) ≡ record (inside_of Main) { carries = in_hand any false }
+      is_then who any none_left f = there_is w t l steady there own r refl (mutex_move at) same_row who (Took any none_left) (next_place (place_at w t) (Took any none_left)) f ∙ g.goes any none_left
+
+      hand_then : (who : Option ℕ) (any none_left : Bool) → Followed who (Took any none_left) → taken_at (next_place (place_at w t) (Took any none_left)) l ≡ None
+      hand_then who any none_left f = free_of (next_place (place_at w t) (Took any none_left)) l (of_single l (next_place (place_at w t) (Took any none_left)) f.of) (ap (λ (y : Location). y.hand) (is_then who any none_left f))
+
+      -- by who waits
+      abbrev told_of : List Waiter → Reply
+      told_of q = Took (is_there (first_of q)) (length (drop 1 q) == 0)
+
+      hears_of : (q : List Waiter) → queue_at w (2 * l) ≡ q → MayHear r here t at (first_of q) (told_of q)
+      hears_of [] e = g.may r here t None false true (record {
+        first = sym (ap (λ (q : List Waiter). first_thread (map queued_of q)) e);
+        some = refl;
+        left = sym (ap (λ (q : List Waiter). is_empty (drop 1 (map queued_of q))) e);
+      }) nobody
+      hears_of (y ∷ rest) e = g.may r here t (Some y.thread) true (length rest == 0) (record {
+        first = sym (ap (λ (q : List Waiter). first_thread (map queued_of q)) e);
+        some = refl;
+        left = sym (empty_line rest) ∙ sym (ap (λ (q : List Waiter). is_empty (drop 1 (map queued_of q))) e);
+      }) nobody
+
+      abbrev KeptBy : List Waiter → Type 0
+      KeptBy q = Goes w (put (state_after_taking (record w { queues = queues_without_first w.queues (2 * l) }) t (first_of q)) t (next_place (place_at w t) (told_of q))) l (acts t (deeds_of (first_of q) (told_of q)))
+
+      abbrev takes_it : Waiter → List Deed
+      takes_it y = Case (locks.TakeFirst (queued y.thread)) ∷ []
+
+      finds_nobody : queue_at w (2 * l) ≡ [] → KeptBy []
+      finds_nobody empty = subst (λ ds. Goes w (put (record w { queues = queues_without_first w.queues (2 * l) }) t p2) l (acts t ds)) (sym (g.deeds None false true))
+          (nobody_goes w t l steady own there r refl p2 f.of f.fits Main (FindNobody Main ∷ []) (λ h. tt) line empty
+          (finds_none w t l steady own there r refl p2 f.of f.fits (hand_now ∙ sym (hand_then None false true f)) Main idle
+          (needed_by w t l steady there own r refl (mutex_move at) same_row None (Took false true) p2 f (FindNobody Main ∷ []) (g.deeds None false true)) (own_by w t l steady there own r refl (mutex_move at) same_row None (Took false true) p2 f (FindNobody Main ∷ []) (g.deeds None false true)))
+          (is_then None false true f ∙ sym is_now ∙ location_here l (place_at w t) own))
         where
-          here : location_at (place_at w t) l ≡ record nowhere { inside = Some Main }
-          here = own_stance l (place_at w t) at is ∙ s
+          p2 : Place
+          p2 = next_place (place_at w t) (Took false true)
 
-          stood : times x.thread (x ∷ rest) ≡ stood_in (location_at (place_at w x.thread) l).stands Main
-          stood = subst (λ (q : List Waiter). times x.thread q ≡ stood_in (location_at (place_at w x.thread) l).stands Main) e (steady.stands.lines x.thread l Main)
+          f : Followed None (Took false true)
+          f = followed None (Took false true) (hears_of [] empty)
 
-          stands_there : (location_at (place_at w x.thread) l).stands ≡ Some Main
-          stands_there = in_main (location_at (place_at w x.thread) l).stands (let one : ◌≡◌ {A = ℕ} (if x.thread == x.thread then 1 else 0) 1 = ap (λ (b : Bool). if b then 1 else 0) (same x.thread) in let all : times x.thread (x ∷ rest) ≡ stood_in (location_at (place_at w x.thread) l).stands Main = stood in omega arith)
+      takes_one : (y : Waiter) (rest : List Waiter) → queue_at w (2 * l) ≡ y ∷ rest → KeptBy (y ∷ rest)
+      takes_one y rest first = subst (λ ds. Goes w (put (state_after_reply (record w { queues = queues_without_first w.queues (2 * l) }) y.thread (TakenBy t)) t p2) l (acts t ds)) (sym (g.deeds (Some y.thread) true none_left))
+          (first_goes w t l steady there p2 (own_alike l (place_at w t) p2 own f.of) f.fits rules_are line y rest first wants stands sleeps bare
+          (location_here l p2 f.of ∙ is_then (Some y.thread) true none_left f ∙ sym (λ j. record (behind_take t (not_self j) (is_now j)) { carries = Some false }))
+          (hand_then (Some y.thread) true none_left f ∙ sym (ap (λ b. if b then taken_at (next_place (place_at w t) (TakenBy t)) l else taken_at (place_at w t) l) not_self ∙ hand_now))
+          (subst (λ x. ActsNeeded x (acts t (takes_it y)) (lock_by w l x)) rules_are (needed_by w t l steady there own r refl (mutex_move at) same_row (Some y.thread) (Took true none_left) p2 f (takes_it y) (g.deeds (Some y.thread) true none_left)))
+          (own_by w t l steady there own r refl (mutex_move at) same_row (Some y.thread) (Took true none_left) p2 f (takes_it y) (g.deeds (Some y.thread) true none_left) ∙ ap (λ x. (after_acts x (acts t (takes_it y)) (lock_by w l x)).role t) rules_are))
+        where
+          none_left : Bool
+          none_left = length rest == 0
 
-          apart : x.thread ≢ t
-          apart f = let a : (location_at (place_at w t) l).stands ≡ Some Main = rw f at stands_there in let b : (location_at (place_at w t) l).stands ≡ None = ap (λ (y : Location). y.stands) here in cc
+          p2 : Place
+          p2 = next_place (place_at w t) (Took true none_left)
 
-      by_line : (q : List Waiter) → queue_at w (2 * l) ≡ q → (whom : Option ℕ) × Goes w (put (state_after_taking (record w { queues = queues_without_first w.queues (2 * l) }) t (first_of (queue_at w (2 * l)))) t (next_place (Mutex l at) (Took (is_there (first_of (queue_at w (2 * l)))) (length (drop 1 (queue_at w (2 * l))) == 0)))) l (deeds t at whom (Took (is_there (first_of (queue_at w (2 * l)))) (length (drop 1 (queue_at w (2 * l))) == 0)))
-      by_line [] e = let a : first_of (queue_at w (2 * l)) ≡ None = ap first_of e in let b : (length (drop 1 (queue_at w (2 * l))) == 0) ≡ true = ap (λ (q : List Waiter). length (drop 1 q) == 0) e in (None, rw (a, b) (empty e))
-      by_line (x ∷ rest) e = let a : first_of (queue_at w (2 * l)) ≡ Some x.thread = ap first_of e in let b : (length (drop 1 (queue_at w (2 * l))) == 0) ≡ (length rest == 0) = ap (λ (q : List Waiter). length (drop 1 q) == 0) e in (Some x.thread, rw (a, b) (some x rest e))
+          f : Followed (Some y.thread) (Took true none_left)
+          f = followed (Some y.thread) (Took true none_left) (hears_of (y ∷ rest) first)
 
-  -- nobody was there
-  takes_nobody : (l : ℕ) (at at2 : MutexPlace) → place_at w t ≡ Mutex l at → l < length w.locks → queue_at w (2 * l) ≡ []
-      → taken_at (Mutex l at) l ≡ None → taken_at (Mutex l at2) l ≡ None → (mutex_role at).inside ≡ Some Main
-      → (mutex_role at).carries ≡ false → ((mutex_role at).wakes ≡ None) ⊎ ((mutex_role at).wakes ≡ Some Main)
-      → mutex_role at2 ≡ record (mutex_role at) { wakes = None; carries = true; covers = true; empty = Some Main }
-      → mutex_location at2 ≡ mutex_location at
-      → Goes w (put (record w { queues = queues_without_first w.queues (2 * l) }) t (Mutex l at2)) l
-      (acts t (FindNobody Main ∷ []))
-  takes_nobody l at at2 is lt empty none none2 i c v d s = nobody_keeps w t l at steady is there (line l lt) (Mutex l at2) refl none none2 empty i c v (own_role l (Mutex l at2) at2 refl ∙ d) s
+          wants : y.want ≡ Exclusive
+          wants = exclusive_wanted y.want (let known : locks.KnowsAll locks.Mutex (map queued_of (y ∷ rest)) = subst (λ (q : List Waiter). locks.KnowsAll locks.Mutex (map queued_of q)) first (subst (λ s. locks.KnowsAll s here.lock.queue) sort_is (steady.sites.site l).state.known_queue) in known.0)
 
-  pub unlock_kept : (l : ℕ) (a : UnlockAt) → place_at w t ≡ Mutex l (Unlock a) → l < length w.locks
-      → can_do w (unlock_act l a) ≡ true → GoesBy l (Unlock a) (unlock_act l a)
-  unlock_kept l unlock.Subtract is lt can = (None, fitted l (Unlock unlock.Subtract) is lt (op.TheVariants.Sub 1) (at_subtract l _ _ _ _ _ t))
-  unlock_kept l unlock.Enter is lt can = (None, enters l (Unlock unlock.Enter) (Unlock unlock.Take) is lt can refl refl refl refl refl refl)
-  unlock_kept l unlock.Take is lt can = takes l (Unlock unlock.Take) is lt refl refl refl (λ h. cc)
-      (λ empty. takes_nobody l (Unlock unlock.Take) (Unlock (unlock.Clear false)) is lt empty refl refl refl refl (inr refl) refl refl)
-      next_take
+          stands : (location_at (place_at w y.thread) l).stands ≡ Some Main
+          stands = in_main (location_at (place_at w y.thread) l).stands (let a : times y.thread (queue_at w (2 * l)) ≡ stood_in (location_at (place_at w y.thread) l).stands Main = steady.stands.lines y.thread l Main in
+              let b : times y.thread (queue_at w (2 * l)) ≡ times y.thread (y ∷ rest) = ap (times y.thread) first in
+              let c : ◌≡◌ {A = ℕ} (if y.thread == y.thread then 1 else 0) 1 = ap (λ (b : Bool). if b then 1 else 0) (same y.thread) in omega arith)
+
+          apart : y.thread ≢ t
+          apart e = let a : (location_at (place_at w t) l).stands ≡ Some Main = subst (λ j. (location_at (place_at w j) l).stands ≡ Some Main) e stands in let b : (location_at (place_at w t) l).stands ≡ None = ap (λ (y : Location). y.stands) is_now in cc
+
+          not_self : member t (y ∷ []) ≡ false
+          not_self = rw (differ y.thread t apart) refl
+
+          sleeps : SleepsAt l (place_at w y.thread)
+          sleeps = elim (stands_or_sleeps (place_at w y.thread) l (calls_mutex_at w l (place_at w y.thread) (steady.stands.calls y.thread) rules_are) stands) [
+            | inl within ↦ absurd (apart (let a : section_at w (2 * l) ≡ Some y.thread = (steady.stands.sections y.thread l Main).0 within in
+                let b : section_at w (2 * l) ≡ Some t = (steady.stands.sections t l Main).0 (ap (λ (y : Location). y.inside) is_now) in let c : Some y.thread ≡ Some t = sym a ∙ b in cc))
+            | inr asleep ↦ asleep
+          ]
+
+      kept_by : (q : List Waiter) → queue_at w (2 * l) ≡ q → KeptBy q
+      kept_by [] e = finds_nobody e
+      kept_by (y ∷ rest) e = takes_one y rest e
+
+    took : (key : ℕ) → key ≡ key_of l Main → TakesFirst (mutex_move at) (mutex_hears at) → GoesFrom (place_at w t) (act.Take key whoms.First)
+    took key e g = subst (λ j. GoesFrom (place_at w t) (act.Take j whoms.First)) (sym e) (simply (first_of (queue_at w (2 * l))) (kept_by g (queue_at w (2 * l)) refl) (hears_of g (queue_at w (2 * l)) refl) (λ x. cc) (ap (λ (y : Location). y.hand) (g.goes _ _))
+        (calm_by (take_deeds (first_of (queue_at w (2 * l)))) (g.deeds (first_of (queue_at w (2 * l))) _ _) (takes_calm (first_of (queue_at w (2 * l))))))
+
+    by_act : (y : Act) → mutex_act l at ≡ y → MutexMoves l (mutex_move at) (mutex_hears at) y → can_do w y ≡ true → GoesFrom (place_at w t) y
+    by_act (act.Word k op) e g can = subst (λ j. GoesFrom (place_at w t) (act.Word j op)) (sym g.0) (works op (e ∙ ap (λ j. act.Word j op) g.0) g.1)
+    by_act (act.Enter keys) e g can = into keys g.0 can g.1
+    by_act (act.Park k key check want) e g can = parked k key check want g.0 g.1 g.2
+    by_act (act.Take key whoms.First) e g can = took key g.0 g.1
+    by_act (act.Remove key) e g can = left key g.0 g.1
+    by_act (act.Leave keys wakes) e g can = elim g.1 [ inl h ↦ out_of keys wakes g.0 h | inr h ↦ tells_all keys wakes g.0 h ]
+    by_act act.Accept e g can = accepted g
+    by_act act.Sleep e g can = absurd cc
+    by_act y e g can = absurd g
+
+    -- its deeds are what the place and the reply say
+    goes_plainly : can_do w (mutex_act l at) ≡ true → GoesFrom (Mutex l at) (mutex_act l at)
+    goes_plainly can = subst (λ q. GoesFrom q (mutex_act l at)) is (by_act (mutex_act l at) refl (mutex_acts_move l at timed nothing) can)
+
+  -- its time is up
+  pub mutex_goes_late : (m : Line) → mutex_late_line at ≡ Some m → is_free_in w (key_of l m) ≡ true
+      → Goes w (state_after_late_under w t (key_of l m)) l (acts t (deeds_of None Late))
+  mutex_goes_late m e free = goes_in w t l steady there own r refl (mutex_move at) same_row (mutex_hears at) m Late (next_place (place_at w t) Late) (section_there m)
+      (none_is (section_at w (key_of l m)) free) (mutex_late_move at m e) (λ h. followed None Late h)
     where
-      next_take : (u : ℕ) (b : Bool) → TakesTo l (Unlock unlock.Take) u b
-      next_take u true = record { of = refl; none = refl; role = refl; does = refl; stands = refl }
-      next_take u false = record { of = refl; none = refl; role = refl; does = refl; stands = refl }
-  unlock_kept l (unlock.Clear any) is lt can = (None, fitted l (Unlock (unlock.Clear any)) is lt (op.TheVariants.And NOT_PARKED) (at_release_clear l _ _ _ _ _ t any))
-  unlock_kept l (unlock.Leave false) is lt can = (None, goes_away l (Unlock (unlock.Leave false)) Idle is lt tt refl refl refl refl refl refl refl)
-  unlock_kept l (unlock.Leave true) is lt can = (None, release_wakes w t l steady there (key l lt) is)
+      section_there : (m : Line) → key_of l m < length w.sections
+      section_there Main = section
+      section_there m = let e : length w.sections ≡ 2 * length w.locks = shape.sections in omega arith
 
-  pub hand_off_kept : (l : ℕ) (bumps : Bool) (a : HandOffAt) → place_at w t ≡ Mutex l (HandOff bumps a) → l < length w.locks
-      → can_do w (hand_off_act l a) ≡ true → GoesBy l (HandOff bumps a) (hand_off_act l a)
-  hand_off_kept l bumps hand_off.Enter is lt can = (None, enters l (HandOff bumps hand_off.Enter) (HandOff bumps hand_off.Take) is lt can refl refl refl refl refl refl)
-  hand_off_kept l bumps hand_off.Take is lt can = takes l (HandOff bumps hand_off.Take) is lt refl refl refl (λ h. cc)
-      (λ empty. takes_nobody l (HandOff bumps hand_off.Take) (HandOff bumps (hand_off.Store false true)) is lt empty refl refl refl refl (inl refl) refl refl)
-      (λ u b. record { of = refl; none = refl; role = refl; does = refl; stands = refl })
-  hand_off_kept l bumps (hand_off.Store false b) is lt can = (None, fitted l (HandOff bumps (hand_off.Store false b)) is lt (op.TheVariants.Store 0) (at_store_none l _ _ _ _ _ t steady.stands.hands bumps b))
-  hand_off_kept l bumps (hand_off.Store true b) is lt can = let one = one_held w t l steady there (HandOff bumps (hand_off.Store true b)) is false refl in (Some one.0, hands_over w t l steady there lt bumps b one.0 is one.1)
-  hand_off_kept l true (hand_off.Leave false) is lt can = (None, goes_away l (HandOff true (hand_off.Leave false)) (Mutex l (Lock entries.Bump false lock.First)) is lt refl refl refl refl refl refl refl refl)
-  hand_off_kept l false (hand_off.Leave false) is lt can = (None, goes_away l (HandOff false (hand_off.Leave false)) Idle is lt tt refl refl refl refl refl refl refl)
-  hand_off_kept l true (hand_off.Leave true) is lt can = (None, tells w t l steady there (key l lt) true is (Mutex l (Lock entries.Bump false lock.First)) refl refl (own_role l (Mutex l (Lock entries.Bump false lock.First)) (Lock entries.Bump false lock.First) refl) refl)
-  hand_off_kept l false (hand_off.Leave true) is lt can = (None, tells w t l steady there (key l lt) false is Idle tt refl refl refl)
+-- ---------------------------------------------------------------- the store of a hand-off
 
-  -- wherever it stands, its deeds are what the place and the reply say
-  pub gone_goes : (l : ℕ) (at : MutexPlace) → place_at w t ≡ Mutex l at → l < length w.locks → can_do w (mutex_act l at) ≡ true
-      → GoesBy l at (mutex_act l at)
-  gone_goes l (Lock e r a) is lt can = (None, lock_kept l e r a is lt can)
-  gone_goes l TryLock is lt can = (None, fitted l TryLock is lt (op.TheVariants.Or 1) (at_try l _ _ _ _ _ t))
-  gone_goes l (Unlock a) is lt can = unlock_kept l a is lt can
-  gone_goes l UnlockFair is lt can = (None, fitted l UnlockFair is lt (op.TheVariants.Exchange 1 0) (at_unlock_fair l _ _ _ _ _ t))
-  gone_goes l Bump is lt can = (None, fitted l Bump is lt op.TheVariants.Load (at_bump l _ _ _ _ _ t))
-  gone_goes l (HandOff bumps a) is lt can = hand_off_kept l bumps a is lt can
+module _ (w : State) (t l : ℕ) (bumps none_left : Bool) (steady : IsInductive w) (shape : IsWellFormed w) (there : t < length w.places)
+    (lt : l < length w.locks) where
+  -- to nobody
+  module _ (is : place_at w t ≡ Mutex l (HandOff bumps (hand_off.Store false none_left))) where
+    abbrev at_none : MutexPlace
+    at_none = HandOff bumps (hand_off.Store false none_left)
 
-  -- a thread goes on
+    abbrev now : Site
+    now = lock_by w l (rules_in w l)
+
+    bare_now : carried_at (place_at w t) l ≡ None
+    bare_now = ap (λ (y : Location). y.carries) (own_stance l (place_at w t) at_none is)
+
+    lets_go : locks.handed t Exclusive None now.lock ≡ record now.lock { exclusive = None }
+    lets_go = handed_is t (base_at w l) (owners_at w l) (queue_at w (2 * l)) (queue_at w (2 * l + 1)) (place_at w) l None (subst (λ x. IsLockState x now.lock) (rules_are w t l at_none steady shape there lt is) (steady.sites.site l).state)
+        ∙ (λ i. record now.lock { exclusive = None; taken = λ u. none u i })
+      where
+        none : (u : ℕ) → let_go t (λ v. taken_at (place_at w v) l) u ≡ taken_at (place_at w u) l
+        none u = untaken (place_at w u) t l (λ h. let a : carried_at (place_at w t) l ≡ Some false = steady.stands.hands.taken t u l false h in let c : ◌≡◌ {A = Option Bool} None (Some false) = sym bare_now ∙ a in cc)
+
+    stores_nobody : GoesFrom w t l at_none steady shape there lt is (Mutex l at_none) (mutex_act l at_none)
+    stores_nobody = subst (λ q. GoesFrom w t l at_none steady shape there lt is q (mutex_act l at_none)) is
+        (on_word w t l at_none steady shape there lt is (ops.Store 0) refl refl (refl, refl, heirless, ap (λ p. taken_at p l) is)
+        (record { single = (tt, (tt, tt)); lock = lets_go ∙ sym (ap (λ x. record now.lock { exclusive = x }) (ap (λ (s : locks.LockState). s.exclusive) lets_go)); aside = sym (ap (λ x. aside_in x (word_at w l)) (sort_is w t l at_none steady shape there lt is)) }) refl refl
+        (inr (true, refl, befalls_nobody w t l steady (rw is refl) (next_place (place_at w t) (Value (word_at w l))) (state_after_operation w t (Mutex l at_none) l (ops.Store 0)) (HandedBy t true) refl bare_now, ap (λ p. taken_at p l) is)))
+      where
+        heirless : IsSuccessor now.lock t None
+        heirless u x = (λ h. absurd cc, λ h. absurd (in_no_hand w steady t l (λ g. let c : ◌≡◌ {A = Option Bool} None (Some false) = sym bare_now ∙ g in cc) u x h.0))
+
+  -- to the thread that it has in hand
+  module _ (is : place_at w t ≡ Mutex l (HandOff bumps (hand_off.Store true none_left))) where
+    abbrev at_one : MutexPlace
+    at_one = HandOff bumps (hand_off.Store true none_left)
+
+    abbrev site_now : Site
+    site_now = lock_by w l (rules_in w l)
+
+    abbrev store : Op
+    store = ops.Store (hand_off_word true none_left)
+
+    abbrev deeds_to : ℕ → List Deed
+    deeds_to u = mutex_deeds at_one (Some u) (Value (code (rules_in w l) site_now))
+
+    stores : GoesFrom w t l at_one steady shape there lt is (Mutex l at_one) (mutex_act l at_one)
+    stores = record {
+      whom = Some one.0;
+      goes = hands_over w t l steady there lt bumps none_left one.0 is one.1 (subst (λ x. ActsNeeded x (acts t (deeds_to one.0) ++ claims_of (Some one.0)) (lock_by w l x)) plain (follows.needed.0, (follows.needed.1.0, (hands.owner, tt))));
+      tells = mutex_steps_tell (rules_in w l) site_now t l at_one (Some one.0) (Value (word_at w l)) at_it (subst (λ v. MayHear (rules_in w l) site_now t at_one (Some one.0) (Value v)) (sym (steady.sites.word l)) may) (λ x. cc);
+      others = inr (unshared_then w t l, refl, befalls w t l steady (rw is refl) (Mutex l (HandOff bumps (hand_off.Leave true))) (state_after_hand_over w t (Mutex l at_one) l store) (hand_over_told w t l) refl (ap (λ (y : Location). y.carries) (own_stance l (place_at w t) at_one is)), ap (λ p. taken_at p l) is);
+      unheld = refl;
+    }
+      where
+        one : (u : ℕ) × (hand_at (place_at w u) l ≡ hand t false)
+        one = one_held w t l steady there at_one is false refl
+
+        plain : rules_in w l ≡ mutex
+        plain = rules_are w t l at_one steady shape there lt is
+
+        at_it : IsAt (rules_in w l) site_now t at_one
+        at_it = at_now w t l at_one steady shape there lt is
+
+        may : MayHear (rules_in w l) site_now t at_one (Some one.0) (Value (code (rules_in w l) site_now))
+        may = (refl, refl, hands_to w t l one.0 steady plain one.1, ap (λ p. taken_at p l) is)
+
+        follows : Follows (rules_in w l) site_now t at_one (Some one.0) (Value (code (rules_in w l) site_now))
+        follows = mutex_steps_follow (rules_in w l) site_now t at_one (Some one.0) (Value (code (rules_in w l) site_now)) at_it may
+
+        hands : HandsOverToHeir (rules_in w l) site_now t at_one (Some one.0) store
+        hands = mutex_hand_overs_code (rules_in w l) site_now t l at_one (Some one.0) store at_it may refl
+
+-- ---------------------------------------------------------------- wherever it stands
+
+pub goes_mutex : (w : State) (t l : ℕ) (at : MutexPlace) (steady : IsInductive w) (shape : IsWellFormed w) (there : t < length w.places) (lt : l < length w.locks)
+    (is : place_at w t ≡ Mutex l at) → can_do w (mutex_act l at) ≡ true → GoesFrom w t l at steady shape there lt is (Mutex l at) (mutex_act l at)
+goes_mutex w t l (HandOff bumps (hand_off.Store true none_left)) steady shape there lt is can = stores w t l bumps none_left steady shape there lt is
+goes_mutex w t l (HandOff bumps (hand_off.Store false none_left)) steady shape there lt is can = stores_nobody w t l bumps none_left steady shape there lt is
+goes_mutex w t l at steady shape there lt is can = goes_plainly w t l at steady shape there lt is tt can
+
+-- a thread goes on
+module _ (w : State) (t : ℕ) (steady : IsInductive w) (shape : IsWellFormed w) (there : t < length w.places) where
   pub gone_kept : AreCounted w → (p : Place) → place_at w t ≡ p → IsSingle p → PlaceFits (length w.locks) p
       → can_do w (act_of p) ≡ true → IsInductive (go_by w t p (act_of p))
   gone_kept counted Idle is single fits can = absurd cc
   gone_kept counted (Condvar l at) is single fits can = absurd single
   gone_kept counted (Once l at) is single fits can = goes_steady w _ l _ steady (goes_once w t l at steady shape there fits is can).goes
   gone_kept counted (Semaphore l at) is single fits can = goes_steady w _ l _ steady (goes_semaphore w t l at steady shape there fits is can).goes
-  gone_kept counted (Mutex l at) is single fits can = goes_steady w _ l _ steady (gone_goes l at is fits.0 can).1
+  gone_kept counted (Mutex l at) is single fits can = goes_steady w _ l _ steady (goes_mutex w t l at steady shape there fits.0 is can).goes
   gone_kept counted (RwLock l a c) is single fits can = (rwlock_goes_on w t l a c steady shape there fits is counted can).happened.after

@@ -262,7 +262,7 @@ left_calm (Out ∷ End ∷ []) h = tt
 left_calm ds h = absurd h
 
 -- or tells those to whom it has handed the lock
-handed_calm : (ds : List Deed) → AreLeaving ds → IsCalm (case_of (Some true) ds)
+pub handed_calm : (ds : List Deed) → AreLeaving ds → IsCalm (case_of (Some true) ds)
 handed_calm (Out ∷ []) h = tt
 handed_calm (Out ∷ End ∷ []) h = tt
 handed_calm ds h = absurd h
@@ -544,14 +544,14 @@ module _ (w : State) (t l : ℕ) (a : Admission) (c : RwLockCallPlace) (steady :
       → GoesFrom (place_at w t) (act.Leave keys wakes)
   tells_all keys wakes e g = subst (λ k. GoesFrom (place_at w t) (act.Leave k wakes)) (sym e) (record {
     whom = None;
-    goes = tells_handed w t l steady there own (rules_in w l) refl admits.0 (call_move a c) same_row (call_hears a c) wakes g (next_place (place_at w t) Done) (section_there Main)
+    goes = tells_handed w t l steady there own (rules_in w l) refl (call_move a c) same_row (call_hears a c) wakes g (next_place (place_at w t) Done) (section_there Main)
         (followed None Done hears_done (call_told_done a (rules_in w l) here t c None hears_done)) told_so;
     tells = tells_by None Done tt hears_done;
     others = subst (λ x. WakesOwn (call_profile a c).carries (act.Leave (One (key_of l Main)) x) (case_of (call_profile a c).carries (call_deeds a c None Done))) (sym g.notes) (tells_any (call_profile a c).carries g.any (ap (λ (y : Location). y.carries) g.was) (call_deeds a c None Done) g.deeds);
   })
     where
       hears_done : CallMayHear (rules_in w l) a here t c None Done
-      hears_done = told_hears w t l steady there own (rules_in w l) refl admits.0 (call_move a c) same_row (call_hears a c) wakes g
+      hears_done = told_hears w t l steady there own (rules_in w l) refl (call_move a c) same_row (call_hears a c) wakes g
 
       -- they were handed it
       told_so : (u : ℕ) (b : Bool) → hand_at (place_at w u) l ≡ hand t b → IsWokenAt w t l HandOff (place_at w u)
@@ -577,7 +577,7 @@ module _ (w : State) (t l : ℕ) (a : Admission) (c : RwLockCallPlace) (steady :
   accepted : Accepts (call_move a c) (call_hears a c) → GoesFrom (place_at w t) act.Accept
   accepted g = record {
     whom = None;
-    goes = accepts w t l steady there own (rules_in w l) refl admits.0 (call_move a c) same_row (call_hears a c) g (next_place (place_at w t) Done) (λ h. followed None Done h (call_told_done a (rules_in w l) here t c None h));
+    goes = accepts w t l steady there own (rules_in w l) refl (call_move a c) same_row (call_hears a c) g (next_place (place_at w t) Done) (λ h. followed None Done h (call_told_done a (rules_in w l) here t c None h));
     tells = tells_by None Done tt (g.may (rules_in w l) here t);
     others = calm_by (End ∷ []) g.deeds tt;
   }

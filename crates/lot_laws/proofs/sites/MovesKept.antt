@@ -282,6 +282,38 @@ module _ (w : State) (t l : ℕ) (steady : IsInductive w) (there : t < length w.
             refl refl refl refl (own_by None (Parked false) (next_place (place_at w t) (Parked false)) (f false e) [] g.turns))
             (there_is None (Parked false) (next_place (place_at w t) (Parked false)) (f false e) ∙ g.turned ∙ sym (location_is ∙ g.was)))
 
+  -- ---------------------------------------------------------------- out of a line
+
+  stood_once : (m n : Line) → (location_of x).stands ≡ Some m → times t (queue_at w (key_of l n)) ≡ stood_in (Some m) n
+  stood_once m n h = steady.stands.lines t l n ∙ ap (λ (y : Location). stood_in y.stands n) (location_here l (place_at w t) own ∙ location_is) ∙ ap (λ o. stood_in o n) h
+
+  module _ (hears : Hears) where
+    -- its time is up, and it leaves the line in which it stands
+    leaves_by : (m : Line) (b : Bool) (p2 : Place) → LeavesLine x hears m
+        → (map queued_of (with_line (parts_at w l) m (without t (queue_at w (key_of l m)))).main ≡ locks.without t (map queued_of (queue_at w (2 * l))))
+        → (first_of (with_line (parts_at w l) m (without t (queue_at w (key_of l m)))).second ≡ locks.aside_without t (first_of (queue_at w (2 * l + 1))))
+        → IsFollowed None (Removed b) p2
+        → Goes w (put (record w { queues = queues_without w.queues t }) t p2) l (acts t (x.deeds None (Removed b)))
+    leaves_by m b p2 g mains seconds f = subst (λ ds. Goes w (put (record w { queues = queues_without w.queues t }) t p2) l (acts t ds)) (sym (g.deeds b))
+        (remove_goes w t l steady own there r rules p2 f.of f.fits m (Case locks.Late ∷ []) (λ h. ((λ k. k), tt)) (ap (λ (y : Location). y.stands) (location_is ∙ g.was))
+        (lates r l (parts_at w l) (place_at w) t p2 site (free_of (place_at w t) l (of_single l (place_at w t) own) (ap (λ (y : Location). y.hand) (location_is ∙ g.was)) ∙ sym (free_of p2 l (of_single l p2 f.of) (ap (λ (y : Location). y.hand) (there_is None (Removed b) p2 f ∙ g.goes b))))
+        m (without t (queue_at w (key_of l m))) mains seconds (needed_by None (Removed b) p2 f (Case locks.Late ∷ []) (g.deeds b)) (own_by None (Removed b) p2 f (Case locks.Late ∷ []) (g.deeds b)))
+        (there_is None (Removed b) p2 f ∙ g.goes b ∙ sym (ap (λ (y : Location). record y { stands = None; waits = None }) (location_is ∙ g.was))))
+
+    pub removed_main : LeavesLine x hears Main → hears r here t None (Removed (length (without t (queue_at w (2 * l))) == 0))
+    removed_main g = g.may r here t (length (without t (queue_at w (2 * l))) == 0) (stands, sym (ap is_empty (sym (queued_without t (queue_at w (2 * l)))) ∙ empty_line (without t (queue_at w (2 * l)))))
+      where
+        stands : 1 ≤ locks.times t (map queued_of (queue_at w (2 * l)))
+        stands = let a : locks.times t (map queued_of (queue_at w (2 * l))) ≡ 1 = queued_times t (queue_at w (2 * l)) ∙ stood_once Main Main (ap (λ (y : Location). y.stands) g.was) in omega arith
+
+    pub leaves_main : LeavesLine x hears Main
+        → ((b : Bool) → hears r here t None (Removed b) → IsFollowed None (Removed b) (next_place (place_at w t) (Removed b)))
+        → Goes w
+        (put (record w { queues = queues_without w.queues t }) t (next_place (place_at w t) (Removed (length (without t (queue_at w (2 * l))) == 0)))) l
+        (acts t (x.deeds None (Removed (length (without t (queue_at w (2 * l))) == 0))))
+    leaves_main g followed = leaves_by Main (length (without t (queue_at w (2 * l))) == 0) (next_place (place_at w t) (Removed (length (without t (queue_at w (2 * l))) == 0))) g (queued_without t (queue_at w (2 * l))) (sym (aside_kept t (first_of (queue_at w (2 * l + 1))) (first_out t (queue_at w (2 * l + 1)) (stood_once Main Second (ap (λ (y : Location). y.stands) g.was)))))
+        (followed (length (without t (queue_at w (2 * l))) == 0) (removed_main g))
+
   -- ---------------------------------------------------------------- threads asleep
 
   -- another thread that calls the lock, and what befalls it
@@ -455,10 +487,7 @@ module _ (w : State) (t l : ℕ) (steady : IsInductive w) (there : t < length w.
             let waits_all : (location (place_at w y.thread)).waits ≡ Some Exclusive = (λ i. want_in_line (h i) ((ap (λ (y : Profile). y.wants) z.row ∙ a.0) i)) in
             let both : Some y.want ≡ Some Exclusive = sym waits_there ∙ ap (λ (y : Location). y.waits) (location_here l (place_at w y.thread) (called (place_at w y.thread) z.single calls_l)) ∙ waits_all in cc
 
-    -- ---------------------------------------------------------------- out of a line
-
-    stood_once : (m n : Line) → (location_of x).stands ≡ Some m → times t (queue_at w (key_of l n)) ≡ stood_in (Some m) n
-    stood_once m n h = steady.stands.lines t l n ∙ ap (λ (y : Location). stood_in y.stands n) (location_here l (place_at w t) own ∙ location_is) ∙ ap (λ o. stood_in o n) h
+    -- ---------------------------------------------------------------- out of the second line
 
     -- t alone stands aside
     only_one : 1 ≤ times t (queue_at w (2 * l + 1)) → (y : Waiter) × ((queue_at w (2 * l + 1) ≡ y ∷ []) × (y.thread ≡ t))
@@ -476,28 +505,13 @@ module _ (w : State) (t l : ℕ) (steady : IsInductive w) (there : t < length w.
             same_thread = pending_one here.lock.pending y.thread t (pending_aside y.thread first) (pending_aside t h)
 
     module _ (hears : Hears) where
-      -- its time is up, and it leaves the line in which it stands
-      leaves_by : (m : Line) (b : Bool) (p2 : Place) → LeavesLine x hears m
-          → (map queued_of (with_line (parts_at w l) m (without t (queue_at w (key_of l m)))).main ≡ locks.without t (map queued_of (queue_at w (2 * l))))
-          → (first_of (with_line (parts_at w l) m (without t (queue_at w (key_of l m)))).second ≡ locks.aside_without t (first_of (queue_at w (2 * l + 1))))
-          → IsFollowed None (Removed b) p2
-          → Goes w (put (record w { queues = queues_without w.queues t }) t p2) l (acts t (x.deeds None (Removed b)))
-      leaves_by m b p2 g mains seconds f = subst (λ ds. Goes w (put (record w { queues = queues_without w.queues t }) t p2) l (acts t ds)) (sym (g.deeds b))
-          (remove_goes w t l steady own there r rules p2 f.of f.fits m (Case locks.Late ∷ []) (λ h. ((λ k. k), tt)) (ap (λ (y : Location). y.stands) (location_is ∙ g.was))
-          (lates r l (parts_at w l) (place_at w) t p2 site (free_of (place_at w t) l (of_single l (place_at w t) own) (ap (λ (y : Location). y.hand) (location_is ∙ g.was)) ∙ sym (free_of p2 l (of_single l p2 f.of) (ap (λ (y : Location). y.hand) (there_is None (Removed b) p2 f ∙ g.goes b))))
-          m (without t (queue_at w (key_of l m))) mains seconds (needed_by None (Removed b) p2 f (Case locks.Late ∷ []) (g.deeds b)) (own_by None (Removed b) p2 f (Case locks.Late ∷ []) (g.deeds b)))
-          (there_is None (Removed b) p2 f ∙ g.goes b ∙ sym (ap (λ (y : Location). record y { stands = None; waits = None }) (location_is ∙ g.was))))
-
       -- t stands in the second line alone
       one_aside : (location_of x).stands ≡ Some Second → (y : Waiter) × ((queue_at w (2 * l + 1) ≡ y ∷ []) × (y.thread ≡ t))
       one_aside stands = only_one (let a : times t (queue_at w (2 * l + 1)) ≡ 1 = stood_once Second Second stands in omega arith)
 
       pub removed_hears : (m : Line) → LeavesLine x hears m
           → hears r here t None (Removed (length (without t (queue_at w (key_of l m))) == 0))
-      removed_hears Main g = g.may r here t (length (without t (queue_at w (2 * l))) == 0) (stands, sym (ap is_empty (sym (queued_without t (queue_at w (2 * l)))) ∙ empty_line (without t (queue_at w (2 * l)))))
-        where
-          stands : 1 ≤ locks.times t (map queued_of (queue_at w (2 * l)))
-          stands = let a : locks.times t (map queued_of (queue_at w (2 * l))) ≡ 1 = queued_times t (queue_at w (2 * l)) ∙ stood_once Main Main (ap (λ (y : Location). y.stands) g.was) in omega arith
+      removed_hears Main g = removed_main hears g
       removed_hears Second g = let one = one_aside (ap (λ (y : Location). y.stands) g.was) in g.may r here t (length (without t (queue_at w (2 * l + 1))) == 0) (ap first_of one.1.0 ∙ ap Some one.1.1)
 
       pub leaves_line : (m : Line) → LeavesLine x hears m
@@ -505,9 +519,8 @@ module _ (w : State) (t l : ℕ) (steady : IsInductive w) (there : t < length w.
           → Goes w
           (put (record w { queues = queues_without w.queues t }) t (next_place (place_at w t) (Removed (length (without t (queue_at w (key_of l m))) == 0)))) l
           (acts t (x.deeds None (Removed (length (without t (queue_at w (key_of l m))) == 0))))
-      leaves_line Main g followed = leaves_by Main (length (without t (queue_at w (2 * l))) == 0) (next_place (place_at w t) (Removed (length (without t (queue_at w (2 * l))) == 0))) g (queued_without t (queue_at w (2 * l))) (sym (aside_kept t (first_of (queue_at w (2 * l + 1))) (first_out t (queue_at w (2 * l + 1)) (stood_once Main Second (ap (λ (y : Location). y.stands) g.was)))))
-          (followed (length (without t (queue_at w (2 * l))) == 0) (removed_hears Main g))
-      leaves_line Second g followed = leaves_by Second (length (without t (queue_at w (2 * l + 1))) == 0) (next_place (place_at w t) (Removed (length (without t (queue_at w (2 * l + 1))) == 0))) g
+      leaves_line Main g followed = leaves_main hears g followed
+      leaves_line Second g followed = leaves_by hears Second (length (without t (queue_at w (2 * l + 1))) == 0) (next_place (place_at w t) (Removed (length (without t (queue_at w (2 * l + 1))) == 0))) g
           (ap (map queued_of) (sym (without_absent t (queue_at w (2 * l)) (stood_once Second Main (ap (λ (y : Location). y.stands) g.was)))) ∙ queued_without t (queue_at w (2 * l)))
           seconds
           (followed (length (without t (queue_at w (2 * l + 1))) == 0) (removed_hears Second g))

@@ -1,65 +1,48 @@
--- Each act of a thread keeps every lock of the world a site, whose word says so.
-use Rattle.std.proofs.Math.Bool.{or-false}
-use Rattle.std.proofs.Common.{ℕ, Bool, true, false, Option, Some, None, if◌then◌else◌, ◌==◌, ◌&&◌, ◌||◌, ◌≡◌, ◌≢◌, ◌+◌, ◌*◌, ◌≤◌, ◌<◌, ◌⊎◌, List, [], ◌∷◌, ◌++◌, length, replicate, get_or, set, map, drop, inl, inr, refl, sym, ◌∙◌, ap, subst, arith, length-set, get_or-set_same, get_or-set_other}
-use Rattle.core_base.specs.declared.keys.Keys.TheVariants.{One}
-use Rattle.core_base.specs.declared.notes.Note.{Note}
-use Rattle.core_base.specs.declared.notes.Note.TheVariants as note
-use Rattle.core_base.specs.declared.ops.Op.{Op}
+-- A mutex that is handed over, and every other lock, is a site again, whose word says so.
+use Rattle.std.proofs.Common.{ℕ, Bool, true, false, Option, Some, None, if◌then◌else◌, ◌==◌, ◌&&◌, ◌≡◌, ◌≢◌, ◌+◌, ◌*◌, ◌<◌, ◌⊎◌, List, ◌++◌, length, replicate, get_or, set, inl, inr, refl, sym, ◌∙◌, ap, subst, arith, length-set, get_or-set_same, get_or-set_other}
 use Rattle.core_base.specs.declared.ops.Op.TheVariants as op
 use Rattle.core_base.specs.declared.wants.Waiter.{Waiter}
-use Rattle.core_base.specs.Words.{apply}
 use Rattle.spec_locks.specs.declared.kinds.Kind as kind
 use Rattle.steps_base.specs.declared.owners.Owners.{Owners}
 use Rattle.lot_steps.specs.declared.places.Place.{Place}
-use Rattle.lot_steps.specs.declared.places.Place.TheVariants.{Idle, Mutex}
+use Rattle.lot_steps.specs.declared.places.Place.TheVariants.{Mutex}
 use Rattle.steps_mutex.specs.declared.places.MutexPlace.{MutexPlace}
-use Rattle.steps_mutex.specs.declared.places.MutexPlace.TheVariants.{Unlock, HandOff}
-use Rattle.steps_mutex.specs.declared.unlock.UnlockAt.TheVariants as unlock
+use Rattle.steps_mutex.specs.declared.places.MutexPlace.TheVariants.{HandOff}
 use Rattle.steps_mutex.specs.declared.hand_off.HandOffAt.TheVariants as hand_off
 use Rattle.steps_base.specs.declared.acts.Act.{Act}
 use Rattle.steps_base.specs.declared.acts.Act as act
-use Rattle.steps_base.specs.declared.acts.Wakes as wakes
-use Rattle.steps_base.specs.declared.acts.Reply.TheVariants.{Value, Woken, TakenBy}
-use Rattle.steps_mutex.specs.MutexSteps.{mutex_owners, hand_off_word, mutex_next}
+use Rattle.steps_mutex.specs.MutexSteps.{hand_off_word}
 use Rattle.steps_base.specs.Owners.{with_exclusive}
 use Rattle.lot_steps.specs.Steps.{next_place}
-use Rattle.spec_locks.specs.Locks.{TakeFirst, putting, IsLockState}
+use Rattle.spec_locks.specs.Locks.{putting, IsLockState}
 use Rattle.core_base.specs.declared.wants.Want.TheVariants.{Exclusive}
 use Rattle.spec_locks.specs.Sites.{Has}
-use Rattle.spec_locks.specs.Sites.{Role, Site, IsSite, Deed, Main, Second, In, Out, Case, idle, leaves, wakened, found, is_empty, has_readers}
-use Rattle.spec_locks.specs.Codes.{code, fills}
+use Rattle.spec_locks.specs.Sites.{Role, Site, IsSite}
 pub use Rattle.lot_laws.proofs.sites.OneStep.{acts_keep}
-use Rattle.lot_laws.proofs.sites.WakesAt.{IsWokenAt}
-use Rattle.lot_laws.proofs.sites.WakesAt as wakes_at
 use Rattle.lot_laws.proofs.sites.ToldAt as told_at
 use Rattle.lot_laws.proofs.sites.ToldAt.{IsToldAt, HeldHere, same_hands}
 pub use Rattle.lot_laws.proofs.sites.ActsKept.{AlikeAt, lock_by, follows_by, goes_steady, operated, word_goes, place_goes, enter_goes, leave_goes, nobody_inside}
 use Rattle.std.specs.Prelude.{sum}
-use Rattle.lot_machine.specs.Machine.{unshared_then, State, hand_over_told, shares_handed_over, unlocked, place_at, word_at, owners_at, shares_at, filled_at, kind_at, queue_at, put, state_with_sections, section_at, queues_without_first, state_after_reply, state_after_telling, state_after_hand_over, state_after_act, reply_to}
-use Rattle.lot_laws.specs.Refinement.{taken_at, lock_state}
-use Rattle.spec_locks.specs.Picks.{queued_of}
+use Rattle.lot_machine.specs.Machine.{unshared_then, State, hand_over_told, shares_handed_over, unlocked, place_at, word_at, owners_at, shares_at, kind_at, queue_at, put, section_at, state_after_reply, state_after_telling, state_after_hand_over, state_after_act, reply_to}
+use Rattle.lot_laws.specs.Refinement.{lock_state}
 use Rattle.lot_laws.specs.MutexDeeds.{mutex_role, mutex_deeds, mutex_location, acts, queued}
-use Rattle.lot_laws.specs.Locations.{Location, hand, nowhere, location, location_at, role_on}
+use Rattle.lot_laws.specs.Locations.{Location, hand, location_at, role_on}
 use Rattle.lot_laws.specs.MutexDeeds as deeds
 use Rattle.lot_laws.specs.SitesOf.{SameNumbers, TakesOne, rules_in, ActsNeeded, IsInductive, SiteFollows, Goes, FitsItsLock, carried_at, hand_at, after_acts}
-use Rattle.lot_laws.proofs.machine.Parts.{base_at, seen_in, seen, goes_from, put_places, put_here, put_other, IsOf, own_stance, leaving, none_given, untaken, WantsAlone, location_here, IsMutexOf, own_of, next_mutex, aparts}
-use Rattle.lot_laws.proofs.hands.Handed.{told_one, successor_one, lets_nobody, of_carries}
-use Rattle.lot_laws.proofs.mutex.Waiters.{CallsMutex, IsHeldThere, SleepsAt, WasGivenThere, calls_mutex_at, held_alone, held_there, given_there, holds_here}
-use Rattle.lot_laws.proofs.sites.TakesAt.{behind_take, member}
+use Rattle.lot_laws.proofs.machine.Parts.{base_at, seen, goes_from, put_places, put_other, IsOf, own_stance, none_given, WantsAlone, aparts}
+use Rattle.lot_laws.proofs.hands.Handed.{told_one, successor_one, of_carries}
+use Rattle.lot_laws.proofs.mutex.Waiters.{CallsMutex, IsHeldThere, calls_mutex_at, held_alone, held_there, holds_here}
 use Rattle.lot_laws.proofs.sites.Following as following
 use Rattle.lot_laws.proofs.sites.ToldAt.{HoldsHere, SameHands}
 use Rattle.std.proofs.lemmas.Bool.{cases_eq}
-use Rattle.spec_locks.specs.Locks.{keep_from}
-use Rattle.lot_laws.proofs.machine.Parts.{differ}
 use Rattle.lot_laws.specs.SitesOf.{locations_of, Hands}
 use Rattle.lot_laws.specs.Locations.{Hand}
-use Rattle.lot_laws.proofs.mutex.Hands.{first_goes, tries, accepts, handing, hands_acts}
-use Rattle.lot_laws.proofs.mutex.Words.{mutex, parts, IsCode, OnWord, MutexSteps, own_role, goes_in as goes_into}
+use Rattle.lot_laws.proofs.mutex.Hands.{handing, hands_acts}
+use Rattle.lot_laws.proofs.mutex.Words.{mutex, IsCode, own_role}
 use Rattle.lot_laws.proofs.machine.KindsStay.{given_kinds, given_filled, given_shares}
 use Rattle.lot_laws.specs.SitesOf.{is_mutex}
-use Rattle.lot_laws.proofs.sites.StandsKept.{AlikeBeside, own_alike, calls_of, calls_in, sections_same, lines_same, waits_same, hands_given}
+use Rattle.lot_laws.proofs.sites.StandsKept.{AlikeBeside, own_alike, calls_in, sections_same, lines_same, waits_same, hands_given}
 use Rattle.lot_laws.proofs.sites.StandsMoved.{mutex_rules, takes_one, stands_by}
-use Rattle.lot_laws.proofs.mutex.Sections.{hands_needed, take_needed, first_wants}
 
 -- g is f, but for x at i
 pub record Changed {A : Type 0} (f g : ℕ → A) (i : ℕ) (x : A) : Type 0 where
@@ -144,150 +127,18 @@ module _ (w : State) (t l : ℕ) (at : MutexPlace) (steady : IsInductive w) (is 
       (seen l (base_at w l) (word_at w l) (owners_at w l) (queue_at w (2 * l)) (queue_at w (2 * l + 1)) (place_at w))
   site_l = subst (λ r. IsSite r (lock_by w l r)) rules (steady.sites.site l)
 
-  pub word_l : IsCode (word_at w l) (owners_at w l).exclusive
-  word_l = steady.sites.word l ∙ (λ i. code (rules i) (lock_by w l (rules i)))
-
   pub own : IsOf l (place_at w t)
   own = rw is refl
-
-  location_is_at : location (place_at w t) ≡ mutex_location at
-  location_is_at = ap location is
-
-  plain : has_readers mutex.sort ≡ true → ⊥
-  plain h = cc
-
-  fits : (p2 : Place) → IsMutexOf l p2 → FitsItsLock w p2
-  fits p2 of = calls_of w l p2 of of_mutex
-
-  hand_none : taken_at (Mutex l at) l ≡ None → taken_at (place_at w t) l ≡ None
-  hand_none none = ap (λ y. taken_at y l) is ∙ none
-
-  -- a step on the word
-  pub word_keeps : l < length w.locks → (f : Op)
-      → OnWord l (base_at w l) (word_at w l) (owners_at w l) (queue_at w (2 * l)) (queue_at w (2 * l + 1)) (place_at w) t at f
-      → Goes w (go_by w t (Mutex l at) (act.TheVariants.Word l f)) l (acts t (mutex_deeds at None (Value (word_at w l))))
-  word_keeps lt f on = word_goes w t l steady own there mutex rules p2 (own_of l p2 of) (fits p2 of) (Mutex l at) lt (rw steady.numbers.locks lt) f (mutex_deeds at None (Value (word_at w l))) (λ h. absurd (plain h))
-      (record { site = (λ i. seen_in mutex l (same_parts i) (putting (place_at w) t p2)) ∙ on.steps.site; needed = on.steps.needed }) on.code (on.same ∙ sym location_is_at)
-    where
-      p2 : Place
-      p2 = next_place (Mutex l at) (Value (word_at w l))
-
-      of : IsMutexOf l p2
-      of = next_mutex l l (mutex_next at (Value (word_at w l))) refl
-
-      -- no mutex is ever full
-      same_parts : operated w t (Mutex l at) l f
-          ≡ parts (base_at w l) (apply f (word_at w l)) (mutex_owners at t (word_at w l) (owners_at w l)) (queue_at w (2 * l))
-          (queue_at w (2 * l + 1))
-      same_parts i = record (parts (base_at w l) (apply f (word_at w l)) (mutex_owners at t (word_at w l) (owners_at w l)) (queue_at w (2 * l)) (queue_at w (2 * l + 1))) {
-        base = record { shared = shares_at w l; filled = (ap (λ r. filled_at w l || fills r (apply f (word_at w l))) rules ∙ or-false (filled_at w l)) i };
-      }
-
-  -- a place that changes alone
-  pub place_keeps : (p2 : Place) (ds : List Deed) → IsMutexOf l p2
-      → MutexSteps l (base_at w l) (word_at w l) (word_at w l) (owners_at w l) (owners_at w l) (queue_at w (2 * l))
-      (queue_at w (2 * l)) (queue_at w (2 * l + 1)) (place_at w) t p2 ds
-      → location p2 ≡ mutex_location at → Goes w (put w t p2) l (acts t ds)
-  place_keeps p2 ds of steps e = place_goes w t l steady own there mutex rules p2 (own_of l p2 of) (fits p2 of) ds (λ h. absurd (plain h)) steps (e ∙ sym location_is_at)
-
-  -- into a section that is free
-  pub enter_keeps : 2 * l < length w.sections → (p2 : Place) → IsMutexOf l p2 → taken_at (Mutex l at) l ≡ None → taken_at p2 l ≡ None → section_at w (2 * l) ≡ None → (mutex_role at).inside ≡ None → (mutex_role at).empty ≡ None → role_on p2 l ≡ record (mutex_role at) { inside = Some Main }
-      → location p2 ≡ record (mutex_location at) { inside = Some Main }
-      → Goes w (put (state_with_sections w (One (2 * l)) (Some t)) t p2) l (acts t (In Main ∷ []))
-  enter_keeps line p2 of none none2 free i e own_is s = enter_goes w t l steady own there mutex rules p2 (own_of l p2 of) (fits p2 of) Main line free (ap (λ (x : Location). x.inside) location_is_at ∙ i)
-      (goes_into l (base_at w l) (word_at w l) (word_at w l) (owners_at w l) (queue_at w (2 * l)) (queue_at w (2 * l + 1)) (place_at w) t p2 site_l (mutex_role at) (own_role l (place_at w t) at is) (hand_none none) none2 refl
-      (nobody_inside w t l steady own there mutex rules p2 (own_of l p2 of) (fits p2 of) Main free) i e own_is)
-      (s ∙ sym (ap (λ (x : Location). record x { inside = Some Main }) location_is_at))
-
-  pub out_needed : (mutex_role at).inside ≡ Some Main → (mutex_role at).wakes ≡ None
-      → ActsNeeded mutex (acts t (Out ∷ [])) (mutex_at w l)
-  out_needed i k = ((rw (own_role l (place_at w t) at is) ((λ h. let g : None ≡ Some Main = sym h ∙ i in cc), k, refl)), tt)
-
-  -- out of its own, where nobody is in its hand
-  pub leave_keeps : 2 * l < length w.sections → (p2 : Place) → IsMutexOf l p2 → taken_at (Mutex l at) l ≡ None
-      → taken_at p2 l ≡ None → role_on p2 l ≡ leaves (mutex_role at) → (mutex_role at).inside ≡ Some Main
-      → (mutex_role at).wakes ≡ None → (mutex_location at).carries ≡ None
-      → location p2 ≡ record (mutex_location at) { inside = None }
-      → Goes w (put (state_with_sections w (One (2 * l)) None) t p2) l (acts t (Out ∷ []))
-  leave_keeps line p2 of none none2 e i k nobody s = leave_goes w t l steady own there mutex rules p2 (own_of l p2 of) (fits p2 of) Main line (ap (λ (x : Location). x.inside) location_is_at ∙ i) (Out ∷ []) (λ h. tt)
-      (record {
-        site = leaving mutex l (base_at w l) (word_at w l) (owners_at w l) (queue_at w (2 * l)) (queue_at w (2 * l + 1)) (place_at w) _ t (hand_none none) (ap (λ y. taken_at y l) (put_here (place_at w) t p2) ∙ none2)
-            (ap (λ y. role_on y l) (put_here (place_at w) t p2) ∙ e ∙ sym (ap leaves (own_role l (place_at w t) at is)))
-            (lets_nobody (place_at w) steady.stands.hands t l p2 (ap (λ (x : Location). x.carries) (own_stance l (place_at w t) at is) ∙ nobody));
-        needed = out_needed i k;
-      })
-      (s ∙ sym (ap (λ (x : Location). record x { inside = None }) location_is_at))
-
-  -- tells what it does then
-  out_role : (p2 : Place) → taken_at (Mutex l at) l ≡ None → role_on p2 l ≡ leaves (mutex_role at)
-      → role_on p2 l ≡ (after_acts mutex (acts t (Out ∷ [])) (mutex_at w l)).role t
-  out_role p2 none e = e ∙ sym (ap leaves (own_role l (place_at w t) at is)) ∙ sym (ap (λ x. wakened t x (putting (λ y. role_on (place_at w y) l) t (leaves (role_on (place_at w t) l)) t)) (hand_none none) ∙ put_here (λ y. role_on (place_at w y) l) t (leaves (role_on (place_at w t) l)))
 
   -- it is in nobody's hand itself
   pub not_own : (mutex_location at).hand ≡ None → (u : ℕ) (b : Bool) → hand_at (place_at w u) l ≡ hand t b → u ≢ t
   not_own free u b held e = let a : hand_at (place_at w t) l ≡ hand t b = subst (λ j. hand_at (place_at w j) l ≡ hand t b) e held in let none : hand_at (place_at w t) l ≡ None = ap (λ (y : Location). y.hand) (own_stance l (place_at w t) at is) ∙ free in cc
-
-  -- a thread that it had taken tries again, and whom it handed the lock has it
-  pub woken_taken : (u : ℕ) → hand_at (place_at w u) l ≡ hand t false → IsWokenAt w t l note.Normal (place_at w u)
-  woken_taken u held = let k : IsHeldThere l t (place_at w u) = held_there (place_at w u) t l (mutexes_at w t l at steady is u) held in
-      record { lets = tries l t (place_at w u) k; goes = k.woken.location; alike = k.woken.others; fits = k.woken.fits tt w (steady.stands.calls u) }
-
-  pub woken_handed : (u : ℕ) → hand_at (place_at w u) l ≡ hand t true → IsWokenAt w t l note.HandOff (place_at w u)
-  woken_handed u held = let k : WasGivenThere l t (place_at w u) = given_there (place_at w u) t l (mutexes_at w t l at steady is u) held in
-      record { lets = accepts l t t (place_at w u) k; goes = k.told.location; alike = k.told.others; fits = k.told.fits tt w (steady.stands.calls u) }
-
-  -- a thread that has taken somebody has handed nobody the lock, and the other way round
-  not_both : (b c : Bool) → (mutex_location at).carries ≡ Some b → (u : ℕ) → hand_at (place_at w u) l ≡ hand t c → b ≡ c
-  not_both b c carries u held = let a : carried_at (place_at w t) l ≡ Some c = steady.stands.hands.taken t u l c held in let d : carried_at (place_at w t) l ≡ Some b = ap (λ (y : Location). y.carries) (own_stance l (place_at w t) at is) ∙ carries in let e : Some b ≡ Some c = sym d ∙ a in cc
-
-  -- out of its own, and whom it has in hand is told
-  pub wake_keeps : 2 * l < length w.sections → (b : Bool) (x : Note) (p2 : Place) → IsMutexOf l p2
-      → ((u : ℕ) → hand_at (place_at w u) l ≡ hand t b → IsWokenAt w t l x (place_at w u)) → taken_at (Mutex l at) l ≡ None
-      → taken_at p2 l ≡ None → role_on p2 l ≡ leaves (mutex_role at) → (mutex_role at).inside ≡ Some Main
-      → (mutex_role at).wakes ≡ None
-      → mutex_location at ≡ record nowhere { inside = Some Main; carries = Some b } → location p2 ≡ nowhere
-      → Goes w (put (state_after_telling (state_with_sections w (One (2 * l)) None) t (Woken x)) t p2) l (acts t (Out ∷ []))
-  wake_keeps line b x p2 of woken none none2 e i k was is_p2 = wakes_at.wake_goes w t l steady there p2 (same_hands l (place_at w t) p2 beside) (fits p2 of) (holds_here w t l steady (of_carries l (place_at w t) own)) x all_woken
-      (ap (λ (y : Location). y.carries) now) (unheld (wakes_at.is_told w t l steady there p2 (same_hands l (place_at w t) p2 beside) (fits p2 of) (holds_here w t l steady (of_carries l (place_at w t) own)) x all_woken t))
-      beside Main line (ap (λ (y : Location). y.inside) before) (ap (λ (y : Location). y.stands) now ∙ sym (ap (λ (y : Location). y.stands) before)) (ap (λ (y : Location). y.waits) now ∙ sym (ap (λ (y : Location). y.waits) before)) (ap (λ (y : Location). y.inside) now)
-      mutex rules (none2 ∙ sym (ap (keep_from t) (hand_none none))) (Out ∷ []) tt (out_needed i k) (out_role p2 none e)
-    where
-      beside : AlikeBeside l (place_at w t) p2
-      beside = own_alike l (place_at w t) p2 own (own_of l p2 of)
-
-      now : location_at p2 l ≡ nowhere
-      now = location_here l p2 (own_of l p2 of) ∙ is_p2
-
-      before : location_at (place_at w t) l ≡ record nowhere { inside = Some Main; carries = Some b }
-      before = own_stance l (place_at w t) at is ∙ was
-
-      unheld : (c : Bool) → (location_at p2 l).hand ≡ (if c then None else (location_at (place_at w t) l).hand)
-      unheld true = ap (λ (y : Location). y.hand) now
-      unheld false = ap (λ (y : Location). y.hand) now ∙ sym (ap (λ (y : Location). y.hand) before)
-
-      all_woken : (u : ℕ) (c : Bool) → hand_at (place_at w u) l ≡ hand t c → IsWokenAt w t l x (place_at w u)
-      all_woken u c held = let same_one : b ≡ c = not_both b c (ap (λ (y : Location). y.carries) was) u held in woken u (subst (λ y. hand_at (place_at w u) l ≡ hand t y) (sym same_one) held)
 
 module _ (w : State) (t l : ℕ) (steady : IsInductive w) (there : t < length w.places) where
   -- a thread that it has in hand
   module _ (at : MutexPlace) (is : place_at w t ≡ Mutex l at) (b : Bool) (carries : (mutex_location at).carries ≡ Some b) where
     pub one_held : (u : ℕ) × (hand_at (place_at w u) l ≡ hand t b)
     one_held = steady.stands.hands.carried t l b (ap (λ (x : Location). x.carries) (own_stance l (place_at w t) at is) ∙ carries)
-
-  -- a release leaves, and wakes the one that it took
-  pub release_wakes : 2 * l < length w.sections → place_at w t ≡ Mutex l (Unlock (unlock.Leave true))
-      → Goes w
-      (go_by w t (Mutex l (Unlock (unlock.Leave true))) (act.TheVariants.Leave (One (2 * l)) (wakes.TheVariants.All note.Normal))) l
-      (acts t (Out ∷ []))
-  release_wakes line is = wake_keeps w t l (Unlock (unlock.Leave true)) steady is there line false note.Normal Idle tt (woken_taken w t l (Unlock (unlock.Leave true)) steady is there) refl refl refl refl refl refl refl
-
-  -- a fair one leaves, and tells the one that it handed the lock
-  pub tells : 2 * l < length w.sections
-      → (bumps : Bool) (is : place_at w t ≡ Mutex l (HandOff bumps (hand_off.Leave true))) (p2 : Place) → IsMutexOf l p2
-      → taken_at p2 l ≡ None → role_on p2 l ≡ idle → location p2 ≡ nowhere
-      → Goes w (put (state_after_telling (state_with_sections w (One (2 * l)) None) t (Woken note.HandOff)) t p2) l
-      (acts t (Out ∷ []))
-  tells line bumps is p2 of none e s = wake_keeps w t l (HandOff bumps (hand_off.Leave true)) steady is there line true note.HandOff p2 of (woken_handed w t l (HandOff bumps (hand_off.Leave true)) steady is there) refl none e refl refl refl s
 
   module _ (lt : l < length w.locks) (bumps none_left : Bool) (u : ℕ)
       (is : place_at w t ≡ Mutex l (HandOff bumps (hand_off.Store true none_left)))
@@ -408,10 +259,11 @@ module _ (w : State) (t l : ℕ) (steady : IsInductive w) (there : t < length w.
     same_kinds k = given_kinds w t (Mutex l at) l (op.Store (hand_off_word true none_left)) k
 
     -- the store that hands the lock over
-    pub hands_over : Goes w
+    pub hands_over : ActsNeeded mutex (acts t (deeds.handing_deeds (Some u) none_left) ++ deeds.claims_of (Some u)) (mutex_at w l)
+        → Goes w
         (go_by w t (Mutex l (HandOff bumps (hand_off.Store true none_left))) (act.TheVariants.HandOver l (op.Store (hand_off_word true none_left)))) l
         (acts t (deeds.handing_deeds (Some u) none_left) ++ deeds.claims_of (Some u))
-    hands_over = record {
+    hands_over needed = record {
       follows = subst (λ (z : State). SiteFollows w (put z t p2) l (acts t (deeds.handing_deeds (Some u) none_left) ++ deeds.claims_of (Some u))) (sym told) (follow w after l (rules w t l at steady is there) (putting (putting (place_at w) u pu) t p2) (if none_left then 1 else 3) (with_exclusive (owners_at w l) (Some u)) (queue_at w (2 * l)) places
           (record { threads = length-set (set w.places u pu) t p2 ∙ length-set w.places u pu; locks = length-set w.locks l _; shares = length-set w.shares l (shares_handed_over w t l) })
           (λ k i. record { shared = ((λ j. get_or (set w.shares l (shares_handed_over w t l)) k (replicate ((length-set (set w.places u pu) t p2 ∙ length-set w.places u pu) j) 0)) ∙ given_shares w t l (none_given t w.places (shares_at w l) (alone_at w t l at steady is)) k) i; filled = given_filled w t (Mutex l at) l (op.Store (hand_off_word true none_left)) (rules w t l at steady is there) k i })
@@ -420,7 +272,7 @@ module _ (w : State) (t l : ℕ) (steady : IsInductive w) (there : t < length w.
           (λ k ne x. alike_both l k (place_at w) u pu t p2 (there_u.handed (unshared_then w t l)).others (own_alike l (place_at w t) p2 own_t refl) apart ne x)
           (hands_acts mutex l (base_at w l) (word_at w l) (owners_at w l) (queue_at w (2 * l)) (queue_at w (2 * l + 1)) (place_at w) (TakesOne w) steady.stands.hands (single w t l at steady is there) (mutexes_at w t l at steady is) t u (unshared_then w t l) bumps none_left refl state is held none_left)
           (handing mutex l (base_at w l) (word_at w l) (owners_at w l) (queue_at w (2 * l)) (queue_at w (2 * l + 1)) (place_at w) (TakesOne w) steady.stands.hands (single w t l at steady is there) (mutexes_at w t l at steady is) t u (unshared_then w t l) bumps none_left refl state is held none_left refl)
-          (hands_needed l (base_at w l) (word_at w l) (owners_at w l) (queue_at w (2 * l)) (queue_at w (2 * l + 1)) (place_at w) (TakesOne w) steady.stands.hands (single w t l at steady is there) (mutexes_at w t l at steady is) t u (unshared_then w t l) bumps none_left is held (site_l w t l at steady is there) none_left refl)
+          needed
           (coded none_left));
       stands = stands_by w then_state behind (told_at.places_are w t l steady p2 beside fits_2 holds (hand_over_told w t l) (hand t true) all_told before refl there) same_kinds_then
           (record {
@@ -431,38 +283,3 @@ module _ (w : State) (t l : ℕ) (steady : IsInductive w) (there : t < length w.
           })
           (λ x. calls_in w then_state (behind x) same_kinds_then (told_at.calls_then w t l steady p2 beside fits_2 holds (hand_over_told w t l) (hand t true) all_told x));
     }
-
--- ---------------------------------------------------------------- the first of a line is taken
-
-module _ (w : State) (t l : ℕ) (at : MutexPlace) (steady : IsInductive w) (is : place_at w t ≡ Mutex l at)
-    (there : t < length w.places) (line : 2 * l < length w.queues)
-    (x : Waiter) (rest : List Waiter) (first : queue_at w (2 * l) ≡ x ∷ rest) (sleeps : SleepsAt l (place_at w x.thread)) (stands_there : (location_at (place_at w x.thread) l).stands ≡ Some Main) (apart : x.thread ≢ t) where
-  site_first : IsSite mutex (seen l (base_at w l) (word_at w l) (owners_at w l) (x ∷ rest) (queue_at w (2 * l + 1)) (place_at w))
-  site_first = subst (λ (q : List Waiter). IsSite mutex (seen l (base_at w l) (word_at w l) (owners_at w l) q (queue_at w (2 * l + 1)) (place_at w))) first (site_l w t l at steady is there)
-
-  pub take_keeps : (p2 : Place) → IsMutexOf l p2 → taken_at (Mutex l at) l ≡ None → taken_at p2 l ≡ None
-      → (mutex_location at).carries ≡ None → (mutex_location at).hand ≡ None → (mutex_role at).inside ≡ Some Main
-      → (mutex_role at).carries ≡ false → (mutex_role at).wakes ≢ Some Second
-      → role_on p2 l
-      ≡ record
-      (mutex_role at) { wakes = None; carries = true; covers = true; empty = found Main (is_empty (map queued_of rest)) }
-      → location p2 ≡ record (mutex_location at) { carries = Some false }
-      → Goes w (put (state_after_reply (record w { queues = queues_without_first w.queues (2 * l) }) x.thread (TakenBy t)) t p2) l
-      (acts t (Case (TakeFirst (queued x.thread)) ∷ []))
-  take_keeps p2 of none none2 nobody free i c v e s = first_goes w t l steady there p2 (own_alike l (place_at w t) p2 (own w t l at steady is there) (own_of l p2 of)) (fits w t l at steady is there p2 of) (rules w t l at steady is there) line
-      x rest first (first_wants l (base_at w l) (word_at w l) (owners_at w l) (queue_at w (2 * l + 1)) rest x (place_at w) t site_first) stands_there sleeps
-      (ap (λ (y : Location). y.carries) before ∙ nobody) (location_here l p2 (own_of l p2 of) ∙ s ∙ sym (λ j. record (behind_take t (not_self j) (before j)) { carries = Some false }))
-      (none2 ∙ sym (ap (λ b. if b then taken_at (next_place (place_at w t) (TakenBy t)) l else taken_at (place_at w t) l) not_self ∙ hand_none w t l at steady is there none)) needed
-      (e ∙ sym (put_here (λ u. role_on (place_at w u) l) t _ ∙ ap (λ (q : List Waiter). record (role_on (place_at w t) l) { wakes = None; carries = true; covers = true; empty = found Main (is_empty (drop 1 (map queued_of q))) }) first
-      ∙ ap (λ (d : Role). record d { wakes = None; carries = true; covers = true; empty = found Main (is_empty (map queued_of rest)) }) (own_role l (place_at w t) at is)))
-    where
-      before : location_at (place_at w t) l ≡ mutex_location at
-      before = own_stance l (place_at w t) at is
-
-      not_self : member t (x ∷ []) ≡ false
-      not_self = rw (differ x.thread t apart) refl
-
-      needed : ActsNeeded mutex (acts t (Case (TakeFirst (queued x.thread)) ∷ [])) (mutex_at w l)
-      needed = subst (λ (q : List Waiter). ActsNeeded mutex (acts t (Case (TakeFirst (queued x.thread)) ∷ [])) (seen l (base_at w l) (word_at w l) (owners_at w l) q (queue_at w (2 * l + 1)) (place_at w))) (sym first)
-          (take_needed l (base_at w l) (word_at w l) (owners_at w l) (queue_at w (2 * l + 1)) rest x (place_at w) t site_first (mutex_role at) (own_role l (place_at w t) at is)
-          (λ u. untaken (place_at w u) t l (λ h. let a : carried_at (place_at w t) l ≡ Some false = steady.stands.hands.taken t u l false h in let b : carried_at (place_at w t) l ≡ None = ap (λ (y : Location). y.carries) (own_stance l (place_at w t) at is) ∙ nobody in cc)) i c v)

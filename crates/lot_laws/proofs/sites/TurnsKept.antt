@@ -5,6 +5,7 @@ use Rattle.lot_machine.specs.Machine.{can_close, can_do, can_go, state_after_clo
 use Rattle.lot_laws.proofs.calls.Looking.{closing_steady}
 use Rattle.lot_laws.proofs.calls.Closings.{closing, closing_counted, closing_may, closing_shaped, closing_there}
 use Rattle.lot_laws.proofs.calls.Closures.{closes_one}
+use Rattle.steps_mutex.specs.MutexProfiles.{mutex_profile}
 use Rattle.steps_once.specs.OnceProfiles.{once_profile}
 use Rattle.steps_semaphore.specs.SemaphoreProfiles.{semaphore_profile}
 use Rattle.lot_laws.proofs.semaphore.Kept.{semaphore_begins, semaphore_goes_late}
@@ -20,12 +21,7 @@ use Rattle.spec_locks.specs.declared.calls.Turn as turn
 use Rattle.spec_locks.specs.Kinds.{has_call, is_fair}
 use Rattle.lot_steps.specs.declared.places.Place.{Place}
 use Rattle.lot_steps.specs.declared.places.Place.TheVariants.{Idle, Mutex, RwLock, Once, Condvar, Semaphore}
-use Rattle.steps_mutex.specs.declared.lock.Entry.{Entry}
-use Rattle.steps_mutex.specs.declared.lock.Entry.TheVariants as entries
-use Rattle.steps_mutex.specs.declared.lock.LockAt.{LockAt}
-use Rattle.steps_mutex.specs.declared.lock.LockAt.TheVariants as lock
 use Rattle.steps_mutex.specs.declared.places.MutexPlace.{MutexPlace}
-use Rattle.steps_mutex.specs.declared.places.MutexPlace.TheVariants.{Lock, TryLock, Unlock, UnlockFair, Bump, HandOff}
 use Rattle.steps_mutex.specs.MutexSteps.{mutex_first, mutex_right}
 use Rattle.lot_steps.specs.Steps.{act_of, is_idle, looking, late_key, key_in}
 use Rattle.spec_locks.specs.Sites.{Claim, Has, Begin, HasClaim, idle}
@@ -44,7 +40,7 @@ use Rattle.lot_laws.proofs.sites.StandsMoved.{mutex_rules}
 use Rattle.lot_laws.proofs.sites.SitesKept.{mutex_at, goes_steady, place_goes}
 use Rattle.lot_laws.proofs.calls.Looking.{looking_steady, looks_now}
 use Rattle.lot_laws.proofs.hands.CountsPut.{looking_counted}
-use Rattle.lot_laws.proofs.mutex.Kept.{enters, gone_kept}
+use Rattle.lot_laws.proofs.mutex.Kept.{gone_kept, mutex_goes_late}
 use Rattle.lot_laws.proofs.condvar.ActsRefine.{condvar_steady}
 use Rattle.lot_laws.proofs.condvar.SameCondvars.{closing_condvars, looking_condvars}
 use Rattle.lot_laws.proofs.condvar.BeginsKept.{begins_at, condvar_begins, condvar_goes_late}
@@ -124,20 +120,6 @@ module _ (w : State) (t : ℕ) (steady : IsInductive w) (shape : IsWellFormed w)
   spun_kept counted condvars (Some q) is = gone_steady (put w t q) t (looking_steady w t there q is steady) (looking_shaped w t q shape is) (rw (length-set w.places t q) there) (looking_counted w t there q is counted) (looking_condvars w t q there is condvars) (looks_now w t there q is)
 
   -- its time is up, and it goes into the section of its line
-  asleep_late : (l : ℕ) (e : Entry) (r : Bool) → place_at w t ≡ Mutex l (Lock e r lock.Asleep) → l < length w.locks
-      → is_free_under w (late_key (Mutex l (Lock e r lock.Asleep))) ≡ true
-      → IsInductive (state_after_late_on w t (late_key (Mutex l (Lock e r lock.Asleep))))
-  asleep_late l entries.LockTimed r is lt can = rw is (goes_steady w _ l _ steady (enters w t steady shape there l (Lock entries.LockTimed r lock.Asleep) (Lock entries.LockTimed r lock.Remove) is lt can refl refl refl refl refl refl))
-  asleep_late l entries.Lock r is lt can = absurd cc
-  asleep_late l entries.Bump r is lt can = absurd cc
-
-  lock_late : (l : ℕ) (e : Entry) (r : Bool) (a : LockAt) → place_at w t ≡ Mutex l (Lock e r a) → l < length w.locks
-      → is_free_under w (late_key (Mutex l (Lock e r a))) ≡ true
-      → IsInductive (state_after_late_on w t (late_key (Mutex l (Lock e r a))))
-  lock_late l e r lock.Asleep is lt can = asleep_late l e r is lt can
-  lock_late l e r lock.First is lt can = absurd cc
-  lock_late l e r a is lt can = absurd cc
-
   rwlock_late : (l : ℕ) (a : Admission) (c : RwLockCallPlace) → place_at w t ≡ RwLock l a c → l < length w.locks
       → (m : Option Line) → call_late_line c ≡ m → is_free_under w (key_in (Some l) m) ≡ true
       → IsInductive (state_after_late_on w t (key_in (Some l) m))
@@ -146,12 +128,12 @@ module _ (w : State) (t : ℕ) (steady : IsInductive w) (shape : IsWellFormed w)
 
   late_kept : (p : Place) → place_at w t ≡ p → PlaceFits (length w.locks) p → is_free_under w (late_key p) ≡ true
       → IsInductive (state_after_late_on w t (late_key p))
-  late_kept (Mutex l (Lock e r a)) is fits can = lock_late l e r a is fits.0 can
-  late_kept (Mutex l TryLock) is fits can = absurd cc
-  late_kept (Mutex l (Unlock a)) is fits can = absurd cc
-  late_kept (Mutex l UnlockFair) is fits can = absurd cc
-  late_kept (Mutex l Bump) is fits can = absurd cc
-  late_kept (Mutex l (HandOff bumps a)) is fits can = absurd cc
+  late_kept (Mutex l at) is fits can = mutex_late (mutex_profile at).late_line refl can
+    where
+      mutex_late : (m : Option Line) → (mutex_profile at).late_line ≡ m → is_free_under w (key_in (Some l) m) ≡ true
+          → IsInductive (state_after_late_on w t (key_in (Some l) m))
+      mutex_late None e h = absurd cc
+      mutex_late (Some m) e h = goes_steady w _ l _ steady (mutex_goes_late w t l at steady shape there fits.0 is m e h)
   late_kept (RwLock l a (Plain p)) is fits can = rwlock_late l a (Plain p) is fits (call_late_line (Plain p)) refl can
   late_kept (RwLock l a (BumpCall p)) is fits can = rwlock_late l a (BumpCall p) is fits (call_late_line (BumpCall p)) refl can
   late_kept (RwLock l a c) is fits can = absurd cc
