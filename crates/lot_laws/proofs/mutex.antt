@@ -1,12 +1,10 @@
 pub mod Waiters
 pub mod Hands
-pub mod Words
-pub mod Sections
 pub mod Acts
 pub mod Moves
 pub mod Kept
 pub mod Rows
-pub mod Events
+pub mod Words
 pub mod Steps
 pub mod Owing
 pub mod Promises

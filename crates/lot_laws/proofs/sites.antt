@@ -13,6 +13,7 @@ pub mod TakesAt
 pub mod TakesKept
 pub mod PicksKept
 pub mod MovesKept
+pub mod FirstTaken
 pub mod SitesKept
 pub mod TurnsKept
 pub mod Opening

@@ -1,11 +1,7 @@
 -- The steps of a mutex, told by what a thread does about the abstract lock: the deeds of each step.
-use Rattle.std.specs.Prelude.{ℕ, Option, Some, None, List, [], ◌∷◌, ◌++◌}
+use Rattle.std.specs.Prelude.{ℕ, Option, Some, None, List, [], ◌∷◌}
 use Rattle.core_base.specs.declared.wants.Want.TheVariants.{Exclusive}
 use Rattle.steps_mutex.specs.declared.places.MutexPlace.{MutexPlace}
-use Rattle.steps_mutex.specs.declared.places.MutexPlace.TheVariants.{HandOff}
-use Rattle.steps_mutex.specs.declared.hand_off.HandOffAt.TheVariants as hand_off
-use Rattle.steps_base.specs.declared.acts.Reply.{Reply}
-use Rattle.steps_base.specs.declared.acts.Reply.TheVariants.{Value}
 use Rattle.lot_laws.specs.Locations.{Location, location_by}
 pub use Rattle.steps_mutex.specs.MutexDeeds.{enter_deeds, handing_deeds, hand_off_deeds, lock_deeds, mutex_deeds, queued, take_deeds, unlock_deeds}
 pub use Rattle.steps_mutex.specs.MutexLaws.{mutex_role, mutex_row}
@@ -31,12 +27,6 @@ acts t (d ∷ ds) = record { by = t; deed = d } ∷ acts t ds
 abbrev pub claims_of : Option ℕ → List Act
 claims_of None = []
 claims_of (Some u) = record { by = u; deed = Begin (Some (Has Exclusive)) } ∷ []
-
--- the deeds of the step of a thread at a place, by what it is told
-abbrev pub deeds : ℕ → MutexPlace → Option ℕ → Reply → List Act
-deeds t (HandOff bumps (hand_off.Store any none_left)) whom (Value seen) =
-    acts t (handing_deeds whom none_left) ++ claims_of whom
-deeds t at whom reply = acts t (mutex_deeds at whom reply)
 
 -- the deed with which a call begins
 abbrev pub begin_deed : MutexPlace → Deed

@@ -1,5 +1,5 @@
 -- A call of a mutex whose thread steps alone: from each place, where it ends or falls asleep.
-use Rattle.std.proofs.Common.{ℕ, zero, suc, Bool, true, false, Option, Some, None, if◌then◌else◌, ◌==◌, ◌&&◌, not, ◌≡◌, ◌≢◌, ◌+◌, ◌*◌, ◌≤◌, ◌<◌, inl, inr, List, [], ◌∷◌, ◌++◌, length, drop, map, refl, sym, ◌∙◌, ap, subst, arith}
+use Rattle.std.proofs.Common.{append-nil, ℕ, zero, suc, Bool, true, false, Option, Some, None, if◌then◌else◌, ◌==◌, ◌&&◌, not, ◌≡◌, ◌≢◌, ◌+◌, ◌*◌, ◌≤◌, ◌<◌, inl, inr, List, [], ◌∷◌, ◌++◌, length, drop, map, refl, sym, ◌∙◌, ap, subst, arith}
 use Rattle.std.proofs.lemmas.Bool.{cases_eq, eqb-true}
 use Rattle.core_base.specs.declared.notes.Note.TheVariants as note
 use Rattle.core_base.specs.declared.ops.Op as op
@@ -347,7 +347,7 @@ module _ (t l : ℕ) where
         steady_then = here.steady
 
         goes : (whom : Option ℕ) × Goes w taken_then l (acts t (take_deeds whom))
-        goes = let g = goes_mutex w t l taking f.steady f.shape f.thread f.lock f.place refl in (g.whom, g.goes)
+        goes = let g = goes_mutex w t l taking f.steady f.shape f.thread f.lock f.place refl in (g.whom, subst (Goes w taken_then l) (append-nil (acts t (take_deeds g.whom))) g.goes)
 
         held : hand_at (place_at taken_then x.thread) l ≡ hand t false
         held = first_held goes.0 goes.1

@@ -38,7 +38,7 @@ use Rattle.lot_laws.specs.Solo.{EndsAlone, IsBarred}
 use Rattle.lot_laws.specs.Locations.{role_on}
 use Rattle.lot_laws.proofs.machine.Parts.{same}
 use Rattle.lot_laws.proofs.alone.TwoLines.{Comes, StepsAlone, leads_into, leave_comes, park_comes, parks_last, word_comes}
-use Rattle.lot_laws.proofs.mutex.Words.{queued_behind}
+use Rattle.lot_laws.proofs.sites.OneStep.{queued_behind}
 use Rattle.lot_laws.proofs.alone.Leads.{Leads, leads_more, leads_rest, leads_step, or_so}
 
 -- a thread that waits for a run still does so while none has ended

@@ -48,9 +48,10 @@ use Rattle.spec_locks.specs.Picks.{queued_of}
 use Rattle.lot_laws.specs.Refinement.{lock_state, locks_of, owner_at}
 use Rattle.lot_laws.specs.Solo.{BumpsAlone, EndsAlone, EntersAlone, IsUnobstructed, HasWhatItReads, IsBarred, IsOnly, IsUnderWay, OnlyTries, Rests, successor}
 use Rattle.lot_laws.proofs.alone.Mutex.{LockEnds, UnlockEnds, bump_leads, bump_rests, first_leads, hand_off_rests, lock_rests, subtract_leads, try_leads, unlock_fair_leads, unlock_fair_rests, unlock_rests}
-use Rattle.lot_laws.proofs.mutex.Words.{mutex, queued_behind}
+use Rattle.lot_laws.proofs.machine.Parts.{mutex}
+use Rattle.lot_laws.proofs.sites.OneStep.{queued_behind}
 use Rattle.lot_laws.proofs.sites.StandsMoved.{mutex_rules}
-use Rattle.lot_laws.proofs.mutex.Events.{free_word, owned_word}
+use Rattle.lot_laws.proofs.mutex.Words.{free_word, owned_word}
 use Rattle.lot_laws.proofs.calls.Tries.{first_busy, stands_there}
 use Rattle.lot_laws.proofs.calls.Begins.{purpose_is}
 use Rattle.lot_laws.proofs.hands.Counts.{first_times}

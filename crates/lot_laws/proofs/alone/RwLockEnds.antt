@@ -49,7 +49,7 @@ use Rattle.lot_laws.specs.SitesOf.{IsInductive, key_of, rules_in, site_of}
 use Rattle.lot_laws.specs.Locations.{role_on}
 use Rattle.lot_laws.specs.Solo.{EntersAlone, ReleasesAlone, ConvertsAlone, MayEnterAtOnce, WaitsAlone, WaitsForReaders, entered_answer, IsBarred}
 use Rattle.lot_laws.proofs.machine.Parts.{put_here, same}
-use Rattle.lot_laws.proofs.mutex.Words.{queued_behind}
+use Rattle.lot_laws.proofs.sites.OneStep.{queued_behind}
 use Rattle.lot_laws.proofs.alone.TwoLines.{StepsAlone}
 use Rattle.lot_laws.proofs.alone.Answers.{HasAnswered, answered}
 use Rattle.lot_laws.proofs.alone.WorldRuns.{RunsAlone, run_refines}

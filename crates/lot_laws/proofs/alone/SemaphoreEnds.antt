@@ -48,7 +48,7 @@ use Rattle.lot_laws.specs.SitesOf.{IsInductive, key_of, rules_in, site_of}
 use Rattle.lot_laws.specs.Solo.{EndsAlone, EntersAlone, IsBarred, ReleasesAlone, SleepsLast, WaitsAlone, entered_answer}
 use Rattle.lot_laws.proofs.machine.Parts.{put_here, same}
 use Rattle.lot_laws.proofs.alone.TwoLines.{Comes, StepsAlone, leads_into, leave_comes, park_comes, parks_last, take_comes, word_comes}
-use Rattle.lot_laws.proofs.mutex.Words.{queued_behind}
+use Rattle.lot_laws.proofs.sites.OneStep.{queued_behind}
 use Rattle.lot_laws.proofs.alone.Leads.{Leads, leads_more, leads_rest, leads_step, or_so}
 use Rattle.lot_laws.proofs.alone.Answers.{HasAnswered, answered}
 use Rattle.lot_laws.proofs.alone.WorldRuns.{RunsAlone, run_refines}

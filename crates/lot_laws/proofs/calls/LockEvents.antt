@@ -34,7 +34,7 @@ use Rattle.lot_laws.proofs.machine.PlaceTest.{call_facts, mutex_row_facts, once_
 use Rattle.lot_laws.proofs.machine.Parts.{IsTakenAt, put_same, same, IsMutexCall, taken_elsewhere, IsSingle, single_taken}
 use Rattle.steps_mutex.specs.MutexLaws.{heir}
 use Rattle.steps_mutex.proofs.HandOffRights.{got, neither}
-use Rattle.lot_laws.proofs.mutex.Words.{mutex}
+use Rattle.lot_laws.proofs.machine.Parts.{mutex}
 use Rattle.lot_laws.proofs.calls.Events.{put_is, rights, rights_led, led_here, led_elsewhere, Happens, Others, OthersFollow}
 
 -- ---------------------------------------------------------------- the waiters that a thread has in hand

@@ -24,7 +24,7 @@ use Rattle.lot_laws.specs.SitesOf.{IsInductive}
 use Rattle.lot_laws.specs.WorldRuns.{TriesAtOnce, tried}
 use Rattle.lot_laws.proofs.machine.AtPlaces.{coded_for}
 use Rattle.lot_laws.proofs.machine.Parts.{IsSingle}
-use Rattle.lot_laws.proofs.mutex.Events.{free_word, owned_word}
+use Rattle.lot_laws.proofs.mutex.Words.{free_word, owned_word}
 use Rattle.lot_laws.proofs.calls.OwnPlace.{told_from_there}
 
 -- ---------------------------------------------------------------- a thread in a call is there

@@ -1,9 +1,8 @@
 -- A wait that releases its mutex takes the first of its line, itself too where a notification brought it there: every lock is a site again.
-use Rattle.std.proofs.Common.{ℕ, Bool, true, false, Option, Some, None, if◌then◌else◌, ◌==◌, ◌||◌, ◌≡◌, ◌≢◌, ◌*◌, ◌≤◌, ◌<◌, List, [], ◌∷◌, length, map, drop, get_or, set, refl, sym, ◌∙◌, ap, subst, inl, inr, arith, get_or-set_same, get_or-set_other}
+use Rattle.std.proofs.Common.{ℕ, Bool, true, false, Option, Some, None, if◌then◌else◌, ◌==◌, ◌≡◌, ◌≢◌, ◌*◌, ◌<◌, List, [], ◌∷◌, length, map, drop, get_or, set, refl, sym, ◌∙◌, ap, subst, inl, inr, get_or-set_same, get_or-set_other}
 use Rattle.std.proofs.lemmas.Bool.{cases_eq}
 use Rattle.core_base.specs.declared.wants.Waiter.{Waiter}
-use Rattle.core_base.specs.declared.wants.Want.TheVariants.{Exclusive}
-use Rattle.core_base.specs.Lines.{first_of, times}
+use Rattle.core_base.specs.Lines.{first_of}
 use Rattle.steps_base.specs.declared.acts.Next.TheVariants.{At}
 use Rattle.steps_base.specs.declared.acts.Reply.{Reply}
 use Rattle.steps_base.specs.declared.acts.Reply.TheVariants.{Took, TakenBy}
@@ -29,24 +28,21 @@ use Rattle.steps_condvar.specs.CondvarWaits.{WaiterFollows, waiter_deeds}
 use Rattle.spec_locks.specs.Locks as locks
 use Rattle.spec_locks.specs.Locks.{TakeFirst, Taken, first_thread}
 use Rattle.spec_locks.specs.Picks.{queued_of}
-use Rattle.spec_locks.specs.Sites.{Case, Deed, IsSite, Main, Site}
-use Rattle.lot_machine.specs.Machine.{State, is_there, place_at, put, queue_at, queues_without_first, section_at, state_after_taking}
-use Rattle.lot_laws.specs.MutexDeeds.{acts, queued}
+use Rattle.spec_locks.specs.Sites.{Deed, Main, Site}
+use Rattle.lot_machine.specs.Machine.{State, is_there, place_at, put, queue_at, queues_without_first, state_after_taking}
+use Rattle.lot_laws.specs.MutexDeeds.{acts}
 use Rattle.lot_laws.specs.Refinement.{taken_at}
 use Rattle.lot_laws.specs.Locations.{role_on, location_at}
-use Rattle.lot_laws.specs.SitesOf.{ActsNeeded, FitsItsLock, Goes, IsInductive, after_acts, key_of, rules_in, site_of, stood_in}
+use Rattle.lot_laws.specs.SitesOf.{FitsItsLock, Goes, IsInductive, key_of, rules_in, site_of}
 use Rattle.lot_laws.proofs.machine.Parts as glue
 use Rattle.lot_laws.proofs.machine.Parts.{differ, parts_at, same, seen_in}
-use Rattle.lot_laws.proofs.sites.Following.{lock_by}
-use Rattle.lot_laws.proofs.sites.LawsKept.{after_same, needed_same}
 use Rattle.lot_laws.proofs.condvar.TwoParts.{location_beside, taken_beside}
 use Rattle.lot_laws.proofs.condvar.Replies.{waiter_hears}
 use Rattle.lot_laws.proofs.mutex.Acts.{finds_nobody_at}
-use Rattle.lot_laws.proofs.mutex.Hands.{first_goes}
-use Rattle.lot_laws.proofs.mutex.Sections.{exclusive_wanted}
-use Rattle.lot_laws.proofs.sites.StandsKept.{AlikeBeside, in_main}
-use Rattle.lot_laws.proofs.sites.TakesAt.{behind_take, member, member_times}
-use Rattle.lot_laws.proofs.mutex.Waiters.{SleepsAt, calls_mutex_at, release_sleeps, stands_or_sleeps}
+use Rattle.lot_laws.proofs.mutex.Hands.{first_goes, first_sleeps, first_stands, takes_it}
+use Rattle.lot_laws.proofs.sites.StandsKept.{AlikeBeside}
+use Rattle.lot_laws.proofs.sites.TakesAt.{behind_take, member}
+use Rattle.lot_laws.proofs.mutex.Waiters.{SleepsAt, release_sleeps}
 use Rattle.lot_laws.proofs.condvar.WaitWords as beside
 
 module _ (w : State) (t l m : ℕ) (timed : Bool) (steady : IsInductive w) (here : t < length w.places) (apart : m ≢ l)
@@ -140,38 +136,14 @@ module _ (w : State) (t l m : ℕ) (timed : Bool) (steady : IsInductive w) (here
       abbrev none_left : Bool
       none_left = length rest == 0
 
-      abbrev takes_it : List Deed
-      takes_it = Case (TakeFirst (queued x.thread)) ∷ []
-
       follows_first : WaiterFollows (rules_in w m) lock t m timed (taking s) (Some x.thread) (Took true none_left)
       follows_first = follows_by (x ∷ rest) first
-
-      needed : ActsNeeded glue.mutex (acts t takes_it) (lock_by w m glue.mutex)
-      needed = subst (λ y. ActsNeeded y (acts t takes_it) (lock_by w m y)) plain (needed_same (rules_in w m) takes_it lock t follows_first.needed)
-
-      does : (after_acts glue.mutex (acts t takes_it) (lock_by w m glue.mutex)).role t
-          ≡ (wait_row m (goes_to s true none_left)).role
-      does = subst (λ y. (after_acts y (acts t takes_it) (lock_by w m y)).role t ≡ (wait_row m (goes_to s true none_left)).role) plain (ap (λ (y : Site). y.role t) (after_same (rules_in w m) takes_it lock t) ∙ follows_first.role)
-
-      wants : x.want ≡ Exclusive
-      wants = exclusive_wanted x.want (subst (λ q. IsSite glue.mutex (seen_in glue.mutex m (record (parts_at w m) { main = q }) (place_at w))) first (subst (λ y. IsSite y (lock_by w m y)) plain (steady.sites.site m))).state.known_queue.0
-
-      stood : (location_at (place_at w x.thread) m).stands ≡ Some Main
-      stood = in_main (location_at (place_at w x.thread) m).stands (let a : 1 ≤ times x.thread (queue_at w (2 * m)) = subst (λ q. 1 ≤ times x.thread q) (sym first) (member_times x.thread (x ∷ rest) (ap (λ b. b || member x.thread rest) (same x.thread))) in
-          let c : times x.thread (queue_at w (2 * m)) ≡ stood_in (location_at (place_at w x.thread) m).stands Main = steady.stands.lines x.thread m Main in omega arith)
 
       bare : (location_at (place_at w t) m).carries ≡ None
       bare = ap (λ (y : Location). y.carries) location_was
 
       -- another thread
       module _ (other : x.thread ≢ t) where
-        sleeps : SleepsAt m (place_at w x.thread)
-        sleeps = elim (stands_or_sleeps (place_at w x.thread) m (calls_mutex_at w m (place_at w x.thread) (steady.stands.calls x.thread) plain) stood) [
-          | inl within ↦ absurd (other (let a : section_at w (2 * m) ≡ Some x.thread = (steady.stands.sections x.thread m Main).0 within in
-              let b : section_at w (2 * m) ≡ Some t = (steady.stands.sections t m Main).0 (ap (λ (y : Location). y.inside) location_was) in let c : Some x.thread ≡ Some t = sym a ∙ b in cc))
-          | inr asleep ↦ asleep
-        ]
-
         not_self : member t (x ∷ []) ≡ false
         not_self = rw (differ x.thread t other) refl
 
@@ -187,11 +159,11 @@ module _ (w : State) (t l m : ℕ) (timed : Bool) (steady : IsInductive w) (here
         place_then = get_or-set_other w.places x.thread t (next_place (place_at w x.thread) (TakenBy t)) Idle (λ e. other (sym e)) ∙ is
 
         takes_another : FitsBy (x ∷ rest) → KeptBy (x ∷ rest) s
-        takes_another fits = subst (λ p. FitsItsLock w (next_place p (Took true none_left)) → Goes w (put (after (x ∷ rest)) t (next_place p (Took true none_left))) m (acts t takes_it)) (sym place_then)
-            (λ fits. first_goes w t m steady here (then_at s true none_left (next_there true none_left)) (alike s true none_left (next_there true none_left)) fits plain line x rest first wants stood sleeps bare
+        takes_another fits = subst (λ p. FitsItsLock w (next_place p (Took true none_left)) → Goes w (put (after (x ∷ rest)) t (next_place p (Took true none_left))) m (acts t (takes_it w m steady plain x rest first))) (sym place_then)
+            (λ fits. first_goes w m steady plain x rest first t here (then_at s true none_left (next_there true none_left)) (alike s true none_left (next_there true none_left)) fits line (first_sleeps w m steady plain x rest first t other (ap (λ (y : Location). y.inside) location_was)) bare
             (location_then s true none_left (next_there true none_left) ∙ next_beside none_left ∙ sym (ap (λ (y : Location). record y { carries = Some false }) location_was) ∙ sym (ap (λ b. record (behind_take t b (location_at (place_at w t) m)) { carries = Some false }) not_self))
             (taken_then s true none_left (next_there true none_left) ∙ next_taken none_left ∙ sym taken_was ∙ sym (ap (λ b. if b then taken_at (next_place (place_at w t) (TakenBy t)) m else taken_at (place_at w t) m) not_self))
-            needed (does_then s true none_left (next_there true none_left) ∙ sym does)) fits
+            follows_first.needed (follows_first.role ∙ sym (does_then s true none_left (next_there true none_left)))) fits
 
   -- ---------------------------------------------------------------- it takes itself
 
@@ -239,18 +211,18 @@ module _ (w : State) (t l m : ℕ) (timed : Bool) (steady : IsInductive w) (here
     own_does false = refl
 
     takes_itself : FitsBy (x ∷ rest) → KeptBy (x ∷ rest) stands.Moved
-    takes_itself fits = subst (λ p. FitsItsLock w (next_place p (Took true nobody_left)) → Goes w (put (after (x ∷ rest)) t (next_place p (Took true nobody_left))) m (acts t (takes_it stands.Moved is x rest first))) (sym own_place)
-        (λ fits. first_goes w t m steady here (then_at stands.Moved is (stands.InHand t) true nobody_left (own_there nobody_left)) (alike stands.Moved is (stands.InHand t) true nobody_left (own_there nobody_left)) fits plain line x rest first
-        (wants stands.Moved is x rest first) (stood stands.Moved is x rest first) own_sleeps (bare stands.Moved is x rest first)
+    takes_itself fits = subst (λ p. FitsItsLock w (next_place p (Took true nobody_left)) → Goes w (put (after (x ∷ rest)) t (next_place p (Took true nobody_left))) m (acts t (takes_it w m steady plain x rest first))) (sym own_place)
+        (λ fits. first_goes w m steady plain x rest first t here (then_at stands.Moved is (stands.InHand t) true nobody_left (own_there nobody_left)) (alike stands.Moved is (stands.InHand t) true nobody_left (own_there nobody_left)) fits line
+        own_sleeps (bare stands.Moved is x rest first)
         (location_then stands.Moved is (stands.InHand t) true nobody_left (own_there nobody_left) ∙ own_beside nobody_left ∙ sym (ap (λ (y : Location). record (behind_take t true y) { carries = Some false }) (location_was stands.Moved is))
         ∙ sym (ap (λ b. record (behind_take t b (location_at (place_at w t) m)) { carries = Some false }) own_member))
         (taken_then stands.Moved is (stands.InHand t) true nobody_left (own_there nobody_left) ∙ own_taken nobody_left ∙ sym (taken_beside l m apart (At (waits (taking (stands.InHand t)))) refl)
         ∙ sym (ap (λ q. taken_at q m) taken_place) ∙ sym (ap (λ b. if b then taken_at (next_place (place_at w t) (TakenBy t)) m else taken_at (place_at w t) m) own_member))
-        (needed stands.Moved is x rest first) (does_then stands.Moved is (stands.InHand t) true nobody_left (own_there nobody_left) ∙ own_does nobody_left ∙ sym (does stands.Moved is x rest first))) fits
+        (follows_first stands.Moved is x rest first).needed ((follows_first stands.Moved is x rest first).role ∙ sym (does_then stands.Moved is (stands.InHand t) true nobody_left (own_there nobody_left) ∙ own_does nobody_left))) fits
 
   pub moved_first : (s : Stands) → place_at w t ≡ Condvar l (waits (taking s)) → (x : Waiter) (rest : List Waiter)
       → queue_at w (2 * m) ≡ x ∷ rest → x.thread ≡ t → s ≡ stands.Moved
-  moved_first s is x rest e itself = moved_so s (sym (ap (λ (y : Location). y.stands) (location_was s is)) ∙ sym (ap (λ u. (location_at (place_at w u) m).stands) itself) ∙ stood s is x rest e)
+  moved_first s is x rest e itself = moved_so s (sym (ap (λ (y : Location). y.stands) (location_was s is)) ∙ sym (ap (λ u. (location_at (place_at w u) m).stands) itself) ∙ first_stands w m steady plain x rest e)
 
   -- ---------------------------------------------------------------- whoever it takes
 

@@ -1,6 +1,6 @@
 -- A thread at a place, between steps: the section that it is inside, the lines in which it stands, and its
 -- rights.
-use Rattle.std.proofs.Common.{ℕ, Bool, true, false, Option, Some, None, if◌then◌else◌, ◌==◌, ◌≡◌, ◌*◌, ◌≤◌, ◌<◌, [], get_or, map, refl, sym, ◌∙◌, ap}
+use Rattle.std.proofs.Common.{ℕ, Bool, true, false, Option, Some, None, if◌then◌else◌, ◌==◌, ◌≡◌, ◌*◌, [], get_or, map, refl, sym, ◌∙◌, ap}
 use Rattle.std.proofs.Math.ListN.{get_or-map}
 use Rattle.core_base.specs.declared.wants.Want.TheVariants.{Exclusive}
 use Rattle.core_base.specs.Lines.{without, times}
@@ -18,7 +18,8 @@ use Rattle.lot_laws.specs.Locations.{hand, location, location_at, role_on}
 use Rattle.lot_laws.specs.SitesOf.{IsInductive, FitsItsLock, rules_in, carried_at, hand_at, stood_in}
 use Rattle.lot_laws.proofs.hands.Counts.{without_absent}
 use Rattle.lot_laws.proofs.machine.Parts.{IsSingle, same, role_here, nothing_at, untaken}
-use Rattle.lot_laws.proofs.mutex.Words.{mutex, queued_times}
+use Rattle.lot_laws.proofs.machine.Parts.{mutex}
+use Rattle.lot_laws.proofs.sites.OneStep.{queued_times}
 use Rattle.lot_laws.proofs.sites.StandsMoved.{mutex_rules}
 use Rattle.lot_laws.proofs.promises.SitesPromise.{coded_at}
 

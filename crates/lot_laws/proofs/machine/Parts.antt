@@ -42,7 +42,7 @@ use Rattle.spec_locks.specs.Sites.{Role, Site, Out, idle, leaves, wakened, after
 use Rattle.lot_machine.specs.Machine.{State, place_at, kind_at, word_at, owners_at, shares_at, filled_at, queue_at, place_after_telling, held, shares_in_hand, with_share, shares_given, wants_more_in_hand, successor_or, successor_from, put, held_by}
 use Rattle.lot_machine.specs.declared.hands.Successor.{Successor}
 use Rattle.lot_laws.specs.Refinement.{lock_seen, taken_at}
-use Rattle.lot_laws.specs.MutexDeeds.{mutex_location}
+use Rattle.lot_laws.specs.MutexDeeds.{mutex_location, mutex_role}
 use Rattle.lot_laws.specs.Locations.{Location, hand, location, location_at, nowhere, role_on, location_by}
 use Rattle.lot_laws.specs.SitesOf.{rules_in, hand_at, FitsItsLock, IsInductive, TakesOne}
 
@@ -538,6 +538,9 @@ inside_is p l = which (calls p l) (is_lock l (beside_of p))
     which true c = refl
     which false true = refl
     which false false = refl
+
+pub own_role : (l : ℕ) (q : Place) (at : MutexPlace) → q ≡ Mutex l at → role_on q l ≡ mutex_role at
+own_role l q at is = ap (λ x. role_on x l) is ∙ role_here l (Mutex l at) refl
 
 pub own_stance : (l : ℕ) (q : Place) (at : MutexPlace) → q ≡ Mutex l at → location_at q l ≡ mutex_location at
 own_stance l q at is = ap (λ x. location_at x l) is ∙ location_here l (Mutex l at) refl

@@ -1,5 +1,5 @@
 -- A mutex's steps that take its first waiter, hand the mutex over, or let go whom they have in hand: what they do to the lock, by what befalls the other thread.
-use Rattle.std.proofs.Common.{ℕ, Bool, true, false, Some, None, if◌then◌else◌, ◌≡◌, ◌≢◌, ◌*◌, ◌<◌, List, [], ◌∷◌, length, drop, map, inl, inr, refl, sym, ◌∙◌, ap, subst, arith, length-set, get_or-set_same, get_or-set_other}
+use Rattle.std.proofs.Common.{ℕ, Bool, true, false, Some, None, if◌then◌else◌, Option, ◌==◌, ◌⊎◌, ◌≡◌, ◌≢◌, ◌*◌, ◌<◌, List, [], ◌∷◌, length, drop, map, inl, inr, refl, sym, ◌∙◌, ap, subst, arith, length-set, get_or-set_same, get_or-set_other}
 use Rattle.spec_locks.specs.Picks.{queued_of}
 use Rattle.lot_laws.specs.MutexDeeds.{acts}
 use Rattle.lot_laws.specs.Locations.{location_at}
@@ -7,6 +7,7 @@ use Rattle.lot_laws.proofs.machine.Parts.{put_places}
 use Rattle.spec_locks.specs.Locks.{IsLockState}
 use Rattle.std.proofs.lemmas.Bool.{cases_eq}
 use Rattle.core_base.specs.declared.wants.Waiter.{Waiter}
+use Rattle.core_base.specs.declared.wants.Want.{Want}
 use Rattle.core_base.specs.declared.wants.Want.TheVariants.{Exclusive}
 use Rattle.core_base.specs.declared.notes.Note.TheVariants as note
 use Rattle.steps_base.specs.declared.owners.Owners.{Owners}
@@ -18,25 +19,29 @@ use Rattle.steps_base.specs.declared.acts.Reply.TheVariants.{Woken, TakenBy, Han
 use Rattle.std.proofs.Math.Bool.{or-false}
 use Rattle.steps_mutex.specs.MutexSteps.{is_parked}
 use Rattle.lot_steps.specs.Steps.{next_place}
-use Rattle.spec_locks.specs.Locks.{Rules, TakeFirst, keep_from, let_go, putting}
+use Rattle.spec_locks.specs.Locks.{IsSuccessor, IsTaken, Knows, KnowsAll, Queued, Rules, TakeFirst, Taken, keep_from, let_go, putting}
 use Rattle.steps_base.specs.Owners.{with_exclusive}
 use Rattle.spec_locks.specs.Locks as locks
-use Rattle.spec_locks.specs.Sites.{Has, Site, Main, Begin, Mark, Clear, Case, wakened}
+use Rattle.spec_locks.specs.Sites.{Has, Deed, Site, Main, Begin, Mark, Clear, Case, wakened}
 use Rattle.lot_machine.specs.Machine.{held}
-use Rattle.lot_laws.specs.Refinement.{lock_seen, taken_at}
+use Rattle.lot_laws.specs.Refinement.{lock_seen, lock_state, taken_at}
 use Rattle.lot_laws.specs.MutexDeeds.{Act, mutex_location, queued}
 use Rattle.lot_laws.specs.Locations.{hand, nowhere, role_on}
 use Rattle.lot_laws.specs.SitesOf.{after_acts, hand_at, Hands}
 use Rattle.lot_laws.proofs.machine.Parts.{mutex, Base, seen, LetGo, untaken, put_here, put_other, same, differ}
 use Rattle.lot_laws.proofs.hands.Handed.{handed_is, heir}
 use Rattle.core_base.specs.Lines.{times, threads_of}
-use Rattle.lot_machine.specs.Machine.{State, filled_at, place_at, places_told, put, queue_at, queues_without_first, state_after_reply}
+use Rattle.lot_machine.specs.Machine.{State, place_at, section_at, places_told, put, queue_at, queues_without_first, state_after_reply}
 use Rattle.lot_machine.proofs.QueueLemmas.{told_count}
 use Rattle.lot_laws.proofs.sites.StandsKept.{AlikeBeside}
 use Rattle.lot_laws.proofs.sites.Following.{lock_by}
 use Rattle.lot_laws.proofs.sites.TakesAt.{IsTakenAt, SplitsAt, behind_take, member, told_by, told_places, take_goes, only_member}
-use Rattle.lot_laws.specs.SitesOf.{locations_of, ActsNeeded, AreWaiting, FitsItsLock, Goes, IsInductive, rules_in}
-use Rattle.lot_laws.proofs.mutex.Waiters.{CallsMutex, IsHeldThere, SleepsAt, WasGivenThere, held_there}
+use Rattle.lot_laws.specs.SitesOf.{locations_of, AreWaiting, FitsItsLock, Goes, IsInductive, rules_in, stood_in}
+use Rattle.lot_laws.proofs.sites.OneStep.{noted}
+use Rattle.lot_laws.proofs.sites.StandsKept.{in_main}
+use Rattle.lot_laws.proofs.sites.StandsMoved.{takes_one}
+use Rattle.spec_locks.specs.Deeds as laws
+use Rattle.lot_laws.proofs.mutex.Waiters.{CallsMutex, IsHeldThere, SleepsAt, WasGivenThere, calls_mutex_at, held_there, stands_or_sleeps}
 
 -- a thread that was taken is woken and tries again
 pub tries : (l t : ℕ) (p : Place) → IsHeldThere l t p → LetGo t l p (next_place p (Woken note.Normal))
@@ -54,48 +59,108 @@ accepts l t by p given = record {
 
 -- ---------------------------------------------------------------- the first of the line is taken
 
--- for each taker, in any call, and each thread taken: itself too
-module _ (w : State) (t l : ℕ) (steady : IsInductive w) (there : t < length w.places) (p2 : Place)
-    (beside : AlikeBeside l (place_at w t) p2) (fits : FitsItsLock w p2) (rules : rules_in w l ≡ mutex)
-    (line : 2 * l < length w.queues)
-    (x : Waiter) (rest : List Waiter) (first : queue_at w (2 * l) ≡ x ∷ rest) (wants : x.want ≡ Exclusive) (stood : (location_at (place_at w x.thread) l).stands ≡ Some Main) (sleeps : SleepsAt l (place_at w x.thread)) where
-  abbrev pub taken_state : State
-  taken_state = put (state_after_reply (record w { queues = queues_without_first w.queues (2 * l) }) x.thread (TakenBy t)) t p2
+-- a thread that waits for a mutex waits for all of it
+exclusive_wanted : (x : Want) → Knows locks.Mutex x → x ≡ Exclusive
+exclusive_wanted Exclusive k = refl
+exclusive_wanted x k = absurd k
 
-  first_sleeps : IsTakenAt w t l Main (place_at w x.thread)
-  first_sleeps = let k = sleeps.taken t in record { stands = stood; unheld = sleeps.free; goes = k.location; alike = k.others; role = k.role; fits = k.fits tt w (steady.stands.calls x.thread) }
+module _ (w : State) (l : ℕ) (steady : IsInductive w) (rules : rules_in w l ≡ mutex) (x : Waiter) (rest : List Waiter)
+    (first : queue_at w (2 * l) ≡ x ∷ rest) where
+  abbrev r : Rules
+  r = rules_in w l
 
-  splits : SplitsAt w t l Main (x ∷ []) rest
-  splits = record {
-    counts = λ u. let a : times u (queue_at w (2 * l)) ≡ times u (x ∷ rest) = ap (times u) first in omega arith;
-    sleeps = λ u h. subst (λ j. IsTakenAt w t l Main (place_at w j)) (only_member x u h) first_sleeps;
-    lefts = (subst (AreWaiting (locations_of (place_at w)) l Main) first (steady.stands.waits l Main)).1;
-    wants = ((sleeps.taken t).taken ∙ (λ i. Some (record { by = t; want = sym wants i })), tt);
-  }
+  abbrev here : Site
+  here = lock_by w l r
 
-  threads : length taken_state.places ≡ length w.places
-  threads = length-set (places_told (TakenBy t) (threads_of (x ∷ [])) w.places) t p2 ∙ told_count (TakenBy t) (threads_of (x ∷ [])) w.places
+  abbrev pub takes_it : List Deed
+  takes_it = Case (TakeFirst (queued x.thread)) ∷ []
 
-  places : place_at taken_state ≡ putting (told_by (TakenBy t) (x ∷ []) (place_at w)) t p2
-  places = put_places (state_after_reply (record w { queues = queues_without_first w.queues (2 * l) }) x.thread (TakenBy t)) t p2 (λ h. absurd (let n : length (places_told (TakenBy t) (threads_of (x ∷ [])) w.places) ≡ length w.places = told_count (TakenBy t) (threads_of (x ∷ [])) w.places in omega arith))
-      ∙ ap (λ (f : ℕ → Place). putting f t p2) (told_places (TakenBy t) (x ∷ []) w.places)
+  wants : x.want ≡ Exclusive
+  wants = exclusive_wanted x.want (let known : KnowsAll locks.Mutex (map queued_of (x ∷ rest)) = subst (λ (q : List Waiter). KnowsAll locks.Mutex (map queued_of q)) first (subst (λ s. KnowsAll s here.lock.queue) (ap (λ (y : Rules). y.sort) rules) (steady.sites.site l).state.known_queue) in known.0)
 
-  same_one : member x.thread (x ∷ []) ≡ true
-  same_one = rw (same x.thread) refl
+  pub first_stands : (location_at (place_at w x.thread) l).stands ≡ Some Main
+  first_stands = in_main (location_at (place_at w x.thread) l).stands (let a : times x.thread (queue_at w (2 * l)) ≡ stood_in (location_at (place_at w x.thread) l).stands Main = steady.stands.lines x.thread l Main in
+      let b : times x.thread (queue_at w (2 * l)) ≡ times x.thread (x ∷ rest) = ap (times x.thread) first in
+      let c : ◌≡◌ {A = ℕ} (if x.thread == x.thread then 1 else 0) 1 = ap (λ (b : Bool). if b then 1 else 0) (same x.thread) in omega arith)
 
-  pub first_goes : (location_at (place_at w t) l).carries ≡ None → location_at p2 l ≡ record (behind_take t (member t (x ∷ [])) (location_at (place_at w t) l)) { carries = Some false }
-      → taken_at p2 l
-      ≡ (if member t (x ∷ []) then taken_at (next_place (place_at w t) (TakenBy t)) l else taken_at (place_at w t) l)
-      → ActsNeeded mutex (acts t (Case (TakeFirst (queued x.thread)) ∷ [])) (lock_by w l mutex)
-      → role_on p2 l ≡ (after_acts mutex (acts t (Case (TakeFirst (queued x.thread)) ∷ [])) (lock_by w l mutex)).role t
-      → Goes w taken_state l (acts t (Case (TakeFirst (queued x.thread)) ∷ []))
-  first_goes bare now own_taken needed own_is = take_goes w t l steady there p2 beside fits Main (x ∷ []) rest splits
-      (λ one u v h g. sym (only_member x u h) ∙ only_member x v g) bare (Some false) now mutex rules own_taken taken_state refl refl refl threads places
-      (get_or-set_same w.queues (2 * l) (drop 1 (queue_at w (2 * l))) [] line ∙ ap (drop 1) first) (λ key ne. get_or-set_other w.queues (2 * l) key (drop 1 (queue_at w (2 * l))) [] ne)
-      (λ b e. let g : false ≡ b = cc in (sym g, (x.thread, same_one))) (λ u h. refl)
-      (Case (TakeFirst (queued x.thread))) (tt, tt) ((λ h. h), tt) needed
-      (λ i. record (lock_by w l mutex).lock { queue = sym (ap (λ (q : List Waiter). drop 1 (map queued_of q)) first) i; taken = locks.taking t (record { thread = x.thread; want = wants i } ∷ []) (λ u. taken_at (place_at w u) l) })
-      refl refl (sym (or-false (filled_at w l))) own_is
+  -- asleep, where another thread is inside the section
+  pub first_sleeps : (t : ℕ) → x.thread ≢ t → (location_at (place_at w t) l).inside ≡ Some Main → SleepsAt l (place_at w x.thread)
+  first_sleeps t other inside = elim (stands_or_sleeps (place_at w x.thread) l (calls_mutex_at w l (place_at w x.thread) (steady.stands.calls x.thread) rules) first_stands) [
+    | inl within ↦ absurd (other (let a : section_at w (2 * l) ≡ Some x.thread = (steady.stands.sections x.thread l Main).0 within in
+        let b : section_at w (2 * l) ≡ Some t = (steady.stands.sections t l Main).0 inside in let c : Some x.thread ≡ Some t = sym a ∙ b in cc))
+    | inr asleep ↦ asleep
+  ]
+
+  -- by each taker, in any call, and each thread taken: itself too
+  module _ (t : ℕ) (there : t < length w.places) (p2 : Place) (beside : AlikeBeside l (place_at w t) p2) (fits : FitsItsLock w p2)
+      (line : 2 * l < length w.queues) (sleeps : SleepsAt l (place_at w x.thread)) where
+    abbrev taken_state : State
+    taken_state = put (state_after_reply (record w { queues = queues_without_first w.queues (2 * l) }) x.thread (TakenBy t)) t p2
+
+    at_line : IsTakenAt w t l Main (place_at w x.thread)
+    at_line = let k = sleeps.taken t in record { stands = first_stands; unheld = sleeps.free; goes = k.location; alike = k.others; role = k.role; fits = k.fits tt w (steady.stands.calls x.thread) }
+
+    splits : SplitsAt w t l Main (x ∷ []) rest
+    splits = record {
+      counts = λ u. let a : times u (queue_at w (2 * l)) ≡ times u (x ∷ rest) = ap (times u) first in omega arith;
+      sleeps = λ u h. subst (λ j. IsTakenAt w t l Main (place_at w j)) (only_member x u h) at_line;
+      lefts = (subst (AreWaiting (locations_of (place_at w)) l Main) first (steady.stands.waits l Main)).1;
+      wants = ((sleeps.taken t).taken ∙ (λ i. Some (record { by = t; want = sym wants i })), tt);
+    }
+
+    threads : length taken_state.places ≡ length w.places
+    threads = length-set (places_told (TakenBy t) (threads_of (x ∷ [])) w.places) t p2 ∙ told_count (TakenBy t) (threads_of (x ∷ [])) w.places
+
+    places : place_at taken_state ≡ putting (told_by (TakenBy t) (x ∷ []) (place_at w)) t p2
+    places = put_places (state_after_reply (record w { queues = queues_without_first w.queues (2 * l) }) x.thread (TakenBy t)) t p2 (λ h. absurd (let n : length (places_told (TakenBy t) (threads_of (x ∷ [])) w.places) ≡ length w.places = told_count (TakenBy t) (threads_of (x ∷ [])) w.places in omega arith))
+        ∙ ap (λ (f : ℕ → Place). putting f t p2) (told_places (TakenBy t) (x ∷ []) w.places)
+
+    same_one : member x.thread (x ∷ []) ≡ true
+    same_one = rw (same x.thread) refl
+
+    pub first_goes : (location_at (place_at w t) l).carries ≡ None → location_at p2 l ≡ record (behind_take t (member t (x ∷ [])) (location_at (place_at w t) l)) { carries = Some false }
+        → taken_at p2 l
+        ≡ (if member t (x ∷ []) then taken_at (next_place (place_at w t) (TakenBy t)) l else taken_at (place_at w t) l)
+        → laws.AllNeeded r takes_it here t → (laws.after_all r takes_it here t).role t ≡ role_on p2 l
+        → Goes w taken_state l (acts t takes_it)
+    first_goes bare now own_taken needed role = take_goes w t l steady there p2 beside fits Main (x ∷ []) rest splits
+        (λ one u v h g. sym (only_member x u h) ∙ only_member x v g) bare (Some false) now r refl own_taken taken_state refl refl refl threads places
+        (get_or-set_same w.queues (2 * l) (drop 1 (queue_at w (2 * l))) [] line ∙ ap (drop 1) first) (λ key ne. get_or-set_other w.queues (2 * l) key (drop 1 (queue_at w (2 * l))) [] ne)
+        (λ b e. let g : false ≡ b = cc in (sym g, (x.thread, same_one))) (λ u h. refl)
+        (Case (TakeFirst (queued x.thread))) (tt, tt) ((λ h. h), tt) (needed.0, tt)
+        (λ i. record here.lock { queue = sym (ap (λ (q : List Waiter). drop 1 (map queued_of q)) first) i; taken = locks.taking t (record { thread = x.thread; want = wants i } ∷ []) (λ u. taken_at (place_at w u) l) })
+        refl refl (noted r here (steady.sites.site l)) (sym role)
+
+-- ---------------------------------------------------------------- the one in hand is the heir
+
+abbrev thread_of : Option Queued → ℕ
+thread_of None = 0
+thread_of (Some q) = q.thread
+
+abbrev want_of : Option Queued → Want
+want_of None = Exclusive
+want_of (Some q) = q.want
+
+module _ (w : State) (t l u : ℕ) (steady : IsInductive w) (rules : rules_in w l ≡ mutex) (held : hand_at (place_at w u) l ≡ hand t false) where
+  hand_is : IsHeldThere l t (place_at w u)
+  hand_is = held_there (place_at w u) t l (calls_mutex_at w l (place_at w u) (steady.stands.calls u) rules) held
+
+  -- only that one is in hand
+  only_one : (y : ℕ) (x : Want) → IsTaken (lock_state w l) t y x → (y ≡ u) × (x ≡ Exclusive)
+  only_one y x h = (by_hand (cases_eq y u), exclusive_wanted x ((subst (λ r. IsLockState r (lock_state w l)) rules (steady.sites.site l).state).known_taken y (record { by = t; want = x }) h))
+    where
+      by_hand : ((y ≡ u) ⊎ (y ≢ u)) → y ≡ u
+      by_hand (inl e) = e
+      by_hand (inr ne) = absurd (let none : keep_from t (taken_at (place_at w y) l) ≡ taken_at (place_at w y) l = untaken (place_at w y) t l (λ g. ne (steady.stands.hands.alone t l u y false false (takes_one w l rules) held g)) in
+          let g : keep_from t (Some (record { by = t; want = x })) ≡ Some (record { by = t; want = x }) = rw h at none in let f : ◌≡◌ {A = Option Taken} None (Some (record { by = t; want = x })) = rw (same t) at g in cc)
+
+  pub hands_to : IsSuccessor (lock_state w l) t (Some (queued u))
+  hands_to y x = (
+    λ e. let a : u ≡ y = ap (λ (q : Option Queued). thread_of q) e in let b : Exclusive ≡ x = ap (λ (q : Option Queued). want_of q) e in rw (← a, ← b) (hand_is.was, λ h. cc),
+    λ h. let a = only_one y x h.0 in λ j. Some (record { thread = sym a.0 j; want = sym a.1 j }),
+  )
+
+-- ---------------------------------------------------------------- it is handed over
 
 module _ (r : Rules) (l : ℕ) (n : Base) (word : ℕ) (o : Owners) (m s : List Waiter) (p : ℕ → Place) (one : ℕ → Type 0)
     (hands : Hands one p) (single : one l) (mutexes : (x : ℕ) → CallsMutex l (p x)) (t u : ℕ) (alone bumps none_left : Bool)

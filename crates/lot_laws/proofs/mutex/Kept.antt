@@ -1,5 +1,5 @@
 -- A thread goes on: every lock is a site again. Here a call of a mutex.
-use Rattle.std.proofs.Common.{ℕ, Bool, true, false, Option, Some, None, if◌then◌else◌, ◌==◌, ◌≡◌, ◌≢◌, ◌+◌, ◌*◌, ◌<◌, ◌⊎◌, List, [], ◌∷◌, ◌++◌, length, map, drop, is_none, inl, inr, refl, sym, ◌∙◌, ap, subst, arith}
+use Rattle.std.proofs.Common.{append-nil, ◌++◌, ℕ, Bool, true, false, Option, Some, None, if◌then◌else◌, ◌==◌, ◌≡◌, ◌≢◌, ◌+◌, ◌*◌, ◌<◌, ◌⊎◌, List, [], ◌∷◌, length, is_none, inl, inr, refl, sym, ◌∙◌, ap, subst, arith}
 use Rattle.core_base.specs.declared.keys.Keys.{Keys}
 use Rattle.core_base.specs.declared.keys.Keys.TheVariants.{One}
 use Rattle.core_base.specs.declared.notes.Note.TheVariants.{Normal, HandOff as HandOffNote}
@@ -8,7 +8,7 @@ use Rattle.core_base.specs.declared.ops.Op.TheVariants as ops
 use Rattle.core_base.specs.declared.wants.Waiter.{Waiter}
 use Rattle.core_base.specs.declared.wants.Want.{Want}
 use Rattle.core_base.specs.declared.wants.Want.TheVariants.{Exclusive}
-use Rattle.core_base.specs.Lines.{first_of, times}
+use Rattle.core_base.specs.Lines.{first_of}
 use Rattle.core_base.specs.Words.{apply}
 use Rattle.steps_base.specs.declared.acts.Act.{Act}
 use Rattle.steps_base.specs.declared.acts.Act.TheVariants as act
@@ -19,23 +19,22 @@ use Rattle.steps_base.specs.declared.acts.Reply.{Reply}
 use Rattle.steps_base.specs.declared.acts.Reply.TheVariants.{Done, Value, Parked, Took, Removed, HandedBy, TakenBy, Late}
 use Rattle.steps_base.specs.declared.acts.Wakes.{Wakes}
 use Rattle.steps_base.specs.declared.acts.Whom.TheVariants as whoms
-use Rattle.steps_base.specs.Acts.{holds, wakes_taken}
+use Rattle.steps_base.specs.Acts.{holds}
 use Rattle.steps_base.specs.Calls.{CallFollows}
-use Rattle.steps_base.specs.Moves.{Accepts, AreLeaving, GoesIn, GoesOut, LeavesLine, Parks, TellsHanded, inside_of, location_of, location_then, row_of}
+use Rattle.steps_base.specs.Moves.{Accepts, GoesIn, GoesOut, LeavesLine, Parks, TellsHanded, inside_of, location_of, location_then, row_of}
 use Rattle.steps_base.specs.Owners.{with_exclusive}
 use Rattle.steps_base.specs.Profiles.{Profile, in_hand}
 use Rattle.steps_base.specs.Locations.{Location}
 use Rattle.spec_locks.specs.Locks.{HasTakenNobody, IsLockState, IsSuccessor, Rules, first_thread, let_go}
 use Rattle.spec_locks.specs.Locks as locks
-use Rattle.spec_locks.specs.Sites.{Case, Clear, Deed, End, FindNobody, In, Line, Main, Mark, MarkBrought, MarkOwned, Site, idle, is_empty}
+use Rattle.spec_locks.specs.Sites.{Case, Clear, Deed, End, In, Line, Main, Mark, MarkBrought, MarkOwned, Site}
 use Rattle.spec_locks.specs.Codes.{aside_in, code}
 use Rattle.spec_locks.specs.Deeds.{case_of}
 use Rattle.spec_locks.specs.Deeds as laws
-use Rattle.spec_locks.specs.Picks.{queued_of}
 use Rattle.steps_mutex.specs.declared.places.MutexPlace.{MutexPlace}
 use Rattle.steps_mutex.specs.declared.places.MutexPlace.TheVariants.{HandOff}
 use Rattle.steps_mutex.specs.declared.hand_off.HandOffAt.TheVariants as hand_off
-use Rattle.steps_mutex.specs.MutexDeeds.{mutex_deeds, queued, take_deeds}
+use Rattle.steps_mutex.specs.MutexDeeds.{mutex_deeds, take_deeds}
 use Rattle.steps_mutex.specs.MutexLaws.{Follows, HandsOverToHeir, IsAt, LeavesMutex, MayHear, heir, mutex_row, next_row, role_next}
 use Rattle.steps_mutex.specs.MutexProfiles.{mutex_late_line}
 use Rattle.steps_mutex.specs.MutexSteps.{hand_off_word, mutex_act, mutex_next, mutex_owners}
@@ -45,33 +44,34 @@ use Rattle.steps_mutex.proofs.MutexTells.{mutex_steps_tell}
 use Rattle.lot_steps.specs.declared.places.Place.{Place}
 use Rattle.lot_steps.specs.declared.places.Place.TheVariants.{Idle, Mutex, RwLock, Once, Condvar, Semaphore}
 use Rattle.lot_steps.specs.Steps.{act_of, mutex_goes, next_place, profile}
-use Rattle.lot_machine.specs.Machine.{State, are_free, can_do, hand_over_told, section_is_free as is_free_in, is_there, owners_at, place_at, put, queue_at, queues_without_first, reply_to, section_at, kind_at, state_after_act, state_after_hand_over, state_after_late_under, state_after_operation, state_after_reply, state_after_taking, unshared_then, word_at}
+use Rattle.lot_machine.specs.Machine.{State, are_free, can_do, hand_over_told, section_is_free as is_free_in, owners_at, place_at, put, queue_at, queues_without_first, reply_to, section_at, kind_at, state_after_act, state_after_hand_over, state_after_late_under, state_after_operation, state_after_reply, unshared_then, word_at}
 use Rattle.lot_machine.specs.Fits.{GivesUpTimed, IsWellFormed, PlaceFits}
 use Rattle.lot_machine.proofs.Shape.{main_key_there, main_line_there}
-use Rattle.lot_laws.specs.Refinement.{lock_state, taken_at}
-use Rattle.lot_laws.specs.MutexDeeds.{acts, claims_of, deeds}
+use Rattle.lot_laws.specs.Refinement.{taken_at}
+use Rattle.lot_laws.specs.MutexDeeds.{Act as OneDeed, acts, claims_of}
+use Rattle.lot_laws.proofs.calls.Events.{AreClaims}
 use Rattle.lot_laws.specs.Locations.{hand, location, location_at}
-use Rattle.lot_laws.specs.SitesOf.{ActsNeeded, AreCounted, FitsItsLock, Goes, IsInductive, after_acts, carried_at, hand_at, is_mutex, key_of, rules_in, stood_in}
+use Rattle.lot_laws.specs.SitesOf.{ActsNeeded, AreCounted, FitsItsLock, Goes, IsInductive, carried_at, hand_at, is_mutex, key_of, rules_in}
 use Rattle.lot_laws.proofs.calls.LockEvents.{Befalls}
 use Rattle.lot_laws.proofs.calls.OtherCalls.{IsCalm, WakesOwn, befalls, befalls_nobody}
 use Rattle.lot_laws.proofs.hands.Handed.{handed_is}
 use Rattle.lot_laws.proofs.hands.Moved.{accepts, tells_handed, told_hears}
 use Rattle.lot_laws.proofs.machine.AtPlaces.{in_no_hand}
-use Rattle.lot_laws.proofs.machine.Parts.{IsOf, IsSingle, base_at, differ, free_of, location_here, mutex, next_of, of_single, own_stance, role_here, same, untaken}
+use Rattle.lot_laws.proofs.machine.Parts.{IsOf, IsSingle, base_at, differ, free_of, location_here, mutex, next_of, of_single, own_stance, role_here, untaken}
 use Rattle.lot_laws.proofs.mutex.Acts.{IsOfWord, OwnedBy, owned_by, works_at}
-use Rattle.lot_laws.proofs.mutex.Hands.{accepts as has_now, first_goes, tries}
-use Rattle.lot_laws.proofs.mutex.Moves.{MutexMoves, StoresNothing, TakesFirst, Works, mutex_acts_move, mutex_hears, mutex_late_move, mutex_move, owner_alone}
-use Rattle.lot_laws.proofs.mutex.Sections.{exclusive_wanted, hands_to}
-use Rattle.lot_laws.proofs.mutex.Waiters.{CallsMutex, IsHeldThere, SleepsAt, WasGivenThere, calls_mutex_at, given_there, held_there, stands_or_sleeps}
+use Rattle.lot_laws.proofs.mutex.Hands.{accepts as has_now, first_goes, first_sleeps, first_stands, hands_to, tries}
+use Rattle.lot_laws.proofs.mutex.Moves.{MutexMoves, StoresNothing, Works, mutex_acts_move, mutex_hears, mutex_late_move, mutex_move, owner_alone}
+use Rattle.lot_laws.proofs.mutex.Waiters.{CallsMutex, IsHeldThere, WasGivenThere, calls_mutex_at, given_there, held_there}
 use Rattle.lot_laws.proofs.once.Kept.{goes_once}
-use Rattle.lot_laws.proofs.rwlock.Kept.{AreCalm, calm_case, handed_calm, left_calm, left_wakes}
+use Rattle.lot_laws.proofs.rwlock.Kept.{AreCalm, calm_case, tells_any, wakes_any}
 use Rattle.lot_laws.proofs.rwlock.Steps.{rwlock_goes_on}
 use Rattle.lot_laws.proofs.semaphore.Kept.{goes_semaphore}
-use Rattle.lot_laws.proofs.sites.ActsKept.{finds_none, lock_by, nobody_goes}
-use Rattle.lot_laws.proofs.sites.MovesKept.{IsFollowed, entered_hears, goes_in, goes_out, leaves_main, left_hears, location_is, needed_by, own_by, parked_hears, parks_or_turns, removed_main, there_is}
-use Rattle.lot_laws.proofs.sites.OneStep.{empty_line}
+use Rattle.lot_laws.proofs.sites.ActsKept.{lock_by}
+use Rattle.lot_laws.proofs.sites.FirstTaken.{TakesFirst}
+use Rattle.lot_laws.proofs.sites.FirstTaken as first
+use Rattle.lot_laws.proofs.sites.MovesKept.{IsFollowed, entered_hears, goes_in, goes_out, leaves_main, left_hears, location_is, parked_hears, parks_or_turns, removed_main, there_is}
 use Rattle.lot_laws.proofs.sites.SitesKept.{go_by, goes_steady, hands_over, one_held}
-use Rattle.lot_laws.proofs.sites.StandsKept.{in_main, own_alike}
+use Rattle.lot_laws.proofs.sites.StandsKept.{own_alike}
 use Rattle.lot_laws.proofs.sites.StandsMoved.{mutex_rules}
 use Rattle.lot_laws.proofs.sites.TakesAt.{behind_take, member}
 use Rattle.lot_laws.proofs.sites.WakesAt.{IsWokenAt}
@@ -107,21 +107,23 @@ takes_calm : (who : Option ℕ) → AreCalm (take_deeds who)
 takes_calm None = tt
 takes_calm (Some u) = tt
 
-wakes_any : (keys : Keys) (hand : Option Bool) (any : Bool) → hand ≡ in_hand any false → (ds : List Deed) → AreLeaving ds
-    → WakesOwn hand (act.Leave keys (wakes_taken any Normal)) (case_of hand ds)
-wakes_any keys hand false f ds h = subst (λ x. IsCalm (case_of x ds)) (sym f) (left_calm ds h)
-wakes_any keys hand true f ds h = inl (f, (refl, ap (λ x. case_of x ds) f ∙ left_wakes ds h))
+-- ---------------------------------------------------------------- the claimant of the mutex behind a step
 
-tells_any : (keys : Keys) (hand : Option Bool) (any : Bool) → hand ≡ in_hand any true → (ds : List Deed) → AreLeaving ds
-    → WakesOwn hand (act.Leave keys (wakes_taken any HandOffNote)) (case_of hand ds)
-tells_any keys hand false f ds h = subst (λ x. IsCalm (case_of x ds)) (sym f) (left_calm ds h)
-tells_any keys hand true f ds h = inr (f, (refl, subst (λ x. IsCalm (case_of x ds)) (sym f) (handed_calm ds h)))
+-- a thread to which it is handed
+abbrev pub claims_at : MutexPlace → Option ℕ → List OneDeed
+claims_at (HandOff bumps (hand_off.Store any none_left)) who = claims_of who
+claims_at p who = []
 
--- no place but the store of a hand-off has the mutex claimed
-deeds_plain : (t : ℕ) (p : MutexPlace) (who : Option ℕ) (told : Reply) → StoresNothing p → deeds t p who told ≡ acts t (mutex_deeds p who told)
-deeds_plain t (HandOff bumps (hand_off.Store any none_left)) who told h = absurd h
-deeds_plain t (HandOff bumps at) who told h = refl
-deeds_plain t p who told h = refl
+pub are_claims : (p : MutexPlace) (who : Option ℕ) → AreClaims (claims_at p who)
+are_claims (HandOff bumps (hand_off.Store any none_left)) None = tt
+are_claims (HandOff bumps (hand_off.Store any none_left)) (Some u) = (tt, tt)
+are_claims (HandOff bumps at) who = tt
+are_claims p who = tt
+
+no_claims : (p : MutexPlace) (who : Option ℕ) → StoresNothing p → claims_at p who ≡ []
+no_claims (HandOff bumps (hand_off.Store any none_left)) who h = absurd h
+no_claims (HandOff bumps at) who h = refl
+no_claims p who h = refl
 
 -- ---------------------------------------------------------------- one thread
 
@@ -182,26 +184,26 @@ module _ (w : State) (t l : ℕ) (at : MutexPlace) (steady : IsInductive w) (sha
   abbrev Then : Place → Act → State
   Then q y = put (state_after_act w t (Mutex l at) y) t (next_place q (reply_to w t y))
 
-  -- it hands the mutex over to its heir, and whom it has in hand is told of it
+  -- it hands the mutex over to its heir, and a waiter in its hand is told of it
   abbrev HandsOn : Place → Act → Option ℕ → Type 0
   HandsOn q y who = (alone : Bool) × (case_at who (reply_to w t y) ≡ Some (locks.HandOff Exclusive (heir who))) × Befalls w (Then q y) t l (HandedBy t alone) × (taken_at (place_at w t) l ≡ None)
 
   -- its deeds as it goes on from a place, what they make of its call, and of those of the others
   pub record GoesFrom (q : Place) (y : Act) : Type 0 where
     pub whom : Option ℕ
-    pub goes : Goes w (Then q y) l (deeds t at whom (reply_to w t y))
+    pub goes : Goes w (Then q y) l (acts t (deeds_of whom (reply_to w t y)) ++ claims_at at whom)
     pub tells : CallFollows r here.lock t l (mutex_row at) (deeds_of whom (reply_to w t y)) (next_row (mutex_next at (reply_to w t y)))
     pub others : WakesOwn (mutex_row at).carries y (case_at whom (reply_to w t y)) ⊎ HandsOn q y whom
     -- and that it is in nobody's hand then
     pub unheld : (location_then (mutex_move at) (reply_to w t y)).hand ≡ None
 
   -- where nobody claims the mutex then
-  plainly : {q : Place} {y : Act} (who : Option ℕ) → deeds t at who (reply_to w t y) ≡ acts t (deeds_of who (reply_to w t y))
+  plainly : {q : Place} {y : Act} (who : Option ℕ) → claims_at at who ≡ []
       → Goes w (Then q y) l (acts t (deeds_of who (reply_to w t y))) → MayHear r here t at who (reply_to w t y) → reply_to w t y ≢ Late
       → (location_then (mutex_move at) (reply_to w t y)).hand ≡ None → WakesOwn (mutex_row at).carries y (case_at who (reply_to w t y)) ⊎ HandsOn q y who → GoesFrom q y
-  plainly {q = q} {y = y} who same_deeds goes hears now unheld others = record {
+  plainly {q = q} {y = y} who none goes hears now unheld others = record {
     whom = who;
-    goes = subst (Goes w (Then q y) l) (sym same_deeds) goes;
+    goes = subst (Goes w (Then q y) l) (sym (append-nil (acts t (deeds_of who (reply_to w t y)))) ∙ ap (λ more. acts t (deeds_of who (reply_to w t y)) ++ more) (sym none)) goes;
     tells = mutex_steps_tell r here t l at who (reply_to w t y) at_now hears now;
     others = others;
     unheld = unheld;
@@ -220,12 +222,12 @@ module _ (w : State) (t l : ℕ) (at : MutexPlace) (steady : IsInductive w) (sha
   word_is = steady.sites.word l
 
   -- one operation on the word
-  on_word : (op : Op) → mutex_act l at ≡ act.Word l op → deeds t at None (Value (word_at w l)) ≡ acts t (deeds_of None (Value (word_at w l)))
+  on_word : (op : Op) → mutex_act l at ≡ act.Word l op → claims_at at None ≡ []
       → MayHear r here t at None (Value (code r here)) → OwnedBy r (deeds_of None (Value (word_at w l))) here t
       → (location_of (mutex_move at)).hand ≡ None → location_then (mutex_move at) (Value (word_at w l)) ≡ location_of (mutex_move at)
       → WakesOwn (mutex_row at).carries (act.Word l op) (case_at None (Value (word_at w l))) ⊎ HandsOn (place_at w t) (act.Word l op) None
       → GoesFrom (place_at w t) (act.Word l op)
-  on_word op e same_deeds may by_owner free goes others = plainly None same_deeds
+  on_word op e none may by_owner free goes others = plainly None none
       (works_at w t l steady there sort_is p2 (own_alike l (place_at w t) p2 own f.of) f.fits (Mutex l at) op lt (deeds_of None (Value (word_at w l))) by_owner refl f.needed
       (f.role ∙ sym (role_here l p2 f.of ∙ ap (λ (y : Profile). y.role) f.row))
       (owner_alone at t (word_at w l) (owners_at w l) ∙ ap (with_exclusive (owners_at w l)) (subst (λ v. (mutex_owners at t v (owners_at w l)).exclusive ≡ (laws.after_all r (deeds_of None (Value v)) here t).lock.exclusive) (sym word_is) leaves.owner))
@@ -252,7 +254,7 @@ module _ (w : State) (t l : ℕ) (at : MutexPlace) (steady : IsInductive w) (sha
       same_location : location p2 ≡ location (place_at w t)
       same_location = there_is w t l steady there own r refl (mutex_move at) same_row None (Value (word_at w l)) p2 f ∙ goes ∙ sym was
 
-  -- whom it has in hand it has taken, or handed the mutex
+  -- a waiter in its hand was taken by it, or handed the mutex
   held_so : (any c b : Bool) → (location_of (mutex_move at)).carries ≡ in_hand any c → (u : ℕ) → hand_at (place_at w u) l ≡ hand t b → b ≡ c
   held_so any c b carries u held = by_any any (sym (ap (λ (y : Location). y.carries) (location_here l (place_at w t) own ∙ location_is w t l steady there own r refl (mutex_move at) same_row) ∙ carries) ∙ steady.stands.hands.taken t u l b held)
     where
@@ -277,10 +279,10 @@ module _ (w : State) (t l : ℕ) (at : MutexPlace) (steady : IsInductive w) (sha
   module _ (nothing : StoresNothing at) where
     simply : {q : Place} {y : Act} (who : Option ℕ) → Goes w (Then q y) l (acts t (deeds_of who (reply_to w t y))) → MayHear r here t at who (reply_to w t y)
         → reply_to w t y ≢ Late → (location_then (mutex_move at) (reply_to w t y)).hand ≡ None → WakesOwn (mutex_row at).carries y (case_at who (reply_to w t y)) → GoesFrom q y
-    simply {q = q} {y = y} who goes hears now unheld own_others = plainly {q = q} {y = y} who (deeds_plain t at who (reply_to w t y) nothing) goes hears now unheld (inl own_others)
+    simply {q = q} {y = y} who goes hears now unheld own_others = plainly {q = q} {y = y} who (no_claims at who nothing) goes hears now unheld (inl own_others)
 
     works : (op : Op) → mutex_act l at ≡ act.Word l op → Works (mutex_move at) (mutex_hears at) → GoesFrom (place_at w t) (act.Word l op)
-    works op e g = on_word op e (deeds_plain t at None (Value (word_at w l)) nothing) (g.may r here t) (owned_by r (deeds_of None (Value (word_at w l))) here t (g.deeds (word_at w l))) g.free (g.goes (word_at w l))
+    works op e g = on_word op e (no_claims at None nothing) (g.may r here t) (owned_by r (deeds_of None (Value (word_at w l))) here t (g.deeds (word_at w l))) g.free (g.goes (word_at w l))
         (inl (calm_by (deeds_of None (Value (word_at w l))) refl (word_calm (deeds_of None (Value (word_at w l))) (g.deeds (word_at w l)))))
 
     into : (keys : Keys) → keys ≡ One (key_of l Main) → are_free w keys ≡ true → GoesIn (mutex_move at) (mutex_hears at) Main Done → GoesFrom (place_at w t) (act.Enter keys)
@@ -295,13 +297,13 @@ module _ (w : State) (t l : ℕ) (at : MutexPlace) (steady : IsInductive w) (sha
     out_of keys wakes e g = subst (λ k. GoesFrom (place_at w t) (act.Leave k wakes)) (sym e) (simply None
         (goes_out w t l steady there own r refl (mutex_move at) same_row (mutex_hears at) Main wakes (next_place (place_at w t) Done) section g (λ h. followed None Done h) (tries_again g.any g.carries))
         (left_hears w t l steady there own r refl (mutex_move at) same_row (mutex_hears at) Main wakes g) (λ x. cc) (ap (λ (y : Location). y.hand) g.goes ∙ g.free)
-        (subst (λ x. WakesOwn (mutex_row at).carries (act.Leave (One (key_of l Main)) x) (case_at None Done)) (sym g.notes) (wakes_any (One (key_of l Main)) (mutex_row at).carries g.any g.carries (deeds_of None Done) g.deeds)))
+        (wakes_any (One (key_of l Main)) wakes (mutex_row at).carries g.any g.notes g.carries (deeds_of None Done) g.deeds))
 
     tells_all : (keys : Keys) (wakes : Wakes) → keys ≡ One (key_of l Main) → TellsHanded (mutex_move at) (mutex_hears at) wakes → GoesFrom (place_at w t) (act.Leave keys wakes)
     tells_all keys wakes e g = subst (λ k. GoesFrom (place_at w t) (act.Leave k wakes)) (sym e) (simply None
         (tells_handed w t l steady there own r refl (mutex_move at) same_row (mutex_hears at) wakes g (next_place (place_at w t) Done) section (followed None Done done) (has_it g.any (ap (λ (y : Location). y.carries) g.was)))
         done (λ x. cc) (ap (λ (y : Location). y.hand) g.goes)
-        (subst (λ x. WakesOwn (mutex_row at).carries (act.Leave (One (key_of l Main)) x) (case_at None Done)) (sym g.notes) (tells_any (One (key_of l Main)) (mutex_row at).carries g.any (ap (λ (y : Location). y.carries) g.was) (deeds_of None Done) g.deeds)))
+        (tells_any (One (key_of l Main)) wakes (mutex_row at).carries g.any g.notes (ap (λ (y : Location). y.carries) g.was) (deeds_of None Done) g.deeds))
       where
         done : MayHear r here t at None Done
         done = told_hears w t l steady there own r refl (mutex_move at) same_row (mutex_hears at) wakes g
@@ -328,107 +330,36 @@ module _ (w : State) (t l : ℕ) (at : MutexPlace) (steady : IsInductive w) (sha
         (leaves_main w t l steady there own r refl (mutex_move at) same_row (mutex_hears at) g (λ b h. followed None (Removed b) h))
         (removed_main w t l steady there own r refl (mutex_move at) same_row (mutex_hears at) g) (λ x. cc) (ap (λ (y : Location). y.hand) (g.goes _)) (calm_by (Case locks.Late ∷ []) (g.deeds _) tt))
 
-    -- the first of the line, if any, is taken
-
-    module _ (g : TakesFirst (mutex_move at) (mutex_hears at)) where
+    -- the first of the line, if there is one
+    module _ (g : TakesFirst take_deeds (mutex_move at) (mutex_hears at)) where
       is_now : location_at (place_at w t) l ≡ inside_of Main
-      is_now = location_here l (place_at w t) own ∙ location_is w t l steady there own r refl (mutex_move at) same_row ∙ g.was
+      is_now = location_here l (place_at w t) own ∙ first.is_now w t l steady there own r refl (mutex_move at) same_row (mutex_hears at) take_deeds line g
 
-      bare : carried_at (place_at w t) l ≡ None
-      bare = ap (λ (y : Location). y.carries) is_now
-
-      nobody : HasTakenNobody (lock_state w l) t
-      nobody = in_no_hand w steady t l (λ h. let e : ◌≡◌ {A = Option Bool} None (Some false) = sym bare ∙ h in cc)
-
-      hand_now : taken_at (place_at w t) l ≡ None
-      hand_now = free_of (place_at w t) l (of_single l (place_at w t) own) (ap (λ (y : Location). y.hand) (sym (location_here l (place_at w t) own) ∙ is_now))
-
-      -- where it is then
-      is_then : (who : Option ℕ) (any none_left : Bool) → Followed who (Took any none_left) → location (next_place (place_at w t) (Took any none_left)) ≡ record (inside_of Main) { carries = in_hand any false }
-      is_then who any none_left f = there_is w t l steady there own r refl (mutex_move at) same_row who (Took any none_left) (next_place (place_at w t) (Took any none_left)) f ∙ g.goes any none_left
-
-      hand_then : (who : Option ℕ) (any none_left : Bool) → Followed who (Took any none_left) → taken_at (next_place (place_at w t) (Took any none_left)) l ≡ None
-      hand_then who any none_left f = free_of (next_place (place_at w t) (Took any none_left)) l (of_single l (next_place (place_at w t) (Took any none_left)) f.of) (ap (λ (y : Location). y.hand) (is_then who any none_left f))
-
-      -- by who waits
-      abbrev told_of : List Waiter → Reply
-      told_of q = Took (is_there (first_of q)) (length (drop 1 q) == 0)
-
-      hears_of : (q : List Waiter) → queue_at w (2 * l) ≡ q → MayHear r here t at (first_of q) (told_of q)
-      hears_of [] e = g.may r here t None false true (record {
-        first = sym (ap (λ (q : List Waiter). first_thread (map queued_of q)) e);
-        some = refl;
-        left = sym (ap (λ (q : List Waiter). is_empty (drop 1 (map queued_of q))) e);
-      }) nobody
-      hears_of (y ∷ rest) e = g.may r here t (Some y.thread) true (length rest == 0) (record {
-        first = sym (ap (λ (q : List Waiter). first_thread (map queued_of q)) e);
-        some = refl;
-        left = sym (empty_line rest) ∙ sym (ap (λ (q : List Waiter). is_empty (drop 1 (map queued_of q))) e);
-      }) nobody
-
-      abbrev KeptBy : List Waiter → Type 0
-      KeptBy q = Goes w (put (state_after_taking (record w { queues = queues_without_first w.queues (2 * l) }) t (first_of q)) t (next_place (place_at w t) (told_of q))) l (acts t (deeds_of (first_of q) (told_of q)))
-
-      abbrev takes_it : Waiter → List Deed
-      takes_it y = Case (locks.TakeFirst (queued y.thread)) ∷ []
-
-      finds_nobody : queue_at w (2 * l) ≡ [] → KeptBy []
-      finds_nobody empty = subst (λ ds. Goes w (put (record w { queues = queues_without_first w.queues (2 * l) }) t p2) l (acts t ds)) (sym (g.deeds None false true))
-          (nobody_goes w t l steady own there r refl p2 f.of f.fits Main (FindNobody Main ∷ []) (λ h. tt) line empty
-          (finds_none w t l steady own there r refl p2 f.of f.fits (hand_now ∙ sym (hand_then None false true f)) Main idle
-          (needed_by w t l steady there own r refl (mutex_move at) same_row None (Took false true) p2 f (FindNobody Main ∷ []) (g.deeds None false true)) (own_by w t l steady there own r refl (mutex_move at) same_row None (Took false true) p2 f (FindNobody Main ∷ []) (g.deeds None false true)))
-          (is_then None false true f ∙ sym is_now ∙ location_here l (place_at w t) own))
+      takes_one : (y : Waiter) (rest : List Waiter) → queue_at w (2 * l) ≡ y ∷ rest → Followed (Some y.thread) (Took true (length rest == 0))
+          → first.KeptBy w t l steady there own r refl (mutex_move at) same_row (mutex_hears at) take_deeds line g (y ∷ rest)
+      takes_one y rest e f = subst (λ ds. Goes w (put (state_after_reply (record w { queues = queues_without_first w.queues (2 * l) }) y.thread (TakenBy t)) t p2) l (acts t ds)) (sym does)
+          (first_goes w l steady rules_are y rest e t there p2 (own_alike l (place_at w t) p2 own f.of) f.fits line (first_sleeps w l steady rules_are y rest e t apart (ap (λ (z : Location). z.inside) is_now)) (ap (λ (z : Location). z.carries) is_now)
+          (location_here l p2 f.of ∙ first.is_then w t l steady there own r refl (mutex_move at) same_row (mutex_hears at) take_deeds line g (Some y.thread) true (length rest == 0) f ∙ sym (λ j. record (behind_take t (not_self j) (is_now j)) { carries = Some false }))
+          (first.hand_then w t l steady there own r refl (mutex_move at) same_row (mutex_hears at) take_deeds line g (Some y.thread) true (length rest == 0) f
+          ∙ sym (ap (λ b. if b then taken_at (next_place (place_at w t) (TakenBy t)) l else taken_at (place_at w t) l) not_self ∙ first.hand_now w t l steady there own r refl (mutex_move at) same_row (mutex_hears at) take_deeds line g))
+          (subst (λ ds. laws.AllNeeded r ds here t) does f.needed) (ap (λ ds. (laws.after_all r ds here t).role t) (sym does) ∙ f.role ∙ sym (role_here l p2 f.of ∙ ap (λ (z : Profile). z.role) f.row)))
         where
           p2 : Place
-          p2 = next_place (place_at w t) (Took false true)
+          p2 = next_place (place_at w t) (Took true (length rest == 0))
 
-          f : Followed None (Took false true)
-          f = followed None (Took false true) (hears_of [] empty)
-
-      takes_one : (y : Waiter) (rest : List Waiter) → queue_at w (2 * l) ≡ y ∷ rest → KeptBy (y ∷ rest)
-      takes_one y rest first = subst (λ ds. Goes w (put (state_after_reply (record w { queues = queues_without_first w.queues (2 * l) }) y.thread (TakenBy t)) t p2) l (acts t ds)) (sym (g.deeds (Some y.thread) true none_left))
-          (first_goes w t l steady there p2 (own_alike l (place_at w t) p2 own f.of) f.fits rules_are line y rest first wants stands sleeps bare
-          (location_here l p2 f.of ∙ is_then (Some y.thread) true none_left f ∙ sym (λ j. record (behind_take t (not_self j) (is_now j)) { carries = Some false }))
-          (hand_then (Some y.thread) true none_left f ∙ sym (ap (λ b. if b then taken_at (next_place (place_at w t) (TakenBy t)) l else taken_at (place_at w t) l) not_self ∙ hand_now))
-          (subst (λ x. ActsNeeded x (acts t (takes_it y)) (lock_by w l x)) rules_are (needed_by w t l steady there own r refl (mutex_move at) same_row (Some y.thread) (Took true none_left) p2 f (takes_it y) (g.deeds (Some y.thread) true none_left)))
-          (own_by w t l steady there own r refl (mutex_move at) same_row (Some y.thread) (Took true none_left) p2 f (takes_it y) (g.deeds (Some y.thread) true none_left) ∙ ap (λ x. (after_acts x (acts t (takes_it y)) (lock_by w l x)).role t) rules_are))
-        where
-          none_left : Bool
-          none_left = length rest == 0
-
-          p2 : Place
-          p2 = next_place (place_at w t) (Took true none_left)
-
-          f : Followed (Some y.thread) (Took true none_left)
-          f = followed (Some y.thread) (Took true none_left) (hears_of (y ∷ rest) first)
-
-          wants : y.want ≡ Exclusive
-          wants = exclusive_wanted y.want (let known : locks.KnowsAll locks.Mutex (map queued_of (y ∷ rest)) = subst (λ (q : List Waiter). locks.KnowsAll locks.Mutex (map queued_of q)) first (subst (λ s. locks.KnowsAll s here.lock.queue) sort_is (steady.sites.site l).state.known_queue) in known.0)
-
-          stands : (location_at (place_at w y.thread) l).stands ≡ Some Main
-          stands = in_main (location_at (place_at w y.thread) l).stands (let a : times y.thread (queue_at w (2 * l)) ≡ stood_in (location_at (place_at w y.thread) l).stands Main = steady.stands.lines y.thread l Main in
-              let b : times y.thread (queue_at w (2 * l)) ≡ times y.thread (y ∷ rest) = ap (times y.thread) first in
-              let c : ◌≡◌ {A = ℕ} (if y.thread == y.thread then 1 else 0) 1 = ap (λ (b : Bool). if b then 1 else 0) (same y.thread) in omega arith)
+          does : deeds_of (Some y.thread) (Took true (length rest == 0)) ≡ take_deeds (Some y.thread)
+          does = g.deeds (Some y.thread) true (length rest == 0)
 
           apart : y.thread ≢ t
-          apart e = let a : (location_at (place_at w t) l).stands ≡ Some Main = subst (λ j. (location_at (place_at w j) l).stands ≡ Some Main) e stands in let b : (location_at (place_at w t) l).stands ≡ None = ap (λ (y : Location). y.stands) is_now in cc
+          apart same_one = let a : (location_at (place_at w t) l).stands ≡ Some Main = subst (λ j. (location_at (place_at w j) l).stands ≡ Some Main) same_one (first_stands w l steady rules_are y rest e) in let b : (location_at (place_at w t) l).stands ≡ None = ap (λ (z : Location). z.stands) is_now in cc
 
           not_self : member t (y ∷ []) ≡ false
           not_self = rw (differ y.thread t apart) refl
 
-          sleeps : SleepsAt l (place_at w y.thread)
-          sleeps = elim (stands_or_sleeps (place_at w y.thread) l (calls_mutex_at w l (place_at w y.thread) (steady.stands.calls y.thread) rules_are) stands) [
-            | inl within ↦ absurd (apart (let a : section_at w (2 * l) ≡ Some y.thread = (steady.stands.sections y.thread l Main).0 within in
-                let b : section_at w (2 * l) ≡ Some t = (steady.stands.sections t l Main).0 (ap (λ (y : Location). y.inside) is_now) in let c : Some y.thread ≡ Some t = sym a ∙ b in cc))
-            | inr asleep ↦ asleep
-          ]
-
-      kept_by : (q : List Waiter) → queue_at w (2 * l) ≡ q → KeptBy q
-      kept_by [] e = finds_nobody e
-      kept_by (y ∷ rest) e = takes_one y rest e
-
-    took : (key : ℕ) → key ≡ key_of l Main → TakesFirst (mutex_move at) (mutex_hears at) → GoesFrom (place_at w t) (act.Take key whoms.First)
-    took key e g = subst (λ j. GoesFrom (place_at w t) (act.Take j whoms.First)) (sym e) (simply (first_of (queue_at w (2 * l))) (kept_by g (queue_at w (2 * l)) refl) (hears_of g (queue_at w (2 * l)) refl) (λ x. cc) (ap (λ (y : Location). y.hand) (g.goes _ _))
+    took : (key : ℕ) → key ≡ key_of l Main → TakesFirst take_deeds (mutex_move at) (mutex_hears at) → GoesFrom (place_at w t) (act.Take key whoms.First)
+    took key e g = subst (λ j. GoesFrom (place_at w t) (act.Take j whoms.First)) (sym e) (simply (first_of (queue_at w (2 * l)))
+        (first.takes_first w t l steady there own r refl (mutex_move at) same_row (mutex_hears at) take_deeds line g refl (λ who any none_left h. followed who (Took any none_left) h) (takes_one g))
+        (first.hears_of w t l steady there own r refl (mutex_move at) same_row (mutex_hears at) take_deeds line g (queue_at w (2 * l)) refl) (λ x. cc) (ap (λ (y : Location). y.hand) (g.goes _ _))
         (calm_by (take_deeds (first_of (queue_at w (2 * l)))) (g.deeds (first_of (queue_at w (2 * l))) _ _) (takes_calm (first_of (queue_at w (2 * l))))))
 
     by_act : (y : Act) → mutex_act l at ≡ y → MutexMoves l (mutex_move at) (mutex_hears at) y → can_do w y ≡ true → GoesFrom (place_at w t) y

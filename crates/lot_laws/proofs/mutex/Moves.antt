@@ -1,5 +1,5 @@
 -- Each step of a mutex takes its thread in the machine where its act says.
-use Rattle.std.proofs.Common.{ℕ, Bool, true, false, Option, Some, None, if◌then◌else◌, ◌==◌, ◌≡◌, ◌+◌, ◌*◌, [], ◌∷◌, inl, inr, refl, subst, not, ◌⊎◌}
+use Rattle.std.proofs.Common.{ℕ, Bool, true, false, Some, None, if◌then◌else◌, ◌==◌, ◌≡◌, ◌+◌, ◌*◌, [], ◌∷◌, inl, inr, refl, subst, not, ◌⊎◌}
 use Rattle.std.specs.Prelude.{◌&&◌}
 use Rattle.core_base.specs.declared.keys.Keys.TheVariants.{One}
 use Rattle.core_base.specs.declared.ops.Op.TheVariants as op
@@ -18,7 +18,7 @@ use Rattle.steps_base.specs.Moves.{Accepts, GoesIn, GoesOut, Hears, LeavesLine, 
 use Rattle.steps_base.specs.Profiles.{in_hand}
 use Rattle.steps_base.specs.Locations.{Location, nowhere, location_by}
 use Rattle.spec_locks.specs.Codes.{code}
-use Rattle.spec_locks.specs.Locks.{HasTakenNobody, Leave, Rules}
+use Rattle.spec_locks.specs.Locks.{Leave, Rules}
 use Rattle.spec_locks.specs.Sites.{Case, End, Line, Main, Mark, Site}
 use Rattle.steps_mutex.specs.declared.lock.Entry.{Entry}
 use Rattle.steps_mutex.specs.declared.lock.Entry.TheVariants as entries
@@ -29,11 +29,11 @@ use Rattle.steps_mutex.specs.declared.places.MutexPlace.{MutexPlace}
 use Rattle.steps_mutex.specs.declared.places.MutexPlace.TheVariants.{Lock, TryLock, Unlock, UnlockFair, Bump, HandOff}
 use Rattle.steps_mutex.specs.MutexDeeds.{enter_deeds, mutex_deeds, take_deeds}
 use Rattle.steps_mutex.specs.MutexLaws.{MayHear, mutex_row, next_row}
-use Rattle.steps_mutex.specs.MutexLaws as laws
 use Rattle.steps_mutex.specs.MutexProfiles.{mutex_late_line}
 use Rattle.steps_mutex.specs.MutexSteps.{entered, in_lock, in_unlock, is_locked, is_parked, mutex_act, mutex_next, mutex_owners}
 use Rattle.lot_machine.specs.Fits.{GivesUpTimed}
 use Rattle.lot_laws.proofs.mutex.Acts.{IsOfWord}
+use Rattle.lot_laws.proofs.sites.FirstTaken.{TakesFirst}
 
 abbrev pub mutex_move : MutexPlace → Move
 mutex_move p = record {
@@ -53,19 +53,10 @@ pub record Works (x : Move) (hears : Hears) : Type 0 where
   pub goes : (seen : ℕ) → location_then x (reply.Value seen) ≡ location_of x
   pub may : (r : Rules) (s : Site) (t : ℕ) → hears r s t None (reply.Value (code r s))
 
--- it takes the first who waits, if there is one
-pub record TakesFirst (x : Move) (hears : Hears) : Type 0 where
-  pub was : location_of x ≡ inside_of Main
-  pub deeds : (whom : Option ℕ) (any none_left : Bool) → x.deeds whom (reply.Took any none_left) ≡ take_deeds whom
-  pub goes : (any none_left : Bool)
-      → location_then x (reply.Took any none_left) ≡ record (inside_of Main) { carries = in_hand any false }
-  pub may : (r : Rules) (s : Site) (t : ℕ) (whom : Option ℕ) (any none_left : Bool) → laws.TakesFirst s whom any none_left → HasTakenNobody s.lock t
-      → hears r s t whom (reply.Took any none_left)
-
 -- by its act, on the one line of a mutex
 abbrev pub MutexMoves : ℕ → Move → Hears → Act → Type 0
 MutexMoves l x hears (act.Word k f) = (k ≡ l) × Works x hears
-MutexMoves l x hears (act.Take key First) = (key ≡ key_of l Main) × TakesFirst x hears
+MutexMoves l x hears (act.Take key First) = (key ≡ key_of l Main) × TakesFirst take_deeds x hears
 MutexMoves l x hears (act.Leave keys wakes) =
     (keys ≡ One (key_of l Main)) × (GoesOut x hears Main wakes ⊎ TellsHanded x hears wakes)
 MutexMoves l x hears (act.Enter keys) = (keys ≡ One (key_of l Main)) × GoesIn x hears Main reply.Done
@@ -174,7 +165,7 @@ mutex_acts_move l (Unlock unlock.Take) timed h = (
     was = refl;
     deeds = λ whom any none_left. refl;
     goes = λ any none_left. by_test (λ n. location_next (in_unlock n) ≡ record (inside_of Main) { carries = in_hand any false }) none_left (At (unlock.Clear any)) (At (unlock.Leave any)) refl refl;
-    may = λ r s t whom any none_left first nobody. (first, nobody);
+    may = λ r s t whom any none_left first some left nobody. (record { first = first; some = some; left = left }, nobody);
   },
 )
 mutex_acts_move l (Unlock (unlock.Clear any)) timed h = (refl, record { free = refl; deeds = λ seen. tt; goes = λ seen. refl; may = λ r s t. refl })
@@ -198,7 +189,7 @@ mutex_acts_move l Bump timed h = (
   },
 )
 mutex_acts_move l (HandOff bumps hand_off.Enter) timed h = (refl, record { out = refl; free = refl; deeds = refl; goes = refl; may = λ r s t free. free })
-mutex_acts_move l (HandOff bumps hand_off.Take) timed h = (refl, record { was = refl; deeds = λ whom any none_left. refl; goes = λ any none_left. refl; may = λ r s t whom any none_left first nobody. (first, nobody) })
+mutex_acts_move l (HandOff bumps hand_off.Take) timed h = (refl, record { was = refl; deeds = λ whom any none_left. refl; goes = λ any none_left. refl; may = λ r s t whom any none_left first some left nobody. (record { first = first; some = some; left = left }, nobody) })
 mutex_acts_move l (HandOff bumps (hand_off.Store any none_left)) timed h = absurd h
 mutex_acts_move l (HandOff true (hand_off.Leave any)) timed h = (refl, inr (record { any = any; notes = refl; was = refl; deeds = tt; goes = refl; may = λ r s t out. out }))
 mutex_acts_move l (HandOff false (hand_off.Leave any)) timed h = (refl, inr (record { any = any; notes = refl; was = refl; deeds = tt; goes = refl; may = λ r s t out. out }))

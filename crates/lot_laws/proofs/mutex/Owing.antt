@@ -1,7 +1,6 @@
 -- A call of a mutex comes to owe a wake by the word that it sees, and by entering the section. An
 -- event that befalls a thread asleep changes nothing of that.
 use Rattle.std.proofs.Common.{ℕ, Bool, true, false, Some, None, if◌then◌else◌, ◌==◌, not, ◌≡◌, ◌*◌, inl, inr, length, drop, refl, sym, ◌∙◌, ap, subst}
-use Rattle.core_base.specs.declared.notes.Note.{Note}
 use Rattle.core_base.specs.declared.notes.Note.TheVariants as note
 use Rattle.core_base.specs.Lines.{first_of}
 use Rattle.spec_locks.specs.declared.calls.MutexCall.{MutexCall}
@@ -45,72 +44,21 @@ use Rattle.spec_locks.specs.Sites.{Line, Second}
 
 -- ---------------------------------------------------------------- effects on another thread
 
-owes_same_lock : (l k : ℕ) (e : _) (r : Bool) (a : LockAt) (t : ℕ)
-    → line_owed (next_place (Mutex l (Lock e r a)) (TakenBy t)) k ≡ line_owed (Mutex l (Lock e r a)) k
-owes_same_lock l k e r lock.Asleep t = refl
-owes_same_lock l k e r lock.First t = refl
-owes_same_lock l k e r a t = refl
-
-befalls_taken : (l : ℕ) (at : MutexPlace) (t k : ℕ) → line_owed (next_place (Mutex l at) (TakenBy t)) k ≡ line_owed (Mutex l at) k
-befalls_taken l (Lock e r a) t k = owes_same_lock l k e r a t
-befalls_taken l TryLock t k = refl
-befalls_taken l (Unlock unlock.Subtract) t k = refl
-befalls_taken l (Unlock a) t k = refl
-befalls_taken l UnlockFair t k = refl
-befalls_taken l Bump t k = refl
-befalls_taken l (HandOff b hand_off.Enter) t k = refl
-befalls_taken l (HandOff b a) t k = refl
-
-befalls_moved : (l : ℕ) (at : MutexPlace) (key k : ℕ)
-    → line_owed (next_place (Mutex l at) (MovedTo key)) k ≡ line_owed (Mutex l at) k
-befalls_moved l (Lock e r lock.First) key k = refl
-befalls_moved l (Lock e r a) key k = refl
-befalls_moved l TryLock key k = refl
-befalls_moved l (Unlock unlock.Subtract) key k = refl
-befalls_moved l (Unlock a) key k = refl
-befalls_moved l UnlockFair key k = refl
-befalls_moved l Bump key k = refl
-befalls_moved l (HandOff b hand_off.Enter) key k = refl
-befalls_moved l (HandOff b a) key k = refl
-
-befalls_handed : (l : ℕ) (at : MutexPlace) (t : ℕ) (alone : Bool) (k : ℕ)
-    → line_owed (next_place (Mutex l at) (HandedBy t alone)) k ≡ line_owed (Mutex l at) k
-befalls_handed l (Lock e r (lock.Taken by)) t alone k = refl
-befalls_handed l (Lock e r lock.First) t alone k = refl
-befalls_handed l (Lock e r a) t alone k = refl
-befalls_handed l TryLock t alone k = refl
-befalls_handed l (Unlock unlock.Subtract) t alone k = refl
-befalls_handed l (Unlock a) t alone k = refl
-befalls_handed l UnlockFair t alone k = refl
-befalls_handed l Bump t alone k = refl
-befalls_handed l (HandOff b hand_off.Enter) t alone k = refl
-befalls_handed l (HandOff b a) t alone k = refl
-
-befalls_woken : (l : ℕ) (at : MutexPlace) (n : Note) (k : ℕ)
-    → line_owed (next_place (Mutex l at) (Woken n)) k ≡ line_owed (Mutex l at) k
-befalls_woken l (Lock e r lock.Asleep) note.Normal k = refl
-befalls_woken l (Lock e r lock.Asleep) note.HandOff k = refl
-befalls_woken l (Lock e r (lock.Taken by)) note.Normal k = refl
-befalls_woken l (Lock e r (lock.Taken by)) note.HandOff k = refl
-befalls_woken l (Lock e r (lock.Handed by)) note.Normal k = refl
-befalls_woken l (Lock e r (lock.Handed by)) note.HandOff k = refl
-befalls_woken l (Lock e r lock.First) n k = refl
-befalls_woken l (Lock e r a) n k = refl
-befalls_woken l TryLock n k = refl
-befalls_woken l (Unlock unlock.Subtract) n k = refl
-befalls_woken l (Unlock a) n k = refl
-befalls_woken l UnlockFair n k = refl
-befalls_woken l Bump n k = refl
-befalls_woken l (HandOff b hand_off.Enter) n k = refl
-befalls_woken l (HandOff b a) n k = refl
-
 -- a thread owes what it owed, with all that befalls it
 pub mutex_befallen : (l : ℕ) (at : MutexPlace) (r : Reply) → Befalls r → (k : ℕ)
     → line_owed (next_place (Mutex l at) r) k ≡ line_owed (Mutex l at) k
-mutex_befallen l at (TakenBy t) b k = befalls_taken l at t k
-mutex_befallen l at (MovedTo key) b k = befalls_moved l at key k
-mutex_befallen l at (HandedBy t alone) b k = befalls_handed l at t alone k
-mutex_befallen l at (Woken n) b k = befalls_woken l at n k
+mutex_befallen l (Lock e retries lock.Asleep) (Woken note.Normal) b k = refl
+mutex_befallen l (Lock e retries lock.Asleep) (Woken note.HandOff) b k = refl
+mutex_befallen l (Lock e retries (lock.Taken by)) (Woken note.Normal) b k = refl
+mutex_befallen l (Lock e retries (lock.Taken by)) (Woken note.HandOff) b k = refl
+mutex_befallen l (Lock e retries (lock.Handed by)) (Woken note.Normal) b k = refl
+mutex_befallen l (Lock e retries (lock.Handed by)) (Woken note.HandOff) b k = refl
+mutex_befallen l (Unlock unlock.Subtract) (TakenBy t) b k = refl
+mutex_befallen l (HandOff bumps hand_off.Enter) (TakenBy t) b k = refl
+mutex_befallen l at (TakenBy t) b k = refl
+mutex_befallen l at (MovedTo key) b k = refl
+mutex_befallen l at (HandedBy t alone) b k = refl
+mutex_befallen l at (Woken note) b k = refl
 mutex_befallen l at r b k = absurd b
 
 -- ---------------------------------------------------------------- the thread of the step

@@ -17,7 +17,7 @@ use Rattle.lot_laws.specs.Owing.{Owes, IsInside, IsWait, ReleasesLock, LetsOther
 use Rattle.lot_laws.specs.Promises.{WakesWaiters, IsKept, IsLookedAfterIn, IsOpenNow}
 use Rattle.steps_base.specs.Rows.{KnowsRights, WakesAside}
 use Rattle.lot_laws.specs.MutexPromises.{HasDebtor, HasReleasedIt, IsShownToOwe, WakesOne, GoesToRelease, SeesParkedBit, IsMutexKept, MutexesAreKept, OwesMutexSince, MutexesOwe}
-use Rattle.lot_laws.proofs.mutex.Words.{mutex}
+use Rattle.lot_laws.proofs.machine.Parts.{mutex}
 use Rattle.lot_laws.proofs.sites.StandsMoved.{mutex_rules}
 use Rattle.lot_laws.proofs.promises.RowPromises.{mutex_tells}
 use Rattle.lot_laws.proofs.promises.SitesPromise.{codes_by}

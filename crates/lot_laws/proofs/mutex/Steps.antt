@@ -35,7 +35,7 @@ use Rattle.lot_machine.specs.Fits.{IsWellFormed}
 use Rattle.lot_machine.proofs.Closures.{mutex_runs_none}
 use Rattle.lot_machine.proofs.Shape.{performed_counts}
 use Rattle.lot_laws.specs.Refinement.{call_state, lock_state, locks_of}
-use Rattle.lot_laws.specs.SitesOf.{Goes, IsInductive, carried_at, rules_in}
+use Rattle.lot_laws.specs.SitesOf.{IsInductive, carried_at, rules_in}
 use Rattle.lot_laws.specs.Locations.{location}
 use Rattle.lot_laws.proofs.machine.AtPlaces.{in_no_hand}
 use Rattle.lot_laws.proofs.calls.Events.{GoesAs, Happens, LeadsTo, OthersFollow, RunsNothing, begins_nothing, goes_by, happens, others_follow, put_is, rights, runs_nothing}
@@ -48,8 +48,7 @@ use Rattle.lot_laws.proofs.machine.PlaceTest.{mutex_row_facts}
 use Rattle.lot_laws.proofs.promises.LineActs.{takes_here}
 use Rattle.lot_laws.proofs.promises.PlacePromises.{waiting_stands}
 use Rattle.lot_laws.proofs.promises.RowPromises.{IsWaiting}
-use Rattle.lot_laws.proofs.mutex.Events.{are_claims, claims_at, deeds_are}
-use Rattle.lot_laws.proofs.mutex.Kept.{GoesFrom, goes_mutex, rules_are, sort_is}
+use Rattle.lot_laws.proofs.mutex.Kept.{GoesFrom, are_claims, claims_at, goes_mutex, rules_are, sort_is}
 use Rattle.lot_laws.proofs.sites.SitesKept.{go_by}
 
 in_line : ◌≡◌ {A = Option Line} (Some Main) None → ⊥
@@ -79,7 +78,7 @@ module _ (w : State) (t l : ℕ) (at : MutexPlace) (steady : IsInductive w) (sha
   case = case_of (mutex_row at).carries (mutex_deeds at kept.whom told)
 
   happened : Happens w behind t (event_by l case)
-  happened = happens w behind t l (mutex_row at).carries (mutex_deeds at kept.whom told) (claims_at at kept.whom told) steady (subst (Goes w behind l) (deeds_are t at kept.whom told) kept.goes) (are_claims at kept.whom told) kept.tells.one
+  happened = happens w behind t l (mutex_row at).carries (mutex_deeds at kept.whom told) (claims_at at kept.whom) steady kept.goes (are_claims at kept.whom) kept.tells.one
       (λ none. in_no_hand w steady t l (λ h. none (sym carries ∙ h)))
 
   others : OthersFollow w behind t (event_by l case)

@@ -1,21 +1,14 @@
--- The word of a mutex, and what a thread does about it by its place.
-use Rattle.std.proofs.Common.{ℕ, Option, if◌then◌else◌, ◌≡◌, ◌+◌, ◌*◌, ◌∙◌, ap}
-use Rattle.lot_steps.specs.declared.places.Place.{Place}
-use Rattle.lot_steps.specs.declared.places.Place.TheVariants.{Mutex}
-use Rattle.steps_mutex.specs.declared.places.MutexPlace.{MutexPlace}
-use Rattle.steps_mutex.specs.MutexSteps.{is_parked}
-use Rattle.spec_locks.specs.Locks.{one_if_some}
-use Rattle.spec_locks.specs.Sites.{idle}
-use Rattle.spec_locks.specs.Codes as codes
-use Rattle.lot_laws.specs.MutexDeeds.{mutex_role}
-use Rattle.lot_laws.specs.Locations.{role_on}
-use Rattle.lot_laws.proofs.machine.Parts.{same}
-pub use Rattle.lot_laws.proofs.machine.Parts.{mutex}
-pub use Rattle.lot_laws.proofs.sites.OneStep.{others_same, meets, queued_behind, queued_times}
+-- The word of a mutex tells its owner.
+use Rattle.std.proofs.Common.{ℕ, true, false, Option, Some, None, ◌≡◌, inl, inr, refl}
+use Rattle.steps_mutex.specs.MutexSteps.{is_locked}
+use Rattle.lot_laws.specs.MutexPromises.{IsMutexWord}
 
--- the word of a lock with this owner
-abbrev pub IsCode : ℕ → Option ℕ → Type 0
-IsCode w o = w ≡ one_if_some o + 2 * codes.bit (is_parked w)
+pub free_word : (v : ℕ) (o : Option ℕ) → IsMutexWord v o → is_locked v ≡ false → o ≡ None
+free_word v None c h = refl
+free_word v (Some u) (inl e) h = let g : is_locked 1 ≡ false = rw e at h in absurd cc
+free_word v (Some u) (inr e) h = let g : is_locked 3 ≡ false = rw e at h in absurd cc
 
-pub own_role : (l : ℕ) (q : Place) (at : MutexPlace) → q ≡ Mutex l at → role_on q l ≡ mutex_role at
-own_role l q at is = ap (λ x. role_on x l) is ∙ ap (λ b. if b then mutex_role at else idle) (same l)
+pub owned_word : (v : ℕ) (o : Option ℕ) → IsMutexWord v o → is_locked v ≡ true → o ≡ None → ⊥
+owned_word v None (inl e) h f = let g : is_locked 0 ≡ true = rw e at h in cc
+owned_word v None (inr e) h f = let g : is_locked 2 ≡ true = rw e at h in cc
+owned_word v (Some u) c h f = cc

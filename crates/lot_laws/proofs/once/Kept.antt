@@ -1,5 +1,5 @@
 -- A thread in a call of a `Once` goes on: every lock is a site again.
-use Rattle.std.proofs.Common.{inl, rules, ℕ, Bool, true, false, Option, Some, None, ◌==◌, ◌≡◌, ◌+◌, ◌*◌, ◌<◌, List, [], ◌∷◌, length, is_none, refl, sym, ◌∙◌, ap, subst, arith}
+use Rattle.std.proofs.Common.{rules, ℕ, Bool, true, false, Option, Some, None, ◌==◌, ◌≡◌, ◌+◌, ◌*◌, ◌<◌, List, [], ◌∷◌, length, is_none, refl, sym, ◌∙◌, ap, subst, arith}
 use Rattle.std.proofs.lemmas.Bool.{eqb-true}
 use Rattle.core_base.specs.declared.keys.Keys.{Keys}
 use Rattle.core_base.specs.declared.keys.Keys.TheVariants.{One}
@@ -18,10 +18,10 @@ use Rattle.steps_base.specs.declared.acts.Reply.{Reply}
 use Rattle.steps_base.specs.declared.acts.Reply.TheVariants.{Done, Value, Parked, Took, Removed, TakenBy, Late, Woken}
 use Rattle.steps_base.specs.declared.acts.Wakes.{Wakes}
 use Rattle.steps_base.specs.declared.acts.Whom.TheVariants as whom
-use Rattle.steps_base.specs.Acts.{holds, wakes_taken}
-use Rattle.steps_base.specs.Moves.{StaysPut, GoesIn, GoesOut, LeavesLine, AreLeaving, RowWaits, row_of}
+use Rattle.steps_base.specs.Acts.{holds}
+use Rattle.steps_base.specs.Moves.{StaysPut, GoesIn, GoesOut, LeavesLine, RowWaits, row_of}
 use Rattle.steps_base.specs.Calls.{IsNotLate}
-use Rattle.steps_base.specs.Profiles.{Profile, in_hand}
+use Rattle.steps_base.specs.Profiles.{Profile}
 use Rattle.steps_base.specs.Owners.{lock_seen}
 use Rattle.spec_locks.specs.Onces.{Rest, TakeAll}
 use Rattle.spec_locks.specs.Locks.{Rules, OfOnce}
@@ -67,7 +67,7 @@ use Rattle.lot_laws.proofs.machine.Parts.{not_beside, IsOf, role_here, free_of, 
 use Rattle.lot_laws.proofs.sites.MovesKept.{IsFollowed, SleepsIfCalls, IsSleeper, entered_hears, goes_in, goes_out, leaves_line, left_hears, removed_hears, wakes_one}
 use Rattle.lot_laws.proofs.once.MovesKept.{all_hears, rests_or_turns, stays_unshared, takes_all, told_so}
 use Rattle.lot_laws.proofs.calls.OtherCalls.{IsCalm, WakesOwn}
-use Rattle.lot_laws.proofs.rwlock.Kept.{left_calm, left_wakes, word_calm, calm_case, AreCalm}
+use Rattle.lot_laws.proofs.rwlock.Kept.{word_calm, calm_case, AreCalm, wakes_any}
 use Rattle.lot_laws.proofs.sites.StandsMoved.{mutex_rules}
 
 -- ---------------------------------------------------------------- rows
@@ -347,13 +347,8 @@ module _ (w : State) (t l : ℕ) (at : OncePlace) (steady : IsInductive w) (shap
   out_of m keys wakes e g = subst (λ k. GoesFrom (place_at w t) (act.Leave k wakes)) (sym e) (record {
     goes = goes_out w t l steady there own (rules_in w l) refl (once_move at) same_row (once_hears at) m wakes (next_place (place_at w t) Done) (section_there m) g (λ h. followed Done h) (wakes_one w t l steady there own (rules_in w l) refl (once_move at) same_row asleep g.any g.carries);
     tells = tells_by Done tt (left_hears w t l steady there own (rules_in w l) refl (once_move at) same_row (once_hears at) m wakes g);
-    others = subst (λ x. WakesOwn ((once_profile at).carries) (act.Leave (One (key_of l m)) x) (case_of ((once_profile at).carries) (once_deeds at Done))) (sym g.notes) (wakes_any ((once_profile at).carries) g.any g.carries (once_deeds at Done) g.deeds);
+    others = wakes_any (One (key_of l m)) wakes ((once_profile at).carries) g.any g.notes g.carries (once_deeds at Done) g.deeds;
   })
-    where
-      wakes_any : (hand : Option Bool) (any : Bool) → hand ≡ in_hand any false → (ds : List Deed) → AreLeaving ds
-          → WakesOwn hand (act.Leave (One (key_of l m)) (wakes_taken any Normal)) (case_of hand ds)
-      wakes_any hand false f ds h = subst (λ x. IsCalm (case_of x ds)) (sym f) (left_calm ds h)
-      wakes_any hand true f ds h = inl (f, (refl, ap (λ x. case_of x ds) f ∙ left_wakes ds h))
 
   rested : (k key : ℕ) (check : Check) (want : Want) → k ≡ l → key ≡ key_of l Main
       → RestsBehind (once_move at) (once_hears at) check want → GoesFrom (place_at w t) (act.Park k key check want)

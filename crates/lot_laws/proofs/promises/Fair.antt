@@ -38,7 +38,7 @@ use Rattle.lot_laws.specs.MutexPromises.{IsMutexWord}
 use Rattle.lot_laws.specs.MutexDeeds.{mutex_location}
 use Rattle.lot_laws.specs.SitesOf.{AreCondvars, AreCounted, IsInductive, FitsItsLock, is_mutex, rules_in}
 use Rattle.spec_locks.specs.Sites.{Main}
-use Rattle.lot_laws.proofs.mutex.Words.{own_role}
+use Rattle.lot_laws.proofs.machine.Parts.{own_role}
 use Rattle.lot_machine.proofs.Shape.{both, looking_shaped}
 use Rattle.lot_laws.proofs.calls.Looking.{looking_steady, locks_same, looks_now, calls_same}
 use Rattle.std.specs.Prelude.{nat_lt}
@@ -62,7 +62,7 @@ use Rattle.lot_laws.proofs.hands.Handed.{successor_one, of_carries}
 use Rattle.lot_laws.proofs.mutex.Waiters.{held_there}
 use Rattle.lot_laws.proofs.machine.AtPlaces.{coded as words_coded, in_no_hand}
 use Rattle.lot_laws.proofs.sites.TurnsKept.{after_steady}
-use Rattle.lot_laws.proofs.mutex.Words.{mutex}
+use Rattle.lot_laws.proofs.machine.Parts.{mutex}
 use Rattle.lot_laws.proofs.sites.StandsMoved.{mutex_rules}
 use Rattle.lot_laws.proofs.machine.KindsStay.{after_kinds}
 use Rattle.spec_locks.specs.Purposes.{rules_of}

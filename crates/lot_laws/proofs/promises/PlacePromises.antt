@@ -29,7 +29,7 @@ use Rattle.lot_laws.proofs.calls.SingleCalls.{call_here, call_none}
 use Rattle.lot_laws.proofs.condvar.Promises.{StandsAt, two_stand_main}
 use Rattle.lot_laws.proofs.machine.Parts.{single_or_two}
 use Rattle.lot_laws.proofs.machine.Parts.{same, differ, taken_out, calls_none, inside_is, IsSingle, single_location, single_role, single_taken, single_owes}
-use Rattle.lot_laws.proofs.mutex.Words.{queued_times}
+use Rattle.lot_laws.proofs.sites.OneStep.{queued_times}
 use Rattle.lot_laws.proofs.sites.StandsMoved.{mutex_rules}
 use Rattle.lot_laws.proofs.promises.LineActs.{line_act}
 use Rattle.lot_laws.proofs.machine.PlaceTest.{IsOfLine, IsLineAct}

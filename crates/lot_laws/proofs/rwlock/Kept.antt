@@ -262,7 +262,7 @@ left_calm (Out ∷ End ∷ []) h = tt
 left_calm ds h = absurd h
 
 -- or tells those to whom it has handed the lock
-pub handed_calm : (ds : List Deed) → AreLeaving ds → IsCalm (case_of (Some true) ds)
+handed_calm : (ds : List Deed) → AreLeaving ds → IsCalm (case_of (Some true) ds)
 handed_calm (Out ∷ []) h = tt
 handed_calm (Out ∷ End ∷ []) h = tt
 handed_calm ds h = absurd h
@@ -271,6 +271,23 @@ pub left_wakes : (ds : List Deed) → AreLeaving ds → case_of (Some false) ds 
 left_wakes (Out ∷ []) h = refl
 left_wakes (Out ∷ End ∷ []) h = refl
 left_wakes ds h = absurd h
+
+-- by its act it wakes its own
+pub wakes_any : (keys : Keys) (wakes : Wakes) (hand : Option Bool) (any : Bool) → wakes ≡ wakes_taken any Normal → hand ≡ in_hand any false → (ds : List Deed)
+    → AreLeaving ds → WakesOwn hand (act.Leave keys wakes) (case_of hand ds)
+wakes_any keys wakes hand any e f ds h = subst (λ x. WakesOwn hand (act.Leave keys x) (case_of hand ds)) (sym e) (either any f)
+  where
+    either : (any : Bool) → hand ≡ in_hand any false → WakesOwn hand (act.Leave keys (wakes_taken any Normal)) (case_of hand ds)
+    either false f = subst (λ x. IsCalm (case_of x ds)) (sym f) (left_calm ds h)
+    either true f = inl (f, (refl, ap (λ x. case_of x ds) f ∙ left_wakes ds h))
+
+pub tells_any : (keys : Keys) (wakes : Wakes) (hand : Option Bool) (any : Bool) → wakes ≡ wakes_taken any HandOff → hand ≡ in_hand any true → (ds : List Deed)
+    → AreLeaving ds → WakesOwn hand (act.Leave keys wakes) (case_of hand ds)
+tells_any keys wakes hand any e f ds h = subst (λ x. WakesOwn hand (act.Leave keys x) (case_of hand ds)) (sym e) (either any f)
+  where
+    either : (any : Bool) → hand ≡ in_hand any true → WakesOwn hand (act.Leave keys (wakes_taken any HandOff)) (case_of hand ds)
+    either false f = subst (λ x. IsCalm (case_of x ds)) (sym f) (left_calm ds h)
+    either true f = inr (f, (refl, subst (λ x. IsCalm (case_of x ds)) (sym f) (handed_calm ds h)))
 
 -- ---------------------------------------------------------------- one thread
 
@@ -468,13 +485,8 @@ module _ (w : State) (t l : ℕ) (a : Admission) (c : RwLockCallPlace) (steady :
     whom = None;
     goes = goes_out w t l steady there own (rules_in w l) refl (call_move a c) same_row (call_hears a c) m wakes (next_place (place_at w t) Done) (section_there m) g (λ h. followed None Done h (call_told_done a (rules_in w l) here t c None h)) (wakes_one w t l steady there own (rules_in w l) refl (call_move a c) same_row asleep g.any g.carries);
     tells = tells_by None Done tt (left_hears w t l steady there own (rules_in w l) refl (call_move a c) same_row (call_hears a c) m wakes g);
-    others = subst (λ x. WakesOwn ((call_profile a c).carries) (act.Leave (One (key_of l m)) x) (case_of ((call_profile a c).carries) (call_deeds a c None Done))) (sym g.notes) (wakes_any ((call_profile a c).carries) g.any g.carries (call_deeds a c None Done) g.deeds);
+    others = wakes_any (One (key_of l m)) wakes ((call_profile a c).carries) g.any g.notes g.carries (call_deeds a c None Done) g.deeds;
   })
-    where
-      wakes_any : (hand : Option Bool) (any : Bool) → hand ≡ in_hand any false → (ds : List Deed) → AreLeaving ds
-          → WakesOwn hand (act.Leave (One (key_of l m)) (wakes_taken any Normal)) (case_of hand ds)
-      wakes_any hand false f ds h = subst (λ x. IsCalm (case_of x ds)) (sym f) (left_calm ds h)
-      wakes_any hand true f ds h = inl (f, (refl, ap (λ x. case_of x ds) f ∙ left_wakes ds h))
 
   parked : (m : Line) (k key : ℕ) (check : Check) (want : Want) → k ≡ l → key ≡ key_of l m
       → Parks (call_move a c) (call_hears a c) m check want → GoesFrom (place_at w t) (act.Park k key check want)
@@ -547,7 +559,7 @@ module _ (w : State) (t l : ℕ) (a : Admission) (c : RwLockCallPlace) (steady :
     goes = tells_handed w t l steady there own (rules_in w l) refl (call_move a c) same_row (call_hears a c) wakes g (next_place (place_at w t) Done) (section_there Main)
         (followed None Done hears_done (call_told_done a (rules_in w l) here t c None hears_done)) told_so;
     tells = tells_by None Done tt hears_done;
-    others = subst (λ x. WakesOwn (call_profile a c).carries (act.Leave (One (key_of l Main)) x) (case_of (call_profile a c).carries (call_deeds a c None Done))) (sym g.notes) (tells_any (call_profile a c).carries g.any (ap (λ (y : Location). y.carries) g.was) (call_deeds a c None Done) g.deeds);
+    others = tells_any (One (key_of l Main)) wakes (call_profile a c).carries g.any g.notes (ap (λ (y : Location). y.carries) g.was) (call_deeds a c None Done) g.deeds;
   })
     where
       hears_done : CallMayHear (rules_in w l) a here t c None Done
@@ -568,11 +580,6 @@ module _ (w : State) (t l : ℕ) (a : Admission) (c : RwLockCallPlace) (steady :
               never : (any : Bool) → in_hand any true ≡ Some false → ⊥
               never true f = cc
               never false f = cc
-
-      tells_any : (hand : Option Bool) (any : Bool) → hand ≡ in_hand any true → (ds : List Deed) → AreLeaving ds
-          → WakesOwn hand (act.Leave (One (key_of l Main)) (wakes_taken any HandOff)) (case_of hand ds)
-      tells_any hand false f ds h = subst (λ x. IsCalm (case_of x ds)) (sym f) (left_calm ds h)
-      tells_any hand true f ds h = inr (f, (refl, subst (λ x. IsCalm (case_of x ds)) (sym f) (handed_calm ds h)))
 
   accepted : Accepts (call_move a c) (call_hears a c) → GoesFrom (place_at w t) act.Accept
   accepted g = record {

@@ -1,5 +1,5 @@
 -- A thread in a call of a semaphore goes on: every lock is a site again.
-use Rattle.std.proofs.Common.{inl, ℕ, Bool, true, false, Option, Some, None, if◌then◌else◌, ◌-◌, ◌==◌, ◌≡◌, ◌≢◌, ◌+◌, ◌*◌, ◌≤◌, ◌<◌, List, [], ◌∷◌, length, not, refl, sym, ◌∙◌, ap, subst, arith}
+use Rattle.std.proofs.Common.{ℕ, Bool, true, false, Option, Some, None, if◌then◌else◌, ◌-◌, ◌==◌, ◌≡◌, ◌≢◌, ◌+◌, ◌*◌, ◌≤◌, ◌<◌, List, [], ◌∷◌, length, not, refl, sym, ◌∙◌, ap, subst, arith}
 use Rattle.std.specs.Prelude.{is_none, ◌&&◌}
 use Rattle.std.proofs.lemmas.Bool.{eqb-true}
 use Rattle.std.proofs.lemmas.Bool.Decides.{nat_tests}
@@ -24,10 +24,10 @@ use Rattle.steps_base.specs.declared.acts.Reply.{Reply}
 use Rattle.steps_base.specs.declared.acts.Reply.TheVariants.{Done, Value, Parked, Took, Removed, TakenBy, Late, Woken}
 use Rattle.steps_base.specs.declared.acts.Wakes.{Wakes}
 use Rattle.steps_base.specs.declared.acts.Whom.TheVariants as whom
-use Rattle.steps_base.specs.Acts.{holds, wakes_taken}
+use Rattle.steps_base.specs.Acts.{holds}
 use Rattle.steps_base.specs.Calls.{CallFollows}
-use Rattle.steps_base.specs.Moves.{StaysPut, GoesIn, GoesOut, LeavesLine, AreLeaving, Parks, RowWaits, parks_in, row_of}
-use Rattle.steps_base.specs.Profiles.{Profile, in_hand}
+use Rattle.steps_base.specs.Moves.{StaysPut, GoesIn, GoesOut, LeavesLine, Parks, RowWaits, parks_in, row_of}
+use Rattle.steps_base.specs.Profiles.{Profile}
 use Rattle.steps_base.specs.Owners.{lock_seen, shares_then}
 use Rattle.spec_locks.specs.Locks.{Rules}
 use Rattle.spec_locks.specs.Locks as locks
@@ -69,9 +69,10 @@ use Rattle.lot_laws.proofs.machine.Parts.{not_beside, IsOf, role_here, free_of, 
 use Rattle.lot_laws.proofs.sites.MovesKept.{IsFollowed, SleepsIfCalls, IsSleeper, entered_hears, goes_in, goes_out, leaves_line, left_hears, parked_hears, parks_or_turns, removed_hears, wakes_one}
 use Rattle.lot_laws.proofs.once.MovesKept.{stays_unshared}
 use Rattle.lot_laws.proofs.calls.OtherCalls.{IsCalm, WakesOwn}
-use Rattle.lot_laws.proofs.rwlock.Kept.{left_calm, left_wakes, word_calm, calm_case, AreCalm}
-use Rattle.lot_laws.proofs.semaphore.Moves.{NextTimed, SemaphoreMoves, TakesFirst, next_timed, semaphore_acts_move, semaphore_hears, semaphore_late_move, semaphore_move, semaphore_sleepers_move}
-use Rattle.lot_laws.proofs.semaphore.MovesKept.{takes_first}
+use Rattle.lot_laws.proofs.rwlock.Kept.{word_calm, calm_case, AreCalm, wakes_any}
+use Rattle.lot_laws.proofs.semaphore.Moves.{NextTimed, SemaphoreMoves, next_timed, semaphore_acts_move, semaphore_hears, semaphore_late_move, semaphore_move, semaphore_sleepers_move}
+use Rattle.lot_laws.proofs.sites.FirstTaken.{TakesFirst, hears_of, takes_first}
+use Rattle.lot_laws.proofs.semaphore.MovesKept.{takes_one}
 use Rattle.lot_laws.proofs.sites.StandsMoved.{mutex_rules}
 
 -- ---------------------------------------------------------------- rows
@@ -343,13 +344,8 @@ module _ (w : State) (t l : ℕ) (at : SemaphorePlace) (steady : IsInductive w) 
   out_of m keys wakes e g = subst (λ k. GoesFrom (place_at w t) (act.Leave k wakes)) (sym e) (record {
     goes = goes_out w t l steady there own (rules_in w l) refl (semaphore_move at) same_row (semaphore_hears at) m wakes (next_place (place_at w t) Done) (section_there m) g (λ h. followed None Done (λ x. cc) h) (wakes_one w t l steady there own (rules_in w l) refl (semaphore_move at) same_row asleep g.any g.carries);
     tells = tells_by None Done (λ x. cc) (left_hears w t l steady there own (rules_in w l) refl (semaphore_move at) same_row (semaphore_hears at) m wakes g);
-    others = subst (λ x. WakesOwn ((semaphore_profile at).carries) (act.Leave (One (key_of l m)) x) (case_of ((semaphore_profile at).carries) (semaphore_deeds at None Done))) (sym g.notes) (wakes_any ((semaphore_profile at).carries) g.any g.carries (semaphore_deeds at None Done) g.deeds);
+    others = wakes_any (One (key_of l m)) wakes ((semaphore_profile at).carries) g.any g.notes g.carries (semaphore_deeds at None Done) g.deeds;
   })
-    where
-      wakes_any : (hand : Option Bool) (any : Bool) → hand ≡ in_hand any false → (ds : List Deed) → AreLeaving ds
-          → WakesOwn hand (act.Leave (One (key_of l m)) (wakes_taken any Normal)) (case_of hand ds)
-      wakes_any hand false f ds h = subst (λ x. IsCalm (case_of x ds)) (sym f) (left_calm ds h)
-      wakes_any hand true f ds h = inl (f, (refl, ap (λ x. case_of x ds) f ∙ left_wakes ds h))
 
   parked : (m : Line) (k key : ℕ) (check : Check) (want : Want) → k ≡ l → key ≡ key_of l m
       → Parks (semaphore_move at) (semaphore_hears at) m check want → GoesFrom (place_at w t) (act.Park k key check want)
@@ -367,14 +363,14 @@ module _ (w : State) (t l : ℕ) (at : SemaphorePlace) (steady : IsInductive w) 
       parks_calm true = calm_by (parks_in m x ∷ []) g.parks (parks_in_calm m)
       parks_calm false = calm_by [] g.turns tt
 
-  took : (key : ℕ) → key ≡ key_of l Main → TakesFirst (semaphore_move at) (semaphore_hears at)
+  took : (key : ℕ) → key ≡ key_of l Main → TakesFirst take_deeds (semaphore_move at) (semaphore_hears at)
       → GoesFrom (place_at w t) (act.Take key whom.First)
-  took key e g = let first = takes_first w t l steady there own (rules_in w l) refl (semaphore_move at) same_row asleep (semaphore_hears at) many (line_there Main) sort_is g (λ who any none_left h. followed who (Took any none_left) (λ x. cc) h) in
-      subst (λ j. GoesFrom (place_at w t) (act.Take j whom.First)) (sym e) (record {
-        goes = first.1;
-        tells = tells_by (first_of (queue_at w (key_of l Main))) (reply_to w t (act.Take (key_of l Main) whom.First)) (λ x. cc) first.0;
-        others = calm_by (take_deeds (first_of (queue_at w (key_of l Main)))) (g.deeds (first_of (queue_at w (key_of l Main))) _ _) (takes_calm (first_of (queue_at w (key_of l Main))));
-      })
+  took key e g = subst (λ j. GoesFrom (place_at w t) (act.Take j whom.First)) (sym e) (record {
+    goes = takes_first w t l steady there own (rules_in w l) refl (semaphore_move at) same_row (semaphore_hears at) take_deeds (line_there Main) g refl (λ who any none_left h. followed who (Took any none_left) (λ x. cc) h)
+        (takes_one w t l steady there own (rules_in w l) refl (semaphore_move at) same_row asleep (semaphore_hears at) many (line_there Main) sort_is g);
+    tells = tells_by (first_of (queue_at w (key_of l Main))) (reply_to w t (act.Take (key_of l Main) whom.First)) (λ x. cc) (hears_of w t l steady there own (rules_in w l) refl (semaphore_move at) same_row (semaphore_hears at) take_deeds (line_there Main) g (queue_at w (2 * l)) refl);
+    others = calm_by (take_deeds (first_of (queue_at w (key_of l Main)))) (g.deeds (first_of (queue_at w (key_of l Main))) _ _) (takes_calm (first_of (queue_at w (key_of l Main))));
+  })
 
   left : (m : Line) (key : ℕ) → key ≡ key_of l m → LeavesLine (semaphore_move at) (semaphore_hears at) m
       → GoesFrom (place_at w t) (act.Remove key)

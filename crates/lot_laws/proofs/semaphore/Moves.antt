@@ -12,12 +12,12 @@ use Rattle.steps_base.specs.declared.acts.Next.TheVariants.{At, End as Over}
 use Rattle.steps_base.specs.declared.acts.Reply.TheVariants as reply
 use Rattle.steps_base.specs.declared.acts.Whom.TheVariants.{First}
 use Rattle.spec_locks.specs.declared.outcomes.Answer.TheVariants as answer
-use Rattle.steps_base.specs.Moves.{AreOfWord, GoesIn, Hears, IsHeld, Move, MovesByAct, Sleeps, StaysPut, RowWaits, inside_of, row_of, location_of, location_then}
+use Rattle.steps_base.specs.Moves.{AreOfWord, GoesIn, Hears, IsHeld, Move, MovesByAct, Sleeps, StaysPut, RowWaits, inside_of, row_of, location_then}
 use Rattle.steps_base.specs.Profiles.{Hand, hand, in_hand}
 use Rattle.steps_base.specs.Locations.{Location, nowhere, location_by}
 use Rattle.spec_locks.specs.Codes.{has_parked}
-use Rattle.spec_locks.specs.Locks.{HasTakenNobody, Leave as GivesBack, Rules}
-use Rattle.spec_locks.specs.Sites.{Case, End, Line, Main, Mark, Second, Site}
+use Rattle.spec_locks.specs.Locks.{Leave as GivesBack}
+use Rattle.spec_locks.specs.Sites.{Case, End, Line, Main, Mark, Second}
 use Rattle.core_base.specs.declared.notes.Note.TheVariants.{HandOff, Normal}
 use Rattle.steps_base.specs.declared.acts.Reply.{Reply}
 use Rattle.steps_semaphore.specs.declared.tries.TryAt.{TryAt}
@@ -29,10 +29,10 @@ use Rattle.steps_semaphore.specs.declared.places.SemaphorePlace.{SemaphorePlace}
 use Rattle.steps_semaphore.specs.declared.places.SemaphorePlace.TheVariants.{Acquire, Try, Release}
 use Rattle.steps_semaphore.specs.SemaphoreDeeds.{enter_deeds, semaphore_deeds, take_deeds}
 use Rattle.steps_semaphore.specs.SemaphoreLaws.{MayHear, next_row}
-use Rattle.steps_semaphore.specs.SemaphoreLaws as laws
 use Rattle.steps_semaphore.specs.SemaphoreProfiles.{semaphore_late_line, semaphore_profile}
 use Rattle.steps_semaphore.specs.SemaphoreSteps.{acquired, in_acquire, in_release, in_try, is_free, next_release, next_try, semaphore_act, semaphore_next}
 use Rattle.lot_laws.specs.SitesOf.{LateIsTimed}
+use Rattle.lot_laws.proofs.sites.FirstTaken.{TakesFirst}
 
 abbrev pub semaphore_move : SemaphorePlace → Move
 semaphore_move p = record {
@@ -45,18 +45,9 @@ semaphore_move p = record {
 abbrev pub semaphore_hears : SemaphorePlace → Hears
 semaphore_hears p r s t whom told = MayHear r s t p whom told
 
--- it takes the first who waits, if there is one
-pub record TakesFirst (x : Move) (hears : Hears) : Type 0 where
-  pub was : location_of x ≡ inside_of Main
-  pub deeds : (whom : Option ℕ) (any none_left : Bool) → x.deeds whom (reply.Took any none_left) ≡ take_deeds whom
-  pub goes : (any none_left : Bool)
-      → location_then x (reply.Took any none_left) ≡ record (inside_of Main) { carries = in_hand any false }
-  pub may : (r : Rules) (s : Site) (t : ℕ) (whom : Option ℕ) (any none_left : Bool) → laws.TakesFirst s whom any none_left → HasTakenNobody s.lock t
-      → hears r s t whom (reply.Took any none_left)
-
 -- by its act, as in any call, or it takes the first
 abbrev pub SemaphoreMoves : ℕ → Move → Hears → Act → Type 0
-SemaphoreMoves l x hears (act.Take key First) = (key ≡ key_of l Main) × TakesFirst x hears
+SemaphoreMoves l x hears (act.Take key First) = (key ≡ key_of l Main) × TakesFirst take_deeds x hears
 SemaphoreMoves l x hears y = MovesByAct l false x hears y
 
 abbrev location_next : Next SemaphorePlace → Location
@@ -152,7 +143,7 @@ semaphore_acts_move l (Try tries.Load) h = (refl, record { out = refl; free = re
 semaphore_acts_move l (Try (tries.Decide was)) h = attempts l was (is_free was)
 semaphore_acts_move l (Release release.Add) h = (refl, record { out = refl; free = refl; deeds = λ seen. given_word (has_parked seen); goes = λ seen. given_rest (has_parked seen) })
 semaphore_acts_move l (Release release.Enter) h = (Main, refl, record { out = refl; free = refl; deeds = refl; goes = refl; may = λ r s t free. free })
-semaphore_acts_move l (Release release.Take) h = (refl, record { was = refl; deeds = λ whom any none_left. refl; goes = took; may = λ r s t whom any none_left first nobody. (first, nobody) })
+semaphore_acts_move l (Release release.Take) h = (refl, record { was = refl; deeds = λ whom any none_left. refl; goes = took; may = λ r s t whom any none_left first some left nobody. (record { first = first; some = some; left = left }, nobody) })
   where
     took : (any none_left : Bool) → location_then (semaphore_move (Release release.Take)) (reply.Took any none_left) ≡ record (inside_of Main) { carries = in_hand any false }
     took any true = refl

@@ -1,34 +1,31 @@
 -- A thread inside the section of a semaphore takes the first who waits: every lock is a site again. No place is named.
-use Rattle.std.proofs.Common.{ℕ, Bool, true, false, Option, Some, None, if◌then◌else◌, ◌==◌, ◌≡◌, ◌*◌, ◌<◌, List, [], ◌∷◌, length, map, drop, refl, sym, ◌∙◌, ap, subst, arith, length-set, get_or-set_same, get_or-set_other}
+use Rattle.std.proofs.Common.{ℕ, Bool, true, false, Some, None, if◌then◌else◌, ◌==◌, ◌≡◌, ◌*◌, ◌<◌, List, [], ◌∷◌, length, map, drop, refl, sym, ◌∙◌, ap, subst, arith, length-set, get_or-set_same, get_or-set_other}
 use Rattle.core_base.specs.declared.wants.Waiter.{Waiter}
 use Rattle.core_base.specs.declared.wants.Want.{Want}
 use Rattle.core_base.specs.declared.wants.Want.TheVariants.{Shared}
-use Rattle.core_base.specs.Lines.{first_of, threads_of, times}
-use Rattle.steps_base.specs.declared.acts.Reply.{Reply}
+use Rattle.core_base.specs.Lines.{threads_of, times}
 use Rattle.steps_base.specs.declared.acts.Reply.TheVariants.{TakenBy, Took}
-use Rattle.steps_base.specs.declared.acts.Whom.TheVariants as whom
 use Rattle.steps_base.specs.Moves.{Hears, Move, inside_of}
-use Rattle.steps_base.specs.Profiles.{in_hand}
 use Rattle.steps_base.specs.Locations.{Location}
 use Rattle.spec_locks.specs.Locks.{HasTakenNobody, Knows, KnowsAll, Rules, Semaphore, TakeFirst, first_thread, putting}
 use Rattle.spec_locks.specs.Locks as locks
 use Rattle.spec_locks.specs.Picks.{queued_of}
-use Rattle.spec_locks.specs.Sites.{Case, FindNobody, Main, Site, idle, is_empty}
-use Rattle.steps_semaphore.specs.SemaphoreDeeds.{queued}
+use Rattle.spec_locks.specs.Sites.{Case, Main}
+use Rattle.steps_semaphore.specs.SemaphoreDeeds.{queued, take_deeds}
 use Rattle.lot_steps.specs.declared.places.Place.{Place}
 use Rattle.lot_steps.specs.Steps.{next_place, profile}
-use Rattle.lot_machine.specs.Machine.{State, is_there, place_at, places_told, put, queue_at, queues_without_first, reply_to_take, state_after_reply, state_after_take_first, state_after_taking}
+use Rattle.lot_machine.specs.Machine.{State, place_at, places_told, put, queue_at, queues_without_first, state_after_reply}
 use Rattle.lot_machine.proofs.QueueLemmas.{told_count}
-use Rattle.lot_laws.specs.Refinement.{lock_state, taken_at}
+use Rattle.lot_laws.specs.Refinement.{taken_at}
 use Rattle.lot_laws.specs.MutexDeeds.{acts}
 use Rattle.lot_laws.specs.Locations.{role_on, location, location_at}
-use Rattle.lot_laws.specs.SitesOf.{ActsNeeded, AreWaiting, FitsItsLock, Goes, IsInductive, TakesOne, after_acts, carried_at, rules_in, locations_of, stood_in}
-use Rattle.lot_laws.proofs.sites.ActsKept.{finds_none, lock_by, nobody_goes, site_by}
-use Rattle.lot_laws.proofs.machine.AtPlaces.{in_no_hand}
-use Rattle.lot_laws.proofs.machine.Parts.{IsOf, free_of, nothing_at, of_single, put_places, same, location_here}
-use Rattle.lot_laws.proofs.sites.MovesKept.{IsFollowed, SleepsIfCalls, needed_by, own_by, site, sleeps_in, location_is, there_is}
-use Rattle.lot_laws.proofs.sites.OneStep.{empty_line, noted}
-use Rattle.lot_laws.proofs.semaphore.Moves.{TakesFirst}
+use Rattle.lot_laws.specs.SitesOf.{ActsNeeded, AreWaiting, FitsItsLock, Goes, IsInductive, TakesOne, after_acts, rules_in, locations_of, stood_in}
+use Rattle.lot_laws.proofs.sites.ActsKept.{lock_by, site_by}
+use Rattle.lot_laws.proofs.machine.Parts.{IsOf, put_places, same, location_here}
+use Rattle.lot_laws.proofs.sites.MovesKept.{SleepsIfCalls, needed_by, own_by, site, sleeps_in}
+use Rattle.lot_laws.proofs.sites.OneStep.{noted}
+use Rattle.lot_laws.proofs.sites.FirstTaken.{TakesFirst}
+use Rattle.lot_laws.proofs.sites.FirstTaken as first
 use Rattle.lot_laws.proofs.sites.StandsKept.{in_main}
 use Rattle.lot_laws.proofs.sites.TakesAt.{only_member}
 use Rattle.lot_laws.proofs.sites.TakesKept.{IsTakenFrom, member, take_goes, told_by, told_places}
@@ -77,107 +74,40 @@ module _ (w : State) (t l : ℕ) (steady : IsInductive w) (own : IsOf l (place_a
       places = put_places (state_after_reply (record w { queues = queues_without_first w.queues (2 * l) }) x.thread (TakenBy t)) t p2 (λ h. absurd (let n : length (places_told (TakenBy t) (threads_of (x ∷ [])) w.places) ≡ length w.places = told_count (TakenBy t) (threads_of (x ∷ [])) w.places in omega arith))
           ∙ ap (λ (f : ℕ → Place). putting f t p2) (told_places (TakenBy t) (x ∷ []) w.places)
 
+-- the first of the line, if there is one
 module _ (w : State) (t l : ℕ) (steady : IsInductive w) (there : t < length w.places) (own : IsOf l (place_at w t)) (r : Rules)
     (rules : rules_in w l ≡ r) (x : Move) (same_row : profile (place_at w t) ≡ x.row) (asleep : (u : ℕ) → SleepsIfCalls w t l steady there own r rules x same_row u)
-    (hears : Hears) (many : TakesOne w l → ⊥) (line : 2 * l < length w.queues) (sort : r.sort ≡ Semaphore) (g : TakesFirst x hears) where
-  abbrev Followed : Option ℕ → Reply → Type 0
-  Followed who told = IsFollowed w t l steady there own r rules x same_row who told (next_place (place_at w t) told)
+    (hears : Hears) (many : TakesOne w l → ⊥) (line : 2 * l < length w.queues) (sort : r.sort ≡ Semaphore) (g : TakesFirst take_deeds x hears) where
+  is_now : location (place_at w t) ≡ inside_of Main
+  is_now = first.is_now w t l steady there own r rules x same_row hears take_deeds line g
 
-  abbrev now : Site
-  now = lock_by w l r
+  pub takes_one : (y : Waiter) (rest : List Waiter) → queue_at w (2 * l) ≡ y ∷ rest
+      → first.Followed w t l steady there own r rules x same_row hears take_deeds line g (Some y.thread) (Took true (length rest == 0))
+      → first.KeptBy w t l steady there own r rules x same_row hears take_deeds line g (y ∷ rest)
+  takes_one y rest e f = subst (λ ds. Goes w (put (state_after_reply (record w { queues = queues_without_first w.queues (2 * l) }) y.thread (TakenBy t)) t p2) l (acts t ds)) (sym does)
+      (first_goes w t l steady own there p2 f.of f.fits many (ap (λ (z : Location). z.stands) is_now) (ap (λ (z : Location). z.hand) is_now) (ap (λ (z : Location). z.carries) is_now) r rules
+      (first.hand_now w t l steady there own r rules x same_row hears take_deeds line g) (first.hand_then w t l steady there own r rules x same_row hears take_deeds line g (Some y.thread) true (length rest == 0) f)
+      (ap (λ (z : Location). z.inside) at_then ∙ sym (ap (λ (z : Location). z.inside) is_now)) (ap (λ (z : Location). z.stands) at_then) (ap (λ (z : Location). z.hand) at_then)
+      y rest e wants line (sleeps_in w t l steady there own r rules x same_row asleep Main y.thread g.was stands_there) (ap (λ (z : Location). z.carries) at_then)
+      (needed_by w t l steady there own r rules x same_row (Some y.thread) (Took true (length rest == 0)) p2 f (take_deeds (Some y.thread)) does)
+      (own_by w t l steady there own r rules x same_row (Some y.thread) (Took true (length rest == 0)) p2 f (take_deeds (Some y.thread)) does))
+    where
+      p2 : Place
+      p2 = next_place (place_at w t) (Took true (length rest == 0))
 
-  module _ (followed : (who : Option ℕ) (any none_left : Bool) → hears r now t who (Took any none_left) → Followed who (Took any none_left)) where
-    is_now : location (place_at w t) ≡ inside_of Main
-    is_now = location_is w t l steady there own r rules x same_row ∙ g.was
+      does : x.deeds (Some y.thread) (Took true (length rest == 0)) ≡ take_deeds (Some y.thread)
+      does = g.deeds (Some y.thread) true (length rest == 0)
 
-    bare : carried_at (place_at w t) l ≡ None
-    bare = nothing_at (place_at w t) l (of_single l (place_at w t) own) (λ y. y.carries) refl (ap (λ (y : Location). y.carries) is_now)
+      at_then : location p2 ≡ record (inside_of Main) { carries = Some false }
+      at_then = first.is_then w t l steady there own r rules x same_row hears take_deeds line g (Some y.thread) true (length rest == 0) f
 
-    nobody : HasTakenNobody (lock_state w l) t
-    nobody = in_no_hand w steady t l (λ h. let e : ◌≡◌ {A = Option Bool} None (Some false) = sym bare ∙ h in cc)
+      known : KnowsAll Semaphore (map queued_of (y ∷ rest))
+      known = subst (λ (q : List Waiter). KnowsAll Semaphore (map queued_of q)) e (subst (λ s. KnowsAll s (lock_by w l r).lock.queue) sort (site w t l steady there own r rules x same_row).state.known_queue)
 
-    hand_now : taken_at (place_at w t) l ≡ None
-    hand_now = free_of (place_at w t) l (of_single l (place_at w t) own) (ap (λ (y : Location). y.hand) is_now)
+      wants : y.want ≡ Shared
+      wants = shared_wanted y.want known.0
 
-    -- where it is then
-    is_then : (who : Option ℕ) (any none_left : Bool) → Followed who (Took any none_left)
-        → location (next_place (place_at w t) (Took any none_left)) ≡ record (inside_of Main) { carries = in_hand any false }
-    is_then who any none_left f = there_is w t l steady there own r rules x same_row who (Took any none_left) (next_place (place_at w t) (Took any none_left)) f ∙ g.goes any none_left
-
-    hand_then : (who : Option ℕ) (any none_left : Bool) → Followed who (Took any none_left)
-        → taken_at (next_place (place_at w t) (Took any none_left)) l ≡ None
-    hand_then who any none_left f = free_of (next_place (place_at w t) (Took any none_left)) l (of_single l (next_place (place_at w t) (Took any none_left)) f.of) (ap (λ (y : Location). y.hand) (is_then who any none_left f))
-
-    -- by who waits
-    hears_empty : queue_at w (2 * l) ≡ [] → hears r now t None (Took false true)
-    hears_empty empty = g.may r now t None false true (record {
-      first = sym (ap (λ (q : List Waiter). first_thread (map queued_of q)) empty);
-      some = refl;
-      left = sym (ap (λ (q : List Waiter). is_empty (drop 1 (map queued_of q))) empty);
-    }) nobody
-
-    hears_first : (y : Waiter) (rest : List Waiter) → queue_at w (2 * l) ≡ y ∷ rest → hears r now t (Some y.thread) (Took true (length rest == 0))
-    hears_first y rest first = g.may r now t (Some y.thread) true (length rest == 0) (record {
-      first = sym (ap (λ (q : List Waiter). first_thread (map queued_of q)) first);
-      some = refl;
-      left = sym (empty_line rest) ∙ sym (ap (λ (q : List Waiter). is_empty (drop 1 (map queued_of q))) first);
-    }) nobody
-
-    finds_nobody : queue_at w (2 * l) ≡ [] → Goes w (put (record w { queues = queues_without_first w.queues (2 * l) }) t (next_place (place_at w t) (Took false true))) l (acts t (x.deeds None (Took false true)))
-    finds_nobody empty = subst (λ ds. Goes w (put (record w { queues = queues_without_first w.queues (2 * l) }) t p2) l (acts t ds)) (sym (g.deeds None false true))
-        (nobody_goes w t l steady own there r rules p2 f.of f.fits Main (FindNobody Main ∷ []) (λ h. tt) line empty
-        (finds_none w t l steady own there r rules p2 f.of f.fits (hand_now ∙ sym (hand_then None false true f)) Main idle (needed_by w t l steady there own r rules x same_row None (Took false true) p2 f (FindNobody Main ∷ []) (g.deeds None false true)) (own_by w t l steady there own r rules x same_row None (Took false true) p2 f (FindNobody Main ∷ []) (g.deeds None false true)))
-        (is_then None false true f ∙ sym is_now))
-      where
-        p2 : Place
-        p2 = next_place (place_at w t) (Took false true)
-
-        f : Followed None (Took false true)
-        f = followed None false true (hears_empty empty)
-
-    takes_one : (y : Waiter) (rest : List Waiter) → queue_at w (2 * l) ≡ y ∷ rest
-        → Goes w (put (state_after_reply (record w { queues = queues_without_first w.queues (2 * l) }) y.thread (TakenBy t)) t (next_place (place_at w t) (Took true (length rest == 0)))) l (acts t (x.deeds (Some y.thread) (Took true (length rest == 0))))
-    takes_one y rest first = subst (λ ds. Goes w (put (state_after_reply (record w { queues = queues_without_first w.queues (2 * l) }) y.thread (TakenBy t)) t p2) l (acts t ds)) (sym (g.deeds (Some y.thread) true (length rest == 0)))
-        (first_goes w t l steady own there p2 f.of f.fits many (ap (λ (z : Location). z.stands) is_now) (ap (λ (z : Location). z.hand) is_now) (ap (λ (z : Location). z.carries) is_now) r rules hand_now (hand_then (Some y.thread) true (length rest == 0) f)
-        (ap (λ (z : Location). z.inside) at_then ∙ sym (ap (λ (z : Location). z.inside) is_now)) (ap (λ (z : Location). z.stands) at_then) (ap (λ (z : Location). z.hand) at_then)
-        y rest first wants line (sleeps_in w t l steady there own r rules x same_row asleep Main y.thread g.was stands_there) (ap (λ (z : Location). z.carries) at_then)
-        (needed_by w t l steady there own r rules x same_row (Some y.thread) (Took true (length rest == 0)) p2 f (Case (TakeFirst (queued y.thread)) ∷ []) (g.deeds (Some y.thread) true (length rest == 0)))
-        (own_by w t l steady there own r rules x same_row (Some y.thread) (Took true (length rest == 0)) p2 f (Case (TakeFirst (queued y.thread)) ∷ []) (g.deeds (Some y.thread) true (length rest == 0))))
-      where
-        p2 : Place
-        p2 = next_place (place_at w t) (Took true (length rest == 0))
-
-        f : Followed (Some y.thread) (Took true (length rest == 0))
-        f = followed (Some y.thread) true (length rest == 0) (hears_first y rest first)
-
-        at_then : location p2 ≡ record (inside_of Main) { carries = Some false }
-        at_then = is_then (Some y.thread) true (length rest == 0) f
-
-        known : KnowsAll Semaphore (map queued_of (y ∷ rest))
-        known = subst (λ (q : List Waiter). KnowsAll Semaphore (map queued_of q)) first (subst (λ s. KnowsAll s now.lock.queue) sort (site w t l steady there own r rules x same_row).state.known_queue)
-
-        wants : y.want ≡ Shared
-        wants = shared_wanted y.want known.0
-
-        stands_there : (location_at (place_at w y.thread) l).stands ≡ Some Main
-        stands_there = in_main (location_at (place_at w y.thread) l).stands (let a : times y.thread (queue_at w (2 * l)) ≡ stood_in (location_at (place_at w y.thread) l).stands Main = steady.stands.lines y.thread l Main in
-            let b : times y.thread (queue_at w (2 * l)) ≡ times y.thread (y ∷ rest) = ap (times y.thread) first in
-            let c : ◌≡◌ {A = ℕ} (if y.thread == y.thread then 1 else 0) 1 = ap (λ (b : Bool). if b then 1 else 0) (same y.thread) in omega arith)
-
-    -- tells what it is told, and where it goes on
-    abbrev pub told_first : Reply
-    told_first = reply_to_take w t (2 * l) whom.First
-
-    abbrev pub FirstTaken : Type 0
-    FirstTaken = hears r now t (first_of (queue_at w (2 * l))) told_first
-        × Goes w (put (state_after_take_first w t (2 * l)) t (next_place (place_at w t) told_first)) l (acts t (x.deeds (first_of (queue_at w (2 * l))) told_first))
-
-    pub takes_first : FirstTaken
-    takes_first = by_line (queue_at w (2 * l)) refl
-      where
-        by_line : (q : List Waiter) → queue_at w (2 * l) ≡ q
-            → hears r now t (first_of (queue_at w (2 * l))) (Took (is_there (first_of (queue_at w (2 * l)))) (length (drop 1 (queue_at w (2 * l))) == 0))
-            × Goes w (put (state_after_taking (record w { queues = queues_without_first w.queues (2 * l) }) t (first_of (queue_at w (2 * l)))) t (next_place (place_at w t) (Took (is_there (first_of (queue_at w (2 * l)))) (length (drop 1 (queue_at w (2 * l))) == 0)))) l
-            (acts t (x.deeds (first_of (queue_at w (2 * l))) (Took (is_there (first_of (queue_at w (2 * l)))) (length (drop 1 (queue_at w (2 * l))) == 0))))
-        by_line [] e = let a : first_of (queue_at w (2 * l)) ≡ None = ap first_of e in let b : (length (drop 1 (queue_at w (2 * l))) == 0) ≡ true = ap (λ (q : List Waiter). length (drop 1 q) == 0) e in rw (a, b) (hears_empty e, finds_nobody e)
-        by_line (y ∷ rest) e = let a : first_of (queue_at w (2 * l)) ≡ Some y.thread = ap first_of e in let b : (length (drop 1 (queue_at w (2 * l))) == 0) ≡ (length rest == 0) = ap (λ (q : List Waiter). length (drop 1 q) == 0) e in rw (a, b) (hears_first y rest e, takes_one y rest e)
+      stands_there : (location_at (place_at w y.thread) l).stands ≡ Some Main
+      stands_there = in_main (location_at (place_at w y.thread) l).stands (let a : times y.thread (queue_at w (2 * l)) ≡ stood_in (location_at (place_at w y.thread) l).stands Main = steady.stands.lines y.thread l Main in
+          let b : times y.thread (queue_at w (2 * l)) ≡ times y.thread (y ∷ rest) = ap (times y.thread) e in
+          let c : ◌≡◌ {A = ℕ} (if y.thread == y.thread then 1 else 0) 1 = ap (λ (b : Bool). if b then 1 else 0) (same y.thread) in omega arith)

@@ -11,7 +11,9 @@ use Rattle.steps_mutex.specs.declared.places.MutexPlace.TheVariants.{HandOff}
 use Rattle.steps_mutex.specs.declared.hand_off.HandOffAt.TheVariants as hand_off
 use Rattle.steps_base.specs.declared.acts.Act.{Act}
 use Rattle.steps_base.specs.declared.acts.Act as act
-use Rattle.steps_mutex.specs.MutexSteps.{hand_off_word}
+use Rattle.steps_mutex.specs.MutexSteps.{hand_off_word, is_parked}
+use Rattle.spec_locks.specs.Codes.{bit}
+use Rattle.spec_locks.specs.Locks.{one_if_some}
 use Rattle.steps_base.specs.Owners.{with_exclusive}
 use Rattle.lot_steps.specs.Steps.{next_place}
 use Rattle.spec_locks.specs.Locks.{putting, IsLockState}
@@ -38,7 +40,7 @@ use Rattle.std.proofs.lemmas.Bool.{cases_eq}
 use Rattle.lot_laws.specs.SitesOf.{locations_of, Hands}
 use Rattle.lot_laws.specs.Locations.{Hand}
 use Rattle.lot_laws.proofs.mutex.Hands.{handing, hands_acts}
-use Rattle.lot_laws.proofs.mutex.Words.{mutex, IsCode, own_role}
+use Rattle.lot_laws.proofs.machine.Parts.{mutex, own_role}
 use Rattle.lot_laws.proofs.machine.KindsStay.{given_kinds, given_filled, given_shares}
 use Rattle.lot_laws.specs.SitesOf.{is_mutex}
 use Rattle.lot_laws.proofs.sites.StandsKept.{AlikeBeside, own_alike, calls_in, sections_same, lines_same, waits_same, hands_given}
@@ -62,6 +64,10 @@ alike_both l k p v pv t p2 hv h apart ne u =
     let a = following.alike_put l k p v pv hv ne u in
     let b = following.alike_put l k (putting p v pv) t p2 (rw (put_other p v pv t (λ e. apart (sym e))) h) ne u in
     (b.0 ∙ a.0, b.1 ∙ a.1)
+
+-- the word of a mutex with this owner
+abbrev IsCode : ℕ → Option ℕ → Type 0
+IsCode v o = v ≡ one_if_some o + 2 * bit (is_parked v)
 
 abbrev pub mutex_at : State → ℕ → Site
 mutex_at w l = lock_by w l mutex

@@ -14,7 +14,7 @@ use Rattle.lot_laws.specs.SitesOf.{is_mutex}
 use Rattle.lot_laws.specs.Locations.{Location, location_at}
 use Rattle.lot_laws.specs.SitesOf.{Stands, Sections, Lines, AllAreWaiting, Hands, HandsBy, TakesOne, FitsItsLock, rules_in, key_of, stood_in, locations_of}
 use Rattle.lot_laws.proofs.machine.Parts.{put_here, put_other}
-use Rattle.lot_laws.proofs.mutex.Words.{mutex}
+use Rattle.lot_laws.proofs.machine.Parts.{mutex}
 use Rattle.lot_laws.proofs.sites.StandsKept.{AlikeBeside, part_else, sections_same, entered, left, lines_same, line_moved, hands_same, waits_same, calls_in}
 
 pub mutex_rules : (k : Kind) → is_mutex k ≡ true → rules_of k ≡ mutex

@@ -35,7 +35,8 @@ use Rattle.lot_laws.specs.SitesOf.{AreCondvars, AreCounted, IsInductive, Goes}
 use Rattle.lot_machine.proofs.Shape.{both, looking_shaped}
 use Rattle.lot_laws.proofs.machine.KindsStay.{calls_mutex, calls_readers, calls_once, calls_semaphore}
 use Rattle.lot_laws.proofs.machine.Parts.{parts_at, same, single_or_two, thread_is}
-use Rattle.lot_laws.proofs.mutex.Words.{mutex, own_role, meets, others_same}
+use Rattle.lot_laws.proofs.machine.Parts.{mutex, own_role}
+use Rattle.lot_laws.proofs.sites.OneStep.{meets, others_same}
 use Rattle.lot_laws.proofs.sites.StandsMoved.{mutex_rules}
 use Rattle.lot_laws.proofs.sites.SitesKept.{mutex_at, goes_steady, place_goes}
 use Rattle.lot_laws.proofs.calls.Looking.{looking_steady, looks_now}
