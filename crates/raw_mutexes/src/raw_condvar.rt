@@ -45,7 +45,7 @@ fn given_back(answer: Answer, guard: RawGuard) -> Result<RawGuard, (Fault, RawGu
 }
 
 fn ended(answer: Answer, guard: RawGuard) -> Result<(RawGuard, bool), (Fault, RawGuard)>
-    ensures { result ≡ answers.ended answer guard }
+    ensures { result ≡ answers.timed_given_back answer guard }
 {
     match answer {
         Answer::TwoMutexes => Err((Fault::TwoMutexes, guard)),

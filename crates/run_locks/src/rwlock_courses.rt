@@ -106,7 +106,7 @@ fn kept_out(patience: Patience) -> Course
 
 #[inline(always)]
 fn writing(patience: Patience, seen: u64) -> Course
-    ensures { result ≡ courses.writing patience seen }
+    ensures { result ≡ courses.write_course patience seen }
 {
     if seen == 0 {
         return Course::Ends(entered(patience));
@@ -116,7 +116,7 @@ fn writing(patience: Patience, seen: u64) -> Course
 
 #[inline(always)]
 fn reading(settings: Settings, patience: Patience, blocked: bool, seen: u64) -> Course
-    ensures { result ≡ courses.reading settings.admission patience blocked seen }
+    ensures { result ≡ courses.read_course settings.admission patience blocked seen }
 {
     if blocked {
         return kept_out(patience);
@@ -129,7 +129,7 @@ fn reading(settings: Settings, patience: Patience, blocked: bool, seen: u64) -> 
 
 #[inline(always)]
 fn entering(settings: Settings, access: Access, patience: Patience, seen: u64) -> Course
-    ensures { result ≡ courses.entering settings.admission access patience seen }
+    ensures { result ≡ courses.entry_course settings.admission access patience seen }
 {
     match access {
         Access::Shared | Access::Upgradable => {
@@ -142,7 +142,7 @@ fn entering(settings: Settings, access: Access, patience: Patience, seen: u64) -
 
 #[inline(always)]
 fn upgrading(patience: Patience, seen: u64) -> Course
-    ensures { result ≡ courses.upgrading patience seen }
+    ensures { result ≡ courses.upgrade_course patience seen }
 {
     match patience {
         Patience::Try if count_in(seen) == 1 => Course::Takes,
@@ -155,7 +155,7 @@ fn upgrading(patience: Patience, seen: u64) -> Course
 // A thread that gives a right up goes on to wake others, where there may be some.
 #[inline(always)]
 fn leaving(waited_for: bool) -> Course
-    ensures { result ≡ courses.leaving waited_for }
+    ensures { result ≡ courses.release_course waited_for }
 {
     if waited_for {
         Course::GoesOn
