@@ -14,6 +14,7 @@ pub mod TakesKept
 pub mod PicksKept
 pub mod MovesKept
 pub mod FirstTaken
+pub mod ByAct
 pub mod SitesKept
 pub mod TurnsKept
 pub mod Opening

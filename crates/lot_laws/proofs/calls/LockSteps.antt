@@ -228,9 +228,6 @@ module _ (w : State) (t : ℕ) (shape : IsWellFormed w) (steady : IsInductive w)
       fits_moved : {x : MutexPlace} → place_at moved t ≡ Mutex l x → PlaceFits (length moved.locks) (Mutex l x)
       fits_moved now = subst (PlaceFits (length moved.locks)) now (shaped_moved.places t)
 
-      calls_moved : {x : MutexPlace} → place_at moved t ≡ Mutex l x → FitsItsLock moved (Mutex l x)
-      calls_moved now = subst (FitsItsLock moved) now (steady_moved.stands.calls t)
-
   looks : AreCounted w → AreCondvars w → Looks (locks_of w) t (go_outcome moved t) (locks_of (state_after_go moved t))
   looks counted condvars = record {
     goes = goes_as_before w t there q is _ (locks_of (state_after_go moved t))

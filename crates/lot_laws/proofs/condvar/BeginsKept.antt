@@ -35,7 +35,7 @@ use Rattle.lot_laws.proofs.machine.Parts.{differ, parts_at, put_here, same, thre
 use Rattle.lot_laws.proofs.sites.OneStep.{steps_by}
 use Rattle.lot_laws.proofs.sites.StandsKept.{Alike, AlikeBeside}
 use Rattle.lot_laws.proofs.sites.ActsAt as acting
-use Rattle.lot_laws.proofs.mutex.Kept.{none_is}
+use Rattle.lot_laws.proofs.sites.ByAct.{none_is}
 use Rattle.lot_laws.proofs.calls.Looking.{fits_on}
 use Rattle.lot_laws.proofs.promises.LineActs.{key_there}
 use Rattle.lot_laws.proofs.condvar.TwoParts.{role_beside, role_there, nothing_else, location_beside, location_there, taken_beside, taken_there}

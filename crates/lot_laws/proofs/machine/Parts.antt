@@ -1,7 +1,7 @@
 -- The state of a world by its parts, as total functions, and what each act does to a lock and to what the threads do about it.
 use Rattle.std.proofs.Common.{ℕ, zero, suc, Bool, true, false, Option, Some, None, if◌then◌else◌, ◌==◌, ◌||◌, ◌≡◌, ◌≢◌, ◌+◌, ◌*◌, ◌≤◌, ◌⊎◌, List, [], ◌∷◌, map, length, get_or, set, inl, inr, refl, sym, ◌∙◌, ap, subst, arith, length-set, get_or-set_same, get_or-set_other, not}
 use Rattle.spec_locks.specs.Locks.{wants_shared}
-use Rattle.std.proofs.lemmas.Bool.{cases_eq, cases_lt, eqb-true}
+use Rattle.std.proofs.lemmas.Bool.{cases_lt, eqb-true}
 use Rattle.std.proofs.lemmas.Bool.Decides.{nat_tests}
 use Rattle.core_base.specs.declared.wants.Waiter.{Waiter}
 use Rattle.core_base.specs.declared.wants.Want.TheVariants.{Exclusive}
@@ -38,7 +38,7 @@ use Rattle.spec_locks.specs.Locks.{LockState, Taken, Rules, keep_from, putting}
 use Rattle.std.specs.Prelude.{◌&&◌, ◌||◌}
 use Rattle.steps_base.specs.Owners.{is_thread}
 use Rattle.spec_locks.specs.Locks as locks
-use Rattle.spec_locks.specs.Sites.{Role, Site, Out, idle, leaves, wakened, after_deed}
+use Rattle.spec_locks.specs.Sites.{Role, Site, idle, wakened}
 use Rattle.lot_machine.specs.Machine.{State, place_at, kind_at, word_at, owners_at, shares_at, filled_at, queue_at, place_after_telling, held, shares_in_hand, with_share, shares_given, wants_more_in_hand, successor_or, successor_from, put, held_by}
 use Rattle.lot_machine.specs.declared.hands.Successor.{Successor}
 use Rattle.lot_laws.specs.Refinement.{lock_seen, taken_at}
@@ -163,24 +163,6 @@ pub record LetGo (t l : ℕ) (p p2 : Place) : Type 0 where
 -- a thread that wasn't taken stays
 pub stays : (t l : ℕ) (p : Place) → Untaken t (taken_at p l) → LetGo t l p p
 stays t l p e = record { taken = sym e; role = sym (not_wakened t (taken_at p l) (role_on p l) e) }
-
-module _ (r : Rules) (l : ℕ) (n : Base) (word : ℕ) (o : Owners) (m s : List Waiter) (p q : ℕ → Place) (t : ℕ) where
-  -- leaving a section, whoever is woken by it
-  pub leaving : taken_at (p t) l ≡ None → taken_at (q t) l ≡ None → role_on (q t) l ≡ leaves (role_on (p t) l) → ((u : ℕ) → u ≢ t → LetGo t l (p u) (q u))
-      → seen l n word o m s q ≡ after_deed r Out (seen l n word o m s p) t
-  leaving none none2 own others = λ i. record (seen l n word o m s q) { lock = lock_seen n.shared o m s (λ u. taken_now u i); role = λ u. role_now u i }
-    where
-      taken_now : (u : ℕ) → taken_at (q u) l ≡ keep_from t (taken_at (p u) l)
-      taken_now u = elim (cases_eq u t) [
-        | inl e ↦ rw e (none2 ∙ sym (ap (keep_from t) none))
-        | inr ne ↦ (others u ne).taken
-      ]
-
-      role_now : (u : ℕ) → role_on (q u) l ≡ wakened t (taken_at (p u) l) (putting (λ x. role_on (p x) l) t (leaves (role_on (p t) l)) u)
-      role_now u = elim (cases_eq u t) [
-        | inl e ↦ rw e (own ∙ sym (ap (λ x. wakened t x (putting (λ y. role_on (p y) l) t (leaves (role_on (p t) l)) t)) none ∙ put_here (λ y. role_on (p y) l) t (leaves (role_on (p t) l))))
-        | inr ne ↦ (others u ne).role ∙ sym (ap (wakened t (taken_at (p u) l)) (put_other (λ y. role_on (p y) l) t (leaves (role_on (p t) l)) u ne))
-      ]
 
 -- ---------------------------------------------------------------- hands
 
@@ -449,27 +431,6 @@ next_single (RwLock k a at) reply h = of_single k (next_place (RwLock k a at) re
 next_single (Once k at) reply h = of_single k (next_place (Once k at) reply) (next_of k (Once k at) reply refl)
 next_single (Semaphore k at) reply h = of_single k (next_place (Semaphore k at) reply) (next_of k (Semaphore k at) reply refl)
 next_single (Condvar k at) reply h = absurd h
-
--- a place of a call of the mutex l, or of none
-abbrev pub IsMutexOf : ℕ → Place → Type 0
-IsMutexOf l Idle = Unit {0}
-IsMutexOf l (Mutex k at) = k ≡ l
-IsMutexOf l (RwLock k a at) = ⊥
-IsMutexOf l (Once k at) = ⊥
-IsMutexOf l (Semaphore k at) = ⊥
-IsMutexOf l (Condvar k at) = ⊥
-
-pub own_of : (l : ℕ) (p : Place) → IsMutexOf l p → IsOf l p
-own_of l Idle of = tt
-own_of l (Mutex k at) of = of
-own_of l (RwLock k a at) of = absurd of
-own_of l (Once k at) of = absurd of
-own_of l (Semaphore k at) of = absurd of
-own_of l (Condvar k at) of = absurd of
-
-pub next_mutex : (l k : ℕ) (n : Next MutexPlace) → k ≡ l → IsMutexOf l (mutex_goes k n)
-next_mutex l k (next.TheVariants.At at) e = e
-next_mutex l k (next.TheVariants.End answer) e = tt
 
 -- a thread that calls no lock is idle
 pub calls_none : (p : Place) → called_lock p ≡ None → p ≡ Idle

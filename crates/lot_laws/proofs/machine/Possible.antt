@@ -59,7 +59,7 @@ use Rattle.lot_laws.proofs.condvar.Sections.{IsActOfTwo, IsItsKey, condvar_lines
 use Rattle.steps_condvar.specs.declared.places.CondvarPlace.TheVariants.{Wait, Look, Notify}
 use Rattle.lot_laws.proofs.promises.LineActs.{line_act, holds_line, key_there, late_line, calls_there}
 use Rattle.lot_laws.proofs.machine.PlaceTest.{IsOfLine, IsLineAct}
-use Rattle.lot_laws.proofs.mutex.Kept.{none_is}
+use Rattle.lot_laws.proofs.sites.ByAct.{none_is}
 use Rattle.lot_machine.specs.Machine.{runs_closure}
 use Rattle.lot_laws.proofs.machine.AtPlaces.{queued_by}
 use Rattle.lot_laws.proofs.calls.Events.{rights}

@@ -1,4 +1,5 @@
--- A mutex's steps that take its first waiter, hand the mutex over, or let go whom they have in hand: what they do to the lock, by what befalls the other thread.
+-- The first waiter of a mutex is taken, handed the mutex, or let go: so the mutex is a site again, by what
+-- befalls that thread.
 use Rattle.std.proofs.Common.{ℕ, Bool, true, false, Some, None, if◌then◌else◌, Option, ◌==◌, ◌⊎◌, ◌≡◌, ◌≢◌, ◌*◌, ◌<◌, List, [], ◌∷◌, length, drop, map, inl, inr, refl, sym, ◌∙◌, ap, subst, arith, length-set, get_or-set_same, get_or-set_other}
 use Rattle.spec_locks.specs.Picks.{queued_of}
 use Rattle.lot_laws.specs.MutexDeeds.{acts}

@@ -1,33 +1,27 @@
 -- A thread goes on: every lock is a site again. Here a call of a mutex.
-use Rattle.std.proofs.Common.{append-nil, ◌++◌, ℕ, Bool, true, false, Option, Some, None, if◌then◌else◌, ◌==◌, ◌≡◌, ◌≢◌, ◌+◌, ◌*◌, ◌<◌, ◌⊎◌, List, [], ◌∷◌, length, is_none, inl, inr, refl, sym, ◌∙◌, ap, subst, arith}
-use Rattle.core_base.specs.declared.keys.Keys.{Keys}
-use Rattle.core_base.specs.declared.keys.Keys.TheVariants.{One}
+use Rattle.std.proofs.Common.{append-nil, ◌++◌, ℕ, Bool, true, false, Option, Some, None, if◌then◌else◌, ◌==◌, ◌≡◌, ◌≢◌, ◌+◌, ◌*◌, ◌<◌, ◌⊎◌, List, [], ◌∷◌, ◌++◌, length, inl, inr, refl, sym, ◌∙◌, ap, subst}
 use Rattle.core_base.specs.declared.notes.Note.TheVariants.{Normal, HandOff as HandOffNote}
 use Rattle.core_base.specs.declared.ops.Op.{Op}
 use Rattle.core_base.specs.declared.ops.Op.TheVariants as ops
 use Rattle.core_base.specs.declared.wants.Waiter.{Waiter}
-use Rattle.core_base.specs.declared.wants.Want.{Want}
 use Rattle.core_base.specs.declared.wants.Want.TheVariants.{Exclusive}
 use Rattle.core_base.specs.Lines.{first_of}
 use Rattle.core_base.specs.Words.{apply}
 use Rattle.steps_base.specs.declared.acts.Act.{Act}
 use Rattle.steps_base.specs.declared.acts.Act.TheVariants as act
-use Rattle.steps_base.specs.declared.acts.Check.{Check}
 use Rattle.steps_base.specs.declared.acts.Next.{Next}
 use Rattle.steps_base.specs.declared.acts.Next.TheVariants as next
 use Rattle.steps_base.specs.declared.acts.Reply.{Reply}
-use Rattle.steps_base.specs.declared.acts.Reply.TheVariants.{Done, Value, Parked, Took, Removed, HandedBy, TakenBy, Late}
-use Rattle.steps_base.specs.declared.acts.Wakes.{Wakes}
+use Rattle.steps_base.specs.declared.acts.Reply.TheVariants.{Value, Took, HandedBy, TakenBy, Late}
 use Rattle.steps_base.specs.declared.acts.Whom.TheVariants as whoms
-use Rattle.steps_base.specs.Acts.{holds}
 use Rattle.steps_base.specs.Calls.{CallFollows}
-use Rattle.steps_base.specs.Moves.{Accepts, GoesIn, GoesOut, LeavesLine, Parks, TellsHanded, inside_of, location_of, location_then, row_of}
+use Rattle.steps_base.specs.Moves.{inside_of, location_of, location_then, row_of}
 use Rattle.steps_base.specs.Owners.{with_exclusive}
 use Rattle.steps_base.specs.Profiles.{Profile, in_hand}
 use Rattle.steps_base.specs.Locations.{Location}
 use Rattle.spec_locks.specs.Locks.{HasTakenNobody, IsLockState, IsSuccessor, Rules, first_thread, let_go}
 use Rattle.spec_locks.specs.Locks as locks
-use Rattle.spec_locks.specs.Sites.{Case, Clear, Deed, End, In, Line, Main, Mark, MarkBrought, MarkOwned, Site}
+use Rattle.spec_locks.specs.Sites.{Case, Clear, Deed, End, Line, Main, Mark, MarkBrought, MarkOwned, Site}
 use Rattle.spec_locks.specs.Codes.{aside_in, code}
 use Rattle.spec_locks.specs.Deeds.{case_of}
 use Rattle.spec_locks.specs.Deeds as laws
@@ -44,18 +38,16 @@ use Rattle.steps_mutex.proofs.MutexTells.{mutex_steps_tell}
 use Rattle.lot_steps.specs.declared.places.Place.{Place}
 use Rattle.lot_steps.specs.declared.places.Place.TheVariants.{Idle, Mutex, RwLock, Once, Condvar, Semaphore}
 use Rattle.lot_steps.specs.Steps.{act_of, mutex_goes, next_place, profile}
-use Rattle.lot_machine.specs.Machine.{State, are_free, can_do, hand_over_told, section_is_free as is_free_in, owners_at, place_at, put, queue_at, queues_without_first, reply_to, section_at, kind_at, state_after_act, state_after_hand_over, state_after_late_under, state_after_operation, state_after_reply, unshared_then, word_at}
+use Rattle.lot_machine.specs.Machine.{State, can_do, hand_over_told, section_is_free as is_free_in, owners_at, place_at, put, queue_at, queues_without_first, reply_to, section_at, kind_at, state_after_act, state_after_hand_over, state_after_late_under, state_after_operation, state_after_reply, unshared_then, word_at}
 use Rattle.lot_machine.specs.Fits.{GivesUpTimed, IsWellFormed, PlaceFits}
-use Rattle.lot_machine.proofs.Shape.{main_key_there, main_line_there}
 use Rattle.lot_laws.specs.Refinement.{taken_at}
 use Rattle.lot_laws.specs.MutexDeeds.{Act as OneDeed, acts, claims_of}
 use Rattle.lot_laws.proofs.calls.Events.{AreClaims}
 use Rattle.lot_laws.specs.Locations.{hand, location, location_at}
 use Rattle.lot_laws.specs.SitesOf.{ActsNeeded, AreCounted, FitsItsLock, Goes, IsInductive, carried_at, hand_at, is_mutex, key_of, rules_in}
 use Rattle.lot_laws.proofs.calls.LockEvents.{Befalls}
-use Rattle.lot_laws.proofs.calls.OtherCalls.{IsCalm, WakesOwn, befalls, befalls_nobody}
+use Rattle.lot_laws.proofs.calls.OtherCalls.{WakesOwn, befalls, befalls_nobody}
 use Rattle.lot_laws.proofs.hands.Handed.{handed_is}
-use Rattle.lot_laws.proofs.hands.Moved.{accepts, tells_handed, told_hears}
 use Rattle.lot_laws.proofs.machine.AtPlaces.{in_no_hand}
 use Rattle.lot_laws.proofs.machine.Parts.{IsOf, IsSingle, base_at, differ, free_of, location_here, mutex, next_of, of_single, own_stance, role_here, untaken}
 use Rattle.lot_laws.proofs.mutex.Acts.{IsOfWord, OwnedBy, owned_by, works_at}
@@ -63,22 +55,18 @@ use Rattle.lot_laws.proofs.mutex.Hands.{accepts as has_now, first_goes, first_sl
 use Rattle.lot_laws.proofs.mutex.Moves.{MutexMoves, StoresNothing, Works, mutex_acts_move, mutex_hears, mutex_late_move, mutex_move, owner_alone}
 use Rattle.lot_laws.proofs.mutex.Waiters.{CallsMutex, IsHeldThere, WasGivenThere, calls_mutex_at, given_there, held_there}
 use Rattle.lot_laws.proofs.once.Kept.{goes_once}
-use Rattle.lot_laws.proofs.rwlock.Kept.{AreCalm, calm_case, tells_any, wakes_any}
+use Rattle.lot_laws.proofs.sites.ByAct.{AreCalm, GoesBy, IsBrief, accepted, calm_case, into, left_main, line_there, none_is, on_time, out_of, parked, section_there, tells_all, took_first}
 use Rattle.lot_laws.proofs.rwlock.Steps.{rwlock_goes_on}
 use Rattle.lot_laws.proofs.semaphore.Kept.{goes_semaphore}
-use Rattle.lot_laws.proofs.sites.ActsKept.{lock_by}
+use Rattle.lot_laws.proofs.sites.ActsKept.{goes_steady, lock_by}
 use Rattle.lot_laws.proofs.sites.FirstTaken.{TakesFirst}
 use Rattle.lot_laws.proofs.sites.FirstTaken as first
-use Rattle.lot_laws.proofs.sites.MovesKept.{IsFollowed, entered_hears, goes_in, goes_out, leaves_main, left_hears, location_is, parked_hears, parks_or_turns, removed_main, there_is}
-use Rattle.lot_laws.proofs.sites.SitesKept.{go_by, goes_steady, hands_over, one_held}
+use Rattle.lot_laws.proofs.sites.MovesKept.{IsFollowed, goes_in, location_is, there_is}
+use Rattle.lot_laws.proofs.sites.SitesKept.{go_by, hands_over, one_held}
 use Rattle.lot_laws.proofs.sites.StandsKept.{own_alike}
 use Rattle.lot_laws.proofs.sites.StandsMoved.{mutex_rules}
 use Rattle.lot_laws.proofs.sites.TakesAt.{behind_take, member}
 use Rattle.lot_laws.proofs.sites.WakesAt.{IsWokenAt}
-
-pub none_is : (x : Option ℕ) → is_none x ≡ true → x ≡ None
-none_is None h = refl
-none_is (Some y) h = absurd cc
 
 -- where a place leads, its row does
 goes_row : (l : ℕ) (n : Next MutexPlace) → profile (mutex_goes l n) ≡ row_of (next_row n)
@@ -209,14 +197,8 @@ module _ (w : State) (t l : ℕ) (at : MutexPlace) (steady : IsInductive w) (sha
     unheld = unheld;
   }
 
-  calm_by : (ds : List Deed) {x : List Deed} → x ≡ ds → AreCalm ds → IsCalm (case_of (mutex_row at).carries x)
-  calm_by ds e h = subst (λ (x : List Deed). IsCalm (case_of (mutex_row at).carries x)) (sym e) (calm_case (mutex_row at).carries ds h)
-
-  section : key_of l Main < length w.sections
-  section = main_key_there w l shape lt
-
   line : key_of l Main < length w.queues
-  line = main_line_there w l shape lt
+  line = line_there w l shape lt Main
 
   word_is : word_at w l ≡ code r here
   word_is = steady.sites.word l
@@ -254,7 +236,7 @@ module _ (w : State) (t l : ℕ) (at : MutexPlace) (steady : IsInductive w) (sha
       same_location : location p2 ≡ location (place_at w t)
       same_location = there_is w t l steady there own r refl (mutex_move at) same_row None (Value (word_at w l)) p2 f ∙ goes ∙ sym was
 
-  -- a waiter in its hand was taken by it, or handed the mutex
+  -- a thread that it has in hand it has taken, or handed the mutex
   held_so : (any c b : Bool) → (location_of (mutex_move at)).carries ≡ in_hand any c → (u : ℕ) → hand_at (place_at w u) l ≡ hand t b → b ≡ c
   held_so any c b carries u held = by_any any (sym (ap (λ (y : Location). y.carries) (location_here l (place_at w t) own ∙ location_is w t l steady there own r refl (mutex_move at) same_row) ∙ carries) ∙ steady.stands.hands.taken t u l b held)
     where
@@ -277,58 +259,15 @@ module _ (w : State) (t l : ℕ) (at : MutexPlace) (steady : IsInductive w) (sha
   -- ---------------------------------------------------------------- by each act but the store of a hand-off
 
   module _ (nothing : StoresNothing at) where
-    simply : {q : Place} {y : Act} (who : Option ℕ) → Goes w (Then q y) l (acts t (deeds_of who (reply_to w t y))) → MayHear r here t at who (reply_to w t y)
-        → reply_to w t y ≢ Late → (location_then (mutex_move at) (reply_to w t y)).hand ≡ None → WakesOwn (mutex_row at).carries y (case_at who (reply_to w t y)) → GoesFrom q y
-    simply {q = q} {y = y} who goes hears now unheld own_others = plainly {q = q} {y = y} who (no_claims at who nothing) goes hears now unheld (inl own_others)
+    brief : (told : Reply) → IsBrief told → MayHear r here t at None told → Followed None told
+    brief told now hears = followed None told hears
+
+    go_on : (who : Option ℕ) (y : Act) → GoesBy w t l steady shape there lt own (mutex_move at) same_row (mutex_hears at) (Mutex l at) brief who y → GoesFrom (place_at w t) y
+    go_on who y b = plainly {q = place_at w t} {y = y} who (no_claims at who nothing) b.goes b.told (on_time (reply_to w t y) b.brief) b.free (inl b.others)
 
     works : (op : Op) → mutex_act l at ≡ act.Word l op → Works (mutex_move at) (mutex_hears at) → GoesFrom (place_at w t) (act.Word l op)
     works op e g = on_word op e (no_claims at None nothing) (g.may r here t) (owned_by r (deeds_of None (Value (word_at w l))) here t (g.deeds (word_at w l))) g.free (g.goes (word_at w l))
-        (inl (calm_by (deeds_of None (Value (word_at w l))) refl (word_calm (deeds_of None (Value (word_at w l))) (g.deeds (word_at w l)))))
-
-    into : (keys : Keys) → keys ≡ One (key_of l Main) → are_free w keys ≡ true → GoesIn (mutex_move at) (mutex_hears at) Main Done → GoesFrom (place_at w t) (act.Enter keys)
-    into keys e free g = subst (λ k. GoesFrom (place_at w t) (act.Enter k)) (sym e) (simply None
-        (goes_in w t l steady there own r refl (mutex_move at) same_row (mutex_hears at) Main Done (next_place (place_at w t) Done) section is_free_now g (λ h. followed None Done h))
-        (entered_hears w t l steady there own r refl (mutex_move at) same_row (mutex_hears at) Main Done is_free_now g) (λ x. cc) (ap (λ (y : Location). y.hand) g.goes ∙ g.free) (calm_by (In Main ∷ []) g.deeds tt))
-      where
-        is_free_now : section_at w (key_of l Main) ≡ None
-        is_free_now = none_is (section_at w (key_of l Main)) (subst (λ k. are_free w k ≡ true) e free)
-
-    out_of : (keys : Keys) (wakes : Wakes) → keys ≡ One (key_of l Main) → GoesOut (mutex_move at) (mutex_hears at) Main wakes → GoesFrom (place_at w t) (act.Leave keys wakes)
-    out_of keys wakes e g = subst (λ k. GoesFrom (place_at w t) (act.Leave k wakes)) (sym e) (simply None
-        (goes_out w t l steady there own r refl (mutex_move at) same_row (mutex_hears at) Main wakes (next_place (place_at w t) Done) section g (λ h. followed None Done h) (tries_again g.any g.carries))
-        (left_hears w t l steady there own r refl (mutex_move at) same_row (mutex_hears at) Main wakes g) (λ x. cc) (ap (λ (y : Location). y.hand) g.goes ∙ g.free)
-        (wakes_any (One (key_of l Main)) wakes (mutex_row at).carries g.any g.notes g.carries (deeds_of None Done) g.deeds))
-
-    tells_all : (keys : Keys) (wakes : Wakes) → keys ≡ One (key_of l Main) → TellsHanded (mutex_move at) (mutex_hears at) wakes → GoesFrom (place_at w t) (act.Leave keys wakes)
-    tells_all keys wakes e g = subst (λ k. GoesFrom (place_at w t) (act.Leave k wakes)) (sym e) (simply None
-        (tells_handed w t l steady there own r refl (mutex_move at) same_row (mutex_hears at) wakes g (next_place (place_at w t) Done) section (followed None Done done) (has_it g.any (ap (λ (y : Location). y.carries) g.was)))
-        done (λ x. cc) (ap (λ (y : Location). y.hand) g.goes)
-        (tells_any (One (key_of l Main)) wakes (mutex_row at).carries g.any g.notes (ap (λ (y : Location). y.carries) g.was) (deeds_of None Done) g.deeds))
-      where
-        done : MayHear r here t at None Done
-        done = told_hears w t l steady there own r refl (mutex_move at) same_row (mutex_hears at) wakes g
-
-    accepted : Accepts (mutex_move at) (mutex_hears at) → GoesFrom (place_at w t) act.Accept
-    accepted g = simply None (accepts w t l steady there own r refl (mutex_move at) same_row (mutex_hears at) g (next_place (place_at w t) Done) (λ h. followed None Done h))
-        (g.may r here t) (λ x. cc) (ap (λ (y : Location). y.hand) g.goes) (calm_by (End ∷ []) g.deeds tt)
-
-    parked : (k key : ℕ) (check : Check) (want : Want) → k ≡ l → key ≡ key_of l Main → Parks (mutex_move at) (mutex_hears at) Main check want → GoesFrom (place_at w t) (act.Park k key check want)
-    parked k key check x ke e g = subst (λ j. GoesFrom (place_at w t) (act.Park j key check x)) (sym ke) (subst (λ j. GoesFrom (place_at w t) (act.Park l j check x)) (sym e) (simply None
-        (parks_or_turns w t l steady there own r refl (mutex_move at) same_row (mutex_hears at) Main check x line g (λ b h. followed None (Parked b) h))
-        (parked_hears w t l steady there own r refl (mutex_move at) same_row (mutex_hears at) Main check x g (holds check (word_at w l)) refl) (λ x. cc) (then_free (holds check (word_at w l))) (calmly (holds check (word_at w l)))))
-      where
-        calmly : (b : Bool) → IsCalm (case_at None (Parked b))
-        calmly true = calm_by (Case (locks.Park x) ∷ []) g.parks tt
-        calmly false = calm_by [] g.turns tt
-
-        then_free : (b : Bool) → (location_then (mutex_move at) (Parked b)).hand ≡ None
-        then_free true = ap (λ (y : Location). y.hand) g.parked
-        then_free false = ap (λ (y : Location). y.hand) g.turned
-
-    left : (key : ℕ) → key ≡ key_of l Main → LeavesLine (mutex_move at) (mutex_hears at) Main → GoesFrom (place_at w t) (act.Remove key)
-    left key e g = subst (λ j. GoesFrom (place_at w t) (act.Remove j)) (sym e) (simply None
-        (leaves_main w t l steady there own r refl (mutex_move at) same_row (mutex_hears at) g (λ b h. followed None (Removed b) h))
-        (removed_main w t l steady there own r refl (mutex_move at) same_row (mutex_hears at) g) (λ x. cc) (ap (λ (y : Location). y.hand) (g.goes _)) (calm_by (Case locks.Late ∷ []) (g.deeds _) tt))
+        (inl (calm_case (mutex_row at).carries (deeds_of None (Value (word_at w l))) (word_calm (deeds_of None (Value (word_at w l))) (g.deeds (word_at w l)))))
 
     -- the first of the line, if there is one
     module _ (g : TakesFirst take_deeds (mutex_move at) (mutex_hears at)) where
@@ -356,20 +295,17 @@ module _ (w : State) (t l : ℕ) (at : MutexPlace) (steady : IsInductive w) (sha
           not_self : member t (y ∷ []) ≡ false
           not_self = rw (differ y.thread t apart) refl
 
-    took : (key : ℕ) → key ≡ key_of l Main → TakesFirst take_deeds (mutex_move at) (mutex_hears at) → GoesFrom (place_at w t) (act.Take key whoms.First)
-    took key e g = subst (λ j. GoesFrom (place_at w t) (act.Take j whoms.First)) (sym e) (simply (first_of (queue_at w (2 * l)))
-        (first.takes_first w t l steady there own r refl (mutex_move at) same_row (mutex_hears at) take_deeds line g refl (λ who any none_left h. followed who (Took any none_left) h) (takes_one g))
-        (first.hears_of w t l steady there own r refl (mutex_move at) same_row (mutex_hears at) take_deeds line g (queue_at w (2 * l)) refl) (λ x. cc) (ap (λ (y : Location). y.hand) (g.goes _ _))
-        (calm_by (take_deeds (first_of (queue_at w (2 * l)))) (g.deeds (first_of (queue_at w (2 * l))) _ _) (takes_calm (first_of (queue_at w (2 * l))))))
-
     by_act : (y : Act) → mutex_act l at ≡ y → MutexMoves l (mutex_move at) (mutex_hears at) y → can_do w y ≡ true → GoesFrom (place_at w t) y
     by_act (act.Word k op) e g can = subst (λ j. GoesFrom (place_at w t) (act.Word j op)) (sym g.0) (works op (e ∙ ap (λ j. act.Word j op) g.0) g.1)
-    by_act (act.Enter keys) e g can = into keys g.0 can g.1
-    by_act (act.Park k key check want) e g can = parked k key check want g.0 g.1 g.2
-    by_act (act.Take key whoms.First) e g can = took key g.0 g.1
-    by_act (act.Remove key) e g can = left key g.0 g.1
-    by_act (act.Leave keys wakes) e g can = elim g.1 [ inl h ↦ out_of keys wakes g.0 h | inr h ↦ tells_all keys wakes g.0 h ]
-    by_act act.Accept e g can = accepted g
+    by_act (act.Enter keys) e g can = go_on None (act.Enter keys) (into w t l steady shape there lt own (mutex_move at) same_row (mutex_hears at) (Mutex l at) brief Main keys g.0 can g.1)
+    by_act (act.Park k key check want) e g can = go_on None (act.Park k key check want) (parked w t l steady shape there lt own (mutex_move at) same_row (mutex_hears at) (Mutex l at) brief Main k key check want g.0 g.1 g.2)
+    by_act (act.Take key whoms.First) e g can = go_on (first_of (queue_at w key)) (act.Take key whoms.First) (took_first w t l steady shape there lt own (mutex_move at) same_row (mutex_hears at) (Mutex l at) brief take_deeds g.1 refl takes_calm (λ who any none_left h. followed who (Took any none_left) h) (takes_one g.1) key g.0)
+    by_act (act.Remove key) e g can = go_on None (act.Remove key) (left_main w t l steady shape there lt own (mutex_move at) same_row (mutex_hears at) (Mutex l at) brief key g.0 g.1)
+    by_act (act.Leave keys wakes) e g can = elim g.1 [
+      | inl h ↦ go_on None (act.Leave keys wakes) (out_of w t l steady shape there lt own (mutex_move at) same_row (mutex_hears at) (Mutex l at) brief Main keys wakes g.0 h (tries_again h.any h.carries))
+      | inr h ↦ go_on None (act.Leave keys wakes) (tells_all w t l steady shape there lt own (mutex_move at) same_row (mutex_hears at) (Mutex l at) brief keys wakes g.0 h (has_it h.any (ap (λ (y : Location). y.carries) h.was)))
+    ]
+    by_act act.Accept e g can = go_on None act.Accept (accepted w t l steady shape there lt own (mutex_move at) same_row (mutex_hears at) (Mutex l at) brief g)
     by_act act.Sleep e g can = absurd cc
     by_act y e g can = absurd g
 
@@ -380,12 +316,8 @@ module _ (w : State) (t l : ℕ) (at : MutexPlace) (steady : IsInductive w) (sha
   -- its time is up
   pub mutex_goes_late : (m : Line) → mutex_late_line at ≡ Some m → is_free_in w (key_of l m) ≡ true
       → Goes w (state_after_late_under w t (key_of l m)) l (acts t (deeds_of None Late))
-  mutex_goes_late m e free = goes_in w t l steady there own r refl (mutex_move at) same_row (mutex_hears at) m Late (next_place (place_at w t) Late) (section_there m)
+  mutex_goes_late m e free = goes_in w t l steady there own r refl (mutex_move at) same_row (mutex_hears at) m Late (next_place (place_at w t) Late) (section_there w l shape lt m)
       (none_is (section_at w (key_of l m)) free) (mutex_late_move at m e) (λ h. followed None Late h)
-    where
-      section_there : (m : Line) → key_of l m < length w.sections
-      section_there Main = section
-      section_there m = let e : length w.sections ≡ 2 * length w.locks = shape.sections in omega arith
 
 -- ---------------------------------------------------------------- the store of a hand-off
 

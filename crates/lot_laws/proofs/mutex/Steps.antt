@@ -1,4 +1,5 @@
--- A thread in a call of a mutex goes on by its act: that is one event of the mutex, and its call goes on with it.
+-- A thread in a call of a mutex goes on by its act: that is one event of the mutex, and its call goes on
+-- with it.
 use Rattle.std.proofs.Common.{inl, inr, ℕ, Bool, true, false, Option, Some, None, ◌≡◌, ◌<◌, ◌≤◌, length, get_or-set_same, get_or-set_other, refl, sym, ◌∙◌, ap, subst}
 use Rattle.core_base.specs.declared.ops.Op.TheVariants as op
 use Rattle.steps_base.specs.declared.acts.Act.TheVariants as act

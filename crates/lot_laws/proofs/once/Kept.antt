@@ -1,8 +1,6 @@
 -- A thread in a call of a `Once` goes on: every lock is a site again.
-use Rattle.std.proofs.Common.{rules, ℕ, Bool, true, false, Option, Some, None, ◌==◌, ◌≡◌, ◌+◌, ◌*◌, ◌<◌, List, [], ◌∷◌, length, is_none, refl, sym, ◌∙◌, ap, subst, arith}
+use Rattle.std.proofs.Common.{rules, ℕ, Bool, true, false, Some, None, ◌==◌, ◌≡◌, ◌+◌, ◌*◌, ◌<◌, List, [], ◌∷◌, length, refl, sym, ◌∙◌, ap, subst}
 use Rattle.std.proofs.lemmas.Bool.{eqb-true}
-use Rattle.core_base.specs.declared.keys.Keys.{Keys}
-use Rattle.core_base.specs.declared.keys.Keys.TheVariants.{One}
 use Rattle.core_base.specs.declared.notes.Note.TheVariants.{Normal}
 use Rattle.core_base.specs.declared.ops.Op.{Op}
 use Rattle.core_base.specs.Words.{apply}
@@ -16,17 +14,16 @@ use Rattle.steps_base.specs.declared.acts.Next.{Next}
 use Rattle.steps_base.specs.declared.acts.Next.TheVariants as next
 use Rattle.steps_base.specs.declared.acts.Reply.{Reply}
 use Rattle.steps_base.specs.declared.acts.Reply.TheVariants.{Done, Value, Parked, Took, Removed, TakenBy, Late, Woken}
-use Rattle.steps_base.specs.declared.acts.Wakes.{Wakes}
 use Rattle.steps_base.specs.declared.acts.Whom.TheVariants as whom
 use Rattle.steps_base.specs.Acts.{holds}
-use Rattle.steps_base.specs.Moves.{StaysPut, GoesIn, GoesOut, LeavesLine, RowWaits, row_of}
+use Rattle.steps_base.specs.Moves.{StaysPut, RowWaits, row_of}
 use Rattle.steps_base.specs.Calls.{IsNotLate}
 use Rattle.steps_base.specs.Profiles.{Profile}
 use Rattle.steps_base.specs.Owners.{lock_seen}
 use Rattle.spec_locks.specs.Onces.{Rest, TakeAll}
 use Rattle.spec_locks.specs.Locks.{Rules, OfOnce}
 use Rattle.spec_locks.specs.Locks as locks
-use Rattle.spec_locks.specs.Sites.{Site, Deed, Line, Main, Second, Case, In, has_readers}
+use Rattle.spec_locks.specs.Sites.{Site, Deed, Line, Main, Case, has_readers}
 use Rattle.spec_locks.specs.Codes.{aside_in, code, is_marked, parked_in}
 use Rattle.spec_locks.specs.Deeds.{case_of}
 use Rattle.spec_locks.specs.Deeds as laws
@@ -53,9 +50,8 @@ use Rattle.steps_mutex.specs.declared.places.MutexPlace.{MutexPlace}
 use Rattle.steps_rwlock.specs.declared.places.Admission.{Admission}
 use Rattle.steps_rwlock_fair.specs.declared.places.RwLockCallPlace.{RwLockCallPlace}
 use Rattle.lot_steps.specs.Steps.{calls, next_place, once_goes, profile}
-use Rattle.lot_machine.specs.Machine.{State, are_free, can_do, section_is_free, state_after_late_under, kind_at, owners_at, place_at, put, queue_at, reply_to, section_at, shares_at, state_after_act, word_at}
+use Rattle.lot_machine.specs.Machine.{State, can_do, section_is_free, state_after_late_under, kind_at, owners_at, place_at, put, queue_at, reply_to, section_at, shares_at, state_after_act, word_at}
 use Rattle.lot_machine.specs.Fits.{IsWellFormed}
-use Rattle.lot_machine.proofs.Shape.{main_key_there}
 use Rattle.lot_laws.specs.Refinement.{taken_at}
 use Rattle.lot_laws.specs.MutexDeeds.{acts}
 use Rattle.lot_laws.specs.Locations.{role_on, location}
@@ -64,10 +60,10 @@ use Rattle.lot_laws.proofs.sites.ActsKept.{lock_by, place_goes}
 use Rattle.lot_laws.proofs.sites.OneStep.{steps_by}
 use Rattle.steps_condvar.specs.declared.places.CondvarPlace.{CondvarPlace}
 use Rattle.lot_laws.proofs.machine.Parts.{not_beside, IsOf, role_here, free_of, next_of, parts_at}
-use Rattle.lot_laws.proofs.sites.MovesKept.{IsFollowed, SleepsIfCalls, IsSleeper, entered_hears, goes_in, goes_out, leaves_line, left_hears, removed_hears, wakes_one}
+use Rattle.lot_laws.proofs.sites.MovesKept.{IsFollowed, SleepsIfCalls, IsSleeper, goes_in, wakes_one}
 use Rattle.lot_laws.proofs.once.MovesKept.{all_hears, rests_or_turns, stays_unshared, takes_all, told_so}
 use Rattle.lot_laws.proofs.calls.OtherCalls.{IsCalm, WakesOwn}
-use Rattle.lot_laws.proofs.rwlock.Kept.{word_calm, calm_case, AreCalm, wakes_any}
+use Rattle.lot_laws.proofs.sites.ByAct.{AreCalm, GoesBy, IsBrief, calm_case, into, left, line_there, none_is, not_late, out_of, section_there, word_calm}
 use Rattle.lot_laws.proofs.sites.StandsMoved.{mutex_rules}
 
 -- ---------------------------------------------------------------- rows
@@ -174,10 +170,6 @@ once_sections_follow r s t (GiveUp again give_up.Remove) (Removed true) a h = se
 once_sections_follow r s t (GiveUp again give_up.Remove) (Removed false) a h = search rules
 once_sections_follow r s t (GiveUp again give_up.Leave) Done a h = search rules
 once_sections_follow r s t p told a h = absurd h
-
-nobody_is : (o : Option ℕ) → is_none o ≡ true → o ≡ None
-nobody_is None h = refl
-nobody_is (Some u) h = absurd cc
 
 -- ---------------------------------------------------------------- one thread
 
@@ -292,12 +284,14 @@ module _ (w : State) (t l : ℕ) (at : OncePlace) (steady : IsInductive w) (shap
   calm_by : (ds : List Deed) {x : List Deed} → x ≡ ds → AreCalm ds → IsCalm (case_of ((once_profile at).carries) x)
   calm_by ds e h = subst (λ (x : List Deed). IsCalm (case_of ((once_profile at).carries) x)) (sym e) (calm_case ((once_profile at).carries) ds h)
 
-  section_there : (m : Line) → key_of l m < length w.sections
-  section_there Main = main_key_there w l shape lt
-  section_there Second = let e : length w.sections ≡ 2 * length w.locks = shape.sections in omega arith
+  line : 2 * l < length w.queues
+  line = line_there w l shape lt Main
 
-  line_there : 2 * l < length w.queues
-  line_there = let e : length w.queues ≡ length w.sections = shape.queues in let h : 2 * l < length w.sections = section_there Main in omega arith
+  brief : (told : Reply) → IsBrief told → MayHear (rules_in w l) here t at told → Followed told
+  brief told now hears = followed told hears
+
+  go_on : (y : Act) → GoesBy w t l steady shape there lt own (once_move at) same_row (once_hears at) (Once l at) brief None y → GoesFrom (place_at w t) y
+  go_on y b = record { goes = b.goes; tells = tells_by (reply_to w t y) (not_late (reply_to w t y) b.brief) b.told; others = b.others }
 
   word_is : word_at w l ≡ code (rules_in w l) here
   word_is = steady.sites.word l
@@ -331,30 +325,11 @@ module _ (w : State) (t l : ℕ) (at : OncePlace) (steady : IsInductive w) (shap
       aside : aside_in (rules_in w l).sort (apply op (word_at w l)) ≡ behind.aside_parked
       aside = ap (λ x. aside_in x (apply op (word_at w l))) sort_is ∙ sym (ap (λ x. aside_in x (word_at w l)) sort_is) ∙ sym (stays_aside (rules_in w l) here t at (word_at w l))
 
-  into : (m : Line) (keys : Keys) → keys ≡ One (key_of l m) → are_free w keys ≡ true
-      → GoesIn (once_move at) (once_hears at) m Done → GoesFrom (place_at w t) (act.Enter keys)
-  into m keys e free g = subst (λ k. GoesFrom (place_at w t) (act.Enter k)) (sym e) (record {
-    goes = goes_in w t l steady there own (rules_in w l) refl (once_move at) same_row (once_hears at) m Done (next_place (place_at w t) Done) (section_there m) is_free_now g (λ h. followed Done h);
-    tells = tells_by Done tt (entered_hears w t l steady there own (rules_in w l) refl (once_move at) same_row (once_hears at) m Done is_free_now g);
-    others = calm_by (In m ∷ []) g.deeds tt;
-  })
-    where
-      is_free_now : section_at w (key_of l m) ≡ None
-      is_free_now = nobody_is (section_at w (key_of l m)) (subst (λ k. are_free w k ≡ true) e free)
-
-  out_of : (m : Line) (keys : Keys) (wakes : Wakes) → keys ≡ One (key_of l m) → GoesOut (once_move at) (once_hears at) m wakes
-      → GoesFrom (place_at w t) (act.Leave keys wakes)
-  out_of m keys wakes e g = subst (λ k. GoesFrom (place_at w t) (act.Leave k wakes)) (sym e) (record {
-    goes = goes_out w t l steady there own (rules_in w l) refl (once_move at) same_row (once_hears at) m wakes (next_place (place_at w t) Done) (section_there m) g (λ h. followed Done h) (wakes_one w t l steady there own (rules_in w l) refl (once_move at) same_row asleep g.any g.carries);
-    tells = tells_by Done tt (left_hears w t l steady there own (rules_in w l) refl (once_move at) same_row (once_hears at) m wakes g);
-    others = wakes_any (One (key_of l m)) wakes ((once_profile at).carries) g.any g.notes g.carries (once_deeds at Done) g.deeds;
-  })
-
   rested : (k key : ℕ) (check : Check) (want : Want) → k ≡ l → key ≡ key_of l Main
       → RestsBehind (once_move at) (once_hears at) check want → GoesFrom (place_at w t) (act.Park k key check want)
   rested k key check x ke e g = subst (λ j. GoesFrom (place_at w t) (act.Park j key check x)) (sym ke) (subst (λ j. GoesFrom (place_at w t) (act.Park l j check x)) (sym e) (record {
-    goes = rests_or_turns w t l steady there own (rules_in w l) refl (once_move at) same_row (once_hears at) check x line_there g (λ b h. followed (Parked b) h);
-    tells = tells_by (Parked (holds check (word_at w l))) tt (told_so w t l steady there own (rules_in w l) refl (once_move at) same_row (once_hears at) check x line_there g (λ b h. followed (Parked b) h) (holds check (word_at w l)) refl);
+    goes = rests_or_turns w t l steady there own (rules_in w l) refl (once_move at) same_row (once_hears at) check x line g (λ b h. followed (Parked b) h);
+    tells = tells_by (Parked (holds check (word_at w l))) tt (told_so w t l steady there own (rules_in w l) refl (once_move at) same_row (once_hears at) check x line g (λ b h. followed (Parked b) h) (holds check (word_at w l)) refl);
     others = rests_calm (holds check (word_at w l));
   }))
     where
@@ -365,31 +340,23 @@ module _ (w : State) (t l : ℕ) (at : OncePlace) (steady : IsInductive w) (shap
   took : (key : ℕ) → key ≡ key_of l Main → TakesAll (once_move at) (once_hears at)
       → GoesFrom (place_at w t) (act.Take key whom.All)
   took key e g = subst (λ j. GoesFrom (place_at w t) (act.Take j whom.All)) (sym e) (record {
-    goes = takes_all w t l steady there own (rules_in w l) refl (once_move at) same_row asleep (once_hears at) many line_there g follows;
-    tells = tells_by _ tt (all_hears w t l steady there own (rules_in w l) refl (once_move at) same_row asleep (once_hears at) many line_there g follows);
+    goes = takes_all w t l steady there own (rules_in w l) refl (once_move at) same_row asleep (once_hears at) many line g follows;
+    tells = tells_by _ tt (all_hears w t l steady there own (rules_in w l) refl (once_move at) same_row asleep (once_hears at) many line g follows);
     others = calm_by (Case (OfOnce TakeAll) ∷ []) (g.deeds _ _) tt;
   })
     where
       follows : (any none_left : Bool) → MayHear (rules_in w l) here t at (Took any none_left) → Followed (Took any none_left)
       follows any none_left h = followed (Took any none_left) h
 
-  left : (m : Line) (key : ℕ) → key ≡ key_of l m → LeavesLine (once_move at) (once_hears at) m
-      → GoesFrom (place_at w t) (act.Remove key)
-  left m key e g = subst (λ j. GoesFrom (place_at w t) (act.Remove j)) (sym e) (record {
-    goes = leaves_line w t l steady there own (rules_in w l) refl (once_move at) same_row asleep (once_hears at) m g (λ b h. followed (Removed b) h);
-    tells = tells_by (reply_to w t (act.Remove (key_of l m))) tt (removed_hears w t l steady there own (rules_in w l) refl (once_move at) same_row asleep (once_hears at) m g);
-    others = calm_by (Case locks.Late ∷ []) (g.deeds _) tt;
-  })
-
   -- by any act but its closure, which another turn ends
   by_act : (y : Act) → once_act l at ≡ y → IsOnceAct y → OnceMoves l (once_move at) (once_hears at) y → can_do w y ≡ true
       → GoesFrom (place_at w t) y
   by_act (act.Word k op) e h g can = subst (λ j. GoesFrom (place_at w t) (act.Word j op)) (sym g.0) (on_word op (e ∙ ap (λ j. act.Word j op) g.0) g.1)
-  by_act (act.Enter keys) e h g can = into g.0 keys g.1 can g.2
+  by_act (act.Enter keys) e h g can = go_on (act.Enter keys) (into w t l steady shape there lt own (once_move at) same_row (once_hears at) (Once l at) brief g.0 keys g.1 can g.2)
   by_act (act.Park k key check want) e h g can = rested k key check want g.0 g.1 g.2
   by_act (act.Take key whom.All) e h g can = took key g.0 g.1
-  by_act (act.Remove key) e h g can = left g.0 key g.1 g.2
-  by_act (act.Leave keys wakes) e h g can = out_of g.0 keys wakes g.1 g.2
+  by_act (act.Remove key) e h g can = go_on (act.Remove key) (left w t l steady shape there lt own (once_move at) same_row (once_hears at) (Once l at) brief asleep g.0 key g.1 g.2)
+  by_act (act.Leave keys wakes) e h g can = go_on (act.Leave keys wakes) (out_of w t l steady shape there lt own (once_move at) same_row (once_hears at) (Once l at) brief g.0 keys wakes g.1 g.2 (wakes_one w t l steady there own (rules_in w l) refl (once_move at) same_row asleep g.2.any g.2.carries))
   by_act act.Sleep e h g can = absurd cc
   by_act (act.Closure state) e h g can = absurd cc
   by_act y e h g can = absurd h
@@ -401,8 +368,8 @@ module _ (w : State) (t l : ℕ) (at : OncePlace) (steady : IsInductive w) (shap
   -- its time is up
   pub once_goes_late : (m : Line) → (once_profile at).late_line ≡ Some m → section_is_free w (key_of l m) ≡ true
       → Goes w (state_after_late_under w t (key_of l m)) l (acts t (once_deeds at Late))
-  once_goes_late m e free = goes_in w t l steady there own (rules_in w l) refl (once_move at) same_row (once_hears at) m Late (next_place (place_at w t) Late) (section_there m)
-      (nobody_is (section_at w (key_of l m)) free) (once_late_move at m e) (λ h. followed Late h)
+  once_goes_late m e free = goes_in w t l steady there own (rules_in w l) refl (once_move at) same_row (once_hears at) m Late (next_place (place_at w t) Late) (section_there w l shape lt m)
+      (none_is (section_at w (key_of l m)) free) (once_late_move at m e) (λ h. followed Late h)
 
 -- ---------------------------------------------------------------- a call begins
 

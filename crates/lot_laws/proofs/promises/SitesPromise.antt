@@ -14,7 +14,7 @@ use Rattle.lot_laws.specs.SitesOf.{IsInductive, rules_in}
 use Rattle.lot_laws.proofs.machine.Parts.{inside_is}
 use Rattle.lot_laws.proofs.machine.Parts.{mutex}
 use Rattle.lot_laws.proofs.sites.OneStep.{queued_times}
-use Rattle.lot_laws.proofs.sites.SitesKept.{lock_by}
+use Rattle.lot_laws.proofs.sites.ActsKept.{lock_by}
 
 pub codes_by : (e : Option ℕ) (b : Bool) (w : ℕ) → w ≡ one_if_some e + 2 * bit b → IsMutexWord w e
 codes_by e true w h = inr h

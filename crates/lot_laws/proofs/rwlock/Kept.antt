@@ -1,14 +1,11 @@
 -- A thread in a call of a reader-writer lock goes on: every lock is a site again.
-use Rattle.std.proofs.Common.{inl, inr, ℕ, Bool, true, false, Option, Some, None, if◌then◌else◌, ◌==◌, ◌≡◌, ◌≢◌, ◌+◌, ◌*◌, ◌-◌, ◌^◌, ◌≤◌, ◌<◌, List, [], ◌∷◌, length, is_none, refl, sym, ◌∙◌, ap, subst, arith}
+use Rattle.std.proofs.Common.{inl, inr, ℕ, Bool, true, false, Option, Some, None, if◌then◌else◌, ◌==◌, ◌≡◌, ◌≢◌, ◌+◌, ◌*◌, ◌-◌, ◌^◌, ◌≤◌, ◌<◌, List, [], ◌∷◌, length, refl, sym, ◌∙◌, ap, subst, arith}
 use Rattle.std.proofs.lemmas.Bool.{eqb-true}
-use Rattle.core_base.specs.declared.keys.Keys.{Keys}
-use Rattle.core_base.specs.declared.keys.Keys.TheVariants.{One}
 use Rattle.core_base.specs.declared.notes.Note.TheVariants.{HandOff, Normal}
 use Rattle.core_base.specs.declared.ops.Op.{Op}
 use Rattle.core_base.specs.Words.{apply}
 use Rattle.core_base.specs.declared.wants.Want.{Want}
 use Rattle.steps_base.specs.Calls.{IsNotLate}
-use Rattle.steps_base.specs.declared.acts.Check.{Check}
 use Rattle.spec_locks.specs.declared.calls.RwLockCall.{RwLockCall}
 use Rattle.spec_locks.specs.declared.kinds.Kind.{Kind}
 use Rattle.spec_locks.specs.declared.kinds.Kind.TheVariants as kinds
@@ -19,11 +16,10 @@ use Rattle.steps_base.specs.declared.acts.Act.TheVariants as act
 use Rattle.steps_base.specs.declared.acts.Next.{Next}
 use Rattle.steps_base.specs.declared.acts.Next.TheVariants as next
 use Rattle.steps_base.specs.declared.acts.Reply.{Reply}
-use Rattle.steps_base.specs.declared.acts.Reply.TheVariants.{Done, Value, Parked, Took, Picked, Removed, Late, TakenBy, Woken}
+use Rattle.steps_base.specs.declared.acts.Reply.TheVariants.{Done, Value, Took, Picked, Late, TakenBy, Woken}
 use Rattle.steps_base.specs.declared.acts.Wakes.{Wakes}
 use Rattle.steps_base.specs.declared.acts.Whom as whom
-use Rattle.steps_base.specs.Acts.{holds, wakes_taken}
-use Rattle.steps_base.specs.Moves.{StaysPut, GoesIn, GoesOut, Parks, Picks, TakesAside, LeavesLine, TellsHanded, Accepts, AreOfWord, AreLeaving, parks_in, takes_aside, row_of}
+use Rattle.steps_base.specs.Moves.{StaysPut, Picks, TakesAside, TellsHanded, takes_aside, row_of}
 use Rattle.steps_base.specs.Profiles.{Profile, hand, in_hand, taken_from}
 use Rattle.steps_base.specs.Locations.{Location, nowhere, location_by}
 use Rattle.steps_base.specs.Owners.{lock_seen, shares_then}
@@ -63,14 +59,13 @@ use Rattle.steps_once.specs.declared.places.OncePlace.{OncePlace}
 use Rattle.lot_steps.specs.Steps.{next_place, profile, calls, rwlock_goes}
 use Rattle.spec_locks.specs.Locks.{Rules, Sort, Normal as NormalSort, Recursive, Semaphore, count, keep_from, one_if_some, standing}
 use Rattle.spec_locks.specs.Locks as locks
-use Rattle.spec_locks.specs.Sites.{Site, IsSite, Deed, Line, Main, Second, Begin, Case, Clear, End, In, Mark, Out, has_readers, wakened, LeaveLine}
+use Rattle.spec_locks.specs.Sites.{Site, IsSite, Deed, Line, Main, Second, Begin, Case, has_readers, wakened}
 use Rattle.spec_locks.specs.Codes.{HasLimit, bit, code, code_of, packed, writers}
 use Rattle.spec_locks.specs.Deeds.{case_of}
 use Rattle.spec_locks.specs.Deeds as laws
 use Rattle.spec_locks.specs.Purposes.{rules_of}
-use Rattle.lot_machine.specs.Machine.{State, place_at, word_at, kind_at, owners_at, shares_at, share_at, queue_at, section_at, can_do, are_free, section_is_free, put, state_after_act, state_after_late_under, reply_to}
+use Rattle.lot_machine.specs.Machine.{State, place_at, word_at, kind_at, owners_at, shares_at, share_at, queue_at, section_at, can_do, section_is_free, put, state_after_act, state_after_late_under, reply_to}
 use Rattle.lot_machine.specs.Fits.{IsWellFormed}
-use Rattle.lot_machine.proofs.Shape.{main_key_there}
 use Rattle.lot_laws.specs.Refinement.{taken_at}
 use Rattle.lot_laws.specs.MutexDeeds.{acts}
 use Rattle.lot_laws.specs.Locations.{location, role_on}
@@ -80,14 +75,14 @@ use Rattle.lot_steps.specs.Steps.{is_lock}
 use Rattle.steps_base.specs.Profiles.{Hand}
 use Rattle.steps_condvar.specs.CondvarSteps.{mutex_beside}
 use Rattle.lot_laws.proofs.machine.Parts.{not_beside, condvar_unheld, free_of, IsOf, next_of, parts_at, put_here, role_here, location_here, of_single}
-use Rattle.lot_laws.proofs.hands.Moved.{accepts, tells_handed, told_hears}
 use Rattle.lot_laws.proofs.sites.WakesAt.{IsWokenAt}
 use Rattle.lot_laws.proofs.sites.WakesKept.{woken_of}
 use Rattle.lot_laws.proofs.sites.StandsMoved.{mutex_rules}
 use Rattle.lot_laws.proofs.sites.ActsKept.{lock_by, place_goes}
 use Rattle.lot_laws.proofs.sites.OneStep.{steps_by}
 use Rattle.lot_laws.proofs.calls.OtherCalls.{IsCalm, WakesOwn}
-use Rattle.lot_laws.proofs.sites.MovesKept.{entered_hears, left_hears, parked_hears, removed_hears, picked_hears, picked_deeds, IsFollowed, SleepsIfCalls, IsSleeper, stays, goes_in, goes_out, parks_or_turns, leaves_line, takes_whom_aside, takes_chosen, wakes_one, nowhere_here}
+use Rattle.lot_laws.proofs.sites.ByAct.{AreCalm, GoesBy, IsBrief, accepted, calm_case, into, left, line_there, none_is, not_late, out_of, parked, section_there, tells_all, word_calm}
+use Rattle.lot_laws.proofs.sites.MovesKept.{picked_hears, picked_deeds, IsFollowed, SleepsIfCalls, IsSleeper, stays, goes_in, takes_whom_aside, takes_chosen, wakes_one, nowhere_here}
 
 -- ---------------------------------------------------------------- rows
 
@@ -223,71 +218,9 @@ word_few r s readers site room limit = by_sort r.sort refl readers
 
 -- ---------------------------------------------------------------- deeds that leave the others as they are
 
-abbrev pub AreCalm : List Deed → Type 0
-AreCalm [] = Unit {0}
-AreCalm (Case case ∷ ds) = IsCalm (Some case)
-AreCalm (LeaveLine ∷ ds) = IsCalm (Some locks.Late)
-AreCalm (Out ∷ ds) = ⊥
-AreCalm (d ∷ ds) = AreCalm ds
-
-pub calm_case : (hand : Option Bool) (ds : List Deed) → AreCalm ds → IsCalm (case_of hand ds)
-calm_case hand [] h = tt
-calm_case hand (Case case ∷ ds) h = h
-calm_case hand (LeaveLine ∷ ds) h = h
-calm_case hand (Out ∷ ds) h = absurd h
-calm_case hand (d ∷ ds) h = calm_case hand ds h
-
-pub word_calm : (ds : List Deed) → AreOfWord ds → AreCalm ds
-word_calm [] h = tt
-word_calm (End ∷ []) h = tt
-word_calm (Mark m ∷ []) h = tt
-word_calm (Clear m ∷ []) h = tt
-word_calm (Case locks.Wake ∷ ds) h = absurd h
-word_calm (Case (locks.HandOff right successor) ∷ ds) h = absurd h
-word_calm (Case case ∷ ds) h = tt
-word_calm ds h = absurd h
-
-in_line_calm : (m : Line) (x : Want) → AreCalm (parks_in m x ∷ [])
-in_line_calm Main x = tt
-in_line_calm Second x = tt
-
 aside_calm : (o : Option ℕ) → AreCalm (takes_aside o ∷ [])
 aside_calm None = tt
 aside_calm (Some u) = tt
-
--- a thread that leaves a section wakes those in its hand, if anybody
-pub left_calm : (ds : List Deed) → AreLeaving ds → IsCalm (case_of None ds)
-left_calm (Out ∷ []) h = tt
-left_calm (Out ∷ End ∷ []) h = tt
-left_calm ds h = absurd h
-
--- or tells those to whom it has handed the lock
-handed_calm : (ds : List Deed) → AreLeaving ds → IsCalm (case_of (Some true) ds)
-handed_calm (Out ∷ []) h = tt
-handed_calm (Out ∷ End ∷ []) h = tt
-handed_calm ds h = absurd h
-
-pub left_wakes : (ds : List Deed) → AreLeaving ds → case_of (Some false) ds ≡ Some locks.Wake
-left_wakes (Out ∷ []) h = refl
-left_wakes (Out ∷ End ∷ []) h = refl
-left_wakes ds h = absurd h
-
--- by its act it wakes its own
-pub wakes_any : (keys : Keys) (wakes : Wakes) (hand : Option Bool) (any : Bool) → wakes ≡ wakes_taken any Normal → hand ≡ in_hand any false → (ds : List Deed)
-    → AreLeaving ds → WakesOwn hand (act.Leave keys wakes) (case_of hand ds)
-wakes_any keys wakes hand any e f ds h = subst (λ x. WakesOwn hand (act.Leave keys x) (case_of hand ds)) (sym e) (either any f)
-  where
-    either : (any : Bool) → hand ≡ in_hand any false → WakesOwn hand (act.Leave keys (wakes_taken any Normal)) (case_of hand ds)
-    either false f = subst (λ x. IsCalm (case_of x ds)) (sym f) (left_calm ds h)
-    either true f = inl (f, (refl, ap (λ x. case_of x ds) f ∙ left_wakes ds h))
-
-pub tells_any : (keys : Keys) (wakes : Wakes) (hand : Option Bool) (any : Bool) → wakes ≡ wakes_taken any HandOff → hand ≡ in_hand any true → (ds : List Deed)
-    → AreLeaving ds → WakesOwn hand (act.Leave keys wakes) (case_of hand ds)
-tells_any keys wakes hand any e f ds h = subst (λ x. WakesOwn hand (act.Leave keys x) (case_of hand ds)) (sym e) (either any f)
-  where
-    either : (any : Bool) → hand ≡ in_hand any true → WakesOwn hand (act.Leave keys (wakes_taken any HandOff)) (case_of hand ds)
-    either false f = subst (λ x. IsCalm (case_of x ds)) (sym f) (left_calm ds h)
-    either true f = inr (f, (refl, subst (λ x. IsCalm (case_of x ds)) (sym f) (handed_calm ds h)))
 
 -- ---------------------------------------------------------------- one thread
 
@@ -420,13 +353,6 @@ module _ (w : State) (t l : ℕ) (a : Admission) (c : RwLockCallPlace) (steady :
   calm_by : (ds : List Deed) {x : List Deed} → x ≡ ds → AreCalm ds → IsCalm (case_of ((call_profile a c).carries) x)
   calm_by ds e h = subst (λ (x : List Deed). IsCalm (case_of ((call_profile a c).carries) x)) (sym e) (calm_case ((call_profile a c).carries) ds h)
 
-  section_there : (m : Line) → key_of l m < length w.sections
-  section_there Main = main_key_there w l shape lt
-  section_there Second = let e : length w.sections ≡ 2 * length w.locks = shape.sections in omega arith
-
-  line_there : (m : Line) → key_of l m < length w.queues
-  line_there m = let e : length w.queues ≡ length w.sections = shape.queues in let h : key_of l m < length w.sections = section_there m in omega arith
-
   pub word_is : word_at w l ≡ code (rules_in w l) here
   word_is = steady.sites.word l
 
@@ -463,43 +389,15 @@ module _ (w : State) (t l : ℕ) (a : Admission) (c : RwLockCallPlace) (steady :
         fair_steps_code (rules_in w l) a here t l c op at_now nowhere e few room limits.1,
       ))
 
-  none_is : (o : Option ℕ) → is_none o ≡ true → o ≡ None
-  none_is None h = refl
-  none_is (Some u) h = absurd cc
+  -- told of neither the word nor its time, it goes on as its laws say
+  brief : (told : Reply) → IsBrief told → CallMayHear (rules_in w l) a here t c None told → Followed None told
+  brief (Value v) now h = absurd now
+  brief Late now h = absurd now
+  brief Done now h = followed None Done h (call_told_done a (rules_in w l) here t c None h)
+  brief told now h = followed None told h (call_told_other a c told tt)
 
-  into : (m : Line) (keys : Keys) → keys ≡ One (key_of l m) → are_free w keys ≡ true
-      → GoesIn (call_move a c) (call_hears a c) m Done → GoesFrom (place_at w t) (act.Enter keys)
-  into m keys e free g = subst (λ k. GoesFrom (place_at w t) (act.Enter k)) (sym e) (record {
-    whom = None;
-    goes = goes_in w t l steady there own (rules_in w l) refl (call_move a c) same_row (call_hears a c) m Done (next_place (place_at w t) Done) (section_there m) is_free_now g (λ h. followed None Done h (call_told_done a (rules_in w l) here t c None h));
-    tells = tells_by None Done tt (entered_hears w t l steady there own (rules_in w l) refl (call_move a c) same_row (call_hears a c) m Done is_free_now g);
-    others = calm_by (In m ∷ []) g.deeds tt;
-  })
-    where
-      is_free_now : section_at w (key_of l m) ≡ None
-      is_free_now = none_is (section_at w (key_of l m)) (subst (λ k. are_free w k ≡ true) e free)
-
-  out_of : (m : Line) (keys : Keys) (wakes : Wakes) → keys ≡ One (key_of l m) → GoesOut (call_move a c) (call_hears a c) m wakes
-      → GoesFrom (place_at w t) (act.Leave keys wakes)
-  out_of m keys wakes e g = subst (λ k. GoesFrom (place_at w t) (act.Leave k wakes)) (sym e) (record {
-    whom = None;
-    goes = goes_out w t l steady there own (rules_in w l) refl (call_move a c) same_row (call_hears a c) m wakes (next_place (place_at w t) Done) (section_there m) g (λ h. followed None Done h (call_told_done a (rules_in w l) here t c None h)) (wakes_one w t l steady there own (rules_in w l) refl (call_move a c) same_row asleep g.any g.carries);
-    tells = tells_by None Done tt (left_hears w t l steady there own (rules_in w l) refl (call_move a c) same_row (call_hears a c) m wakes g);
-    others = wakes_any (One (key_of l m)) wakes ((call_profile a c).carries) g.any g.notes g.carries (call_deeds a c None Done) g.deeds;
-  })
-
-  parked : (m : Line) (k key : ℕ) (check : Check) (want : Want) → k ≡ l → key ≡ key_of l m
-      → Parks (call_move a c) (call_hears a c) m check want → GoesFrom (place_at w t) (act.Park k key check want)
-  parked m k key check x ke e g = subst (λ j. GoesFrom (place_at w t) (act.Park j key check x)) (sym ke) (subst (λ j. GoesFrom (place_at w t) (act.Park l j check x)) (sym e) (record {
-    whom = None;
-    goes = parks_or_turns w t l steady there own (rules_in w l) refl (call_move a c) same_row (call_hears a c) m check x (line_there m) g (λ b h. followed None (Parked b) h (call_told_other a c (Parked b) tt));
-    tells = tells_by None (Parked (holds check (word_at w l))) tt (parked_hears w t l steady there own (rules_in w l) refl (call_move a c) same_row (call_hears a c) m check x g (holds check (word_at w l)) refl);
-    others = parks_calm (holds check (word_at w l));
-  }))
-    where
-      parks_calm : (b : Bool) → IsCalm (case_of ((call_profile a c).carries) (call_deeds a c None (Parked b)))
-      parks_calm true = calm_by (parks_in m x ∷ []) g.parks (in_line_calm m x)
-      parks_calm false = calm_by [] g.turns tt
+  go_on : (y : Act) → GoesBy w t l steady shape there lt own (call_move a c) same_row (call_hears a c) (RwLock l a c) brief None y → GoesFrom (place_at w t) y
+  go_on y b = record { whom = None; goes = b.goes; tells = tells_by None (reply_to w t y) (not_late (reply_to w t y) b.brief) b.told; others = b.others }
 
   -- a thread that it has handed the lock goes on where its wake leads it
   hears_so : (u : ℕ) → hand_at (place_at w u) l ≡ hand t true → IsWokenAt w t l HandOff (place_at w u)
@@ -552,59 +450,29 @@ module _ (w : State) (t l : ℕ) (a : Admission) (c : RwLockCallPlace) (steady :
           either true same_lock g = at_lock (eqb-true k l same_lock) g
           either false same_lock g = absurd cc
 
-  tells_all : (keys : Keys) (wakes : Wakes) → keys ≡ One (key_of l Main) → TellsHanded (call_move a c) (call_hears a c) wakes
-      → GoesFrom (place_at w t) (act.Leave keys wakes)
-  tells_all keys wakes e g = subst (λ k. GoesFrom (place_at w t) (act.Leave k wakes)) (sym e) (record {
-    whom = None;
-    goes = tells_handed w t l steady there own (rules_in w l) refl (call_move a c) same_row (call_hears a c) wakes g (next_place (place_at w t) Done) (section_there Main)
-        (followed None Done hears_done (call_told_done a (rules_in w l) here t c None hears_done)) told_so;
-    tells = tells_by None Done tt hears_done;
-    others = tells_any (One (key_of l Main)) wakes (call_profile a c).carries g.any g.notes (ap (λ (y : Location). y.carries) g.was) (call_deeds a c None Done) g.deeds;
-  })
+  -- they were handed it
+  told_so : {wakes : Wakes} → TellsHanded (call_move a c) (call_hears a c) wakes → (u : ℕ) (b : Bool) → hand_at (place_at w u) l ≡ hand t b → IsWokenAt w t l HandOff (place_at w u)
+  told_so g u b held = by_handed b held (sym (carried_now ∙ ap (λ (y : Location). y.carries) g.was) ∙ steady.stands.hands.taken t u l b held) g.any
     where
-      hears_done : CallMayHear (rules_in w l) a here t c None Done
-      hears_done = told_hears w t l steady there own (rules_in w l) refl (call_move a c) same_row (call_hears a c) wakes g
+      carried_now : carried_at (place_at w t) l ≡ (call_profile a c).carries
+      carried_now = ap (λ (y : Location). y.carries) (location_here l (place_at w t) own) ∙ ap (λ (y : Profile). y.carries) same_row
 
-      -- they were handed it
-      told_so : (u : ℕ) (b : Bool) → hand_at (place_at w u) l ≡ hand t b → IsWokenAt w t l HandOff (place_at w u)
-      told_so u b held = by_handed b held (sym (carried_now ∙ ap (λ (y : Location). y.carries) g.was) ∙ steady.stands.hands.taken t u l b held) g.any
+      by_handed : (b : Bool) → hand_at (place_at w u) l ≡ hand t b → in_hand g.any true ≡ Some b → (any : Bool)
+          → IsWokenAt w t l HandOff (place_at w u)
+      by_handed true h f any = hears_so u h
+      by_handed false h f any = absurd (never g.any f)
         where
-          carried_now : carried_at (place_at w t) l ≡ (call_profile a c).carries
-          carried_now = ap (λ (y : Location). y.carries) (location_here l (place_at w t) own) ∙ ap (λ (y : Profile). y.carries) same_row
-
-          by_handed : (b : Bool) → hand_at (place_at w u) l ≡ hand t b → in_hand g.any true ≡ Some b → (any : Bool)
-              → IsWokenAt w t l HandOff (place_at w u)
-          by_handed true h f any = hears_so u h
-          by_handed false h f any = absurd (never g.any f)
-            where
-              never : (any : Bool) → in_hand any true ≡ Some false → ⊥
-              never true f = cc
-              never false f = cc
-
-  accepted : Accepts (call_move a c) (call_hears a c) → GoesFrom (place_at w t) act.Accept
-  accepted g = record {
-    whom = None;
-    goes = accepts w t l steady there own (rules_in w l) refl (call_move a c) same_row (call_hears a c) g (next_place (place_at w t) Done) (λ h. followed None Done h (call_told_done a (rules_in w l) here t c None h));
-    tells = tells_by None Done tt (g.may (rules_in w l) here t);
-    others = calm_by (End ∷ []) g.deeds tt;
-  }
-
-  left : (m : Line) (key : ℕ) → key ≡ key_of l m → LeavesLine (call_move a c) (call_hears a c) m
-      → GoesFrom (place_at w t) (act.Remove key)
-  left m key e g = subst (λ j. GoesFrom (place_at w t) (act.Remove j)) (sym e) (record {
-    whom = None;
-    goes = leaves_line w t l steady there own (rules_in w l) refl (call_move a c) same_row asleep (call_hears a c) m g (λ b h. followed None (Removed b) h (call_told_other a c (Removed b) tt));
-    tells = tells_by None (reply_to w t (act.Remove (key_of l m))) tt (removed_hears w t l steady there own (rules_in w l) refl (call_move a c) same_row asleep (call_hears a c) m g);
-    others = calm_by (Case locks.Late ∷ []) (g.deeds _) tt;
-  })
+          never : (any : Bool) → in_hand any true ≡ Some false → ⊥
+          never true f = cc
+          never false f = cc
 
   picked : (key : ℕ) (start : Option Want) (b : Bool) → key ≡ key_of l Main → b ≡ a.recursive
       → Picks (call_move a c) (call_hears a c) start → GoesFrom (place_at w t) (act.Take key (whom.TheVariants.Picked start b))
   picked key start b e same_rule g = subst (λ j. GoesFrom (place_at w t) (act.Take j (whom.TheVariants.Picked start b))) (sym e) (subst (λ c. GoesFrom (place_at w t) (act.Take (key_of l Main) (whom.TheVariants.Picked start c))) (admits.1 ∙ sym same_rule) (record {
     whom = None;
-    goes = takes_chosen w t l steady there own (rules_in w l) refl (call_move a c) same_row asleep (call_hears a c) many (line_there Main) start g follows;
-    tells = tells_by None _ tt (picked_hears w t l steady there own (rules_in w l) refl (call_move a c) same_row asleep (call_hears a c) many (line_there Main) start g follows);
-    others = calm_by (Case (locks.TakePicked start) ∷ []) (picked_deeds w t l steady there own (rules_in w l) refl (call_move a c) same_row asleep (call_hears a c) many (line_there Main) start g follows) tt;
+    goes = takes_chosen w t l steady there own (rules_in w l) refl (call_move a c) same_row asleep (call_hears a c) many (line_there w l shape lt Main) start g follows;
+    tells = tells_by None _ tt (picked_hears w t l steady there own (rules_in w l) refl (call_move a c) same_row asleep (call_hears a c) many (line_there w l shape lt Main) start g follows);
+    others = calm_by (Case (locks.TakePicked start) ∷ []) (picked_deeds w t l steady there own (rules_in w l) refl (call_move a c) same_row asleep (call_hears a c) many (line_there w l shape lt Main) start g follows) tt;
   }))
     where
       follows : (n : ℕ) (y : Option Want) (none_left : Bool) → call_hears a c (rules_in w l) here t None (Picked n y none_left)
@@ -615,7 +483,7 @@ module _ (w : State) (t l : ℕ) (a : Admission) (c : RwLockCallPlace) (steady :
       → GoesFrom (place_at w t) (act.Take key whom.TheVariants.First)
   took key e g = subst (λ j. GoesFrom (place_at w t) (act.Take j whom.TheVariants.First)) (sym e) (record {
     whom = here.lock.aside;
-    goes = takes_whom_aside w t l steady there own (rules_in w l) refl (call_move a c) same_row asleep (call_hears a c) many (line_there Second) g (λ any none_left h. followed here.lock.aside (Took any none_left) h (call_told_other a c (Took any none_left) tt));
+    goes = takes_whom_aside w t l steady there own (rules_in w l) refl (call_move a c) same_row asleep (call_hears a c) many (line_there w l shape lt Second) g (λ any none_left h. followed here.lock.aside (Took any none_left) h (call_told_other a c (Took any none_left) tt));
     tells = tells_by here.lock.aside (reply_to w t (act.Take (key_of l Second) whom.TheVariants.First)) tt (g.may (rules_in w l) here t _ _);
     others = calm_by (takes_aside here.lock.aside ∷ []) (g.deeds here.lock.aside _ _) (aside_calm here.lock.aside);
   })
@@ -624,18 +492,18 @@ module _ (w : State) (t l : ℕ) (a : Admission) (c : RwLockCallPlace) (steady :
   by_act : ((k : ℕ) (op : Op) → call_act l a c ≢ act.HandOver k op) → (y : Act) → call_act l a c ≡ y
       → CallMoves l a.recursive (call_move a c) (call_hears a c) y → can_do w y ≡ true → GoesFrom (place_at w t) y
   by_act plain (act.Word k op) e g can = subst (λ j. GoesFrom (place_at w t) (act.Word j op)) (sym g.0) (on_word op (e ∙ ap (λ j. act.Word j op) g.0) g.1)
-  by_act plain (act.Enter keys) e g can = into g.0 keys g.1 can g.2
-  by_act plain (act.Park k key check want) e g can = parked g.0 k key check want g.1 g.2 g.3
+  by_act plain (act.Enter keys) e g can = go_on (act.Enter keys) (into w t l steady shape there lt own (call_move a c) same_row (call_hears a c) (RwLock l a c) brief g.0 keys g.1 can g.2)
+  by_act plain (act.Park k key check want) e g can = go_on (act.Park k key check want) (parked w t l steady shape there lt own (call_move a c) same_row (call_hears a c) (RwLock l a c) brief g.0 k key check want g.1 g.2 g.3)
   by_act plain (act.Take key (whom.TheVariants.Picked start b)) e g can = picked key start b g.0 g.1 g.2
   by_act plain (act.Take key whom.TheVariants.First) e g can = took key g.0 g.1
   by_act plain (act.Take key whom.TheVariants.All) e g can = absurd g
-  by_act plain (act.Remove key) e g can = left g.0 key g.1 g.2
+  by_act plain (act.Remove key) e g can = go_on (act.Remove key) (left w t l steady shape there lt own (call_move a c) same_row (call_hears a c) (RwLock l a c) brief asleep g.0 key g.1 g.2)
   by_act plain (act.Leave keys wakes) e g can = elim g [
-    | inl h ↦ out_of h.0 keys wakes h.1 h.2
-    | inr h ↦ tells_all keys wakes h.0 h.1
+    | inl h ↦ go_on (act.Leave keys wakes) (out_of w t l steady shape there lt own (call_move a c) same_row (call_hears a c) (RwLock l a c) brief h.0 keys wakes h.1 h.2 (wakes_one w t l steady there own (rules_in w l) refl (call_move a c) same_row asleep h.2.any h.2.carries))
+    | inr h ↦ go_on (act.Leave keys wakes) (tells_all w t l steady shape there lt own (call_move a c) same_row (call_hears a c) (RwLock l a c) brief keys wakes h.0 h.1 (told_so h.1))
   ]
   by_act plain (act.HandOver k op) e g can = absurd (plain k op e)
-  by_act plain act.Accept e g can = accepted g
+  by_act plain act.Accept e g can = go_on act.Accept (accepted w t l steady shape there lt own (call_move a c) same_row (call_hears a c) (RwLock l a c) brief g)
   by_act plain act.Sleep e g can = absurd cc
   by_act plain (act.End answer) e g can = absurd cc
   by_act plain y e g can = absurd g
@@ -649,7 +517,7 @@ module _ (w : State) (t l : ℕ) (a : Admission) (c : RwLockCallPlace) (steady :
 
   pub rwlock_goes_late : (m : Line) → call_late_line c ≡ Some m → section_is_free w (key_of l m) ≡ true
       → Goes w (state_after_late_under w t (key_of l m)) l (acts t (call_deeds a c None Late))
-  rwlock_goes_late m e free = goes_in w t l steady there own (rules_in w l) refl (call_move a c) same_row (call_hears a c) m Late (next_place (place_at w t) Late) (section_there m)
+  rwlock_goes_late m e free = goes_in w t l steady there own (rules_in w l) refl (call_move a c) same_row (call_hears a c) m Late (next_place (place_at w t) Late) (section_there w l shape lt m)
       (none_is (section_at w (key_of l m)) free) (fair_late_moves a c m e) (λ h. followed None Late h (call_told_late a c m e))
 
 -- ---------------------------------------------------------------- a call begins

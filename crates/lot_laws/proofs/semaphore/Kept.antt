@@ -1,37 +1,32 @@
 -- A thread in a call of a semaphore goes on: every lock is a site again.
 use Rattle.std.proofs.Common.{ℕ, Bool, true, false, Option, Some, None, if◌then◌else◌, ◌-◌, ◌==◌, ◌≡◌, ◌≢◌, ◌+◌, ◌*◌, ◌≤◌, ◌<◌, List, [], ◌∷◌, length, not, refl, sym, ◌∙◌, ap, subst, arith}
-use Rattle.std.specs.Prelude.{is_none, ◌&&◌}
+use Rattle.std.specs.Prelude.{◌&&◌}
 use Rattle.std.proofs.lemmas.Bool.{eqb-true}
 use Rattle.std.proofs.lemmas.Bool.Decides.{nat_tests}
-use Rattle.core_base.specs.declared.keys.Keys.{Keys}
 use Rattle.core_base.specs.declared.keys.Keys.TheVariants.{One}
 use Rattle.core_base.specs.declared.notes.Note.TheVariants.{Normal}
 use Rattle.core_base.specs.declared.ops.Op.{Op}
 use Rattle.core_base.specs.declared.ops.Op.TheVariants as ops
 use Rattle.core_base.specs.Words.{apply}
 use Rattle.core_base.specs.Lines.{first_of}
-use Rattle.core_base.specs.declared.wants.Want.{Want}
 use Rattle.core_base.specs.declared.wants.Want.TheVariants.{Shared}
 use Rattle.spec_locks.specs.declared.calls.Patience.TheVariants as how
 use Rattle.spec_locks.specs.declared.calls.SemaphoreCall.{SemaphoreCall}
 use Rattle.spec_locks.specs.declared.calls.SemaphoreCall.TheVariants as semaphore_call
-use Rattle.steps_base.specs.declared.acts.Check.{Check}
 use Rattle.steps_base.specs.declared.acts.Act.{Act}
 use Rattle.steps_base.specs.declared.acts.Act.TheVariants as act
 use Rattle.steps_base.specs.declared.acts.Next.{Next}
 use Rattle.steps_base.specs.declared.acts.Next.TheVariants as next
 use Rattle.steps_base.specs.declared.acts.Reply.{Reply}
-use Rattle.steps_base.specs.declared.acts.Reply.TheVariants.{Done, Value, Parked, Took, Removed, TakenBy, Late, Woken}
-use Rattle.steps_base.specs.declared.acts.Wakes.{Wakes}
+use Rattle.steps_base.specs.declared.acts.Reply.TheVariants.{Value, Took, TakenBy, Late, Woken}
 use Rattle.steps_base.specs.declared.acts.Whom.TheVariants as whom
-use Rattle.steps_base.specs.Acts.{holds}
 use Rattle.steps_base.specs.Calls.{CallFollows}
-use Rattle.steps_base.specs.Moves.{StaysPut, GoesIn, GoesOut, LeavesLine, Parks, RowWaits, parks_in, row_of}
+use Rattle.steps_base.specs.Moves.{StaysPut, RowWaits, row_of}
 use Rattle.steps_base.specs.Profiles.{Profile}
 use Rattle.steps_base.specs.Owners.{lock_seen, shares_then}
 use Rattle.spec_locks.specs.Locks.{Rules}
 use Rattle.spec_locks.specs.Locks as locks
-use Rattle.spec_locks.specs.Sites.{Begin, Case, Claim, Deed, End, Has, In, Line, Main, Mark, Second, Site, has_readers}
+use Rattle.spec_locks.specs.Sites.{Begin, Case, Claim, Deed, End, Has, Line, Main, Mark, Site, has_readers}
 use Rattle.spec_locks.specs.Codes.{aside_in, code, has_parked, parked_in}
 use Rattle.spec_locks.specs.Deeds.{case_of}
 use Rattle.spec_locks.specs.Deeds as laws
@@ -56,9 +51,8 @@ use Rattle.steps_rwlock.specs.declared.places.Admission.{Admission}
 use Rattle.steps_rwlock_fair.specs.declared.places.RwLockCallPlace.{RwLockCallPlace}
 use Rattle.steps_condvar.specs.declared.places.CondvarPlace.{CondvarPlace}
 use Rattle.lot_steps.specs.Steps.{calls, next_place, profile, semaphore_goes}
-use Rattle.lot_machine.specs.Machine.{State, are_free, can_do, section_is_free as is_free_in, state_after_late_under, kind_at, owners_at, place_at, put, queue_at, reply_to, section_at, share_at, shares_at, state_after_act, word_at}
+use Rattle.lot_machine.specs.Machine.{State, can_do, section_is_free as is_free_in, state_after_late_under, kind_at, owners_at, place_at, put, queue_at, reply_to, section_at, share_at, shares_at, state_after_act, word_at}
 use Rattle.lot_machine.specs.Fits.{IsWellFormed}
-use Rattle.lot_machine.proofs.Shape.{main_key_there}
 use Rattle.lot_laws.specs.Refinement.{taken_at}
 use Rattle.lot_laws.specs.MutexDeeds.{acts}
 use Rattle.lot_laws.specs.Locations.{role_on, location}
@@ -66,12 +60,11 @@ use Rattle.lot_laws.specs.SitesOf.{FitsItsLock, LateIsTimed, Goes, IsInductive, 
 use Rattle.lot_laws.proofs.sites.ActsKept.{lock_by, place_goes}
 use Rattle.lot_laws.proofs.sites.OneStep.{steps_by}
 use Rattle.lot_laws.proofs.machine.Parts.{not_beside, IsOf, role_here, free_of, next_of, parts_at, put_here}
-use Rattle.lot_laws.proofs.sites.MovesKept.{IsFollowed, SleepsIfCalls, IsSleeper, entered_hears, goes_in, goes_out, leaves_line, left_hears, parked_hears, parks_or_turns, removed_hears, wakes_one}
+use Rattle.lot_laws.proofs.sites.MovesKept.{IsFollowed, SleepsIfCalls, IsSleeper, goes_in, wakes_one}
 use Rattle.lot_laws.proofs.once.MovesKept.{stays_unshared}
-use Rattle.lot_laws.proofs.calls.OtherCalls.{IsCalm, WakesOwn}
-use Rattle.lot_laws.proofs.rwlock.Kept.{word_calm, calm_case, AreCalm, wakes_any}
+use Rattle.lot_laws.proofs.calls.OtherCalls.{WakesOwn}
+use Rattle.lot_laws.proofs.sites.ByAct.{AreCalm, GoesBy, IsBrief, calm_case, into, left, line_there, none_is, on_time, out_of, parked, section_there, took_first, word_calm}
 use Rattle.lot_laws.proofs.semaphore.Moves.{NextTimed, SemaphoreMoves, next_timed, semaphore_acts_move, semaphore_hears, semaphore_late_move, semaphore_move, semaphore_sleepers_move}
-use Rattle.lot_laws.proofs.sites.FirstTaken.{TakesFirst, hears_of, takes_first}
 use Rattle.lot_laws.proofs.semaphore.MovesKept.{takes_one}
 use Rattle.lot_laws.proofs.sites.StandsMoved.{mutex_rules}
 
@@ -133,10 +126,6 @@ module _ (r : Rules) (s : Site) (t : ℕ) where
   sees_word l (Release release.Add) op e = refl
   sees_word l (Release (release.Clear any)) op e = refl
   sees_word l (Release at) op e = absurd cc
-
-nobody_is : (o : Option ℕ) → is_none o ≡ true → o ≡ None
-nobody_is None h = refl
-nobody_is (Some u) h = absurd cc
 
 takes_calm : (who : Option ℕ) → AreCalm (take_deeds who)
 takes_calm None = tt
@@ -274,15 +263,11 @@ module _ (w : State) (t l : ℕ) (at : SemaphorePlace) (steady : IsInductive w) 
       → CallFollows (rules_in w l) here.lock t l (semaphore_profile at) (semaphore_deeds at who told) (next_row (semaphore_next at told))
   tells_by who told now hears = semaphore_steps_tell (rules_in w l) here t l at who told at_now hears now
 
-  calm_by : (ds : List Deed) {x : List Deed} → x ≡ ds → AreCalm ds → IsCalm (case_of ((semaphore_profile at).carries) x)
-  calm_by ds e h = subst (λ (x : List Deed). IsCalm (case_of ((semaphore_profile at).carries) x)) (sym e) (calm_case ((semaphore_profile at).carries) ds h)
+  brief : (told : Reply) → IsBrief told → MayHear (rules_in w l) here t at None told → Followed None told
+  brief told now hears = followed None told (on_time told now) hears
 
-  section_there : (m : Line) → key_of l m < length w.sections
-  section_there Main = main_key_there w l shape lt
-  section_there Second = let e : length w.sections ≡ 2 * length w.locks = shape.sections in omega arith
-
-  line_there : (m : Line) → key_of l m < length w.queues
-  line_there m = let e : length w.queues ≡ length w.sections = shape.queues in let h : key_of l m < length w.sections = section_there m in omega arith
+  go_on : (y : Act) → GoesBy w t l steady shape there lt own (semaphore_move at) same_row (semaphore_hears at) (Semaphore l at) brief (whom_by w y) y → GoesFrom (place_at w t) y
+  go_on y b = record { goes = b.goes; tells = tells_by (whom_by w y) (reply_to w t y) (on_time (reply_to w t y) b.brief) b.told; others = b.others }
 
   word_is : word_at w l ≡ code (rules_in w l) here
   word_is = steady.sites.word l
@@ -292,7 +277,7 @@ module _ (w : State) (t l : ℕ) (at : SemaphorePlace) (steady : IsInductive w) 
   on_word op e g = record {
     goes = stays_unshared w t l steady there own (rules_in w l) refl (semaphore_move at) same_row unshared (Semaphore l at) (next_place (place_at w t) (Value (word_at w l))) op g on.0 lt on.1 on.2 parked aside;
     tells = subst (λ v. CallFollows (rules_in w l) here.lock t l (semaphore_profile at) (semaphore_deeds at None (Value v)) (next_row (semaphore_next at (Value v)))) (sym word_is) (tells_by None (Value (code (rules_in w l) here)) (λ x. cc) sees);
-    others = calm_by (semaphore_deeds at None (Value (word_at w l))) refl (word_calm (semaphore_deeds at None (Value (word_at w l))) (g.deeds (word_at w l)));
+    others = calm_case (semaphore_profile at).carries (semaphore_deeds at None (Value (word_at w l))) (word_calm (semaphore_deeds at None (Value (word_at w l))) (g.deeds (word_at w l)));
   }
     where
       sees : MayHear (rules_in w l) here t at None (Value (code (rules_in w l) here))
@@ -328,65 +313,14 @@ module _ (w : State) (t l : ℕ) (at : SemaphorePlace) (steady : IsInductive w) 
       aside : aside_in (rules_in w l).sort (apply op (word_at w l)) ≡ behind.aside_parked
       aside = ap (λ x. aside_in x (apply op (word_at w l))) sort_is ∙ sym (ap (λ x. aside_in x (word_at w l)) sort_is) ∙ sym on.3
 
-  into : (m : Line) (keys : Keys) → keys ≡ One (key_of l m) → are_free w keys ≡ true
-      → GoesIn (semaphore_move at) (semaphore_hears at) m Done → GoesFrom (place_at w t) (act.Enter keys)
-  into m keys e free g = subst (λ k. GoesFrom (place_at w t) (act.Enter k)) (sym e) (record {
-    goes = goes_in w t l steady there own (rules_in w l) refl (semaphore_move at) same_row (semaphore_hears at) m Done (next_place (place_at w t) Done) (section_there m) is_free_now g (λ h. followed None Done (λ x. cc) h);
-    tells = tells_by None Done (λ x. cc) (entered_hears w t l steady there own (rules_in w l) refl (semaphore_move at) same_row (semaphore_hears at) m Done is_free_now g);
-    others = calm_by (In m ∷ []) g.deeds tt;
-  })
-    where
-      is_free_now : section_at w (key_of l m) ≡ None
-      is_free_now = nobody_is (section_at w (key_of l m)) (subst (λ k. are_free w k ≡ true) e free)
-
-  out_of : (m : Line) (keys : Keys) (wakes : Wakes) → keys ≡ One (key_of l m) → GoesOut (semaphore_move at) (semaphore_hears at) m wakes
-      → GoesFrom (place_at w t) (act.Leave keys wakes)
-  out_of m keys wakes e g = subst (λ k. GoesFrom (place_at w t) (act.Leave k wakes)) (sym e) (record {
-    goes = goes_out w t l steady there own (rules_in w l) refl (semaphore_move at) same_row (semaphore_hears at) m wakes (next_place (place_at w t) Done) (section_there m) g (λ h. followed None Done (λ x. cc) h) (wakes_one w t l steady there own (rules_in w l) refl (semaphore_move at) same_row asleep g.any g.carries);
-    tells = tells_by None Done (λ x. cc) (left_hears w t l steady there own (rules_in w l) refl (semaphore_move at) same_row (semaphore_hears at) m wakes g);
-    others = wakes_any (One (key_of l m)) wakes ((semaphore_profile at).carries) g.any g.notes g.carries (semaphore_deeds at None Done) g.deeds;
-  })
-
-  parked : (m : Line) (k key : ℕ) (check : Check) (want : Want) → k ≡ l → key ≡ key_of l m
-      → Parks (semaphore_move at) (semaphore_hears at) m check want → GoesFrom (place_at w t) (act.Park k key check want)
-  parked m k key check x ke e g = subst (λ j. GoesFrom (place_at w t) (act.Park j key check x)) (sym ke) (subst (λ j. GoesFrom (place_at w t) (act.Park l j check x)) (sym e) (record {
-    goes = parks_or_turns w t l steady there own (rules_in w l) refl (semaphore_move at) same_row (semaphore_hears at) m check x (line_there m) g (λ b h. followed None (Parked b) (λ x. cc) h);
-    tells = tells_by None (Parked (holds check (word_at w l))) (λ x. cc) (parked_hears w t l steady there own (rules_in w l) refl (semaphore_move at) same_row (semaphore_hears at) m check x g (holds check (word_at w l)) refl);
-    others = parks_calm (holds check (word_at w l));
-  }))
-    where
-      parks_in_calm : (n : Line) → AreCalm (parks_in n x ∷ [])
-      parks_in_calm Main = tt
-      parks_in_calm Second = tt
-
-      parks_calm : (b : Bool) → IsCalm (case_of ((semaphore_profile at).carries) (semaphore_deeds at None (Parked b)))
-      parks_calm true = calm_by (parks_in m x ∷ []) g.parks (parks_in_calm m)
-      parks_calm false = calm_by [] g.turns tt
-
-  took : (key : ℕ) → key ≡ key_of l Main → TakesFirst take_deeds (semaphore_move at) (semaphore_hears at)
-      → GoesFrom (place_at w t) (act.Take key whom.First)
-  took key e g = subst (λ j. GoesFrom (place_at w t) (act.Take j whom.First)) (sym e) (record {
-    goes = takes_first w t l steady there own (rules_in w l) refl (semaphore_move at) same_row (semaphore_hears at) take_deeds (line_there Main) g refl (λ who any none_left h. followed who (Took any none_left) (λ x. cc) h)
-        (takes_one w t l steady there own (rules_in w l) refl (semaphore_move at) same_row asleep (semaphore_hears at) many (line_there Main) sort_is g);
-    tells = tells_by (first_of (queue_at w (key_of l Main))) (reply_to w t (act.Take (key_of l Main) whom.First)) (λ x. cc) (hears_of w t l steady there own (rules_in w l) refl (semaphore_move at) same_row (semaphore_hears at) take_deeds (line_there Main) g (queue_at w (2 * l)) refl);
-    others = calm_by (take_deeds (first_of (queue_at w (key_of l Main)))) (g.deeds (first_of (queue_at w (key_of l Main))) _ _) (takes_calm (first_of (queue_at w (key_of l Main))));
-  })
-
-  left : (m : Line) (key : ℕ) → key ≡ key_of l m → LeavesLine (semaphore_move at) (semaphore_hears at) m
-      → GoesFrom (place_at w t) (act.Remove key)
-  left m key e g = subst (λ j. GoesFrom (place_at w t) (act.Remove j)) (sym e) (record {
-    goes = leaves_line w t l steady there own (rules_in w l) refl (semaphore_move at) same_row asleep (semaphore_hears at) m g (λ b h. followed None (Removed b) (λ x. cc) h);
-    tells = tells_by None (reply_to w t (act.Remove (key_of l m))) (λ x. cc) (removed_hears w t l steady there own (rules_in w l) refl (semaphore_move at) same_row asleep (semaphore_hears at) m g);
-    others = calm_by (Case locks.Late ∷ []) (g.deeds _) tt;
-  })
-
   -- by any act of its own
   by_act : (y : Act) → semaphore_act l at ≡ y → SemaphoreMoves l (semaphore_move at) (semaphore_hears at) y → can_do w y ≡ true
       → GoesFrom (place_at w t) y
   by_act (act.Word k op) e g can = subst (λ j. GoesFrom (place_at w t) (act.Word j op)) (sym g.0) (on_word op (e ∙ ap (λ j. act.Word j op) g.0) g.1)
-  by_act (act.Enter keys) e g can = into g.0 keys g.1 can g.2
-  by_act (act.Park k key check want) e g can = parked g.0 k key check want g.1 g.2 g.3
-  by_act (act.Take key whom.First) e g can = took key g.0 g.1
+  by_act (act.Enter keys) e g can = go_on (act.Enter keys) (into w t l steady shape there lt own (semaphore_move at) same_row (semaphore_hears at) (Semaphore l at) brief g.0 keys g.1 can g.2)
+  by_act (act.Park k key check want) e g can = go_on (act.Park k key check want) (parked w t l steady shape there lt own (semaphore_move at) same_row (semaphore_hears at) (Semaphore l at) brief g.0 k key check want g.1 g.2 g.3)
+  by_act (act.Take key whom.First) e g can = go_on (act.Take key whom.First) (took_first w t l steady shape there lt own (semaphore_move at) same_row (semaphore_hears at) (Semaphore l at) brief take_deeds g.1 refl takes_calm (λ who any none_left h. followed who (Took any none_left) (λ x. cc) h)
+      (takes_one w t l steady there own (rules_in w l) refl (semaphore_move at) same_row asleep (semaphore_hears at) many (line_there w l shape lt Main) sort_is g.1) key g.0)
   by_act (act.Take key (whom.Picked start recursive)) e g can = absurd (no_pick at e)
     where
       no_try : (b : Bool) (was : ℕ) → (if b then act.Word l (ops.Exchange was (was - 2)) else act.Word l ops.Load) ≡ act.Take key (whom.Picked start recursive) → ⊥
@@ -406,8 +340,8 @@ module _ (w : State) (t l : ℕ) (at : SemaphorePlace) (steady : IsInductive w) 
       no_pick (Release release.Add) h = cc
       no_pick (Release release.Take) h = cc
       no_pick (Release to) h = cc
-  by_act (act.Remove key) e g can = left g.0 key g.1 g.2
-  by_act (act.Leave keys wakes) e g can = out_of g.0 keys wakes g.1 g.2
+  by_act (act.Remove key) e g can = go_on (act.Remove key) (left w t l steady shape there lt own (semaphore_move at) same_row (semaphore_hears at) (Semaphore l at) brief asleep g.0 key g.1 g.2)
+  by_act (act.Leave keys wakes) e g can = go_on (act.Leave keys wakes) (out_of w t l steady shape there lt own (semaphore_move at) same_row (semaphore_hears at) (Semaphore l at) brief g.0 keys wakes g.1 g.2 (wakes_one w t l steady there own (rules_in w l) refl (semaphore_move at) same_row asleep g.2.any g.2.carries))
   by_act act.Sleep e g can = absurd cc
   by_act (act.End answer) e g can = absurd cc
   by_act y e g can = absurd g
@@ -419,8 +353,8 @@ module _ (w : State) (t l : ℕ) (at : SemaphorePlace) (steady : IsInductive w) 
   -- its time is up
   pub semaphore_goes_late : (m : Line) → (semaphore_profile at).late_line ≡ Some m → is_free_in w (key_of l m) ≡ true
       → Goes w (state_after_late_under w t (key_of l m)) l (acts t (semaphore_deeds at None Late))
-  semaphore_goes_late m e free = goes_in w t l steady there own (rules_in w l) refl (semaphore_move at) same_row (semaphore_hears at) m Late (next_place (place_at w t) Late) (section_there m)
-      (nobody_is (section_at w (key_of l m)) free) (semaphore_late_move at m e) (λ h. followed_by None Late (λ x. late_timed at m e) (semaphore_steps_follow (rules_in w l) here t at None Late at_now h))
+  semaphore_goes_late m e free = goes_in w t l steady there own (rules_in w l) refl (semaphore_move at) same_row (semaphore_hears at) m Late (next_place (place_at w t) Late) (section_there w l shape lt m)
+      (none_is (section_at w (key_of l m)) free) (semaphore_late_move at m e) (λ h. followed_by None Late (λ x. late_timed at m e) (semaphore_steps_follow (rules_in w l) here t at None Late at_now h))
     where
       late_timed : (p : SemaphorePlace) (m : Line) → (semaphore_profile p).late_line ≡ Some m → (semaphore_profile p).timed ≡ true
       late_timed (Acquire true again to) m h = refl

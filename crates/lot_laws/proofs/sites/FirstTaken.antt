@@ -1,5 +1,5 @@
--- The first waiter in the line of a lock, if there is one, comes into the hand of a thread that is inside its section, for
--- the sorts of lock whose waiters are taken one at a time.
+-- The first waiter in the line of a lock, if there is one, comes into the hand of a thread inside its
+-- section, for the sorts of lock whose waiters are taken one at a time.
 use Rattle.std.proofs.Common.{ℕ, Bool, true, false, Option, Some, None, ◌==◌, ◌≡◌, ◌*◌, ◌<◌, List, [], ◌∷◌, length, map, drop, is_none, not, refl, sym, ◌∙◌, ap, subst}
 use Rattle.core_base.specs.declared.wants.Waiter.{Waiter}
 use Rattle.core_base.specs.Lines.{first_of}

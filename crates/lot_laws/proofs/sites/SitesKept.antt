@@ -20,10 +20,9 @@ use Rattle.spec_locks.specs.Locks.{putting, IsLockState}
 use Rattle.core_base.specs.declared.wants.Want.TheVariants.{Exclusive}
 use Rattle.spec_locks.specs.Sites.{Has}
 use Rattle.spec_locks.specs.Sites.{Role, Site, IsSite}
-pub use Rattle.lot_laws.proofs.sites.OneStep.{acts_keep}
 use Rattle.lot_laws.proofs.sites.ToldAt as told_at
 use Rattle.lot_laws.proofs.sites.ToldAt.{IsToldAt, HeldHere, same_hands}
-pub use Rattle.lot_laws.proofs.sites.ActsKept.{AlikeAt, lock_by, follows_by, goes_steady, operated, word_goes, place_goes, enter_goes, leave_goes, nobody_inside}
+use Rattle.lot_laws.proofs.sites.ActsKept.{AlikeAt, follows_by, lock_by}
 use Rattle.std.specs.Prelude.{sum}
 use Rattle.lot_machine.specs.Machine.{unshared_then, State, hand_over_told, shares_handed_over, unlocked, place_at, word_at, owners_at, shares_at, kind_at, queue_at, put, section_at, state_after_reply, state_after_telling, state_after_hand_over, state_after_act, reply_to}
 use Rattle.lot_laws.specs.Refinement.{lock_state}

@@ -15,7 +15,7 @@ use Rattle.lot_laws.specs.SitesOf.{is_mutex}
 use Rattle.lot_laws.specs.Refinement.{taken_at}
 use Rattle.lot_laws.specs.Locations.{Hand, Location, hand, role_on, location_at}
 use Rattle.lot_laws.specs.SitesOf.{Sections, Lines, AllAreWaiting, AreWaiting, HandsBy, FitsItsLock, key_of, stood_in}
-use Rattle.lot_laws.proofs.machine.Parts.{IsOf, put_here, put_other, same, location_elsewhere, role_elsewhere, taken_elsewhere, IsMutexOf}
+use Rattle.lot_laws.proofs.machine.Parts.{IsOf, put_here, put_other, same, location_elsewhere, role_elsewhere, taken_elsewhere}
 
 pub both : (a b : Bool) → (a && b) ≡ true → (a ≡ true) × (b ≡ true)
 both true b h = (refl, h)
@@ -374,14 +374,6 @@ module _ (one : ℕ → Type 0) (p q : ℕ → ℕ → Location) (hands : HandsB
     }
 
 -- ---------------------------------------------------------------- calls
-
-pub calls_of : (w : State) (l : ℕ) (p : Place) → IsMutexOf l p → is_mutex (kind_at w l) ≡ true → FitsItsLock w p
-calls_of w l Idle h m = tt
-calls_of w l (Mutex k at) h m = rw h m
-calls_of w l (RwLock k a at) h m = absurd h
-calls_of w l (Once k at) h m = absurd h
-calls_of w l (Semaphore k at) h m = absurd h
-calls_of w l (Condvar k at) h m = absurd h
 
 pub calls_in : (w v : State) (p : Place) → ((k : ℕ) → kind_at v k ≡ kind_at w k) → FitsItsLock w p → FitsItsLock v p
 calls_in w v Idle e h = tt

@@ -38,7 +38,8 @@ use Rattle.lot_laws.proofs.machine.Parts.{parts_at, same, single_or_two, thread_
 use Rattle.lot_laws.proofs.machine.Parts.{mutex, own_role}
 use Rattle.lot_laws.proofs.sites.OneStep.{meets, others_same}
 use Rattle.lot_laws.proofs.sites.StandsMoved.{mutex_rules}
-use Rattle.lot_laws.proofs.sites.SitesKept.{mutex_at, goes_steady, place_goes}
+use Rattle.lot_laws.proofs.sites.ActsKept.{goes_steady, place_goes}
+use Rattle.lot_laws.proofs.sites.SitesKept.{mutex_at}
 use Rattle.lot_laws.proofs.calls.Looking.{looking_steady, looks_now}
 use Rattle.lot_laws.proofs.hands.CountsPut.{looking_counted}
 use Rattle.lot_laws.proofs.mutex.Kept.{gone_kept, mutex_goes_late}
