@@ -7,10 +7,10 @@ ghost use Rattle.parking_lot.specs.Names.{lot_of_rwlock};
 
 use super::crowds::{Part, add_under, play};
 use super::{
-    Lock, Upgradable, check_eq, end_reader, end_upgradable, lock_alone, next_of, read,
-    read_upgradable, read_value, to_reader, to_upgradable, upgradable_value, written_value,
+    Lock, Upgradable, check_eq, end_reader, end_upgradable, end_writer, lock_alone, next_of, read,
+    read_upgradable, read_value, to_reader, to_upgradable, upgradable_value, write, written_value,
 };
-use parking_lot::{ParkingLot, RwLock, Token};
+use parking_lot::{Fault, ParkingLot, RwLock, Token};
 use std::alloc::Global;
 use std::process::Abort;
 use std::sync::Wait;
@@ -69,6 +69,39 @@ fn shown_twice<R: Wait>(rt: &R, lock: &Lock<false>, token: &mut Token) -> Option
     end_reader(rt, token, guard);
     end_upgradable(rt, token, later);
     Some(shown)
+}
+
+type Tried = (Result<Option<u64>, Fault>, Option<u64>);
+
+// Runs closures where the lock is free: what one reads, and what another writes.
+fn try_both<R: Wait>(rt: &R, lock: &Lock<false>, token: &mut Token) -> Tried
+    requires { IsTokenOf (lot_of_rwlock lock.now) token.old }
+    ensures { IsTokenOf (lot_of_rwlock lock.now) token.new }
+{
+    let read = lock.try_with_read(rt, token, |value: &u64| *value);
+    let written = lock.try_with_write(rt, token, |value: &mut u64| {
+        *value = value.wrapping_add(1);
+        *value
+    });
+    (read, written)
+}
+
+// The same beside a writer, and behind it.
+fn try_around<R: Wait>(rt: &R, lock: &Lock<false>, token: &mut Token) -> [Tried; 2]
+    requires { IsTokenOf (lot_of_rwlock lock.now) token.old }
+    ensures { IsTokenOf (lot_of_rwlock lock.now) token.new }
+{
+    let guard = write(rt, lock, token);
+    let beside = try_both(rt, lock, token);
+    end_writer(rt, token, guard);
+    [beside, try_both(rt, lock, token)]
+}
+
+#[test]
+fn a_busy_lock_runs_no_closure(rt: HostRuntime) {
+    let (lock, mut token) = lock_alone(&rt, rt.alloc(), 5, false);
+    let tried = try_around(&rt, &lock, &mut token);
+    check_eq(&rt, tried, [(Ok(None), None), (Ok(Some(5)), Some(6))]);
 }
 
 // Upgrades where nobody else reads, adds 1, and goes on as a reader by way of the upgradable right:
