@@ -3,7 +3,8 @@
 
 python3 bench/check.py CRATE [--tests] [--most N], in a checkout whose libraries are built (`rt check` in the crate's folder does that). It checks the
 crate from nothing with one job, into a folder of its own, and goes by the times at which the modules were kept. Of a function it tells what all its
-modules took, `Lts` (the borrow checker's, which grows with statements and locals) and `Proof` (the search of goals that have no answer).
+modules took, `Lts` (the borrow checker's, which grows with statements and locals), `Tie` (what traits say of known types, which grows with the
+different methods called) and `Proof` (the search of goals that have no answer).
 """
 
 import argparse
@@ -68,9 +69,9 @@ def tell(folder, most):
         whole[function] += seconds
         kinds[kind] += seconds
         parts[function, kind] += seconds
-    print("seconds    Lts  Proof  function")
+    print("seconds    Lts    Tie  Proof  function")
     for function, seconds in whole.most_common(most):
-        print(f"{seconds:7.2f} {parts[function, 'Lts']:6.2f} {parts[function, 'Proof']:6.2f}  {function}")
+        print(f"{seconds:7.2f} {parts[function, 'Lts']:6.2f} {parts[function, 'Tie']:6.2f} {parts[function, 'Proof']:6.2f}  {function}")
     print("all", f"{sum(whole.values()):.1f};", ", ".join(f"{kind} {seconds:.1f}" for kind, seconds in kinds.most_common(10)))
 
 

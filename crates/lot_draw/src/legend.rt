@@ -1,6 +1,7 @@
 //! How cells look, and the legend that says what they mean.
 
 use crate::layout::{MARGIN, Pixels};
+use crate::shapes::{Area, put_rect};
 use crate::{Cell, Deed, Recording};
 use lot_world::Owner;
 use std::io;
@@ -20,8 +21,18 @@ pub struct Look {
     pub means: &'static str,
 }
 
+impl Look {
+    /// Returns the same look, with its letter only where it begins.
+    fn beginning(self, begins: bool) -> Look {
+        Look {
+            letter: if begins { self.letter } else { "" },
+            ..self
+        }
+    }
+}
+
 /// Returns how a right looks.
-pub fn look_of_right(right: Owner) -> Look {
+fn look_of_right(right: Owner) -> Look {
     match right {
         Owner::Exclusive => Look {
             class: "owns",
@@ -57,7 +68,7 @@ pub fn look_of_right(right: Owner) -> Look {
 }
 
 /// Returns how a deed looks.
-pub fn look_of_deed(deed: Deed) -> Look {
+fn look_of_deed(deed: Deed) -> Look {
     match deed {
         Deed::Owes => Look {
             class: "owes",
@@ -96,6 +107,18 @@ pub fn look_of_deed(deed: Deed) -> Look {
             means: "is in a call",
         },
     }
+}
+
+/// Returns how a right of a cell looks, with no letter where the cell before has it too.
+pub fn look_of_right_in(cell: Cell, before: Cell) -> Option<Look> {
+    let look = look_of_right(cell.right?);
+    Some(look.beginning(cell.right != before.right))
+}
+
+/// Returns how a deed of a cell looks, with no letter where the cell before has it too.
+pub fn look_of_deed_in(cell: Cell, before: Cell) -> Option<Look> {
+    let look = look_of_deed(cell.deed?);
+    Some(look.beginning(cell.deed != before.deed))
 }
 
 /// An entry of the legend.
@@ -222,34 +245,38 @@ pub fn draw_legend<W: Write>(out: &mut W, recording: &Recording, from: Spot) -> 
 }
 
 fn draw_entry<W: Write>(out: &mut W, entry: Entry, spot: Spot) -> io::Result<()> {
-    let (x, y) = (spot.x, spot.y);
+    draw_sign(out, entry, spot.x, spot.y)?;
+    let (x, base, means) = (spot.x + Pixels(21), spot.y + Pixels(10), entry.means());
+    writeln!(out, "<text x=\"{x}\" y=\"{base}\">{means}</text>")
+}
+
+/// Writes what an entry explains.
+fn draw_sign<W: Write>(out: &mut W, entry: Entry, x: Pixels, y: Pixels) -> io::Result<()> {
     match entry {
-        Entry::Right(right) => draw_swatch(out, look_of_right(right), x, y)?,
-        Entry::Deed(deed) => draw_swatch(out, look_of_deed(deed), x, y)?,
-        Entry::Inside => {
-            let bar = y + Pixels(10);
-            writeln!(
-                out,
-                "<rect class=\"empty\" x=\"{x}\" y=\"{y}\" width=\"16\" height=\"13\"/>"
-            )?;
-            writeln!(
-                out,
-                "<rect class=\"inside\" x=\"{x}\" y=\"{bar}\" width=\"16\" height=\"3\"/>"
-            )?;
-        }
-        Entry::Step => draw_marker(out, x + Pixels(8), y + Pixels(9), true)?,
-        Entry::NoStep => draw_marker(out, x + Pixels(8), y + Pixels(9), false)?,
+        Entry::Right(right) => draw_swatch(out, look_of_right(right), x, y),
+        Entry::Deed(deed) => draw_swatch(out, look_of_deed(deed), x, y),
+        Entry::Inside => draw_inside(out, swatch(x, y)),
+        Entry::Step => draw_marker(out, x + Pixels(8), y + Pixels(9), true),
+        Entry::NoStep => draw_marker(out, x + Pixels(8), y + Pixels(9), false),
     }
-    let (text, base, means) = (x + Pixels(21), y + Pixels(10), entry.means());
-    writeln!(out, "<text x=\"{text}\" y=\"{base}\">{means}</text>")
+}
+
+fn swatch(x: Pixels, y: Pixels) -> Area {
+    Area {
+        x,
+        y,
+        width: Pixels(16),
+        height: Pixels(13),
+    }
+}
+
+fn draw_inside<W: Write>(out: &mut W, area: Area) -> io::Result<()> {
+    put_rect(out, "empty", area)?;
+    put_rect(out, "inside", area.bar(Pixels(10)))
 }
 
 fn draw_swatch<W: Write>(out: &mut W, look: Look, x: Pixels, y: Pixels) -> io::Result<()> {
-    let class = look.class;
-    writeln!(
-        out,
-        "<rect class=\"{class}\" x=\"{x}\" y=\"{y}\" width=\"16\" height=\"13\"/>"
-    )?;
+    put_rect(out, look.class, swatch(x, y))?;
     draw_letter(out, look, x + Pixels(8), y + Pixels(10), "letter")
 }
 

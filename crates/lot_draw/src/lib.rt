@@ -9,6 +9,7 @@ pub mod lines;
 mod panels;
 pub mod picture;
 pub mod record;
+mod shapes;
 pub mod start;
 mod texts;
 mod words;

@@ -4,7 +4,8 @@ use crate::layout::{
     COLUMN, GAP, HALF, LANE, Layout, MARGIN, MIDDLE, NUMBERS, Panel, Pixels, Run, height_of_lanes,
     height_of_lines, lanes_of, runs,
 };
-use crate::legend::{Look, draw_letter, draw_marker, look_of_deed, look_of_right};
+use crate::legend::{Look, draw_letter, draw_marker, look_of_deed_in, look_of_right_in};
+use crate::shapes::{Area, put_label, put_rect};
 use crate::texts::put_text;
 use crate::words::draw_words;
 use crate::{Cell, Column, Lane, Recording};
@@ -57,14 +58,17 @@ fn draw_lines<W: Write>(
         draw_line(out, column, x + Pixels(11), foot)?;
         let number = panel.from.saturating_add(at).saturating_add(1);
         if number % NUMBERED == 0 || at == 0 {
-            let (middle, base) = (x + MIDDLE, foot + Pixels(10));
-            writeln!(
-                out,
-                "<text class=\"number\" x=\"{middle}\" y=\"{base}\">{number}</text>"
-            )?;
+            draw_number(out, number, x + MIDDLE, foot + Pixels(10))?;
         }
     }
     Ok(())
+}
+
+fn draw_number<W: Write>(out: &mut W, number: usize, x: Pixels, base: Pixels) -> io::Result<()> {
+    writeln!(
+        out,
+        "<text class=\"number\" x=\"{x}\" y=\"{base}\">{number}</text>"
+    )
 }
 
 fn draw_line<W: Write>(out: &mut W, column: &Column, x: Pixels, foot: Pixels) -> io::Result<()> {
@@ -74,11 +78,16 @@ fn draw_line<W: Write>(out: &mut W, column: &Column, x: Pixels, foot: Pixels) ->
     )?;
     put_text(out, column.line.as_slice())?;
     if !column.said.is_empty() {
-        write!(out, "<tspan class=\"said\">: ")?;
-        put_text(out, column.said.as_slice())?;
-        write!(out, "</tspan>")?;
+        put_said(out, column.said.as_slice())?;
     }
-    writeln!(out, "</text>")
+    out.write_all(b"</text>\n")
+}
+
+/// Writes what a line answers.
+fn put_said<W: Write>(out: &mut W, said: &[u8]) -> io::Result<()> {
+    out.write_all(b"<tspan class=\"said\">: ")?;
+    put_text(out, said)?;
+    out.write_all(b"</tspan>")
 }
 
 /// Writes the thin lines between columns.
@@ -89,12 +98,12 @@ fn draw_grid<W: Write>(
     top: Pixels,
     foot: Pixels,
 ) -> io::Result<()> {
-    write!(out, "<path class=\"grid\" d=\"")?;
+    out.write_all(b"<path class=\"grid\" d=\"")?;
     for at in 0..panel.len.saturating_add(1) {
         let x = layout.column(at);
         write!(out, "M{x} {top}V{foot}")?;
     }
-    writeln!(out, "\"/>")
+    out.write_all(b"\"/>\n")
 }
 
 /// Marks the columns in which a thread takes steps.
@@ -130,21 +139,35 @@ fn draw_thread<W: Write>(
         out,
         "<text x=\"{MARGIN}\" y=\"{base}\">thread {thread}</text>"
     )?;
+    let lanes = lanes_of(recording, thread);
+    if lanes.is_empty() {
+        return draw_frame(out, layout, panel, top);
+    }
     let mut y = top;
-    for lane in lanes_of(recording, thread) {
+    for lane in lanes {
         if layout.names_lanes {
             draw_lane_name(out, recording, layout, lane, y + Pixels(13))?;
         }
-        draw_frame(out, layout, panel, y)?;
-        let mut before = Cell::NOTHING;
-        for run in &runs(alloc, lane.cells.as_slice(), panel)? {
-            draw_run(out, layout, *run, before, y)?;
-            before = run.value;
-        }
+        draw_lane(alloc, out, layout, panel, lane, y)?;
         y = y + LANE;
     }
-    if y == top {
-        draw_frame(out, layout, panel, y)?;
+    Ok(())
+}
+
+/// Writes what a thread is to a lock.
+fn draw_lane<W: Write>(
+    alloc: Global,
+    out: &mut W,
+    layout: &Layout,
+    panel: Panel,
+    lane: &Lane,
+    y: Pixels,
+) -> io::Result<()> {
+    draw_frame(out, layout, panel, y)?;
+    let mut before = Cell::NOTHING;
+    for run in &runs(alloc, lane.cells.as_slice(), panel)? {
+        draw_run(out, layout, *run, before, y)?;
+        before = run.value;
     }
     Ok(())
 }
@@ -159,9 +182,7 @@ fn draw_lane_name<W: Write>(
     for row in &recording.rows {
         if row.lock == lane.lock {
             let x = layout.name_end();
-            write!(out, "<text class=\"name end\" x=\"{x}\" y=\"{base}\">")?;
-            put_text(out, row.name.text())?;
-            writeln!(out, "</text>")?;
+            put_label(out, "name end", x, base, row.name.text())?;
         }
     }
     Ok(())
@@ -170,10 +191,13 @@ fn draw_lane_name<W: Write>(
 /// Writes the outline of a lane.
 fn draw_frame<W: Write>(out: &mut W, layout: &Layout, panel: Panel, y: Pixels) -> io::Result<()> {
     let (x, width) = (layout.left, COLUMN.times(panel.len));
-    writeln!(
-        out,
-        "<rect class=\"empty\" x=\"{x}\" y=\"{y}\" width=\"{width}\" height=\"{LANE}\"/>"
-    )
+    let area = Area {
+        x,
+        y,
+        width,
+        height: LANE,
+    };
+    put_rect(out, "empty", area)
 }
 
 /// Writes what a thread is to a lock in columns that follow each other, of which it was something
@@ -185,63 +209,40 @@ fn draw_run<W: Write>(
     before: Cell,
     y: Pixels,
 ) -> io::Result<()> {
-    let (x, width) = (layout.column(run.start), COLUMN.times(run.len));
-    let Cell { right, deed, .. } = run.value;
-    let right_look = right.map(look_of_right);
-    let deed_look = deed.map(look_of_deed);
-    match (right_look, deed_look) {
-        (Some(upper), Some(lower)) => {
-            draw_half(out, upper, x, y, width, right != before.right)?;
-            draw_half(out, lower, x, y + HALF, width, deed != before.deed)?;
-        }
-        (Some(look), None) => draw_whole(out, look, x, y, width, right != before.right)?,
-        (None, Some(look)) => draw_whole(out, look, x, y, width, deed != before.deed)?,
-        (None, None) => {}
-    }
+    let area = Area {
+        x: layout.column(run.start),
+        y,
+        width: COLUMN.times(run.len),
+        height: LANE,
+    };
+    draw_cell(out, run.value, before, area)?;
     if run.value.is_inside {
-        let bar = y + Pixels(17);
-        writeln!(
-            out,
-            "<rect class=\"inside\" x=\"{x}\" y=\"{bar}\" width=\"{width}\" height=\"3\"/>"
-        )?;
+        put_rect(out, "inside", area.bar(Pixels(17)))?;
     }
     Ok(())
 }
 
-fn draw_whole<W: Write>(
-    out: &mut W,
-    look: Look,
-    x: Pixels,
-    y: Pixels,
-    width: Pixels,
-    begins: bool,
-) -> io::Result<()> {
-    let class = look.class;
-    writeln!(
-        out,
-        "<rect class=\"{class}\" x=\"{x}\" y=\"{y}\" width=\"{width}\" height=\"{LANE}\"/>"
-    )?;
-    if begins {
-        draw_letter(out, look, x + MIDDLE, y + Pixels(13), "letter")?;
+/// Writes what a thread is to a lock, its right above its deed.
+fn draw_cell<W: Write>(out: &mut W, cell: Cell, before: Cell, area: Area) -> io::Result<()> {
+    match (
+        look_of_right_in(cell, before),
+        look_of_deed_in(cell, before),
+    ) {
+        (Some(upper), Some(lower)) => {
+            draw_look(out, upper, area.upper())?;
+            draw_look(out, lower, area.lower())
+        }
+        (Some(look), None) | (None, Some(look)) => draw_look(out, look, area),
+        (None, None) => Ok(()),
     }
-    Ok(())
 }
 
-fn draw_half<W: Write>(
-    out: &mut W,
-    look: Look,
-    x: Pixels,
-    y: Pixels,
-    width: Pixels,
-    begins: bool,
-) -> io::Result<()> {
-    let class = look.class;
-    writeln!(
-        out,
-        "<rect class=\"{class}\" x=\"{x}\" y=\"{y}\" width=\"{width}\" height=\"{HALF}\"/>"
-    )?;
-    if begins {
-        draw_letter(out, look, x + MIDDLE, y + Pixels(7), "letter small")?;
-    }
-    Ok(())
+fn draw_look<W: Write>(out: &mut W, look: Look, area: Area) -> io::Result<()> {
+    put_rect(out, look.class, area)?;
+    let (below, class) = if area.height == HALF {
+        (Pixels(7), "letter small")
+    } else {
+        (Pixels(13), "letter")
+    };
+    draw_letter(out, look, area.x + MIDDLE, area.y + below, class)
 }

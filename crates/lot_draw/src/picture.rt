@@ -4,6 +4,7 @@ use crate::Recording;
 use crate::layout::{APART, Layout, MARGIN, Pixels, TITLE};
 use crate::legend::{Spot, draw_legend, legend_bottom};
 use crate::panels::{draw_panel, height_of_panel};
+use crate::shapes::put_label;
 use crate::texts::{put_text, title_of};
 use crate::words::height_of_words;
 use std::alloc::{AllocError, Global};
@@ -73,15 +74,27 @@ pub fn draw<W: Write>(alloc: Global, out: &mut W, recording: &Recording) -> io::
     let title = title_of(alloc, recording)?;
     let frame = frame_of(alloc, recording, &layout, title.as_str())?;
     open(out, frame, title.as_str())?;
+    draw_panels(alloc, out, recording, &layout, frame.words)?;
+    draw_legend(out, recording, Spot::new(frame.legend, frame.width))?;
+    draw_notes(out, recording, frame.notes)?;
+    out.write_all(b"</svg>\n")
+}
+
+/// Writes all panels. The words of locks are so high in each.
+fn draw_panels<W: Write>(
+    alloc: Global,
+    out: &mut W,
+    recording: &Recording,
+    layout: &Layout,
+    words: Pixels,
+) -> io::Result<()> {
     let mut top = MARGIN + TITLE;
     for number in 0..layout.panels {
         let panel = layout.panel(number, recording);
-        draw_panel(alloc, out, recording, &layout, panel, top)?;
-        top = top + height_of_panel(recording, panel) + frame.words + APART;
+        draw_panel(alloc, out, recording, layout, panel, top)?;
+        top = top + height_of_panel(recording, panel) + words + APART;
     }
-    draw_legend(out, recording, Spot::new(frame.legend, frame.width))?;
-    draw_notes(out, recording, frame.notes)?;
-    writeln!(out, "</svg>")
+    Ok(())
 }
 
 fn frame_of(
@@ -111,22 +124,16 @@ fn frame_of(
 
 fn open<W: Write>(out: &mut W, frame: Frame, title: &str) -> io::Result<()> {
     let (width, height) = (frame.width, frame.height);
+    write!(
+        out,
+        "<svg xmlns=\"http://www.w3.org/2000/svg\" width=\"{width}\" height=\"{height}\" viewBox=\"0 0 {width} {height}\">\n<title>"
+    )?;
+    put_text(out, title.as_bytes())?;
     writeln!(
         out,
-        "<svg xmlns=\"http://www.w3.org/2000/svg\" width=\"{width}\" height=\"{height}\" viewBox=\"0 0 {width} {height}\">"
+        "</title>\n{STYLE}<rect width=\"{width}\" height=\"{height}\" fill=\"#fff\"/>"
     )?;
-    write!(out, "<title>")?;
-    put_text(out, title.as_bytes())?;
-    writeln!(out, "</title>")?;
-    out.write_all(STYLE.as_bytes())?;
-    writeln!(
-        out,
-        "<rect width=\"{width}\" height=\"{height}\" fill=\"#fff\"/>"
-    )?;
-    let base = MARGIN + Pixels(12);
-    write!(out, "<text class=\"title\" x=\"{MARGIN}\" y=\"{base}\">")?;
-    put_text(out, title.as_bytes())?;
-    writeln!(out, "</text>")
+    put_label(out, "title", MARGIN, MARGIN + Pixels(12), title.as_bytes())
 }
 
 /// Something that a picture leaves out.
@@ -181,13 +188,22 @@ fn draw_notes<W: Write>(out: &mut W, recording: &Recording, top: Pixels) -> io::
     for note in NOTES {
         let (hidden, all) = note.counts(recording);
         if hidden != 0 {
-            let what = note.what();
-            writeln!(
-                out,
-                "<text x=\"{MARGIN}\" y=\"{base}\">Not shown: {hidden} of {all} {what}.</text>"
-            )?;
+            draw_note(out, note.what(), hidden, all, base)?;
             base = base + NOTE;
         }
     }
     Ok(())
+}
+
+fn draw_note<W: Write>(
+    out: &mut W,
+    what: &str,
+    hidden: u64,
+    all: u64,
+    base: Pixels,
+) -> io::Result<()> {
+    writeln!(
+        out,
+        "<text x=\"{MARGIN}\" y=\"{base}\">Not shown: {hidden} of {all} {what}.</text>"
+    )
 }

@@ -16,10 +16,7 @@ const MOST_NAMED: usize = 4;
 /// there are.
 pub fn title_of(alloc: Global, recording: &Recording) -> Result<String, AllocError> {
     let mut title = String::new(alloc);
-    for row in recording.rows.iter().take(MOST_NAMED) {
-        push_lock(&mut title, row)?;
-        title.push_str(", ")?;
-    }
+    push_locks(&mut title, recording)?;
     if recording.rows.len() > MOST_NAMED {
         let more = recording.rows.len() - MOST_NAMED;
         write!(title, "{more} more, ")?;
@@ -30,13 +27,20 @@ pub fn title_of(alloc: Global, recording: &Recording) -> Result<String, AllocErr
     Ok(title)
 }
 
+fn push_locks(title: &mut String, recording: &Recording) -> Result<(), AllocError> {
+    for row in recording.rows.iter().take(MOST_NAMED) {
+        push_lock(title, row)?;
+    }
+    Ok(())
+}
+
 fn push_lock(title: &mut String, row: &LockRow) -> Result<(), AllocError> {
     title.push_str(kind_text(row.kind))?;
     title.push_str(" ")?;
     for byte in row.name.text() {
         title.push(char::from(*byte))?;
     }
-    Ok(())
+    title.push_str(", ")
 }
 
 fn push_counted(title: &mut String, count: u64, what: &str) -> Result<(), AllocError> {

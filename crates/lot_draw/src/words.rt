@@ -1,6 +1,7 @@
 //! The words of locks, printed where they change.
 
-use crate::layout::{COLUMN, Layout, MARGIN, Panel, Pixels, Run, runs};
+use crate::layout::{COLUMN, Layout, MARGIN, Panel, Pixels, runs};
+use crate::shapes::{Area, put_rect};
 use crate::texts::put_text;
 use crate::{LockRow, Recording};
 use itoa::Buffer;
@@ -85,9 +86,7 @@ pub fn draw_words<W: Write>(
     for row in &recording.rows {
         let line = word_line(alloc, recording, layout, row)?;
         draw_name(out, row, y + Pixels(11))?;
-        for run in &runs(alloc, row.words.as_slice(), panel)? {
-            draw_word(out, layout, *run, line, y)?;
-        }
+        draw_row(alloc, out, layout, panel, row, line, y)?;
         y = y + line.height;
     }
     Ok(())
@@ -99,34 +98,51 @@ fn draw_name<W: Write>(out: &mut W, row: &LockRow, base: Pixels) -> io::Result<(
         "<text class=\"name\" x=\"{MARGIN}\" y=\"{base}\">word of "
     )?;
     put_text(out, row.name.text())?;
-    writeln!(out, "</text>")
+    out.write_all(b"</text>\n")
 }
 
-/// Writes a word in a box as wide as its run.
-fn draw_word<W: Write>(
+/// Writes the words of a lock.
+fn draw_row<W: Write>(
+    alloc: Global,
     out: &mut W,
     layout: &Layout,
-    run: Run<u64>,
+    panel: Panel,
+    row: &LockRow,
     line: WordLine,
     y: Pixels,
 ) -> io::Result<()> {
-    let (x, width, height) = (layout.column(run.start), COLUMN.times(run.len), line.height);
-    let word = run.value;
+    for run in &runs(alloc, row.words.as_slice(), panel)? {
+        let area = Area {
+            x: layout.column(run.start),
+            y,
+            width: COLUMN.times(run.len),
+            height: line.height,
+        };
+        draw_word(out, run.value, line.stands, area)?;
+    }
+    Ok(())
+}
+
+/// Writes a word in a box as wide as its run.
+fn draw_word<W: Write>(out: &mut W, word: u64, stands: bool, area: Area) -> io::Result<()> {
+    put_rect(out, "box", area)?;
+    if stands {
+        draw_standing(out, word, area.x + Pixels(11), area.y + area.height)
+    } else {
+        draw_lying(out, word, area.x + Pixels(3), area.y + Pixels(11))
+    }
+}
+
+fn draw_standing<W: Write>(out: &mut W, word: u64, base: Pixels, foot: Pixels) -> io::Result<()> {
     writeln!(
         out,
-        "<rect class=\"box\" x=\"{x}\" y=\"{y}\" width=\"{width}\" height=\"{height}\"/>"
-    )?;
-    if line.stands {
-        let (base, foot) = (x + Pixels(11), y + height);
-        writeln!(
-            out,
-            "<text class=\"word\" transform=\"translate({base} {foot}) rotate(-90)\" x=\"3\">{word}</text>"
-        )
-    } else {
-        let (text, base) = (x + Pixels(3), y + Pixels(11));
-        writeln!(
-            out,
-            "<text class=\"word\" x=\"{text}\" y=\"{base}\">{word}</text>"
-        )
-    }
+        "<text class=\"word\" transform=\"translate({base} {foot}) rotate(-90)\" x=\"3\">{word}</text>"
+    )
+}
+
+fn draw_lying<W: Write>(out: &mut W, word: u64, x: Pixels, base: Pixels) -> io::Result<()> {
+    writeln!(
+        out,
+        "<text class=\"word\" x=\"{x}\" y=\"{base}\">{word}</text>"
+    )
 }

@@ -2,8 +2,6 @@
 #![tactic(auto)]
 
 mod live;
-#[cfg(test)]
-mod tests;
 
 use crate::live::live;
 use core_queues::BucketQueues;

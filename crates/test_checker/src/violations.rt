@@ -1,81 +1,79 @@
 //! Names for what no world may show.
 
-use thiserror::Error;
-
 /// Names what no world may show, with the lock or the thread where it stands.
-#[derive(Clone, Copy, Debug, PartialEq, Eq, Error)]
+#[derive(Clone, Copy, Debug, PartialEq, Eq)]
 pub enum Violation {
     // In one state.
-    #[error("the owners of lock {0} don't exclude each other")]
+    /// The owners of the lock don't exclude each other.
     OwnersClash(usize),
-    #[error("lock {0} has an owner or a waiter of a sort that its kind lacks")]
+    /// The lock has an owner or a waiter of a sort that its kind lacks.
     WrongSort(usize),
-    #[error("more readers share lock {0} than its limit allows, or more threads hold its permits")]
+    /// More readers share the lock than its limit allows, or more threads hold its permits.
     TooMany(usize),
-    #[error("the word of lock {0} isn't the code of its owners")]
+    /// The word of the lock isn't the code of its owners.
     WrongWord(usize),
-    #[error("the word of lock {0} doesn't tell that a thread waits")]
+    /// The word of the lock doesn't tell that a thread waits.
     UnmarkedWaiter(usize),
-    #[error("a thread waits aside of lock {0} and isn't its pending writer")]
+    /// A thread waits aside of the lock and isn't its pending writer.
     WrongAside(usize),
-    #[error("a thread waits for lock {0}, whose way nobody bars, and nobody owes a wake or retries")]
+    /// A thread waits for the lock, whose way nobody bars, and nobody owes a wake or retries.
     Forgotten(usize),
-    #[error("thread {0} stands in two places")]
+    /// The thread stands in two places.
     StandsTwice(usize),
-    #[error("thread {0} sleeps in no queue and in nobody's hand")]
+    /// The thread sleeps in no queue and in nobody's hand.
     SleepsNowhere(usize),
-    #[error("thread {0} waits and is in no call")]
+    /// The thread waits and is in no call.
     WaitsIdle(usize),
     // Between two neighbours.
-    #[error("another number of threads or locks, or another kind of lock {0}")]
+    /// There is another number of threads or locks, or the lock is of another kind.
     OtherWorld(usize),
-    #[error("a step that isn't possible changed something")]
+    /// A step that isn't possible changed something.
     ChangedByNothing,
-    #[error("a turn that isn't an act changed lock {0}")]
+    /// A turn that isn't an act changed the lock.
     TouchedWithoutAct(usize),
-    #[error("the step changed two words, lock {0}'s among them")]
+    /// The step changed two words, the lock's among them.
     TwoWords(usize),
-    #[error("the step changed the word and the queue of lock {0}")]
+    /// The step changed the word and the queue of the lock.
     WordAndQueue(usize),
-    #[error("thread {0} moved in another thread's step")]
+    /// The thread moved in another thread's step.
     MovedToo(usize),
-    #[error("thread {0} woke up by itself")]
+    /// The thread woke up by itself.
     WokeByItself(usize),
-    #[error("the waiters of lock {0} changed their order")]
+    /// The waiters of the lock changed their order.
     OutOfOrder(usize),
-    #[error("thread {0} left a queue and was neither taken, nor moved, nor late")]
+    /// The thread left a queue and was neither taken, nor moved, nor late.
     Vanished(usize),
-    #[error("thread {0} came into a queue by another thread's step, and not from a condition variable")]
+    /// The thread came into a queue by another thread's step, and not from a condition variable.
     JoinedByOther(usize),
-    #[error("a waiter of lock {0} was passed by a later one")]
+    /// A waiter of the lock was passed by a later one.
     OutOfTurn(usize),
-    #[error("those who were taken of lock {0} are not those whom the waking thread lets in")]
+    /// The waiters taken from the lock are not those that the waking thread lets in.
     WrongPicks(usize),
-    #[error("thread {0} got a right in another thread's step, and nobody handed it over")]
+    /// The thread got a right in another thread's step, and nobody handed it over.
     RightFromNobody(usize),
-    #[error("thread {0} lost a right in another thread's step")]
+    /// The thread lost a right in another thread's step.
     RightTaken(usize),
-    #[error("thread {0} was in the hand of the owner, who handed the lock to others alone")]
+    /// The thread was in the hand of the owner, which handed the lock to others alone.
     HandedToSome(usize),
-    #[error("a reader of lock {0} passed a pending writer")]
+    /// A reader of the lock passed a pending writer.
     ReaderPassed(usize),
-    #[error("the debts of thread {0} on a lock changed by another thread's step")]
+    /// The debts of the thread on a lock changed by another thread's step.
     DebtMoved(usize),
-    #[error("`Once` {0} was done and is so no more")]
+    /// The `Once` was done and is so no more.
     Undone(usize),
-    #[error("condition variable {0} shows another mutex while it has waiters")]
+    /// The condition variable shows another mutex while it has waiters.
     ShowsAnother(usize),
     // In the answers of calls.
-    #[error("thread {0} was told what its call never tells")]
+    /// The thread was told what its call never tells.
     StrangeAnswer(usize),
-    #[error("thread {0} was told so and doesn't own what this means")]
+    /// The thread was told so and doesn't own what this means.
     ToldWrong(usize),
-    #[error("thread {0} was told that its time is up, and it never was")]
+    /// The thread was told that its time is up, and it never was.
     NeverLate(usize),
-    #[error("thread {0} was told of a notification that never was, or of a time-out in spite of one")]
+    /// The thread was told of a notification that never was, or of a time-out in spite of one.
     NeverNotified(usize),
-    #[error("thread {0} was told of another number of waiters than it moved")]
+    /// The thread was told of another number of waiters than it moved.
     WrongNumber(usize),
-    #[error("thread {0} was refused a free lock")]
+    /// The thread was refused a free lock.
     RefusedFree(usize),
 }

@@ -7,6 +7,7 @@ mod parts;
 mod rights;
 mod several;
 mod single;
+mod strangers;
 mod threads;
 
 ghost use Rattle.std.specs.Prelude.{◌≡◌, ◌≤◌, ◌<◌, All, IfSome};

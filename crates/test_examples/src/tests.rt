@@ -1,6 +1,5 @@
-//! A shared counter, queues of workers, a try with a limit, a cache, a table that is filled once, a
-//! value that is made once, a function that locks again, a pool, two accounts, a part of a value,
-//! and a thread that is spawned.
+//! Queues of workers, a try with a limit, a cache, a value that is made once, a function that locks
+//! again, a pool, two accounts, a door, and a thread that is spawned.
 mod accounts;
 mod cache;
 mod door;
@@ -9,7 +8,6 @@ mod prices;
 mod rates;
 mod register;
 mod spawned;
-mod table;
 mod visits;
 mod workers;
 
@@ -40,25 +38,6 @@ fn all_are<T: PartialEq + Drop>(answers: &[T], wanted: &T) -> bool {
 
 fn sum_of(answers: &[u64]) -> u64 {
     answers.iter().fold(0u64, |all, one| all.wrapping_add(*one))
-}
-
-#[test]
-fn a_shared_counter(rt: HostRuntime) -> Result<(), Fail> {
-    let (team, mut token) = Team::new(rt.alloc(), 2)?;
-    let total = Mutex::new(team.lot(), &mut token, 0u64)?;
-    team.run_times(
-        &rt,
-        1000,
-        &|token: &mut Token|
-            requires { IsTokenOf (lot_of total) token.old }
-        {
-            total.with(&rt, token, |value: &mut u64| {
-                *value = value.wrapping_add(1);
-            });
-        },
-    )?;
-    check_eq(&rt, total.into_inner(), 2000);
-    Ok(())
 }
 
 // Takes jobs until none is left, and adds them up.
@@ -102,16 +81,13 @@ fn add_soon<R: Wait>(rt: &R, counter: &Mutex<u64>, token: &mut Token, clock: &Ti
 
 #[test]
 fn a_timed_try(rt: HostRuntime) -> Result<(), Fail> {
-    let (team, mut token) = Team::new(rt.alloc(), 1)?;
+    let (team, mut token) = Team::new(rt.alloc(), 0)?;
     let counter = Mutex::new(team.lot(), &mut token, 0)?;
     let clock = TickClock::new();
     let guard = counter.lock(&rt, &mut token);
-    let beside = team.run(
-        &rt,
-        &|token: &mut Token| add_soon(&rt, &counter, token, &clock),
-    );
+    let beside = add_soon(&rt, &counter, &mut token, &clock);
     guard.unlock(&rt, &mut token);
-    check(&rt, all_are(&beside?, &false));
+    check(&rt, !beside);
     check(&rt, add_soon(&rt, &counter, &mut token, &clock));
     Ok(())
 }

@@ -11,7 +11,9 @@ ghost use Rattle.lock_api_rw.specs.Guards.{lock_of};
 ghost use Rattle.parking_lot_core.specs.Tokens.{IsTicketOf, IsTokenOf};
 ghost use Rattle.parking_lot.specs.Names.{lot_of_rwlock};
 
-use parking_lot::{ParkingLot, RawRwLock, TickClock, Ticket, Token, lock_api_rw};
+use parking_lot::{
+    ParkingLot, RawRwLock, RecursiveRwLock, RwLock, TickClock, Ticket, Token, lock_api_rw,
+};
 use std::alloc::Global;
 use std::fmt::Debug;
 use std::process::Abort;
@@ -175,6 +177,19 @@ fn write<'l, const RECURSIVE: bool, R: Wait>(
     lock.write(rt, token)
 }
 
+// What a guard shows. Each kind is dear to prove, and is asked here alone.
+fn read_value<const RECURSIVE: bool>(guard: &Reader<'_, RECURSIVE>) -> u64 {
+    **guard
+}
+
+fn upgradable_value<const RECURSIVE: bool>(guard: &Upgradable<'_, RECURSIVE>) -> u64 {
+    **guard
+}
+
+fn written_value<const RECURSIVE: bool>(guard: &Writer<'_, RECURSIVE>) -> u64 {
+    **guard
+}
+
 // Reads, and goes: what it found.
 fn end_reader<const RECURSIVE: bool, R: Wait>(
     rt: &R,
@@ -184,7 +199,7 @@ fn end_reader<const RECURSIVE: bool, R: Wait>(
     requires { IsTokenOf (lot_of_rwlock (lock_of guard)) token.old }
     ensures { IsTokenOf (lot_of_rwlock (lock_of guard.entry)) token.new }
 {
-    let found = *guard;
+    let found = read_value(&guard);
     guard.unlock(rt, token);
     found
 }
@@ -197,7 +212,7 @@ fn end_upgradable<const RECURSIVE: bool, R: Wait>(
     requires { IsTokenOf (lot_of_rwlock (lock_of guard)) token.old }
     ensures { IsTokenOf (lot_of_rwlock (lock_of guard.entry)) token.new }
 {
-    let found = *guard;
+    let found = upgradable_value(&guard);
     guard.unlock(rt, token);
     found
 }
@@ -210,9 +225,35 @@ fn end_writer<const RECURSIVE: bool, R: Wait>(
     requires { IsTokenOf (lot_of_rwlock (lock_of guard)) token.old }
     ensures { IsTokenOf (lot_of_rwlock (lock_of guard.entry)) token.new }
 {
-    let found = *guard;
+    let found = written_value(&guard);
     guard.unlock(rt, token);
     found
+}
+
+// Goes on with the right to read and to write later.
+fn to_upgradable<'l, const RECURSIVE: bool, R: Wait>(
+    rt: &R,
+    token: &mut Token,
+    guard: Writer<'l, RECURSIVE>,
+) -> Upgradable<'l, RECURSIVE>
+    requires { IsTokenOf (lot_of_rwlock (lock_of guard)) token.old }
+    ensures token { IsTokenOf (lot_of_rwlock (lock_of guard.entry)) token.new }
+    ensures guard { lock_of result ≡ lock_of guard.entry }
+{
+    guard.downgrade_to_upgradable(rt, token)
+}
+
+// Goes on as a reader.
+fn to_reader<'l, const RECURSIVE: bool, R: Wait>(
+    rt: &R,
+    token: &mut Token,
+    guard: Upgradable<'l, RECURSIVE>,
+) -> Reader<'l, RECURSIVE>
+    requires { IsTokenOf (lot_of_rwlock (lock_of guard)) token.old }
+    ensures token { IsTokenOf (lot_of_rwlock (lock_of guard.entry)) token.new }
+    ensures guard { lock_of result ≡ lock_of guard.entry }
+{
+    guard.downgrade(rt, token)
 }
 
 // Returns the value that a closure reads.
@@ -249,7 +290,9 @@ fn replace<const RECURSIVE: bool, R: Wait>(
 
 #[test]
 fn what_was_written_is_read(rt: HostRuntime) {
-    let (mut lock, mut token) = lock_alone::<false, HostRuntime>(&rt, rt.alloc(), 5, false);
+    let (lock, mut token) = lock_alone::<false, HostRuntime>(&rt, rt.alloc(), 5, false);
+    // An `RwLock` is this one, by type.
+    let mut lock: RwLock<u64> = lock;
     check_eq(&rt, replace(&rt, &lock, &mut token, 7), 5);
     check_eq(&rt, value_of(&rt, &lock, &mut token), Some(7));
     *lock.get_mut() = 20;
@@ -302,55 +345,6 @@ fn writes<const RECURSIVE: bool, R: Wait>(rt: &R, lock: &Lock<RECURSIVE>, token:
     }
 }
 
-// Which tries get the lock: to read, to read and upgrade, to write.
-fn tries<const RECURSIVE: bool, R: Wait>(
-    rt: &R,
-    lock: &Lock<RECURSIVE>,
-    token: &mut Token,
-) -> [bool; 3]
-    requires { IsTokenOf (lot_of_rwlock lock.now) token.old }
-    ensures { IsTokenOf (lot_of_rwlock lock.now) token.new }
-{
-    [
-        reads(rt, lock, token),
-        comes_upgradable(rt, lock, token),
-        writes(rt, lock, token),
-    ]
-}
-
-// Checks the tries beside a writer, behind each of its downgrades, and in the end.
-fn tries_beside<const RECURSIVE: bool, R: Wait>(
-    rt: &R,
-    lock: &Lock<RECURSIVE>,
-    token: &mut Token,
-) -> [[bool; 3]; 4]
-    requires { IsTokenOf (lot_of_rwlock lock.now) token.old }
-    ensures { IsTokenOf (lot_of_rwlock lock.now) token.new }
-{
-    let guard = write(rt, lock, token);
-    let writer = tries(rt, lock, token);
-    let guard = guard.downgrade_to_upgradable(rt, token);
-    let upgradable = tries(rt, lock, token);
-    let guard = guard.downgrade(rt, token);
-    let reader = tries(rt, lock, token);
-    end_reader(rt, token, guard);
-    [writer, upgradable, reader, tries(rt, lock, token)]
-}
-
-// Beside a writer, who may write later, a reader, and nobody.
-const SEEN: [[bool; 3]; 4] = [
-    [false, false, false],
-    [true, false, false],
-    [true, true, false],
-    [true, true, true],
-];
-
-#[test]
-fn a_downgrade_lets_more_in(rt: HostRuntime) {
-    let (lock, mut token) = lock_alone::<false, HostRuntime>(&rt, rt.alloc(), 0, false);
-    check_eq(&rt, tries_beside(&rt, &lock, &mut token), SEEN);
-}
-
 // Waits to write beside a reader, whose guard comes back. It gives up in time: that a writer came
 // in beside a reader is refuted by their guards.
 fn give_up_beside<'l, R: Wait>(
@@ -385,5 +379,7 @@ fn reads_again<R: Wait>(rt: &R, lock: &Lock<true>, token: &mut Token) -> bool
 #[test]
 fn a_reader_of_a_recursive_lock_reads_again(rt: HostRuntime) {
     let (lock, mut token) = lock_alone::<true, HostRuntime>(&rt, rt.alloc(), 3, false);
+    // A `RecursiveRwLock` is this one, by type.
+    let lock: RecursiveRwLock<u64> = lock;
     check(&rt, reads_again(&rt, &lock, &mut token));
 }

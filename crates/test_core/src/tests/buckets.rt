@@ -47,7 +47,7 @@ fn keys_apart<A: Abort>(rt: &A, lot: &ParkingLot, token: &mut Token, seats: usiz
     (key, key)
 }
 
-fn is_told(flag: &AtomicBool) -> bool {
+pub fn is_told(flag: &AtomicBool) -> bool {
     for _ in 0..TURNS {
         if flag.load(SeqCst) {
             return true;

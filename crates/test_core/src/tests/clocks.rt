@@ -1,14 +1,18 @@
 //! Clocks, and sleepers whose time is up.
-ghost use Rattle.parking_lot_core.specs.Tokens.{IsTokenOf, IsSameThread};
+ghost use Rattle.parking_lot_core.specs.Tokens.{IsTicketOf, IsTokenOf, IsSameThread};
 
-use super::{Task, check_eq, in_section, mutex_of};
+use super::buckets::is_told;
+use super::{Task, check, check_eq, in_section, lot_of, mutex_of, ticket_of, word_of};
 use core_base::TickClock;
-use parking_lot_core::{Clock, Key, Note, ParkingLot, Slept, Token, Want, Word};
+use parking_lot_core::{
+    Clock, Key, Keys, Note, ParkingLot, Slept, Ticket, Token, Want, Word, WordKind,
+};
 use std::alloc::Global;
 use std::process::Abort;
 use std::sync::Wait;
-use std::sync::atomic::AtomicU64;
 use std::sync::atomic::Ordering::SeqCst;
+use std::sync::atomic::{AtomicBool, AtomicU64};
+use std::thread::join;
 
 const KEY: Key = 4;
 
@@ -77,4 +81,65 @@ fn a_sleeper_pauses_for_what_is_left(rt: HostRuntime) {
     let clock = PauseClock(AtomicU64::new(1000));
     is_late(&rt, rt.alloc(), (&clock, 1005));
     check_eq(&rt, clock.now(), 1005);
+}
+
+// A clock that notes that it was asked, past each deadline of 0.
+#[derive(Drop)]
+struct NotingClock<'a>(&'a AtomicBool);
+
+impl Clock for NotingClock<'_> {
+    ghost tells = { λ _ _. Unit {0} };
+
+    fn now(&self) -> u64 {
+        self.0.store(true, SeqCst);
+        1
+    }
+
+    fn pause(&self, _left: u64) {}
+}
+
+// Sleeps past a deadline, and stands in no line, as a thread that was taken does. Whether it was
+// woken.
+fn is_woken_past_it<R: Wait>(
+    rt: &R,
+    lot: &ParkingLot,
+    ticket: Ticket,
+    word: Word,
+    asked: &AtomicBool,
+) -> bool
+    requires { IsTicketOf lot.now ticket }
+{
+    let mut token = ticket.enter();
+    let told = told_until(rt, lot, &mut token, word, (&NotingClock(asked), 0));
+    drop(token.leave());
+    told == Ok(Note::Normal)
+}
+
+// Lines the first thread up and takes it, once the clock was asked.
+fn take_once_asked<R: Wait>(rt: &R, lot: &ParkingLot, ticket: Ticket, asked: &AtomicBool) -> bool
+    requires { IsTicketOf lot.now ticket }
+{
+    let mut token = ticket.enter();
+    let told = is_told(asked);
+    let mut section = lot.enter(rt, &mut token, Keys::One(KEY));
+    section.append(KEY, 0, Want::Exclusive);
+    section.take_first(KEY);
+    section.leave(rt, &mut token, Note::Normal);
+    drop(token.leave());
+    told
+}
+
+#[test]
+fn who_stands_nowhere_is_not_late(rt: HostRuntime) {
+    let (lot, mut token, mut others) = lot_of(&rt, rt.alloc(), 1, 2);
+    let word = word_of(&rt, &lot, &mut token, WordKind::Mutex);
+    let (first, second) = (ticket_of(&rt, &lot, &mut others), token.leave());
+    let asked = AtomicBool::new(false);
+    let (lot, asked) = (&*lot, &asked);
+    let (woken, told) = join(
+        &rt,
+        move || is_woken_past_it(&rt, lot, first, word, asked),
+        move || take_once_asked(&rt, lot, second, asked),
+    );
+    check(&rt, woken && told);
 }

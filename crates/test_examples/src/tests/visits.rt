@@ -1,38 +1,10 @@
-//! Closures that run where a lock is free, a wait that ends in time, and sizes that no lot has.
-ghost use Rattle.parking_lot.specs.Names.{IsTokenOf, lot_of, lot_of_rwlock};
+//! A wait that ends in time, and sizes that no lot has.
+ghost use Rattle.parking_lot.specs.Names.{IsTokenOf, lot_of};
 
 use super::{check, check_eq};
-use parking_lot::{Fault, Monitor, ParkingLot, RwLock, Team, TickClock, Token};
+use parking_lot::{Fault, Monitor, ParkingLot, Team, TickClock, Token};
 use std::sync::Wait;
 use std::test::Fail;
-
-type Tried = (Result<Option<u64>, Fault>, Option<u64>);
-
-// Tries to read, and to write the next number.
-fn try_both<R: Wait>(rt: &R, lock: &RwLock<u64>, token: &mut Token) -> Tried
-    requires { IsTokenOf (lot_of_rwlock lock.now) token.old }
-    ensures { IsTokenOf (lot_of_rwlock lock.now) token.new }
-{
-    let read = lock.try_with_read(rt, token, |value: &u64| *value);
-    let written = lock.try_with_write(rt, token, |value: &mut u64| {
-        *value = value.wrapping_add(1);
-        *value
-    });
-    (read, written)
-}
-
-#[test]
-fn a_busy_lock_runs_no_closure(rt: HostRuntime) -> Result<(), Fail> {
-    let (team, mut token) = Team::new(rt.alloc(), 1)?;
-    let lock = RwLock::new(team.lot(), &mut token, 5u64)?;
-    let guard = lock.write(&rt, &mut token);
-    let tried = team.run(&rt, &|token: &mut Token| try_both(&rt, &lock, token));
-    guard.unlock(&rt, &mut token);
-    check_eq(&rt, tried?.pop(), Some((Ok(None), None)));
-    let tried = try_both(&rt, &lock, &mut token);
-    check_eq(&rt, tried, (Ok(Some(5)), Some(6)));
-    Ok(())
-}
 
 // Waits until the value is 0, or up to a deadline, and then takes 1 away. Whether it was late.
 fn wait_for_0<R: Wait>(rt: &R, monitor: &Monitor<u64, 1>, token: &mut Token) -> bool

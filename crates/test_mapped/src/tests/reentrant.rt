@@ -78,6 +78,19 @@ fn tried<'a, T, R: Wait + Abort>(
     }
 }
 
+// What a guard shows. A method of a guard is dear to prove, and is called in one place each.
+fn value_of<'g, T>(guard: &'g ReentrantMutexGuard<'_, T>) -> &'g T {
+    &**guard
+}
+
+// Unlocks by a guard.
+fn end<T, R: Wait>(rt: &R, token: &mut Token, guard: ReentrantMutexGuard<'_, T>)
+    requires { IsTokenOf (lot_of guard.mutex.now.0) token.old }
+    ensures { IsTokenOf (lot_of guard.entry.mutex.now.0) token.new }
+{
+    guard.unlock(rt, token);
+}
+
 // Unlocks what a try got. Whether that was a guard.
 fn given_up<T, R: Wait>(
     rt: &R,
@@ -91,7 +104,7 @@ fn given_up<T, R: Wait>(
 {
     match taken {
         Some(guard) => {
-            guard.unlock(rt, token);
+            end(rt, token, guard);
             true
         }
         None => false,
@@ -151,16 +164,16 @@ fn locked_by_a_guard<R: Wait + Abort>(
     let (guard, another) = match guard.again(rt, one) {
         Ok(guards) => guards,
         Err((_, guard)) => {
-            guard.unlock(rt, one);
+            end(rt, one, guard);
             panic!(rt; "full");
         }
     };
     let beside_both = tried(rt, mutex, other);
     let beside_both = given_up(rt, mutex, other, beside_both);
-    guard.unlock(rt, one);
+    end(rt, one, guard);
     let beside_one = tried(rt, mutex, other);
     let beside_one = given_up(rt, mutex, other, beside_one);
-    another.unlock(rt, one);
+    end(rt, one, another);
     let later = tried(rt, mutex, other);
     [beside_both, beside_one, given_up(rt, mutex, other, later)]
 }
@@ -189,8 +202,8 @@ fn nested<R: Wait + Abort>(
     let mut sum = 0u64;
     for _ in 0..times {
         let inner = locked(rt, mutex, token);
-        sum = sum.wrapping_add(*inner);
-        inner.unlock(rt, token);
+        sum = sum.wrapping_add(*value_of(&inner));
+        end(rt, token, inner);
     }
     outer.unlock_fair(rt, token);
     sum
@@ -209,9 +222,9 @@ fn bumped<R: Wait + Abort>(rt: &R, mutex: &ReentrantMutex<u64>, token: &mut Toke
 {
     let guard = locked(rt, mutex, token).bump(rt, token);
     let inner = locked(rt, mutex, token).bump(rt, token);
-    let is_ours = *guard == *inner;
-    inner.unlock(rt, token);
-    guard.unlock(rt, token);
+    let is_ours = value_of(&guard) == value_of(&inner);
+    end(rt, token, inner);
+    end(rt, token, guard);
     is_ours
 }
 
@@ -247,7 +260,7 @@ fn shown_to_two<R: Wait + Abort>(
     let shown = mutex.show(rt, other);
     let others = text_of(rt, alloc, &shown);
     shown.close(rt, other);
-    guard.unlock(rt, one);
+    end(rt, one, guard);
     (own, others)
 }
 
@@ -269,7 +282,7 @@ fn part_of<R: Wait + Abort>(rt: &R, mutex: &ReentrantMutex<Point>, token: &mut T
     let whole = locked(rt, mutex, token);
     let part = locked(rt, mutex, token).map(TheX);
     let seen = *part;
-    whole.unlock(rt, token);
+    end(rt, token, whole);
     part.unlock_fair(rt, token);
     seen
 }
@@ -287,10 +300,10 @@ fn add_under<R: Wait + Abort>(rt: &R, mutex: &ReentrantMutex<AtomicU64>, token: 
 {
     let first = locked(rt, mutex, token);
     let second = locked(rt, mutex, token);
-    let sum = second.load(SeqCst).wrapping_add(by);
-    first.unlock(rt, token);
-    second.store(sum, SeqCst);
-    second.unlock(rt, token);
+    let sum = value_of(&second).load(SeqCst).wrapping_add(by);
+    end(rt, token, first);
+    value_of(&second).store(sum, SeqCst);
+    end(rt, token, second);
 }
 
 // Tells that it has the mutex, and adds 0 to 99 while it has.
@@ -309,7 +322,7 @@ fn add_while_held<R: Wait + Abort>(
         add_under(rt, mutex, token, n);
         yield_now();
     }
-    guard.unlock(rt, token);
+    end(rt, token, guard);
 }
 
 // Returns the value once the mutex is locked, behind the thread that has it.
@@ -329,8 +342,8 @@ fn read_behind<R: Wait + Abort>(
         yield_now();
     }
     let guard = locked(rt, mutex, token);
-    let seen = guard.load(SeqCst);
-    guard.unlock(rt, token);
+    let seen = value_of(&guard).load(SeqCst);
+    end(rt, token, guard);
     seen
 }
 

@@ -1,50 +1,19 @@
 //! Calls of one semaphore, by one thread and by many.
 mod crowds;
 
-ghost use Rattle.std.specs.Prelude.{◌≡◌, ◌<◌, ◌≤◌, ◌^◌, All, IfSome};
+ghost use Rattle.std.specs.Prelude.{◌≡◌, ◌≤◌, ◌^◌};
 ghost use Rattle.std.specs.Arc.{arc_value};
-ghost use Rattle.run_signals.specs.SemaphoreUsers.{IsTicketOf, IsTokenOf, lot_of};
+ghost use Rattle.run_signals.specs.SemaphoreUsers.{IsTokenOf, lot_of};
 
-use parking_lot_core::{Fault, ParkingLot, TickClock, Ticket, Token};
+use super::{check_eq, seats};
+use parking_lot_core::{Fault, ParkingLot, TickClock, Token};
 use run_signals::Semaphore;
 use std::alloc::Global;
-use std::fmt::Debug;
 use std::process::Abort;
 use std::sync::{Arc, Wait};
 use std::time::Duration;
 
 const MOST_PERMITS: u64 = 4611686018427387904;
-
-/// Asserts that the thing found is the thing wanted. The tests share this one assertion, since each
-/// is proved where it stands.
-fn check_eq<T: PartialEq + Debug + Drop>(rt: &impl Abort, found: T, wanted: T) {
-    assert_eq!(rt; found, wanted);
-}
-
-fn next_of(lot: &ParkingLot, tickets: &mut Vec<Ticket>) -> Option<Ticket>
-    requires { All (IsTicketOf lot.now) tickets.old.items }
-    ensures left { All (IsTicketOf lot.now) tickets.new.items }
-    ensures one { IfSome result (IsTicketOf lot.now) }
-{
-    tickets.pop()
-}
-
-// A lot of one word with so many threads, the token of the first, and the tickets of the others.
-// Making lots and semaphores gives up where memory is refused, so that no test has anything to drop
-// in its midst.
-fn seats<A: Abort>(rt: &A, alloc: Global, threads: usize) -> (Arc<ParkingLot>, Token, Vec<Ticket>)
-    requires { (0 < threads) × (threads ≤ 1024) }
-    ensures { IsTokenOf (arc_value result.0) result.1
-        × All (IsTicketOf (arc_value result.0)) result.2.items }
-{
-    let Ok((lot, mut tickets)) = ParkingLot::new(alloc, 1, threads) else {
-        panic!(rt; "no lot");
-    };
-    match next_of(&lot, &mut tickets) {
-        Some(first) => (lot, first.enter(), tickets),
-        None => panic!(rt; "no seat"),
-    }
-}
 
 // A semaphore of a lot.
 fn semaphore_of<A: Abort>(
@@ -181,7 +150,8 @@ fn a_semaphore_may_have_very_many_permits(rt: HostRuntime) {
     permit.release(&rt, &mut token);
     check_eq(&rt, left, MOST_PERMITS - 1);
     has_free(&rt, &semaphore, &mut token, MOST_PERMITS);
-    // The lot has no second word.
+    // The lot has a second word and no third.
+    let _second = semaphore_of(&rt, &lot, &mut token, 1);
     check_eq(
         &rt,
         matches!(Semaphore::new(&lot, &mut token, 1), Err(Fault::LotFull)),

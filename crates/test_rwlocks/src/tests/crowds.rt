@@ -1,5 +1,6 @@
 //! Crowds at reader-writer locks with a value, as the Rust crate's own tests have them.
 ghost use Rattle.std.specs.Prelude.{◌≡◌, ◌<◌};
+ghost use Rattle.lock_api_rw.specs.Guards.{lock_of};
 ghost use Rattle.parking_lot_core.specs.Tokens.{IsTicketOf, IsTokenOf};
 ghost use Rattle.parking_lot.specs.Names.{lot_of_rwlock};
 
@@ -7,8 +8,8 @@ use super::fair::{Giver, give};
 use super::guards::read_twice;
 use super::values::read_together;
 use super::{
-    Lock, check, check_eq, end_reader, end_writer, keep, read_upgradable, replace, seats, value_of,
-    write,
+    Lock, Writer, check, check_eq, end_reader, end_writer, keep, read_upgradable, replace, seats,
+    upgradable_value, value_of, write,
 };
 use parking_lot::{ParkingLot, Ticket, Token};
 use parking_lot_core::pauses::{SHORT_PAUSE, pause};
@@ -34,6 +35,16 @@ fn add_torn(value: &mut u64) -> u64 {
     pause(LINGER);
     *value = before.wrapping_add(1);
     before
+}
+
+// The same under a guard, which stays that of its lock.
+pub(super) fn add_under<'l, const RECURSIVE: bool>(
+    mut guard: Writer<'l, RECURSIVE>,
+) -> (u64, Writer<'l, RECURSIVE>)
+    ensures { lock_of result.1 ≡ lock_of guard.entry }
+{
+    let before = add_torn(&mut *guard);
+    (before, guard)
 }
 
 // The same so often. Whether it found it whole each time.
@@ -69,8 +80,7 @@ fn add_and_read<const RECURSIVE: bool, R: Wait>(
     requires { IsTokenOf (lot_of_rwlock lock.now) token.old }
     ensures { IsTokenOf (lot_of_rwlock lock.now) token.new }
 {
-    let mut guard = write(rt, lock, token);
-    let before = add_torn(&mut *guard);
+    let (before, guard) = add_under(write(rt, lock, token));
     let guard = guard.downgrade(rt, token);
     pause(LINGER);
     let found = end_reader(rt, token, guard);
@@ -90,10 +100,9 @@ fn add_by_upgrade<const RECURSIVE: bool, R: Wait>(
     let Some(guard) = read_upgradable(rt, lock, token) else {
         return false;
     };
-    let before = *guard;
+    let before = upgradable_value(&guard);
     pause(LINGER);
-    let mut guard = guard.upgrade(rt, token);
-    let found = add_torn(&mut *guard);
+    let (found, guard) = add_under(guard.upgrade(rt, token));
     end_writer(rt, token, guard);
     found == before && before != TORN
 }
@@ -264,20 +273,9 @@ fn take_part<const RECURSIVE: bool, R: Wait>(
     }
 }
 
-// Whether all threads of a crowd were content with their part, and what the value came to.
+// Whether so many threads of a lot of so many seats were content with their part, and what the value
+// came to.
 pub(super) fn play<const RECURSIVE: bool, R: Threads + Wait + Abort + Sync>(
-    rt: &R,
-    alloc: Global,
-    threads: usize,
-    part: Part<'_>,
-) -> (bool, u64)
-    requires { threads < 100 }
-{
-    play_in::<RECURSIVE, R>(rt, alloc, threads, threads, part)
-}
-
-// The same of some of the threads that there are seats for.
-fn play_in<const RECURSIVE: bool, R: Threads + Wait + Abort + Sync>(
     rt: &R,
     alloc: Global,
     room: usize,
@@ -311,22 +309,22 @@ fn play_in<const RECURSIVE: bool, R: Threads + Wait + Abort + Sync>(
 
 #[test]
 fn eight_threads_read_what_they_wrote(rt: HostRuntime) {
-    let found = play::<false, HostRuntime>(&rt, rt.alloc(), 8, Part::Add(Way::Downgrade));
+    let found = play::<false, HostRuntime>(&rt, rt.alloc(), 8, 8, Part::Add(Way::Downgrade));
     check_eq(&rt, found, (true, 800));
-    let found = play_in::<false, HostRuntime>(&rt, rt.alloc(), 63, 8, Part::Add(Way::Downgrade));
+    let found = play::<false, HostRuntime>(&rt, rt.alloc(), 63, 8, Part::Add(Way::Downgrade));
     check_eq(&rt, found, (true, 800));
 }
 
 #[test]
 fn upgrades_let_nobody_write_between(rt: HostRuntime) {
-    let found = play::<false, HostRuntime>(&rt, rt.alloc(), 6, Part::Add(Way::Upgrade));
+    let found = play::<false, HostRuntime>(&rt, rt.alloc(), 6, 6, Part::Add(Way::Upgrade));
     check_eq(&rt, found, (true, 600));
 }
 
 // Ten threads find what they wrote between them.
 fn all_come<const RECURSIVE: bool, R: Threads + Wait + Abort + Sync>(rt: &R, alloc: Global) {
     let written = AtomicU64::new(0);
-    let found = play::<RECURSIVE, R>(rt, alloc, 10, Part::Come(&written));
+    let found = play::<RECURSIVE, R>(rt, alloc, 10, 10, Part::Come(&written));
     let times = written.load(SeqCst);
     check(rt, 500 < times);
     check_eq(rt, found, (true, times));
@@ -341,15 +339,15 @@ fn ten_threads_read_and_write(rt: HostRuntime) {
 // A writer, and five readers beside it.
 #[test]
 fn readers_find_no_writer_in_the_act(rt: HostRuntime) {
-    let found = play::<false, HostRuntime>(&rt, rt.alloc(), 6, Part::Tear(0));
+    let found = play::<false, HostRuntime>(&rt, rt.alloc(), 6, 6, Part::Tear(0));
     check_eq(&rt, found, (true, 10));
 }
 
 // A writer, five upgraders and five readers.
 #[test]
 fn upgraders_find_no_writer_in_the_act(rt: HostRuntime) {
-    let found = play::<false, HostRuntime>(&rt, rt.alloc(), 11, Part::Tear(5));
+    let found = play::<false, HostRuntime>(&rt, rt.alloc(), 11, 11, Part::Tear(5));
     check_eq(&rt, found, (true, 15));
-    let found = play_in::<false, HostRuntime>(&rt, rt.alloc(), 63, 11, Part::Tear(5));
+    let found = play::<false, HostRuntime>(&rt, rt.alloc(), 63, 11, Part::Tear(5));
     check_eq(&rt, found, (true, 15));
 }

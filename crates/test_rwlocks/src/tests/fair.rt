@@ -121,7 +121,7 @@ fn all_give<R: Threads + Wait + Abort + Sync>(rt: &R, alloc: Global, bumps: bool
     for giver in [Giver::Reader, Giver::Upgradable, Giver::Writer] {
         check(
             rt,
-            play::<false, R>(rt, alloc, 2, Part::Give(giver, bumps)).0,
+            play::<false, R>(rt, alloc, 2, 2, Part::Give(giver, bumps)).0,
         );
     }
 }

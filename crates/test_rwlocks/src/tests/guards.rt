@@ -6,10 +6,10 @@ ghost use Rattle.parking_lot.specs.Names.{lot_of_rwlock};
 
 use super::crowds::{Part, play};
 use super::{
-    Lock, check_eq, comes_upgradable, end_reader, end_upgradable, end_writer, lock_alone, read,
-    read_upgradable, reads, write, writes,
+    Lock, check_eq, comes_upgradable, end_reader, end_upgradable, lock_alone, read,
+    read_upgradable, reads, to_reader, to_upgradable, write, writes,
 };
-use parking_lot::{ParkingLot, RecursiveRwLock, RwLock, Token};
+use parking_lot::{ParkingLot, Token};
 use std::process::Abort;
 use std::sync::Wait;
 use std::sync::atomic::AtomicBool;
@@ -55,26 +55,46 @@ fn beside_upgradable<R: Wait>(rt: &R, lock: &Lock<false>, token: &mut Token) -> 
     Some(seen)
 }
 
-// And beside a writer.
-fn beside_writer<R: Wait>(rt: &R, lock: &Lock<false>, token: &mut Token) -> [bool; 5]
+// Beside a writer, behind each of its downgrades, and in the end.
+fn beside_writer<R: Wait>(rt: &R, lock: &Lock<false>, token: &mut Token) -> [[bool; 5]; 4]
     requires { IsTokenOf (lot_of_rwlock lock.now) token.old }
     ensures { IsTokenOf (lot_of_rwlock lock.now) token.new }
 {
     let guard = write(rt, lock, token);
-    let seen = look(rt, lock, token);
-    end_writer(rt, token, guard);
-    seen
+    let writer = look(rt, lock, token);
+    let guard = to_upgradable(rt, token, guard);
+    let upgradable = look(rt, lock, token);
+    let guard = to_reader(rt, token, guard);
+    let reader = look(rt, lock, token);
+    end_reader(rt, token, guard);
+    [writer, upgradable, reader, look(rt, lock, token)]
 }
+
+// Which tries get the lock beside a reader.
+const BESIDE_READER: [bool; 5] = [true, true, false, true, false];
+
+// Beside one that may write later.
+const BESIDE_UPGRADABLE: [bool; 5] = [true, false, false, true, false];
+
+// Beside a writer, behind each of its downgrades, and in the end.
+const BESIDE_WRITER: [[bool; 5]; 4] = [
+    [false, false, false, true, true],
+    BESIDE_UPGRADABLE,
+    BESIDE_READER,
+    [true, true, true, false, false],
+];
 
 fn all_keep_out<R: Wait + Abort>(rt: &R, lock: &Lock<false>, token: &mut Token)
     requires { IsTokenOf (lot_of_rwlock lock.now) token.old }
 {
     let reader = beside_reader(rt, lock, token);
-    check_eq(rt, reader, Some([true, true, false, true, false]));
     let upgradable = beside_upgradable(rt, lock, token);
-    check_eq(rt, upgradable, Some([true, false, false, true, false]));
-    let writer = beside_writer(rt, lock, token);
-    check_eq(rt, writer, [false, false, false, true, true]);
+    check_eq(
+        rt,
+        [reader, upgradable],
+        [Some(BESIDE_READER), Some(BESIDE_UPGRADABLE)],
+    );
+    check_eq(rt, beside_writer(rt, lock, token), BESIDE_WRITER);
 }
 
 #[test]
@@ -83,18 +103,6 @@ fn guards_keep_tries_out(rt: HostRuntime) {
         let (lock, mut token) = lock_alone(&rt, rt.alloc(), 0, limited);
         all_keep_out(&rt, &lock, &mut token);
     }
-}
-
-#[test]
-fn public_names_are_of_these_locks(rt: HostRuntime) {
-    let (normal, mut token) = lock_alone(&rt, rt.alloc(), 0, false);
-    let normal: RwLock<u64> = normal;
-    let normal: Lock<false> = normal;
-    check_eq(&rt, normal.is_locked(&mut token), false);
-    let (recursive, mut token) = lock_alone(&rt, rt.alloc(), 0, false);
-    let recursive: RecursiveRwLock<u64> = recursive;
-    let recursive: Lock<true> = recursive;
-    check_eq(&rt, recursive.is_locked(&mut token), false);
 }
 
 // Tells that the thread has the lock. Whether somebody comes to wait then, for the lock or for its
@@ -110,9 +118,10 @@ pub(super) fn is_waited_for<const RECURSIVE: bool, R: Wait>(
     ensures { IsTokenOf lot.now token.new }
 {
     held.store(true, SeqCst);
+    let raw = lock.raw();
     for _ in 0..TURNS {
-        let waiting = lot.queued(rt, token, lock.raw().key());
-        let aside = lot.queued(rt, token, lock.raw().second_key());
+        let waiting = lot.queued(rt, token, raw.key());
+        let aside = lot.queued(rt, token, raw.second_key());
         if waiting == 1 || aside == 1 {
             return true;
         }
@@ -144,12 +153,12 @@ pub(super) fn read_twice<const RECURSIVE: bool, R: Wait>(
 
 #[test]
 fn a_waiting_writer_keeps_a_reader_out(rt: HostRuntime) {
-    let seen = play::<false, HostRuntime>(&rt, rt.alloc(), 2, Part::ReadTwice);
+    let seen = play::<false, HostRuntime>(&rt, rt.alloc(), 2, 2, Part::ReadTwice);
     check_eq(&rt, seen, (true, 7));
 }
 
 #[test]
 fn who_reads_a_recursive_lock_reads_again_beside_a_waiting_writer(rt: HostRuntime) {
-    let seen = play::<true, HostRuntime>(&rt, rt.alloc(), 2, Part::ReadTwice);
+    let seen = play::<true, HostRuntime>(&rt, rt.alloc(), 2, 2, Part::ReadTwice);
     check_eq(&rt, seen, (true, 7));
 }

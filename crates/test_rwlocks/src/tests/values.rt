@@ -5,9 +5,12 @@ ghost use Rattle.lock_api_rw.specs.Guards.{lock_of};
 ghost use Rattle.parking_lot_core.specs.Tokens.{IsTokenOf};
 ghost use Rattle.parking_lot.specs.Names.{lot_of_rwlock};
 
-use super::crowds::{Part, play};
-use super::{Lock, Upgradable, check_eq, end_reader, lock_alone, next_of, read, read_upgradable};
-use parking_lot::{ParkingLot, RwLock, Token};
+use super::crowds::{Part, add_under, play};
+use super::{
+    Lock, Upgradable, check_eq, end_reader, end_upgradable, end_writer, lock_alone, next_of, read,
+    read_upgradable, read_value, to_reader, to_upgradable, upgradable_value, write, written_value,
+};
+use parking_lot::{Fault, ParkingLot, RwLock, Token};
 use std::alloc::Global;
 use std::process::Abort;
 use std::sync::Wait;
@@ -39,7 +42,7 @@ pub(super) fn read_together<const RECURSIVE: bool, R: Wait>(
     let Some(guard) = read(rt, lock, token) else {
         return false;
     };
-    let before = *guard;
+    let before = read_value(&guard);
     inside.fetch_add(1, SeqCst);
     wait_until(rt, inside, wanted);
     end_reader(rt, token, guard) == before
@@ -48,7 +51,7 @@ pub(super) fn read_together<const RECURSIVE: bool, R: Wait>(
 #[test]
 fn four_threads_read_a_value_at_once(rt: HostRuntime) {
     let inside = AtomicUsize::new(0);
-    let found = play::<false, HostRuntime>(&rt, rt.alloc(), 4, Part::Meet(&inside, 4));
+    let found = play::<false, HostRuntime>(&rt, rt.alloc(), 4, 4, Part::Meet(&inside, 4));
     check_eq(&rt, found, (true, 0));
 }
 
@@ -59,14 +62,46 @@ fn shown_twice<R: Wait>(rt: &R, lock: &Lock<false>, token: &mut Token) -> Option
 {
     let later = read_upgradable(rt, lock, token)?;
     let Some(guard) = read(rt, lock, token) else {
-        later.unlock(rt, token);
+        end_upgradable(rt, token, later);
         return None;
     };
-    let (one, other) = (&*later, &*guard);
-    let shown = (*one, *other);
+    let shown = (upgradable_value(&later), read_value(&guard));
     end_reader(rt, token, guard);
-    later.unlock(rt, token);
+    end_upgradable(rt, token, later);
     Some(shown)
+}
+
+type Tried = (Result<Option<u64>, Fault>, Option<u64>);
+
+// Runs closures where the lock is free: what one reads, and what another writes.
+fn try_both<R: Wait>(rt: &R, lock: &Lock<false>, token: &mut Token) -> Tried
+    requires { IsTokenOf (lot_of_rwlock lock.now) token.old }
+    ensures { IsTokenOf (lot_of_rwlock lock.now) token.new }
+{
+    let read = lock.try_with_read(rt, token, |value: &u64| *value);
+    let written = lock.try_with_write(rt, token, |value: &mut u64| {
+        *value = value.wrapping_add(1);
+        *value
+    });
+    (read, written)
+}
+
+// The same beside a writer, and behind it.
+fn try_around<R: Wait>(rt: &R, lock: &Lock<false>, token: &mut Token) -> [Tried; 2]
+    requires { IsTokenOf (lot_of_rwlock lock.now) token.old }
+    ensures { IsTokenOf (lot_of_rwlock lock.now) token.new }
+{
+    let guard = write(rt, lock, token);
+    let beside = try_both(rt, lock, token);
+    end_writer(rt, token, guard);
+    [beside, try_both(rt, lock, token)]
+}
+
+#[test]
+fn a_busy_lock_runs_no_closure(rt: HostRuntime) {
+    let (lock, mut token) = lock_alone(&rt, rt.alloc(), 5, false);
+    let tried = try_around(&rt, &lock, &mut token);
+    check_eq(&rt, tried, [(Ok(None), None), (Ok(Some(5)), Some(6))]);
 }
 
 // Upgrades where nobody else reads, adds 1, and goes on as a reader by way of the upgradable right:
@@ -75,18 +110,18 @@ fn convert<R: Wait>(rt: &R, token: &mut Token, guard: Upgradable<'_, false>) -> 
     requires { IsTokenOf (lot_of_rwlock (lock_of guard)) token.old }
     ensures { IsTokenOf (lot_of_rwlock (lock_of guard.entry)) token.new }
 {
-    let first = *guard;
+    let first = upgradable_value(&guard);
     match guard.try_upgrade(rt, token) {
-        Ok(mut guard) => {
-            *guard = guard.wrapping_add(1);
-            let written = *guard;
-            let guard = guard.downgrade_to_upgradable(rt, token);
-            let kept = *guard;
-            let guard = guard.downgrade(rt, token);
+        Ok(guard) => {
+            let (_, guard) = add_under(guard);
+            let written = written_value(&guard);
+            let guard = to_upgradable(rt, token, guard);
+            let kept = upgradable_value(&guard);
+            let guard = to_reader(rt, token, guard);
             Some([first, written, kept, end_reader(rt, token, guard)])
         }
         Err(guard) => {
-            guard.unlock(rt, token);
+            end_upgradable(rt, token, guard);
             None
         }
     }

@@ -2,7 +2,8 @@
 ghost use Rattle.std.specs.Prelude.{◌≡◌, ◌≤◌};
 ghost use Rattle.run_signals.specs.SemaphoreUsers.{IsTicketOf, IsTokenOf, lot_of};
 
-use super::{check_eq, seats, semaphore_of};
+use super::super::{check_eq, seats};
+use super::semaphore_of;
 use parking_lot_core::{ParkingLot, TickClock, Ticket, Token};
 use run_signals::Semaphore;
 use std::alloc::Global;
