@@ -6,6 +6,7 @@ mod door;
 mod pool;
 mod prices;
 mod rates;
+mod register;
 mod spawned;
 mod visits;
 mod workers;
