@@ -51,10 +51,7 @@ fn look_up<R: Wait>(
     ensures token { IsTokenOf (lot_of_rwlock cache.now) token.new }
     ensures right { IfOk result (λ gross. gross ≡ net + net * 19 / 100) }
 {
-    let guard = cache.read(rt, token)?;
-    let found = find(guard.as_slice(), net);
-    guard.unlock(rt, token);
-    match found {
+    match cache.with_read(rt, token, |known: &Vec<Priced>| find(known, net))? {
         Some(gross) => Ok(gross),
         None => fill_in(rt, cache, token, net),
     }
@@ -72,19 +69,16 @@ fn fill_in<R: Wait>(
     ensures token { IsTokenOf (lot_of_rwlock cache.now) token.new }
     ensures right { IfOk result (λ gross. gross ≡ net + net * 19 / 100) }
 {
-    let guard = cache.upgradable_read(rt, token)?;
-    if let Some(gross) = find(guard.as_slice(), net) {
-        guard.unlock(rt, token);
-        return Ok(gross);
-    }
-    let priced = work_out(net);
-    let mut guard = guard.upgrade(rt, token);
-    let pushed = guard.push(priced);
-    guard.unlock(rt, token);
-    match pushed {
-        Ok(()) => Ok(priced.gross),
-        Err(_) => Err(Fault::NoMemory),
-    }
+    cache.with_upgradable(
+        rt,
+        token,
+        |known: &Vec<Priced>| find(known, net).map(Ok),
+        |known: &mut Vec<Priced>| {
+            let priced = work_out(net);
+            known.push(priced)?;
+            Ok(priced.gross)
+        },
+    )?
 }
 
 // Returns the sum of all prices.

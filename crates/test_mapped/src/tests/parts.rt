@@ -1,13 +1,14 @@
 //! Guards of a part of a value.
 ghost use Rattle.std.specs.Prelude.{◌≡◌, Ok, refl};
 ghost use Rattle.parking_lot_core.specs.Tokens.{IsTokenOf};
-ghost use Rattle.parking_lot.specs.Names.{lot_of, lot_of_rwlock};
+ghost use Rattle.parking_lot.specs.Names.{lot_of};
 
 use super::{check_eq, mutex_alone, rwlock_alone};
 use crate::{Entry, Slot};
 use indexmap::IndexMap;
 use lock_values::{Mapped, Shows, ShowsMut};
-use parking_lot::{Mutex, Project, RwLock, Token};
+use parking_lot::lock_api_rw::{RawRwLockFair, RwLock};
+use parking_lot::{Mutex, Project, Token};
 use std::alloc::{AllocError, Global};
 use std::process::Abort;
 use std::sync::Wait;
@@ -104,37 +105,25 @@ fn words(alloc: Global) -> Result<Words, AllocError> {
     }
 }
 
-// A look for a key that isn't there gives the guard back, with the error that was asked for.
-fn refused<A: Abort>(rt: &A, guard: Whole<Words>) -> Whole<Words> {
-    let missing = Entry {
-        key: &"hello2",
-        missing: 12345u64,
-    };
-    match Mapped::try_new(guard, missing) {
-        Ok(mapped) => {
-            check_eq(rt, true, false);
-            mapped.into_guard()
-        }
-        Err((guard, why)) => {
-            check_eq(rt, why, 12345);
-            guard
-        }
-    }
-}
-
-// One for a key that is there gives a guard of its value.
-fn found<A: Abort>(rt: &A, guard: Whole<Words>) -> Whole<Words> {
+// A look for a key that is there gives a guard of its value. One for a key that isn't gives the guard
+// back, with the error that was asked for.
+fn looked<A: Abort>(
+    rt: &A,
+    guard: Whole<Words>,
+    key: &&'static str,
+    wanted: Result<&'static str, u64>,
+) -> Whole<Words> {
     let there = Entry {
-        key: &"hello",
+        key,
         missing: 12345u64,
     };
     match Mapped::try_new(guard, there) {
         Ok(mapped) => {
-            check_eq(rt, *mapped, "world");
+            check_eq(rt, Ok(*mapped), wanted);
             mapped.into_guard()
         }
-        Err((guard, _)) => {
-            check_eq(rt, true, false);
+        Err((guard, why)) => {
+            check_eq(rt, Err(why), wanted);
             guard
         }
     }
@@ -145,9 +134,9 @@ fn a_refusal_gives_the_guard_back(rt: HostRuntime) -> Result<(), AllocError> {
     let guard = Whole {
         value: words(rt.alloc())?,
     };
-    let guard = refused(&rt, guard);
+    let guard = looked(&rt, guard, &"hello2", Err(12345));
     check_eq(&rt, guard.show().get(&"hello").copied(), Some("world"));
-    drop(found(&rt, guard));
+    drop(looked(&rt, guard, &"hello", Ok("world")));
     Ok(())
 }
 
@@ -216,9 +205,14 @@ fn a_refused_look_further_gives_the_mapped_guard_back(rt: HostRuntime) -> Result
     Ok(())
 }
 
-// Two readers see the part that a writer has written.
-fn read_twice<R: Wait>(rt: &R, lock: &RwLock<Point>, token: &mut Token) -> Option<(u32, u32)>
-    requires { IsTokenOf (lot_of_rwlock lock.now) token.old }
+// Two readers see the part that a writer has written. It is proved for any raw lock, since each call
+// of a known one is dear.
+fn read_twice<L: RawRwLockFair, R: Wait>(
+    rt: &R,
+    lock: &RwLock<L, Point>,
+    token: &mut L::Token,
+) -> Option<(u32, u32)>
+    requires { L.is_token_of (L.lot_of lock.now) token.old }
 {
     let mut part = lock.write(rt, token).map(TheX);
     *part = 9;

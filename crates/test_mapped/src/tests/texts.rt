@@ -1,10 +1,11 @@
 //! The texts of locks that are shown.
 ghost use Rattle.std.specs.Prelude.{◌≡◌};
 ghost use Rattle.parking_lot_core.specs.Tokens.{IsTokenOf};
-ghost use Rattle.parking_lot.specs.Names.{lot_of, lot_of_rwlock};
+ghost use Rattle.parking_lot.specs.Names.{lot_of};
 
 use super::{check_eq, lone, mutex_alone, rwlock_alone};
-use parking_lot::{Condvar, Fault, Mutex, Once, RwLock, Token};
+use parking_lot::lock_api_rw::{RawRwLock, RwLock};
+use parking_lot::{Condvar, Fault, Mutex, Once, Token};
 use std::alloc::Global;
 use std::fmt::Debug;
 use std::process::Abort;
@@ -70,14 +71,15 @@ fn a_once_and_a_condition_variable_show_themselves(rt: HostRuntime) -> Result<()
     Ok(())
 }
 
-// The texts of a lock that nobody has, and of one that somebody writes.
-fn rwlock_texts<R: Wait + Abort>(
+// The texts of a lock that nobody has, and of one that somebody writes. It is proved for any raw
+// lock, since each call of a known one is dear.
+fn rwlock_texts<L: RawRwLock, R: Wait + Abort>(
     rt: &R,
     alloc: Global,
-    lock: &RwLock<[u8; 2]>,
-    token: &mut Token,
+    lock: &RwLock<L, [u8; 2]>,
+    token: &mut L::Token,
 ) -> (String, String)
-    requires { IsTokenOf (lot_of_rwlock lock.now) token.old }
+    requires { L.is_token_of (L.lot_of lock.now) token.old }
 {
     let shown = lock.show(rt, token);
     let free = text_of(rt, alloc, &shown);
