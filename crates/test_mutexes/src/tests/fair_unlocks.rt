@@ -84,8 +84,8 @@ fn ticket_of<A: Abort>(rt: &A, lot: &ParkingLot, tickets: &mut Vec<Ticket>) -> T
     }
 }
 
-// Holds the fair mutex until another thread waits for it, and unlocks it by halves. Whether it stayed
-// locked between them, as it does for another seat.
+// Holds the fair mutex until another thread waits for it, and unlocks it by halves. Whether a second
+// token saw it locked between them.
 fn unlock_by_halves<R: Wait>(
     rt: &R,
     lot: &ParkingLot,
