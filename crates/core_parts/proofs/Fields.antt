@@ -1,25 +1,27 @@
 -- The data fields of a `Permit`, which has none, and of an `Open`. Assumes `Logic`.
-use Rattle.std.proofs.Common.{◌≡◌, T, List, [], ◌∷◌, ◌++◌, refl, ap, ◌∙◌}
+use Rattle.std.proofs.Common.{◌≡◌, ℕ, List, [], ◌∷◌, ◌++◌, refl, ap, ◌∙◌}
 use seplogic.Ra.Ura.{Ura}
-use mir.Syntax.{ty_ptr, ty_struct, tcons, tnil}
-use mir.Val.{Val, vstruct, vcons, vnil, of_list, has_ty, WT}
+use mir.Val.{Val, vptr, vstruct, vcons, vnil, of_list}
 use base.Logic.{ent, emp}
 use types.Logic.{Logic, sem}
-use denote.RattleType.{RattleType}
+use types.Kit.{‵, ◌$◌, ◌∵◌, !, qed, move, fjoin, fpack, feq_i, done}
+use denote.RattleType.{RattleType, Valss}
 use denote.Laws.{Is}
-use denote.Ref.{NamedLft, ShrRef}
+use denote.Memory.{hidden_shr}
+use denote.Ref.{NamedLft, ShrRef, shr_vals}
 use denote.Opens.{Opens}
 use denote.Copied.{Struct-Copied}
-use denote.RawPtr.{Ptr, InBlock, block_ptr, null_ptr, ptr_val}
 use denote.Shadow.{makes_shadow}
-use denote.Struct.Laws.{RawPtr-copy, field_copy}
-use denote.Struct.Struct.{Struct}
+use denote.Steps.{nothing}
+use denote.Struct.Laws.{shr_ref_copy}
+use denote.Struct.Struct.{Struct, within}
 use denote.Struct.Owning.{shape}
-use Rattle.core.specs.contracts.marker.PhantomData as marker
 use Rattle.core_parts.specs.contracts.permit.Permit as permit
 use Rattle.core_parts.specs.contracts.permit.Permits as permits
 use Rattle.core_parts.specs.contracts.slot.PermitSlot as slot
+use Rattle.core_parts.specs.contracts.place.Place as place
 use Rattle.core_parts.specs.contracts.place.Open as opened
+use Rattle.core_parts.proofs.Opening.{place_laws}
 
 abbrev pub permit_val : Val
 permit_val = vstruct vnil
@@ -51,22 +53,25 @@ bare_told vs is = is.1.0
 pub bare_made : {M : Type 1} {𝓤 : Ura M} (𝓛 : Logic 𝓤) → ent 𝓤 (emp 𝓤) (sem 𝓛 (Bare.own_val tt (permit_val ∷ [])))
 bare_made 𝓛 = makes_shadow 𝓛 (Bare.own_val tt (permit_val ∷ [])) (λ uss. (tt, tt)) (tt, (refl, tt))
 
-abbrev pub open_val : Ptr → Val
-open_val p = vstruct (vcons (ptr_val p) (vcons (vstruct vnil) vnil))
-
-pub open_good : (p : Ptr) → InBlock p → T (has_ty (ty_struct [] (tcons ty_ptr (tcons (ty_struct [] tnil) tnil))) (open_val p)) × WT (open_val p)
-open_good (block_ptr b o) i = (tt, (tt, (tt, tt)))
-open_good null_ptr i = absurd i
+abbrev pub open_val : ℕ × ℕ → Val
+open_val p = vstruct (vcons (vptr p.0 p.1) vnil)
 
 module _ (a : NamedLft) (R : RattleType) where
   abbrev pub Words : RattleType
   Words = Struct (shape (opened.the_type a R))
 
-  pub told : (p : Ptr) (vs : List Val) → Is Words (p, (tt, tt)) vs → vs ≡ open_val p ∷ []
-  told p vs is = is.1.0 ∙ ap (λ (ws : List Val). vstruct (of_list (ws ++ (is.0.1.0 ++ []))) ∷ []) is.1.1.0 ∙ ap (λ (ws : List Val). vstruct (of_list (ptr_val p ∷ (ws ++ []))) ∷ []) is.1.1.1.0.1.0
+  abbrev pub Near : RattleType
+  Near = ShrRef a.mir a.lft (place.the_row R)
 
-  pub made : {M : Type 1} {𝓤 : Ura M} (𝓛 : Logic 𝓤) (p : Ptr) → ent 𝓤 (emp 𝓤) (sem 𝓛 (Words.own_val (p, (tt, tt)) (open_val p ∷ [])))
-  made 𝓛 p = makes_shadow 𝓛 (Words.own_val (p, (tt, tt)) (open_val p ∷ [])) (λ vss. (tt, (tt, ((λ uss. (tt, tt)), tt)))) ((ptr_val p ∷ [], (vstruct vnil ∷ [], tt)), (refl, (refl, ((tt, (refl, tt)), tt))))
+  pub told : (p : Near.Denot) (vs : List Val) → Is Words (p, tt) vs → vs ≡ open_val p.ref_ptr ∷ []
+  told p vs is = is.1.0 ∙ ap (λ (ws : List Val). vstruct (of_list (ws ++ [])) ∷ []) is.1.1.0.0
 
-  pub words_open : {M : Type 1} {𝓤 : Ura M} (𝓛 : Logic 𝓤) → Opens 𝓛 Words
-  words_open {M} {𝓤 = 𝓤} 𝓛 = (Struct-Copied 𝓛 (shape (opened.the_type a R)) (refl, (refl, tt)) (RawPtr-copy.copied M 𝓤 𝓛, ((field_copy (marker.the_type (ShrRef a.mir a.lft R)) tt).copied M 𝓤 𝓛, tt))).opens
+  module _ {M : Type 1} {𝓤 : Ura M} (𝓛 : Logic 𝓤) where
+    -- the reference is kept
+    pub made : (p : Near.Denot) → ent 𝓤 (sem 𝓛 (hidden_shr (place.the_row R) a.lft p.now p.ref_ptr.0 p.ref_ptr.1)) (sem 𝓛 (Words.own_val (p, tt) (open_val p.ref_ptr ∷ [])))
+    made p = let v : Val = open_val p.ref_ptr in qed 𝓛 (‵ (hidden_shr (place.the_row R) a.lft p.now p.ref_ptr.0 p.ref_ptr.1) ∷ []) ∵
+        feq_i ! (List Val) (shr_vals p) (shr_vals p) refl $ fjoin ! $ nothing ! $ move ! (1 ∷ 0 ∷ []) $ fjoin ! $ feq_i ! (List Val) (v ∷ []) (v ∷ []) refl $ fjoin ! $
+        fpack ! (Valss (Near ∷ [])) (within (shape (opened.the_type a R)) (p, tt) (v ∷ [])) (shr_vals p, tt) $ done !
+
+    pub words_open : Opens 𝓛 Words
+    words_open = (Struct-Copied 𝓛 (shape (opened.the_type a R)) (refl, tt) ((shr_ref_copy a (place.the_row R) tt (place_laws R)).copied M 𝓤 𝓛, tt)).opens

@@ -57,10 +57,9 @@ abbrev pub place_shares : RattleType → PermitId → Ptr → Lft → Fml
 place_shares R id (block_ptr b o) = some Id (kept R id b o)
 place_shares R id null_ptr = said ffalse
 
-abbrev pub open_owns : Lft → (R : RattleType) → PermitId → Ptr → R.Denot → Fml
-open_owns β R id (block_ptr b o) x = fex Id (open_at R id b o β x)
-open_owns β R id null_ptr x = ffalse
+-- the place lies at this block and offset
+abbrev pub open_owns : Lft → (R : RattleType) → PermitId → ℕ × ℕ → R.Denot → Fml
+open_owns β R id p x = fex Id (open_at R id p.0 p.1 β x)
 
-abbrev pub open_shares : Lft → (R : RattleType) → Ptr → R.Denot → Lft → Fml
-open_shares β R (block_ptr b o) x = within β (shared_of R x b (o + offset R))
-open_shares β R null_ptr x = said ffalse
+abbrev pub open_shares : Lft → (R : RattleType) → ℕ × ℕ → R.Denot → Lft → Fml
+open_shares β R p x = within β (shared_of R x p.0 (p.1 + offset R))

@@ -20,7 +20,7 @@ impl<T> Deref for Open<'_, T> {
     fn deref(&self) -> &T
         ensures { result.now ≡ self.now.value }
     {
-        unsafe { &(*self.place).value }
+        &self.place.value
     }
 }
 
@@ -34,7 +34,7 @@ impl<T> DerefMut for Open<'_, T> {
             self.entry.ghost_name result.ghost_name (with_value self.old)) }
         ensures value { result.now ≡ self.old.value }
     {
-        unsafe { &mut *(&raw const (*self.place).value as *mut T) }
+        unsafe { &mut *(&raw const self.place.value as *mut T) }
     }
 }
 

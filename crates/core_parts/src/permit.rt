@@ -5,7 +5,7 @@ ghost use Rattle.core_parts.specs.PermitIds.{PermitId, permit_id_coded, permit_o
 
 use crate::place::{Open, Place};
 use crate::slot::PermitSlot;
-use std::marker::{Model, PhantomData};
+use std::marker::Model;
 
 /// Where permits come from. It has no bytes.
 pub struct Permits {
@@ -75,10 +75,7 @@ impl Permit {
         ensures { result.id ≡ place.now }
     {
         let Permit {} = self;
-        Open {
-            place,
-            marker: PhantomData,
-        }
+        Open { place }
     }
 }
 

@@ -4,7 +4,7 @@ ghost use Rattle.core_parts.specs.Ownership.{place_shares, place_owns, open_owns
 ghost use Rattle.core_parts.specs.PermitIds.{PermitId, permit_id_coded};
 
 use crate::permit::{NamesPermit, Permit};
-use std::marker::{Model, Move, Owns, PhantomData};
+use std::marker::{Model, Move, Owns};
 
 /// A value that is touched by who has the permit, or the place itself. In a clause it is the id of
 /// its permit.
@@ -26,16 +26,15 @@ impl<T> Move for Place<T> {
 
 /// A place that is open. In a clause `value` is what stands there.
 pub struct Open<'a, T> {
-    pub(crate) place: *const Place<T>,
-    pub(crate) marker: PhantomData<&'a T>,
+    pub(crate) place: &'a Place<T>,
     pub ghost id: { PermitId } by { permit_id_coded },
     pub ghost value: { T },
 }
 
 impl<'a, T> Model for Open<'a, T> {
-    ghost also_owns = { λ o. open_owns 'a T.row o.id o.place o.value };
+    ghost also_owns = { λ o. open_owns 'a T.row o.id o.place.ref_ptr o.value };
 
-    ghost also_shares = { λ o _ κ. open_shares 'a T.row o.place o.value κ };
+    ghost also_shares = { λ o _ κ. open_shares 'a T.row o.place.ref_ptr o.value κ };
 }
 
 impl<T> Place<T> {
@@ -71,10 +70,7 @@ impl<T> Open<'_, T> {
     pub fn close(self) -> Permit
         ensures { result.id ≡ self.entry.id }
     {
-        let Open {
-            place: _,
-            marker: _,
-        } = self;
+        let Open { place: _ } = self;
         Permit {}
     }
 }

@@ -51,10 +51,10 @@ module _ {M : Type 1} {𝓤 : Ura M} (𝓛 : Logic 𝓤) (R : RattleType) {V : T
   Held i v = seat cv alone among z three_quarters i v
 
   abbrev Seen : Lft → V → ℕ → ℕ → R.Denot → Fml
-  Seen β v b o x = seen_owned R cv alone among z β (block_ptr b o) v x
+  Seen β v b o x = seen_owned R cv alone among z β (b, o) v x
 
   abbrev Op : Lft → V → ℕ → ℕ → R.Denot → Fml
-  Op β v b o x = open_owned R cv alone among z β (block_ptr b o) v x
+  Op β v b o x = open_owned R cv alone among z β (b, o) v x
 
   -- a clash can't be
   module _ (b e : ℕ) (t : Id) (P : Fml) where

@@ -7,7 +7,7 @@ ghost use Rattle.lock_values.specs.Ownership.{PlaceId, place_id_coded, place_sha
 
 use atomic_table::{Badge, Shared, TableRule};
 use core_words::View;
-use std::marker::{Model, Move, Owns, PhantomData};
+use std::marker::{Model, Move, Owns};
 
 /// Names the word that guards the places that are made of it.
 pub trait NamesPlace {
@@ -34,32 +34,30 @@ impl<T> Move for Place<T> {
 
 /// A place that is open to read, beside others. In a clause `value` is what stands there.
 pub struct Seen<'a, T> {
-    pub(crate) place: *const Place<T>,
-    pub(crate) marker: PhantomData<&'a T>,
+    pub(crate) place: &'a Place<T>,
     pub ghost of: { PlaceId } by { place_id_coded },
     pub ghost view: { View },
     pub ghost value: { T },
 }
 
 impl<'a, T> Model for Seen<'a, T> {
-    ghost also_owns = { λ o. seen_owns 'a T.row view_row.coded (alone o.of.at) (among o.of.at) o.of.table o.place o.view o.value };
+    ghost also_owns = { λ o. seen_owns 'a T.row view_row.coded (alone o.of.at) (among o.of.at) o.of.table o.place.ref_ptr o.view o.value };
 
-    ghost also_shares = { λ o _ κ. open_shares 'a T.row o.place o.value κ };
+    ghost also_shares = { λ o _ κ. open_shares 'a T.row o.place.ref_ptr o.value κ };
 }
 
 /// A place that is open to write.
 pub struct Open<'a, T> {
-    pub(crate) place: *const Place<T>,
-    pub(crate) marker: PhantomData<&'a T>,
+    pub(crate) place: &'a Place<T>,
     pub ghost of: { PlaceId } by { place_id_coded },
     pub ghost view: { View },
     pub ghost value: { T },
 }
 
 impl<'a, T> Model for Open<'a, T> {
-    ghost also_owns = { λ o. open_owns 'a T.row view_row.coded (alone o.of.at) (among o.of.at) o.of.table o.place o.view o.value };
+    ghost also_owns = { λ o. open_owns 'a T.row view_row.coded (alone o.of.at) (among o.of.at) o.of.table o.place.ref_ptr o.view o.value };
 
-    ghost also_shares = { λ o _ κ. open_shares 'a T.row o.place o.value κ };
+    ghost also_shares = { λ o _ κ. open_shares 'a T.row o.place.ref_ptr o.value κ };
 }
 
 impl<T> Place<T> {
@@ -89,10 +87,7 @@ impl<T> Place<T> {
         requires { (table.now.table_id ≡ self.now.table) × (badge.old.table_id ≡ self.now.table) × Excluded (P.holds table.now.key) (alone self.now.at) (among self.now.at) × ((v : View) × (badge.old.views ≡ v ∷ []) × among self.now.at v) }
         ensures { (result.of ≡ self.now) × (badge.old.views ≡ result.view ∷ []) × (badge.new.views ≡ []) }
     {
-        Seen {
-            place: self,
-            marker: PhantomData,
-        }
+        Seen { place: self }
     }
 
     /// The same, of a badge that is handed in.
@@ -118,10 +113,7 @@ impl<T> Place<T> {
         requires { (table.now.table_id ≡ self.now.table) × (badge.old.table_id ≡ self.now.table) × Excluded (P.holds table.now.key) (alone self.now.at) (among self.now.at) × ((v : View) × (badge.old.views ≡ v ∷ []) × alone self.now.at v) }
         ensures { (result.of ≡ self.now) × (badge.old.views ≡ result.view ∷ []) × (badge.new.views ≡ []) }
     {
-        Open {
-            place: self,
-            marker: PhantomData,
-        }
+        Open { place: self }
     }
 
     /// The same, of a badge that is handed in.
@@ -149,10 +141,7 @@ impl<T> Seen<'_, T> {
         requires { (table.now.table_id ≡ self.of.table) × Excluded (P.holds table.now.key) (alone self.of.at) (among self.of.at) }
         ensures { (badge.new.table_id ≡ self.entry.of.table) × (badge.new.views ≡ self.entry.view ∷ []) }
     {
-        let Seen {
-            place: _,
-            marker: _,
-        } = self;
+        let Seen { place: _ } = self;
     }
 
     /// The same, which answers it.
@@ -178,10 +167,7 @@ impl<T> Open<'_, T> {
         requires { (table.now.table_id ≡ self.of.table) × Excluded (P.holds table.now.key) (alone self.of.at) (among self.of.at) }
         ensures { (badge.new.table_id ≡ self.entry.of.table) × (badge.new.views ≡ self.entry.view ∷ []) }
     {
-        let Open {
-            place: _,
-            marker: _,
-        } = self;
+        let Open { place: _ } = self;
     }
 
     /// The same, which answers it.

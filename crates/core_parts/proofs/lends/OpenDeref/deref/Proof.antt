@@ -1,19 +1,17 @@
 -- `deref` hands out what a `&` to the open place holds of the value.
-use Rattle.atomic_table.proofs.Names.{◌≡◌, ℕ, ◌+◌, List, [], ◌∷◌, ◌++◌, sym, refl, ap, ◌∙◌, a_type, named, Val, vptr, inst_fn, SProp, emp, Lft, Fml, ftrue, fsep, flft, sem, ‵, raw, ◌⊛◌, given, at_ret, ◌$◌, ◌∵◌, !, qed, by, move, keep, split, join, fsplit, fjoin, learn, use0, use1, rewrite, feq_i, stop, fld, addr, of_opd, first, blocks, exec, returns, enter, alloc_all, pass_all, free_all, look_at, get, through, sets, sets_last, env, sub, whole, look_in, tables, yes, RattleType, owns, types_at, plain, Ptr, InBlock, block_ptr, at_block, block_of, count_of, nothing, param, layouts, Stays, stay_dropped, walk_of, Goes-dropped, fact, fact_i, fact_use, guard_i, Is, shows, cell_at, hidden_shr, peeks, looks, shuts, RefOf, shr_vals, shr_Tells, unhide, lent_out}
+use Rattle.atomic_table.proofs.Names.{◌≡◌, ℕ, ◌+◌, List, [], ◌∷◌, ◌++◌, sym, refl, a_type, named, Val, vptr, inst_fn, SProp, emp, Lft, Fml, ftrue, fsep, flft, ‵, raw, ◌⊛◌, ◌$◌, ◌∵◌, !, qed, by, move, keep, split, join, fsplit, fjoin, use0, use1, rewrite, feq_i, stop, fld, addr, returns, enter, alloc_all, pass_all, free_all, look_at, through, sets, env, sub, whole, tables, yes, RattleType, owns, types_at, plain, nothing, param, layouts, Stays, stay_dropped, walk_of, Goes-dropped, fact, fact_i, Is, shows, cell_at, hidden_shr, peeks, looks, shuts, RefOf, shr_vals, shr_Tells, unhide, lent_out}
 use base.Fml.{Incl-refl, fhide}
 use contract.BorrowLft.{⊑_meet}
 use denote.Memory.{shared_of}
 use denote.Param.Laws.{param_laws}
-use denote.Ref.{ShrRef}
 use denote.Signature.{named_lft}
 use denote.SharingLaws.{shortens}
 use types.Run.{hop}
-use Rattle.core.proofs.atomic.Steps.{tail}
-use Rattle.core.specs.contracts.marker.PhantomData as marker
 use Rattle.atomic_table.proofs.Walks.{proved, leaves}
 use Rattle.core_parts.specs.Ownership.{offset, open_shares}
 use Rattle.core_parts.proofs.Fields.{open_val, Words, told, words_open}
-use Rattle.core_parts.proofs.Opening.{seen_placed}
+use Rattle.core_parts.specs.contracts.place.Place as place
+use Rattle.core_parts.proofs.Reading.{look_in_raw}
 use Rattle.core_parts.specs.contracts.place.Open as guard
 use Rattle.core_parts.specs.contracts.lends.OpenDeref.deref.{ended, clauses}
 use Rattle.core_parts.specs.contracts.lends.OpenDeref.deref.Key.{name as #self}
@@ -28,23 +26,21 @@ deref_spec 𝓤 𝓛 𝓜 𝓡 wired X L =
     proved 𝓛 En hs c 𝓜 𝓡 (Goes-dropped 𝓛 3 self yes (λ κs x f. refl), tt) (#self inst) fn closed
     (λ κs. (shr_vals, tt)) (λ κs. (shr_Tells (named 0) κs.0 (guard.the_row (named_lft 3 1 tt κs) R), tt)) (λ κs qs bounds a gh are.
     let ℓ = named_lft 3 1 tt κs in let Or : RattleType = guard.the_row ℓ R in let D : RattleType = Words ℓ R in let b : ℕ = a.0.ref_ptr.0 in let o : ℕ = a.0.ref_ptr.1 in let κ : Lft = κs.0 in let β : Lft = κs.1.0 in
-    let h : Or.Denot = a.0.now in let p : Ptr = h.place in let x : X.Denot = h.value in let others : Fml = fsep (flft β qs.1.0) (fsep (flft κs.1.1.0 qs.1.1.0) ftrue) in
-    let pb : ℕ = block_of p in let po : ℕ = count_of p in let e : ℕ = po + offset R in
+    let h : Or.Denot = a.0.now in let p : ℕ × ℕ = h.place.ref_ptr in let x : X.Denot = h.value in let others : Fml = fsep (flft β qs.1.0) (fsep (flft κs.1.1.0 qs.1.1.0) ftrue) in
+    let pb : ℕ = p.0 in let e : ℕ = p.1 + offset R in
     let y : (walk_of 𝓛 En hs c).Ghost = ((κs, qs, bounds, a, (vptr b o ∷ [], tt)), gh) in let Post : Val → SProp 𝓤 = (walk_of 𝓛 En hs c).post y in
     qed 𝓛 (((‵ (flft κ qs.0) ⊛ ‵ others) ⊛ ‵ (owns (types_at En.signature.params κs) a y.0.4)) ∷ raw ((c κs a).requires gh) ∷ []) ∵
     split ! $ split ! $ move ! (2 ∷ []) $ fsplit ! $ fsplit ! $ keep ! (1 ∷ 3 ∷ 4 ∷ []) $
-    enter ! 𝓣.C 𝓣.Λ fn (vptr b o ∷ []) Post $ alloc_all ! (λ l. pass_all ! refl ((tt, tt), tt) $ let Ev = env fn.locals l in
-    use1 𝓛 (‵ (hidden_shr D κ (p, (tt, tt)) b o) ⊛ ‵ (fhide (open_shares β R p x κ)))
-    (lent_out 𝓛 (guard.struct ℓ R) (guard.the_codes X.Denot R.coded (marker.the_row (ShrRef ℓ.mir ℓ.lft R)).coded) (guard.the_heap β R) (guard.the_lent β R) κ h b o) $
+    enter ! 𝓣.C 𝓣.Λ fn (vptr b o ∷ []) Post $ alloc_all ! (λ l. pass_all ! refl ((tt, tt), tt) $
+    use1 𝓛 (‵ (hidden_shr D κ (h.place, tt) b o) ⊛ ‵ (fhide (open_shares β R p x κ)))
+    (lent_out 𝓛 (guard.struct ℓ R) (guard.the_codes X.Denot R.coded (place.the_row R).coded) (guard.the_heap β R) (guard.the_lent β R) κ h b o) $
     split ! $ move ! (1 ∷ []) $ unhide ! $
-    use1 𝓛 (given (InBlock p) (‵ (open_shares β R p x κ))) (fact_use 𝓤 _ (seen_placed 𝓛 β R p x κ) (guard_i 𝓤 (InBlock p) (sem 𝓛 (open_shares β R p x κ)))) $ learn ! (λ inb.
-    let at : p ≡ block_ptr pb po = at_block p inb in rewrite ! 0 (λ (z : Ptr). ‵ (open_shares β R z x κ)) at refl $
     use1 𝓛 (‵ (hidden_shr R κ x pb e)) (shortens 𝓛 (shared_of R x pb e) (LR.shr_laws x pb e) (κ ++ β) κ (⊑_meet κ κ β (Incl-refl κ) bounds.0)) $ move ! (1 ∷ 2 ∷ []) $
-    looks ! tt D (words_open ℓ R 𝓛) (p, (tt, tt)) b o (λ q vs. move ! (1 ∷ []) $ peeks ! D (Is D) (shows 𝓛 D) (p, (tt, tt)) vs (λ is_so.
-    let ev : vs ≡ open_val (block_ptr pb po) ∷ [] = told ℓ R p vs is_so ∙ ap (λ (r : Ptr). open_val r ∷ []) at in
-    rewrite ! 1 (λ (ws : List Val). ‵ (cell_at q D.mir ws b o)) ev refl $ first ! $ blocks ! $
-    sets_last ! (addr ! (through ! refl (fld ! refl (hop ! (look_in ! 1 (sub ! 0 refl (whole !))) (fld ! refl (stop !)))))) refl (tt, tt) $ exec ! 𝓣.C 𝓣.Λ Ev (tail fn.body) (at_ret Ev Post) $
-    sets ! (of_opd ! (get ! refl)) refl (tt, tt) $ rewrite ! 1 (λ (ws : List Val). ‵ (cell_at q D.mir ws b o)) (sym ev) refl $ move ! (1 ∷ 0 ∷ 2 ∷ []) $ shuts ! tt D q (p, (tt, tt)) vs b o $
+    looks ! tt D (words_open ℓ R 𝓛) (h.place, tt) b o (λ q vs. move ! (1 ∷ []) $ peeks ! D (Is D) (shows 𝓛 D) (h.place, tt) vs (λ is_so.
+    let ev : vs ≡ open_val p ∷ [] = told ℓ R h.place vs is_so in
+    rewrite ! 1 (λ (ws : List Val). ‵ (cell_at q D.mir ws b o)) ev refl $
+    sets ! (addr ! (through ! refl (fld ! refl (hop ! (look_in_raw ! 1 (sub ! 0 refl (whole !))) (fld ! refl (stop !)))))) refl (tt, tt) $
+    rewrite ! 1 (λ (ws : List Val). ‵ (cell_at q D.mir ws b o)) (sym ev) refl $ move ! (1 ∷ 0 ∷ 2 ∷ []) $ shuts ! tt D q (h.place, tt) vs b o $
     move ! (0 ∷ 3 ∷ []) $ join ! $ move ! (2 ∷ []) $ feq_i ! (List Val) (vptr pb e ∷ []) (vptr pb e ∷ []) refl $ fjoin ! $
     use0 𝓛 (raw (fact 𝓤 (x ≡ x))) (fact_i 𝓤 (x ≡ x) (emp 𝓤) refl) $ nothing ! $ nothing ! $ fjoin ! $
-    returns ! (look_at ! 0 refl) $ free_all ! refl $ keep ! (3 ∷ 0 ∷ 2 ∷ 1 ∷ []) $ by ! (leaves 𝓛 En hs c y (vptr pb e) (record { ref_ptr = (pb, e); now = x }) (tt, tt) (tt, tt)))))))
+    returns ! (look_at ! 0 refl) $ free_all ! refl $ keep ! (3 ∷ 0 ∷ 2 ∷ 1 ∷ []) $ by ! (leaves 𝓛 En hs c y (vptr pb e) (record { ref_ptr = (pb, e); now = x }) (tt, tt) (tt, tt))))))

@@ -1,12 +1,15 @@
 -- The permit is laid into the place, for the borrow of the value.
-use Rattle.atomic_table.proofs.Names.{◌≡◌, ℕ, [], ◌∷◌, refl, a_type, named, Val, vptr, inst_fn, SProp, emp, ftrue, Lft, Share, Fml, fsep, flft, ‵, raw, ◌⊛◌, some, later, ◌$◌, ◌∵◌, !, qed, by, move, keep, split, join, fsplit, fjoin, pick, use0, use3, await, rewrite, heard, stop, addr, no_more, and_then, returns, enter, alloc_all, pass_all, free_all, look_at, get, through, sets, agg, tables, yes, RattleType, owns, types_at, plain, block_ptr, nothing, param, layouts, Stays, stay_dropped, walk_of, Goes-dropped, fact, fact_i, RefOf, shr_vals, shr_Tells, unhide}
+use Rattle.atomic_table.proofs.Names.{◌≡◌, ℕ, [], ◌∷◌, refl, a_type, named, Val, vptr, inst_fn, SProp, emp, ftrue, Lft, Share, Fml, fsep, flft, ‵, raw, ◌⊛◌, some, later, ◌$◌, ◌∵◌, !, qed, by, move, keep, split, join, fsplit, fjoin, pick, use0, use1, use3, await, rewrite, heard, no_more, and_then, returns, enter, alloc_all, pass_all, free_all, look_at, get, sets, agg, tables, yes, RattleType, owns, types_at, plain, nothing, param, layouts, Stays, stay_dropped, walk_of, Goes-dropped, fact, fact_i, RefOf, shr_vals, shr_Tells, unhide}
 use contract.BorrowLft.{◌⊑◌}
+use denote.Bor.{Bor}
+use denote.Memory.{shared_of, hidden_shr}
+use denote.SharingLaws.{contraction}
 use denote.Signature.{named_lft}
 use Rattle.atomic_table.proofs.Walks.{proved, leaves}
 use Rattle.core_parts.specs.PermitIds.{PermitId, permit_owns}
 use Rattle.core_parts.specs.Ownership.{open_owns}
 use Rattle.core_parts.proofs.Fields.{permit_val, blank_told, open_val, Words, made}
-use Rattle.core_parts.proofs.Opening.{opened}
+use Rattle.core_parts.proofs.Opening.{opened, place_laws}
 use Rattle.core_parts.specs.contracts.permit.Permit as permit
 use Rattle.core_parts.specs.contracts.place.Place as place
 use Rattle.core_parts.specs.contracts.place.Open as open_row
@@ -29,10 +32,11 @@ into_open_spec 𝓤 𝓛 𝓜 𝓡 wired X L =
     qed 𝓛 (((‵ (flft κ q) ⊛ ‵ others) ⊛ ‵ (owns (types_at En.signature.params κs) a y.0.4)) ∷ raw (fact 𝓤 (κs.1.0 ⊑ X.lives)) ∷ raw (fact 𝓤 (a.0.id ≡ id)) ∷ []) ∵
     keep ! (2 ∷ 0 ∷ []) $ heard ! (a.0.id ≡ id) (λ asked. split ! $ split ! $ move ! (2 ∷ []) $ fsplit ! $ fsplit ! $ move ! (2 ∷ []) $ fsplit ! $ fsplit ! $ keep ! (1 ∷ 4 ∷ 5 ∷ 6 ∷ []) $
     enter ! 𝓣.C 𝓣.Λ fn (permit_val ∷ vptr b o ∷ []) Post $ alloc_all ! (λ l. pass_all ! refl ((tt, tt), ((tt, tt), tt)) $
-    unhide ! $ move ! (1 ∷ []) $ rewrite ! 0 (λ (n : PermitId). ‵ (permit_owns n)) asked refl $ move ! (1 ∷ 0 ∷ 2 ∷ []) $
-    use3 𝓛 (later (some (λ (x : X.Denot). ‵ (open_owns κ R id (block_ptr b o) x)) ⊛ ‵ (flft κ q))) (opened 𝓛 κ R id b o q) $ await ! tt $ split ! $ pick ! (λ x.
-    let r : Or.Denot = record { place = block_ptr b o; marker = record {}; id = id; value = x } in
-    use0 𝓛 (‵ ((Words ℓ R).own_val (block_ptr b o, (tt, tt)) (open_val (block_ptr b o) ∷ []))) (made ℓ R 𝓛 (block_ptr b o)) $ fjoin ! $
-    sets ! (addr ! (through ! refl (stop !))) refl (tt, tt) $ sets ! (agg ! (no_more !)) refl (tt, tt) $ sets ! (agg ! (and_then ! (get ! refl) (and_then ! (get ! refl) (no_more !)))) refl (tt, (tt, (tt, tt))) $
+    use1 𝓛 (‵ (hidden_shr Row κ id b o) ⊛ ‵ (hidden_shr Row κ id b o)) (contraction 𝓛 (shared_of Row id b o) (place_laws R id b o) κ) $ split ! $
+    unhide ! $ move ! (2 ∷ []) $ rewrite ! 0 (λ (n : PermitId). ‵ (permit_owns n)) asked refl $ move ! (1 ∷ 0 ∷ 3 ∷ []) $
+    use3 𝓛 (later (some (λ (x : X.Denot). ‵ (open_owns κ R id (b, o) x)) ⊛ ‵ (flft κ q))) (opened 𝓛 κ R id b o q) $ await ! tt $ split ! $ pick ! (λ x.
+    let at : Bor PermitId = record { ref_ptr = (b, o); now = id } in let r : Or.Denot = record { place = at; id = id; value = x } in move ! (2 ∷ []) $
+    use1 𝓛 (‵ ((Words ℓ R).own_val (at, tt) (open_val (b, o) ∷ []))) (made ℓ R 𝓛 at) $ fjoin ! $
+    sets ! (agg ! (and_then ! (get ! refl) (no_more !))) refl (tt, (tt, tt)) $
     use0 𝓛 (raw (fact 𝓤 (id ≡ id))) (fact_i 𝓤 (id ≡ id) (emp 𝓤) refl) $ move ! (2 ∷ 3 ∷ []) $ join ! $ nothing ! $ nothing ! $ fjoin ! $ nothing ! $ fjoin ! $
-    returns ! (look_at ! 0 refl) $ free_all ! refl $ keep ! (1 ∷ 0 ∷ 3 ∷ 2 ∷ []) $ by ! (leaves 𝓛 En hs c y (open_val (block_ptr b o)) r (tt, (tt, tt)) (tt, (tt, tt)))))))
+    returns ! (look_at ! 0 refl) $ free_all ! refl $ keep ! (1 ∷ 0 ∷ 3 ∷ 2 ∷ []) $ by ! (leaves 𝓛 En hs c y (open_val (b, o)) r (tt, (tt, tt)) (tt, (tt, tt)))))))

@@ -1,11 +1,10 @@
 -- The borrow of the value is laid back into the place, for the permit.
-use Rattle.atomic_table.proofs.Names.{◌≡◌, [], ◌∷◌, refl, a_type, Val, inst_fn, SProp, emp, ftrue, Lft, Share, Fml, fsep, flft, sem, ‵, raw, ◌⊛◌, given, later, ◌$◌, ◌∵◌, !, qed, by, move, keep, split, join, fsplit, fjoin, learn, use0, use1, use2, await, no_more, returns, enter, alloc_all, pass_all, free_all, look_at, sets, agg, tables, no, RattleType, owns, types_at, plain, Ptr, InBlock, nothing, param, layouts, Stays, stay_dropped, walk_of, Goes-dropped, fact, fact_i, fact_use, guard_i}
+use Rattle.atomic_table.proofs.Names.{◌≡◌, ℕ, [], ◌∷◌, refl, a_type, Val, inst_fn, SProp, emp, ftrue, Lft, Share, Fml, fsep, flft, ‵, raw, ◌⊛◌, later, ◌$◌, ◌∵◌, !, qed, by, move, keep, split, join, fsplit, fjoin, use0, use2, await, no_more, returns, enter, alloc_all, pass_all, free_all, look_at, sets, agg, tables, no, RattleType, owns, types_at, plain, nothing, param, layouts, Stays, stay_dropped, walk_of, Goes-dropped, fact, fact_i}
 use denote.Signature.{named_lft}
 use Rattle.atomic_table.proofs.Walks.{proved, leaves}
 use Rattle.core_parts.specs.PermitIds.{permit_owns}
-use Rattle.core_parts.specs.Ownership.{open_owns}
-use Rattle.core_parts.proofs.Fields.{permit_val, Blank, blank_made, open_val, open_good, told}
-use Rattle.core_parts.proofs.Opening.{closed, placed}
+use Rattle.core_parts.proofs.Fields.{permit_val, Blank, blank_made, open_val, told}
+use Rattle.core_parts.proofs.Opening.{closed}
 use Rattle.core_parts.specs.contracts.permit.Permit as permit
 use Rattle.core_parts.specs.contracts.place.Open as open_row
 use Rattle.core_parts.specs.contracts.place.Open.close.{ended, clauses}
@@ -20,16 +19,15 @@ close_spec 𝓤 𝓛 𝓜 𝓡 wired X L =
     let self = plain (λ κs. open_row.the_row (named_lft 2 0 tt κs) R) in
     let hs : Stays En.signature.params En.kept = (stay_dropped self no, tt) in
     proved 𝓛 En hs c 𝓜 𝓡 (Goes-dropped 𝓛 2 self no (λ κs x f. refl), tt) (#self inst) fn closed_fn
-    (λ κs. ((λ x. open_val x.place ∷ []), tt)) (λ κs. ((λ x vs so. told (named_lft 2 0 tt κs) R x.place vs so.0), tt)) (λ κs qs bounds a gh are.
-    let Or : RattleType = open_row.the_row (named_lft 2 0 tt κs) R in let h : Or.Denot = a.0 in let p : Ptr = h.place in let κ : Lft = κs.0 in let q : Share = qs.0 in let others : Fml = fsep (flft κs.1.0 qs.1.0) ftrue in
+    (λ κs. ((λ x. open_val x.place.ref_ptr ∷ []), tt)) (λ κs. ((λ x vs so. told (named_lft 2 0 tt κs) R x.place vs so.0), tt)) (λ κs qs bounds a gh are.
+    let Or : RattleType = open_row.the_row (named_lft 2 0 tt κs) R in let h : Or.Denot = a.0 in let p : ℕ × ℕ = h.place.ref_ptr in let κ : Lft = κs.0 in let q : Share = qs.0 in let others : Fml = fsep (flft κs.1.0 qs.1.0) ftrue in
     let y : (walk_of 𝓛 En hs c).Ghost = ((κs, qs, bounds, a, (open_val p ∷ [], tt)), gh) in let Post : Val → SProp 𝓤 = (walk_of 𝓛 En hs c).post y in
     qed 𝓛 (((‵ (flft κ q) ⊛ ‵ others) ⊛ ‵ (owns (types_at En.signature.params κs) a y.0.4)) ∷ raw ((c κs a).requires gh) ∷ []) ∵
     split ! $ split ! $ move ! (2 ∷ []) $ fsplit ! $ fsplit ! $ keep ! (1 ∷ 3 ∷ 4 ∷ []) $
-    use1 𝓛 (given (InBlock p) (‵ (open_owns κ R h.id p h.value))) (fact_use 𝓤 _ (placed 𝓛 κ R h.id p h.value) (guard_i 𝓤 (InBlock p) (sem 𝓛 (open_owns κ R h.id p h.value)))) $ learn ! (λ inb.
-    enter ! 𝓣.C 𝓣.Λ fn (open_val p ∷ []) Post $ alloc_all ! (λ l. pass_all ! refl (open_good p inb, tt) $
+    enter ! 𝓣.C 𝓣.Λ fn (open_val p ∷ []) Post $ alloc_all ! (λ l. pass_all ! refl ((tt, (tt, tt)), tt) $
     use2 𝓛 (later (‵ (permit_owns h.id) ⊛ ‵ (flft κ q))) (closed 𝓛 κ R h.id p h.value q) $ await ! tt $ split ! $
     let r : permit.the_row.Denot = record { id = h.id } in
     use0 𝓛 (‵ (Blank.own_val tt (permit_val ∷ []))) (blank_made 𝓛) $ fjoin ! $
     sets ! (agg ! (no_more !)) refl (tt, tt) $
     use0 𝓛 (raw (fact 𝓤 (h.id ≡ h.id))) (fact_i 𝓤 (h.id ≡ h.id) (emp 𝓤) refl) $ move ! (2 ∷ 3 ∷ []) $ join ! $ nothing ! $ nothing ! $ fjoin ! $
-    returns ! (look_at ! 0 refl) $ free_all ! refl $ keep ! (1 ∷ 0 ∷ 3 ∷ 2 ∷ []) $ by ! (leaves 𝓛 En hs c y permit_val r (tt, tt) (tt, tt)))))
+    returns ! (look_at ! 0 refl) $ free_all ! refl $ keep ! (1 ∷ 0 ∷ 3 ∷ 2 ∷ []) $ by ! (leaves 𝓛 En hs c y permit_val r (tt, tt) (tt, tt))))

@@ -17,8 +17,6 @@ use denote.RattleType.{RattleType, Denots}
 use denote.Laws.{Lawful}
 use denote.Memory.{part_of, part_at, cell_at}
 use denote.RawPtr.{block_ptr}
-use denote.Sharing.{ends, always}
-use denote.SharingLaws.{some_shr_laws, beside_shr_laws, ends_shr_laws, always_shr_laws}
 use denote.Param.{layout}
 use denote.Param.Laws.{Laws}
 use denote.Struct.Struct.{Struct}
@@ -28,6 +26,7 @@ use denote.Struct.Lending.{Law}
 use Rattle.core.proofs.cell.Borrows.{by_one}
 use Rattle.core_parts.specs.PermitIds.{PermitId}
 use Rattle.core_parts.specs.Ownership.{offset, content, Id, state, Inv, kept, place_shares}
+use Rattle.core_parts.proofs.Opening.{place_laws}
 use Rattle.core_parts.specs.contracts.place.Place as C
 use Rattle.core_parts.proofs.place.Place.TheLaw.Statement.{statement}
 
@@ -109,6 +108,6 @@ pub shares : (T : RattleType) (L : Laws T) → statement T L
 shares T L = let m : Member = record { row = T; ty = layout T } in
     let same : T ≡ row_of m = λ i. record { Denot = T.Denot; mir = L.one i; written = T.written; reaches = T.reaches; lives = T.lives; own_val = T.own_val; exit = T.exit; coded = T.coded; shr_at = T.shr_at } in
     subst (λ (τ : List Ty). Law (C.the_written (record T { mir = τ }))) (sym L.one) (record {
-      shr_laws = λ d b o. some_shr_laws Id (kept (row_of m) d b o) (λ t. beside_shr_laws (ends t.0) (always (Inv (row_of m) d b o t)) (ends_shr_laws t.0) (always_shr_laws (Inv (row_of m) d b o t)));
+      shr_laws = place_laws (row_of m);
       shares = λ M 𝓤 𝓛 d κ ts b o inc sp. made 𝓛 m d (subst (Lawful 𝓛) same (L.lawful 𝓛)) b o κ ts sp;
     })

@@ -1,5 +1,5 @@
 -- `deref_mut` lends the value, and the open place follows it.
-use Rattle.atomic_table.proofs.Names.{◌≡◌, ℕ, ◌+◌, List, [], ◌∷◌, sym, refl, ap, ◌∙◌, a_type, named, Val, vptr, inst_fn, SProp, ent, emp, wand, all, all_e, apply∗, Lft, Share, Fml, ftrue, fsep, flft, sem, ‵, raw, ◌⊛◌, some, given, later, at_ret, ◌$◌, ◌∵◌, !, qed, by, move, keep, split, split3, join, fsplit, fsplit3, fjoin, fpick, fpack, pick, learn, use0, use1, use2, use3, await, rewrite, each, stop, fld, addr, of_opd, first, blocks, exec, returns, enter, alloc_all, pass_all, free_all, look_at, get, through, sets, sets_last, env, sub, whole, look_in, tables, no, RattleType, owns, types_at, plain, Ptr, InBlock, block_ptr, at_block, block_of, count_of, nothing, param, layouts, Stays, stay_dropped, walk_of, Goes-spent_ref, fact, fact_i, fact_use, guard_i, full_share, Is, shows, cell_at, part_at, mem, peeks, RefMutOf, mut_vals, mut_Tells, follows, part_out, part_in}
+use Rattle.atomic_table.proofs.Names.{◌≡◌, ℕ, ◌+◌, List, [], ◌∷◌, sym, refl, ap, a_type, named, Val, vptr, inst_fn, SProp, ent, emp, wand, all, all_e, apply∗, Lft, Share, Fml, ftrue, fsep, flft, sem, ‵, raw, ◌⊛◌, some, later, at_ret, ◌$◌, ◌∵◌, !, qed, by, move, keep, split, split3, join, fsplit, fsplit3, fjoin, fpick, fpack, pick, use0, use1, use2, use3, await, rewrite, each, stop, fld, addr, of_opd, first, blocks, exec, returns, enter, alloc_all, pass_all, free_all, look_at, get, through, sets, sets_last, env, sub, whole, tables, no, RattleType, owns, types_at, plain, nothing, param, layouts, Stays, stay_dropped, walk_of, Goes-spent_ref, fact, fact_i, full_share, Is, shows, cell_at, part_at, mem, peeks, RefMutOf, mut_vals, mut_Tells, follows, part_out, part_in}
 use base.Before.{before}
 use base.Fml.{GName}
 use denote.Memory.{part_of}
@@ -15,7 +15,8 @@ use Rattle.lock_values.specs.Owning.{alone, among}
 use Rattle.core_words.specs.contracts.views.View as view
 use Rattle.lock_values.specs.Written.{with_value}
 use Rattle.lock_values.proofs.Fields.{open_val, Words, told}
-use Rattle.lock_values.proofs.Opening.{held_out, open_in_block}
+use Rattle.core_parts.proofs.Reading.{look_in_raw}
+use Rattle.lock_values.proofs.Opening.{held_out}
 use Rattle.lock_values.proofs.Through.{Opened, through_before}
 use Rattle.lock_values.specs.contracts.place.Open as guard
 use Rattle.lock_values.specs.contracts.lends.OpenDerefMut.deref_mut.{ended, clauses}
@@ -32,31 +33,30 @@ deref_mut_spec 𝓤 𝓛 𝓜 𝓡 wired X L =
     proved 𝓛 En hs c 𝓜 𝓡 (Goes-spent_ref 𝓛 3 (0 ∷ []) tt row, tt) (#self inst) fn closed
     (λ κs. (mut_vals, tt)) (λ κs. (mut_Tells (named 0) κs.0 (guard.the_row (named_lft 3 1 tt κs) R), tt)) (λ κs qs bounds a gh are.
     let ℓ = named_lft 3 1 tt κs in let G : RattleType = guard.the_row ℓ R in let D : RattleType = Words ℓ R in let b : ℕ = a.0.ref_ptr.0 in let o : ℕ = a.0.ref_ptr.1 in let κ : Lft = κs.0 in let q : Share = qs.0 in let β : Lft = κs.1.0 in
-    let h : G.Denot = a.0.now in let γ : GName = a.0.ghost_name in let p : Ptr = h.place in let x : X.Denot = h.value in let F : X.Denot → G.Denot = with_value h in let others : Fml = fsep (flft β qs.1.0) (fsep (flft κs.1.1.0 qs.1.1.0) ftrue) in
-    let pb : ℕ = block_of p in let po : ℕ = count_of p in let e : ℕ = po + offset R in let cv = view.the_row.coded in let al = alone h.of.at in let am = among h.of.at in let z = h.of.table in let vw = h.view in let Had : Ptr → X.Denot → Fml = λ r w. open_owned R cv al am z β r vw w in let Ws : Fml = part_at D full_share (p, (tt, tt)) b o in
+    let h : G.Denot = a.0.now in let γ : GName = a.0.ghost_name in let p : ℕ × ℕ = h.place.ref_ptr in let x : X.Denot = h.value in let F : X.Denot → G.Denot = with_value h in let others : Fml = fsep (flft β qs.1.0) (fsep (flft κs.1.1.0 qs.1.1.0) ftrue) in
+    let pb : ℕ = p.0 in let e : ℕ = p.1 + offset R in let cv = view.the_row.coded in let al = alone h.of.at in let am = among h.of.at in let z = h.of.table in let vw = h.view in let Had : X.Denot → Fml = open_owned R cv al am z β p vw in let Ws : Fml = part_at D full_share (h.place, tt) b o in
     let y : (walk_of 𝓛 En hs c).Ghost = ((κs, qs, bounds, a, (vptr b o ∷ [], tt)), gh) in let Post : Val → SProp 𝓤 = (walk_of 𝓛 En hs c).post y in
-    let cut : p ≡ block_ptr pb po → ent 𝓤 (sem 𝓛 (part_at G full_share h b o)) (base.Logic.ex 𝓤 (Opened 𝓛 G R F (λ v w. ap (λ (g : G.Denot). g.value)) (named 0) κ β bounds.0 q a.0 pb e x)) = λ is.
-    let Back : Lft → X.Denot → SProp 𝓤 = λ α w. wand 𝓤 (sem 𝓛 (lent R pb e α w)) (sem 𝓛 (Had (block_ptr pb po) w)) in
-    qed 𝓛 (‵ (part_at G full_share h b o) ∷ []) ∵ use1 𝓛 (‵ Ws ⊛ ‵ (Had p x)) (part_out 𝓛 (guard.the_type ℓ R) full_share h b o) $ split ! $ move ! (1 ∷ []) $ rewrite ! 0 (λ (r : Ptr). ‵ (Had r x)) is refl $
-    use1 𝓛 (some (λ (α : Lft). ‵ (before β α) ⊛ ‵ (lent R pb e α x) ⊛ raw (all 𝓤 (Back α)))) (held_out 𝓛 R cv al am z β vw pb po x) $ pick ! (λ α. split3 ! $
+    let cut : ent 𝓤 (sem 𝓛 (part_at G full_share h b o)) (base.Logic.ex 𝓤 (Opened 𝓛 G R F (λ v w. ap (λ (g : G.Denot). g.value)) (named 0) κ β bounds.0 q a.0 pb e x)) =
+    let Back : Lft → X.Denot → SProp 𝓤 = λ α w. wand 𝓤 (sem 𝓛 (lent R pb e α w)) (sem 𝓛 (Had w)) in
+    qed 𝓛 (‵ (part_at G full_share h b o) ∷ []) ∵ use1 𝓛 (‵ Ws ⊛ ‵ (Had x)) (part_out 𝓛 (guard.the_type ℓ R) full_share h b o) $ split ! $ move ! (1 ∷ []) $
+    use1 𝓛 (some (λ (α : Lft). ‵ (before β α) ⊛ ‵ (lent R pb e α x) ⊛ raw (all 𝓤 (Back α)))) (held_out 𝓛 R cv al am z β vw p.0 p.1 x) $ pick ! (λ α. split3 ! $
     show ! (Opened 𝓛 G R F (λ v w. ap (λ (g : G.Denot). g.value)) (named 0) κ β bounds.0 q a.0 pb e x) α $ frame ! $ frame ! $
     each ! (λ (w : X.Denot). wand 𝓤 (sem 𝓛 (lent R pb e α w)) (sem 𝓛 (part_at G full_share (F w) b o))) (λ w. use1 𝓛 (raw (Back α w)) (all_e 𝓤 (Back α) w) $ assume ! (‵ (lent R pb e α w)) $
-    use2 𝓛 (‵ (Had (block_ptr pb po) w)) (apply∗ 𝓤 (sem 𝓛 (lent R pb e α w)) (sem 𝓛 (Had (block_ptr pb po) w))) $ rewrite ! 0 (λ (r : Ptr). ‵ (Had r w)) (sym is) refl $ move ! (1 ∷ 0 ∷ []) $
+    use2 𝓛 (‵ (Had w)) (apply∗ 𝓤 (sem 𝓛 (lent R pb e α w)) (sem 𝓛 (Had w))) $ move ! (1 ∷ 0 ∷ []) $
     by ! (part_in 𝓛 (guard.the_type ℓ R) full_share (F w) b o))) in
     qed 𝓛 (((‵ (flft κ q) ⊛ ‵ others) ⊛ ‵ (owns (types_at En.signature.params κs) a y.0.4)) ∷ raw ((c κs a).requires gh) ∷ []) ∵
     split ! $ split ! $ move ! (2 ∷ []) $ fsplit ! $ fsplit3 ! $ keep ! (1 ∷ 2 ∷ 4 ∷ 5 ∷ []) $
     enter ! 𝓣.C 𝓣.Λ fn (vptr b o ∷ []) Post $ alloc_all ! (λ l. pass_all ! refl ((tt, tt), tt) $ let Ev = env fn.locals l in
-    open_ref ! tt (mem G) $ use1 𝓛 (‵ Ws ⊛ ‵ (Had p x)) (part_out 𝓛 (guard.the_type ℓ R) full_share h b o) $ split ! $ move ! (1 ∷ []) $
-    use1 𝓛 (given (InBlock p) (‵ (Had p x))) (fact_use 𝓤 _ (open_in_block 𝓛 R cv al am z β vw p x) (guard_i 𝓤 (InBlock p) (sem 𝓛 (Had p x)))) $ learn ! (λ inb. let at : p ≡ block_ptr pb po = at_block p inb in
-    move ! (1 ∷ []) $ fpick ! (λ vs. fsplit ! $ move ! (1 ∷ []) $ peeks ! D (Is D) (shows 𝓛 D) (p, (tt, tt)) vs (λ is_so.
-    let ev : vs ≡ open_val (block_ptr pb po) ∷ [] = told ℓ R p vs is_so ∙ ap (λ (r : Ptr). open_val r ∷ []) at in
+    open_ref ! tt (mem G) $ use1 𝓛 (‵ Ws ⊛ ‵ (Had x)) (part_out 𝓛 (guard.the_type ℓ R) full_share h b o) $ split ! $
+    fpick ! (λ vs. fsplit ! $ move ! (1 ∷ []) $ peeks ! D (Is D) (shows 𝓛 D) (h.place, tt) vs (λ is_so.
+    let ev : vs ≡ open_val p ∷ [] = told ℓ R h.place vs is_so in
     rewrite ! 1 (λ (us : List Val). ‵ (cell_at full_share D.mir us b o)) ev refl $ first ! $ blocks ! $
-    sets ! (addr ! (through ! refl (fld ! refl (hop ! (look_in ! 1 (sub ! 0 refl (whole !))) (fld ! refl (stop !)))))) refl (tt, tt) $
+    sets ! (addr ! (through ! refl (fld ! refl (hop ! (look_in_raw ! 1 (sub ! 0 refl (whole !))) (fld ! refl (stop !)))))) refl (tt, tt) $
     sets_last ! (addr ! (through ! refl (stop !))) refl (tt, tt) $ exec ! 𝓣.C 𝓣.Λ Ev (tail fn.body) (at_ret Ev Post) $ sets ! (of_opd ! (get ! refl)) refl (tt, tt) $
     rewrite ! 1 (λ (us : List Val). ‵ (cell_at full_share D.mir us b o)) (sym ev) refl $ move ! (1 ∷ 0 ∷ []) $ fjoin ! $
-    fpack ! (List Val) (λ us. fsep (cell_at full_share D.mir us b o) (D.own_val (p, (tt, tt)) us)) vs $
+    fpack ! (List Val) (λ us. fsep (cell_at full_share D.mir us b o) (D.own_val (h.place, tt) us)) vs $
     use2 𝓛 (‵ (part_at G full_share h b o)) (part_in 𝓛 (guard.the_type ℓ R) full_share h b o) $ close_ref ! tt (mem G) h $
     use3 𝓛 (later (some (λ (δ : GName). ‵ ((MutRef (named 0) κ R).own_val (record { ref_ptr = (pb, e); ghost_name = δ; now = x }) (vptr pb e ∷ [])) ⊛ ‵ (flft κ q) ⊛ ‵ (follows G R γ δ F))))
-    (through_before 𝓛 G R F (λ v w. ap (λ (g : G.Denot). g.value)) (named 0) κ β bounds.0 q a.0 pb e x (cut at)) $ await ! tt $ pick ! (λ δ. split3 ! $
+    (through_before 𝓛 G R F (λ v w. ap (λ (g : G.Denot). g.value)) (named 0) κ β bounds.0 q a.0 pb e x cut) $ await ! tt $ pick ! (λ δ. split3 ! $
     use0 𝓛 (raw (fact 𝓤 (x ≡ x))) (fact_i 𝓤 (x ≡ x) (emp 𝓤) refl) $ move ! (3 ∷ 0 ∷ []) $ join ! $ move ! (2 ∷ 3 ∷ []) $ join ! $ nothing ! $ nothing ! $ fjoin ! $
-    returns ! (look_at ! 0 refl) $ free_all ! refl $ keep ! (1 ∷ 0 ∷ 3 ∷ 2 ∷ []) $ by ! (leaves 𝓛 En hs c y (vptr pb e) (record { ref_ptr = (pb, e); ghost_name = δ; now = x }) (tt, tt) (tt, tt))))))))
+    returns ! (look_at ! 0 refl) $ free_all ! refl $ keep ! (1 ∷ 0 ∷ 3 ∷ 2 ∷ []) $ by ! (leaves 𝓛 En hs c y (vptr pb e) (record { ref_ptr = (pb, e); ghost_name = δ; now = x }) (tt, tt) (tt, tt)))))))

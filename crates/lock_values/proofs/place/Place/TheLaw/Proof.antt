@@ -4,7 +4,6 @@ use seplogic.Ra.Ura.{Ura}
 use mir.Syntax.{Ty}
 use mir.Val.{Val}
 use base.Fraction.{full_share}
-use base.Stored.{gnum}
 use base.Logic.{SProp, ent, sep, wand, ex, all_e, upd_i, apply∗, id⊢}
 use base.Fml.{Lft, Share, Incl, Fml, ftrue, fsep, fseps, fwand, fupd, fdead, fbor, flft, finv, Incl-refl}
 use base.Before.{before}
@@ -17,8 +16,6 @@ use denote.RattleType.{RattleType, Denots}
 use denote.Laws.{Lawful}
 use denote.Memory.{part_of, part_at, cell_at}
 use denote.RawPtr.{block_ptr}
-use denote.Sharing.{ends, always}
-use denote.SharingLaws.{some_shr_laws, beside_shr_laws, ends_shr_laws, always_shr_laws}
 use denote.Param.{layout}
 use denote.Param.Laws.{Laws}
 use denote.Struct.Struct.{Struct}
@@ -41,6 +38,7 @@ use Rattle.lock_values.specs.Owning.{alone, among}
 use Rattle.lock_values.specs.Ownership.{PlaceId, Rec, PlacePhase, rec_coded, seat_coded, offset, content, Id, state, Inv, kept, place_shares}
 use Rattle.lock_values.specs.Ownership.PlacePhase.{read}
 use Rattle.lock_values.proofs.Fresh.{Fresh, fresh}
+use Rattle.lock_values.proofs.Opening.{place_laws}
 use Rattle.lock_values.specs.contracts.place.Place as C
 use Rattle.lock_values.proofs.place.Place.TheLaw.Statement.{statement}
 
@@ -148,6 +146,6 @@ pub shares : (T : RattleType) (L : Laws T) → statement T L
 shares T L = let m : Member = record { row = T; ty = layout T } in
     let same : T ≡ row_of m = λ i. record { Denot = T.Denot; mir = L.one i; written = T.written; reaches = T.reaches; lives = T.lives; own_val = T.own_val; exit = T.exit; coded = T.coded; shr_at = T.shr_at } in
     subst (λ (τ : List Ty). Law (C.the_written (record T { mir = τ }))) (sym L.one) (record {
-      shr_laws = λ d b o. some_shr_laws Id (kept (row_of m) view.the_row.coded (alone d.at) (among d.at) d.table b o) (λ t. let J : Fml = Inv view.the_row.coded (alone d.at) (among d.at) d.table (row_of m) b (o + offset (row_of m)) t in beside_shr_laws (ends t.0) (always J) (ends_shr_laws t.0) (always_shr_laws J));
+      shr_laws = λ d b o. place_laws (row_of m) view.the_row.coded (alone d.at) (among d.at) d.table b o;
       shares = λ M 𝓤 𝓛 d κ ts b o inc sp. made 𝓛 m d (subst (Lawful 𝓛) same (L.lawful 𝓛)) b o κ T.lives (subst (λ (R : RattleType). Shares 𝓛 R T.lives) same (L.shares 𝓛)) ts (Incl-trans inc (Incl-trans (meet_⊑_left (T.lives ++ []) _) (meet_⊑_left T.lives []))) sp;
     })

@@ -1,6 +1,9 @@
 -- `take_to_read` is a ghost update: the seat goes into the place, and what is shared of the value comes out.
-use Rattle.atomic_table.proofs.Names.{◌≡◌, ◌∙◌, ℕ, List, [], ◌∷◌, sym, refl, a_type, dcons, dnil, named, Val, vptr, inst_fn, SProp, emp, Lft, Fml, ftrue, fsep, flft, ‵, raw, ◌⊛◌, given, some, later, await, ◌$◌, ◌∵◌, !, qed, by, move, keep, drop, group, pick, split, split3, join, fsplit, fsplit3, fjoin, fjoin3, learn, use0, use1, rewrite, feq_i, addr, stop, no_more, and_then, returns, enter, alloc_all, pass_all, free_all, look_at, get, through, sets, agg, tables, yes, RattleType, owns, types_at, plain, Ptr, block_ptr, nothing, param, bounded, Stays, stay_dropped, walk_of, Goes-dropped, fact, fact_i, Coded, RefOf, mut_vals, mut_Tells, shr_vals, shr_Tells, opens, closes, stay_ref, Goes-ref, unhide, hidden_shr, lent_out, Tuple, shr_bor-open, obor_close, tokens_halve}
+use Rattle.atomic_table.proofs.Names.{◌≡◌, ◌∙◌, ℕ, List, [], ◌∷◌, sym, refl, a_type, dcons, dnil, named, Val, vptr, inst_fn, SProp, emp, Lft, Fml, ftrue, fsep, flft, ‵, raw, ◌⊛◌, given, some, later, await, ◌$◌, ◌∵◌, !, qed, by, move, keep, drop, group, pick, split, split3, join, fsplit, fsplit3, fjoin, fjoin3, learn, use0, use1, rewrite, feq_i, no_more, and_then, returns, enter, alloc_all, pass_all, free_all, look_at, get, sets, agg, tables, yes, RattleType, owns, types_at, plain, Ptr, block_ptr, nothing, param, bounded, Stays, stay_dropped, walk_of, Goes-dropped, fact, fact_i, Coded, RefOf, mut_vals, mut_Tells, shr_vals, shr_Tells, opens, closes, stay_ref, Goes-ref, unhide, hidden_shr, lent_out, Tuple, shr_bor-open, obor_close, tokens_halve}
 use denote.Param.Laws.{param_laws}
+use denote.Bor.{Bor}
+use denote.Memory.{shared_of}
+use denote.SharingLaws.{contraction}
 use denote.Signature.{named_lft}
 use Rattle.atomic_table.proofs.Walks.{proved, leaves}
 use Rattle.core.specs.contracts.marker.PhantomData as marker
@@ -14,7 +17,7 @@ use Rattle.lock_values.specs.Owning.{alone, among}
 use Rattle.lock_values.specs.Ownership.{PlaceId, Excluded, place_shares, seen_owned}
 use Rattle.lock_values.specs.contracts.place.Place as place
 use Rattle.lock_values.specs.contracts.place.Seen as seen
-use Rattle.lock_values.proofs.Fields.{open_val, SeenWords, seen_made}
+use Rattle.lock_values.proofs.Fields.{open_val, SeenWords, seen_made, near_laws}
 use Rattle.lock_values.proofs.Going.{opens_to_read}
 use Rattle.lock_values.specs.contracts.place.Place.take_to_read.{ended, clauses}
 use Rattle.lock_values.specs.contracts.place.Place.take_to_read.Key.{name as #self}
@@ -46,16 +49,17 @@ take_to_read_spec 𝓤 𝓛 𝓜 𝓡 wired X T Q P LX _ _ _ g d _ =
     split ! $ move ! (1 ∷ []) $ unhide ! $ fsplit ! $ move ! (0 ∷ 3 ∷ 1 ∷ []) $
     shr_bor-open ! tt (tokens_halve 𝓛 α) (λ s.
     move ! (7 ∷ 8 ∷ 9 ∷ []) $ opens ! tt Br b₂ o₂ (λ ts₂. move ! (1 ∷ []) $ fsplit ! $ rewrite ! 1 (λ (x : TableId). ‵ (badge_owns cv.code x k.id k.views)) (asked.1 ∙ sym asked.0) refl $ rewrite ! 1 (λ (xs : List View). ‵ (badge_owns cv.code z k.id xs)) asked.3.1 refl $
-    move ! (11 ∷ []) $ unhide ! $ rewrite ! 0 (λ (x : TableId). ‵ (place_shares R cv al am x (block_ptr b o) κ)) (sym asked.0) refl $
+    move ! (11 ∷ []) $ use1 𝓛 (‵ (hidden_shr Pl κ d₀ b o) ⊛ ‵ (hidden_shr Pl κ d₀ b o)) (contraction 𝓛 (shared_of Pl d₀ b o) (near_laws R d₀ b o) κ) $ split ! $
+    move ! (0 ∷ 2 ∷ 3 ∷ 4 ∷ 5 ∷ 6 ∷ 7 ∷ 8 ∷ 9 ∷ 10 ∷ 11 ∷ 12 ∷ 13 ∷ []) $ unhide ! $ rewrite ! 0 (λ (x : TableId). ‵ (place_shares R cv al am x (block_ptr b o) κ)) (sym asked.0) refl $
     move ! (0 ∷ 2 ∷ 9 ∷ 8 ∷ []) $ group ! 4 $
-    use1 𝓛 (later (some (λ (x : X.Denot). ‵ (seen_owned R cv al am z κ (block_ptr b o) v x)) ⊛ ‵ (flft α s))) (opens_to_read 𝓛 R cv al am z S (g.holds t.key) w p s asked.2 κ v b o (param_laws 0 X LX).shr_laws asked.3.2 k.id) $ await ! tt $ split ! $ pick ! (λ x.
+    use1 𝓛 (later (some (λ (x : X.Denot). ‵ (seen_owned R cv al am z κ (b, o) v x)) ⊛ ‵ (flft α s))) (opens_to_read 𝓛 R cv al am z S (g.holds t.key) w p s asked.2 κ v b o (param_laws 0 X LX).shr_laws asked.3.2 k.id) $ await ! tt $ split ! $ pick ! (λ x.
     move ! (7 ∷ 1 ∷ []) $ obor_close ! tt $ drop ! $
-    let k' : Br.Denot = record { marker = k.marker; table_id = k.table_id; id = k.id; views = [] } in let r : G.Denot = record { place = block_ptr b o; marker = record {}; of = d₀; view = v; value = x } in
+    let k' : Br.Denot = record { marker = k.marker; table_id = k.table_id; id = k.id; views = [] } in let at : Bor PlaceId = record { ref_ptr = (b, o); now = d₀ } in let r : G.Denot = record { place = at; of = d₀; view = v; value = x } in
     let Told : Type 0 = (d₀ ≡ d₀) × (k.views ≡ v ∷ []) × (k'.views ≡ []) in
     nothing ! $ move ! (3 ∷ 0 ∷ []) $ fjoin ! $ move ! (3 ∷ 0 ∷ 4 ∷ 5 ∷ 6 ∷ []) $ closes ! tt Br k' ts₂ b₂ o₂ $ feq_i ! (List Val) (vptr b₂ o₂ ∷ []) (vptr b₂ o₂ ∷ []) refl $ fjoin3 ! $
     nothing ! $ move ! (1 ∷ 0 ∷ []) $ fjoin ! $ nothing ! $ fjoin ! $ nothing ! $ fjoin ! $ move ! (1 ∷ 6 ∷ []) $ join ! $ move ! (2 ∷ 0 ∷ []) $ join ! $ move ! (4 ∷ 0 ∷ []) $ join ! $
-    rewrite ! 2 (λ (u : TableId). ‵ (seen_owned R cv al am u κ (block_ptr b o) v x)) asked.0 refl $ move ! (2 ∷ []) $
-    use0 𝓛 (‵ ((SeenWords ℓ R).own_val (block_ptr b o, (tt, tt)) (open_val (block_ptr b o) ∷ []))) (seen_made ℓ R 𝓛 (block_ptr b o)) $ fjoin ! $
-    sets ! (addr ! (through ! refl (stop !))) refl (tt, tt) $ sets ! (agg ! (no_more !)) refl (tt, tt) $ sets ! (agg ! (and_then ! (get ! refl) (and_then ! (get ! refl) (no_more !)))) refl (tt, (tt, (tt, tt))) $
+    rewrite ! 2 (λ (u : TableId). ‵ (seen_owned R cv al am u κ (b, o) v x)) asked.0 refl $ move ! (2 ∷ []) $
+    move ! (4 ∷ []) $ use1 𝓛 (‵ ((SeenWords ℓ R).own_val (at, tt) (open_val (b, o) ∷ []))) (seen_made ℓ R 𝓛 at) $ fjoin ! $
+    sets ! (agg ! (and_then ! (get ! refl) (no_more !))) refl (tt, (tt, tt)) $
     use0 𝓛 (raw (fact 𝓤 Told)) (fact_i 𝓤 Told (emp 𝓤) (refl, asked.3.1, refl)) $
-    returns ! (look_at ! 0 refl) $ free_all ! refl $ keep ! (2 ∷ 3 ∷ 1 ∷ 0 ∷ []) $ by ! (leaves 𝓛 En hs c y (open_val (block_ptr b o)) r (tt, (tt, (k', tt))) (tt, (tt, (tt, tt))))))))))
+    returns ! (look_at ! 0 refl) $ free_all ! refl $ keep ! (2 ∷ 3 ∷ 1 ∷ 0 ∷ []) $ by ! (leaves 𝓛 En hs c y (open_val (b, o)) r (tt, (tt, (k', tt))) (tt, (tt, (tt, tt))))))))))

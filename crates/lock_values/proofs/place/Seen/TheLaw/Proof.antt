@@ -6,19 +6,20 @@ use denote.RattleType.{RattleType}
 use denote.Ref.{NamedLft, ShrRef}
 use denote.Param.Laws.{Laws}
 use denote.Param.Shared.{copy_shared}
-use denote.Struct.Field.{RawPtr-field}
-use denote.Struct.Laws.{RawPtr-copy, field_copy}
+use denote.Struct.Field.{shr_ref_field}
+use denote.Struct.Laws.{shr_ref_copy}
 use denote.Struct.Lending.{of_Lends}
-use Rattle.core.specs.contracts.marker.PhantomData as P
+use Rattle.lock_values.specs.contracts.place.Place as P
 use Rattle.lock_values.specs.Owning.{alone, among}
 use Rattle.core_words.specs.contracts.views.View as view
 use Rattle.lock_values.specs.contracts.place.Seen as C
 use Rattle.lock_values.proofs.place.Seen.TheLaw.Statement.{statement}
+use Rattle.lock_values.proofs.Fields.{near_laws}
 use Rattle.lock_values.proofs.Opening.{seen_laws, Lends-reads}
 
 pub shares : (a : NamedLft) (T : RattleType) (L : Laws T) → statement a T L
-shares a T L = of_Lends (C.struct a T) (C.the_codes T.Denot T.coded (P.the_row (ShrRef a.mir a.lft T)).coded) (C.the_heap a.lft T) (C.the_lent a.lft T) (λ d p. seen_laws a.lft T L.shr_laws d.place d.value)
-    (copy_shared RawPtr-field RawPtr-copy, (copy_shared (P.the_field (ShrRef a.mir a.lft T)) (field_copy (P.the_type (ShrRef a.mir a.lft T)) tt), tt)) (λ M 𝓤 𝓛 d p.
+shares a T L = of_Lends (C.struct a T) (C.the_codes T.Denot T.coded (P.the_row T).coded) (C.the_heap a.lft T) (C.the_lent a.lft T) (λ d p. seen_laws a.lft T L.shr_laws d.place.ref_ptr d.value)
+    (copy_shared (shr_ref_field a (P.the_row T) tt) (shr_ref_copy a (P.the_row T) tt (near_laws T)), tt) (λ M 𝓤 𝓛 d p.
     let l = (C.the_row a T).lives in
-    let s = (ShrRef a.mir a.lft T).lives in
-    Lends-reads 𝓛 T view.the_row.coded (alone d.of.at) (among d.of.at) d.of.table a.lft d.view L.shr_laws l (Incl-trans (meet_⊑_right (T.lives ++ []) (((s ++ []) ++ []) ++ [])) (Incl-trans (meet_⊑_left ((s ++ []) ++ []) []) (Incl-trans (meet_⊑_left (s ++ []) []) (Incl-trans (meet_⊑_left s []) (meet_⊑_left a.lft T.lives))))) d.place d.value)
+    let s = (ShrRef a.mir a.lft (P.the_row T)).lives in
+    Lends-reads 𝓛 T view.the_row.coded (alone d.of.at) (among d.of.at) d.of.table a.lft d.view L.shr_laws l (Incl-trans (meet_⊑_right (T.lives ++ []) (s ++ [])) (Incl-trans (meet_⊑_left s []) (meet_⊑_left a.lft (P.the_row T).lives))) d.place.ref_ptr d.value)
