@@ -13,6 +13,7 @@ pub mod Promises
 pub mod Sections
 pub mod Owing
 pub mod ShownMutex
+pub mod LetsGo
 pub mod WaitersAside
 pub mod Rows
 pub mod SameCondvars

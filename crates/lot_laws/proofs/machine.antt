@@ -10,5 +10,6 @@ pub mod PlacesAlone
 pub mod InsideAwake
 pub mod Filled
 pub mod Sleepers
+pub mod StancesStay
 pub mod EntersOwn
 pub mod ReadsOwn

@@ -10,3 +10,4 @@ pub mod Fair
 pub mod Owing
 pub mod RowLaws
 pub mod Headline
+pub mod LeavesOthers

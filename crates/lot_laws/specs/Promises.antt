@@ -17,7 +17,7 @@ use Rattle.spec_locks.specs.Onces.{InProgress, IsRunning}
 use Rattle.spec_locks.specs.Codes.{word_by, parked_in, aside_in, has_aside, is_running}
 use Rattle.steps_rwlock.specs.RwLockSteps.{plus}
 use Rattle.steps_once.specs.OnceSteps.{marked}
-use Rattle.spec_locks.specs.Runs.{AreLockStates}
+use Rattle.spec_locks.specs.Runs.{AreLockStates, LetsGo, ShowsWaiters}
 use Rattle.spec_locks.specs.Sites.{Line, Main, Second, counts_some, has_readers}
 pub use Rattle.spec_locks.specs.Headline.{want_of, mutex_seen, WakesWaiters, IsOpenNow, HasOrPends, GoesFreely}
 use Rattle.spec_locks.specs.Purposes.{Purpose, Enters, Releases, Converts, Bumps, CallsOnce, Awaits, MayWait, Waits, Notifies}
@@ -226,6 +226,9 @@ pub record IsKept (w : State) : Type 0 where
   -- a sleeper that stands nowhere was handed the lock that it waited for, by a thread that is inside the
   -- section and wakes it
   pub handing : (t : ℕ) → IsAsleepNowhere w t → IsHandedOverIn w t
+  -- so each sleeper stands somewhere, or was handed its lock
+  pub sleeping : (t : ℕ) → act_of (place_at w t) ≡ Sleep
+      → ((l : ℕ) × (1 ≤ standing t (lock_state w l))) ⊎ IsHandedOverIn w t
   -- a waiter implies the parked bit while nobody is inside the section: else the thread inside has
   -- just brought it and is about to set the bit; or the thread that has ended a run of a `Once` and
   -- cleared the bit owes it its wake
@@ -237,3 +240,8 @@ pub record IsKept (w : State) : Type 0 where
   -- waits, and all wait with that one
   pub shown : (l : ℕ) → sort_at w l ≡ locks.Condvar → section_at w (key_of l Main) ≡ None
       → ShowsItsWaiters w l
+  -- and at any time it shows the mutex with which all wait; it shows none where nobody waits, or
+  -- while a notification of all is inside that is about to move them
+  pub shows : (l : ℕ) → sort_at w l ≡ locks.Condvar → ShowsWaiters (locks_of w) l
+  -- a wait that sleeps has released its mutex
+  pub let_go : (t : ℕ) → LetsGo (locks_of w) t

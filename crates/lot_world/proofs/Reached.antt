@@ -18,7 +18,7 @@ use Rattle.spec_locks.specs.Calls.{lock_in}
 use Rattle.spec_locks.specs.Kinds.{fits}
 use Rattle.spec_locks.specs.Locks.{LockState, Rights, opening_lock, rights_of}
 use Rattle.spec_locks.specs.Purposes.{MayWait, Purpose, Enters, Releases, Converts, Bumps, CallsOnce, Awaits, Waits, Notifies, mutex_purpose, purpose_of, rules_of, rwlock_purpose}
-use Rattle.spec_locks.specs.Runs.{CallState, Does, GoesOn, IsOpening, IsStep, LocksState, MayTurn, Stays, no_rights, rights_in}
+use Rattle.spec_locks.specs.Runs.{CallState, Does, GoesOn, IsOpening, LocksState, MayTurn, Stays, no_rights, rights_in}
 use Rattle.lot_steps.specs.declared.places.Place.TheVariants.{Idle}
 use Rattle.lot_machine.specs.Machine.{State, after, after_steps, opening, place_at, step_outcome}
 use Rattle.lot_machine.specs.Fits.{SameSize}
@@ -29,7 +29,7 @@ use Rattle.lot_laws.specs.Refinement.{call_state, lock_state, locks_of}
 use Rattle.lot_laws.specs.SitesOf.{IsWorld}
 use Rattle.lot_laws.proofs.hands.CountsPut.{opening_counted}
 use Rattle.lot_laws.proofs.machine.KindsStay.{after_kinds}
-use Rattle.lot_laws.proofs.calls.LockSteps.{after_step}
+use Rattle.lot_laws.proofs.calls.LockSteps.{IsTurn, after_step}
 use Rattle.lot_laws.proofs.sites.Opening.{opening_condvars, opening_steady}
 use Rattle.lot_laws.proofs.machine.Possible.{turner_there}
 use Rattle.lot_laws.proofs.promises.Promises.{opening_is}
@@ -105,7 +105,7 @@ module _ (w : State) (h : IsReached w) (s : Step) where
   waiters : OnlyWaitersStand (locks_of w)
   waiters u stands = kept.waiting u 0 stands
 
-  stepped : IsStep (locks_of w) s (step_outcome w s) (locks_of v)
+  stepped : IsTurn (locks_of w) s (step_outcome w s) (locks_of v)
   stepped = after_step w s h.world.shaped h.world.steady h.world.counted h.world.condvars
 
   -- tells what is kept, but for the world and its lock

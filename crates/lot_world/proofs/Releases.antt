@@ -12,7 +12,7 @@ use Rattle.steps_base.specs.declared.acts.Act.TheVariants as act
 use Rattle.std.specs.Prelude.{slice_index}
 use Rattle.spec_locks.specs.Locks.{LockState, Owns, one_if_thread, Rights, rights_of, standing, with_right}
 use Rattle.spec_locks.specs.Purposes.{MayWait, Purpose, Releases}
-use Rattle.spec_locks.specs.Runs.{AnswerHolds, Agrees, CallState, GoesOn, HasRight, IsStep, LocksState, MayBegin, Stays, going_on, new_call, no_rights, purpose_at, rights_in, unless_ended, woken}
+use Rattle.spec_locks.specs.Runs.{AnswerHolds, Agrees, CallState, GoesOn, HasRight, LocksState, MayBegin, Stays, going_on, new_call, no_rights, purpose_at, rights_in, unless_ended, woken}
 use Rattle.lot_steps.specs.declared.places.Place.{Place}
 use Rattle.lot_steps.specs.declared.places.Place.TheVariants.{Idle}
 use Rattle.lot_steps.specs.Steps.{act_of, is_idle}
@@ -24,7 +24,7 @@ use Rattle.lot_machine.proofs.Shape.{after_size}
 use Rattle.lot_laws.specs.Promises.{IsHandedOverIn, IsKept}
 use Rattle.lot_laws.specs.Refinement.{call_at, call_state, lock_state, locks_of, sleeps}
 use Rattle.lot_laws.proofs.machine.KindsStay.{after_kinds}
-use Rattle.lot_laws.proofs.calls.LockSteps.{after_step}
+use Rattle.lot_laws.proofs.calls.LockSteps.{IsTurn, after_step}
 use Rattle.lot_laws.proofs.alone.WorldRuns.{world_after, world_kept}
 use Rattle.lot_world.specs.Drained.{Drains}
 use Rattle.lot_world.specs.Few.{HasFew, IsFew, IsPlain, number}
@@ -148,7 +148,7 @@ module _ (w : State) (t : ℕ) (c : Call) (x : Want) (fair : Bool) (h : IsOrdere
   abbrev b : State
   b = after w (begin_of t c)
 
-  begun_step : IsStep (locks_of w) (begin_of t c) (step_outcome w (begin_of t c)) (locks_of b)
+  begun_step : IsTurn (locks_of w) (begin_of t c) (step_outcome w (begin_of t c)) (locks_of b)
   begun_step = after_step w (begin_of t c) h.world.shaped h.world.steady h.world.counted h.world.condvars
 
   pub begins : Stays (locks_of w) t (new_call (purpose_at (locks_of w) c) (rights_in (locks_of w) t)) (step_outcome w (begin_of t c)) (locks_of b)

@@ -14,7 +14,7 @@ use Rattle.spec_locks.specs.Locks.{Rights, rights_of}
 use Rattle.spec_locks.specs.Onces.{Start}
 use Rattle.spec_locks.specs.Locks.{LockCase, OfOnce}
 use Rattle.spec_locks.specs.Purposes.{Purpose, MayWait, Recall, Enters, Releases, Converts, Bumps, CallsOnce, Awaits, Waits, Notifies, IsMadeOf, lock_for}
-use Rattle.spec_locks.specs.Runs.{AtLock, Begins, CallState, Event, GoesOn, IsStep, LocksState, MayDo, MayHappen, Moves, Nothing, going_on, unless_ended, woken}
+use Rattle.spec_locks.specs.Runs.{AtLock, Begins, CallState, Event, GoesOn, LocksState, MayDo, MayHappen, Moves, Nothing, going_on, unless_ended, woken}
 use Rattle.lot_steps.specs.declared.places.Place.{Place}
 use Rattle.lot_steps.specs.declared.places.Place.TheVariants.{Idle, Mutex, RwLock, Once, Condvar, Semaphore}
 use Rattle.lot_steps.specs.Steps.{act_of, is_idle, profile}
@@ -27,7 +27,7 @@ use Rattle.lot_laws.specs.SitesOf.{key_of}
 use Rattle.lot_laws.specs.Promises.{IsKept}
 use Rattle.lot_laws.proofs.machine.Befallen.{others_keep_it}
 use Rattle.lot_laws.proofs.machine.KindsStay.{after_kinds}
-use Rattle.lot_laws.proofs.calls.LockSteps.{after_step}
+use Rattle.lot_laws.proofs.calls.LockSteps.{IsTurn, after_step}
 use Rattle.lot_laws.proofs.machine.Parts.{IsSingle}
 use Rattle.lot_laws.proofs.calls.OwnPlace.{gone_place}
 use Rattle.lot_laws.proofs.alone.Rests.{rests_alone}
@@ -100,7 +100,7 @@ module _ (w : State) (t : ℕ) (h : IsOrdered w) where
   abbrev v : State
   v = after w (go_of t)
 
-  pub stepped : IsStep (locks_of w) (go_of t) (step_outcome w (go_of t)) (locks_of v)
+  pub stepped : IsTurn (locks_of w) (go_of t) (step_outcome w (go_of t)) (locks_of v)
   stepped = after_step w (go_of t) h.world.shaped h.world.steady h.world.counted h.world.condvars
 
   pub same_lock : HasOneLock v

@@ -7,6 +7,7 @@ ghost use Rattle.lot_machine.specs.Machine.{opening, place_at, word_at, kind_at,
 ghost use Rattle.lot_machine.specs.Fits.{SameSize};
 ghost use Rattle.spec_locks.specs.Runs.{IsOpening, IsStep, IsRun, purpose_at};
 ghost use Rattle.spec_locks.specs.Headline.{Behaves, MayTell, Opens, full_by};
+ghost use Rattle.spec_locks.specs.Guarantees.{IsGuaranteed, StateHolds, StepHolds};
 ghost use Rattle.spec_locks.specs.UserLaws.{ReadersStayOut, RereadersPass, UpgradesLetNobodyWrite, DowngradesOwn};
 ghost use Rattle.spec_locks.specs.CondvarLaws.{NobodyWakesByItself};
 ghost use Rattle.lot_laws.specs.Refinement.{locks_of, ChangesOneThing};
@@ -84,6 +85,16 @@ impl<Q: Queues + Drop> World<Q> {
     pub fn step(&mut self, step: Step) -> Outcome
         ensures state { self.new ≡ after self.old step }
         ensures outcome { result ≡ step_outcome self.old step }
+
+        // The first page. In each state owners exclude each other. Where no thread has anything to
+        // do, nobody waits for a lock that is open; while one has, some thread can go on. And no
+        // waiter of a condition variable is left behind.
+        ensures stays { StateHolds (locks_of self.new) (filled_at self.new) }
+
+        // An answer is true, a thread that may go on does, and who is in no call owns what it
+        // owned. No other thread wakes or falls asleep by itself, and queues are first in, first
+        // out.
+        ensures holds { StepHolds (locks_of self.old) step result (locks_of self.new) }
 
         // One step of the headline: nobody is forgotten before it, nor behind it.
         ensures headline { Behaves (filled_at self.old) (locks_of self.old) (step ∷ [])
@@ -211,6 +222,13 @@ impl<Q: Queues + Drop> World<Q> {
     pub fn run(&mut self, steps: &[Step], outcomes: &mut Vec<Outcome>) -> Result<(), Stopped>
         ensures same_size { SameSize self.old self.new }
 
+        // The first page, from the opening state on: each state is safe, and each step holds what
+        // it promises of steps.
+        ensures guaranteed { (kinds : List Kind) (threads : ℕ) → self.old ≡ opening kinds threads
+            → OnOk result (Tells outcomes.old.items outcomes.new.items
+            (IsGuaranteed kinds threads steps.now)) }
+        ensures holds { OnOk result (StateHolds (locks_of self.new) (filled_at self.new)) }
+
         // The headline, from the opening state on: some run of the abstract locks tells these
         // outcomes, and in each of its states nobody is forgotten.
         ensures headline { (kinds : List Kind) (threads : ℕ) → self.old ≡ opening kinds threads
@@ -244,6 +262,10 @@ impl<Q: Queues + Drop> World<Q> {
             → self.old ≡ opening kinds threads
             → IfErr result (λ stopped. Tells outcomes.old.items outcomes.new.items
             (MayTell kinds threads (take stopped.taken steps.now))) }
+        ensures stopped_guaranteed { (kinds : List Kind) (threads : ℕ)
+            → self.old ≡ opening kinds threads
+            → IfErr result (λ stopped. Tells outcomes.old.items outcomes.new.items
+            (IsGuaranteed kinds threads (take stopped.taken steps.now))) }
         ensures stopped_behaves { IfErr result
             (λ stopped. Tells outcomes.old.items outcomes.new.items
             (λ told. Behaves (filled_at self.old) (locks_of self.old)

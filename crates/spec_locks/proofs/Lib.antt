@@ -26,3 +26,8 @@ pub mod Rights
 pub mod UserLaws
 pub mod HandsTaken
 pub mod NobodyWakes
+pub mod QueueOrder
+pub mod Guarantees
+pub mod Bypass
+pub mod Idle
+pub mod Reach

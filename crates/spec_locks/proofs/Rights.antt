@@ -12,7 +12,7 @@ use Rattle.spec_locks.specs.Locks.{LockState, Rules, Rights, LockCase, Enter, Pe
 abbrev pub rights_by : ℕ → ℕ → ℕ → ℕ → Rights
 rights_by e p u s = record { exclusive = e; pending = p; upgradable = u; shared = s }
 
-rights_are : (a b c d e f g h : ℕ) → a ≡ e → b ≡ f → c ≡ g → d ≡ h → rights_by a b c d ≡ rights_by e f g h
+pub rights_are : (a b c d e f g h : ℕ) → a ≡ e → b ≡ f → c ≡ g → d ≡ h → rights_by a b c d ≡ rights_by e f g h
 rights_are a b c d e f g h p q r s = λ i. rights_by (p i) (q i) (r i) (s i)
 
 -- one pending right less

@@ -274,7 +274,7 @@ module _ (r : Rules) (s : LockState) (t : ℕ) (c : IsLockState r s) (there : t 
   owns_on : (case : LockCase) (how : Patience) (gave_up : Option ℕ) → Needs r case s t → ConvertsBy x y how gave_up case → Owns s t x ⊎ Owns s t y
       → Owns (after_case r case s t) t x ⊎ Owns (after_case r case s t) t y
   owns_on (Convert a b) how gave_up n made h = inr (rw (← made.1) (lesser_owned a b n.1 (rw made.1 less)))
-  owns_on Settle how gave_up n made h = absurd (less made)
+  owns_on Settle how gave_up n made h = absurd (less made.0)
   owns_on Rollback how gave_up n made (inl own) = inl (fallen x n own)
   owns_on Rollback how gave_up n made (inr own) = inr (fallen y n own)
   owns_on Aside how gave_up n made h = h

@@ -1,21 +1,19 @@
--- The headline: what any list of steps comes to, said of the abstract locks alone. There is no word
--- here, no place of a call, and no queue of the machine.
-use Rattle.std.specs.Prelude.{ℕ, Bool, true, false, Option, Some, None, ◌||◌, ◌≡◌, ◌≢◌, ◌≤◌, ◌<◌, ◌⊎◌, List, [], ◌∷◌, length, get_or}
+-- The headline, the second page: what any list of steps comes to is a run of the abstract locks, and each waiter
+-- whose way nobody bars has a thread that looks after it. There is no word here, no place of a call, and no
+-- queue of the machine. The first page is Guarantees, which follows of this one.
+use Rattle.std.specs.Prelude.{ℕ, Bool, true, false, Option, Some, None, ◌≡◌, ◌≢◌, ◌≤◌, ◌<◌, ◌⊎◌, List, [], ◌∷◌}
 use Rattle.core_base.specs.declared.keys.Keys.TheVariants.{One}
 use Rattle.core_base.specs.declared.wants.Want.{Want}
 use Rattle.core_base.specs.declared.wants.Want.TheVariants.{Exclusive, Upgradable}
 use Rattle.core_base.specs.Keys.{key_of}
 use Rattle.spec_locks.specs.declared.calls.Step.{Step}
 use Rattle.spec_locks.specs.declared.kinds.Kind.{Kind}
-use Rattle.spec_locks.specs.declared.kinds.Kind.TheVariants as kind
 use Rattle.spec_locks.specs.declared.outcomes.Outcome.{Outcome}
-use Rattle.spec_locks.specs.Locks.{Sort, Semaphore, LockState, Rules, Taken, Owns, IsSomePending, readers, standing, times}
+use Rattle.spec_locks.specs.Locks.{Sort, Semaphore, Condvar, LockState, Rules, Taken, Owns, IsSomePending, readers, standing, times}
 use Rattle.spec_locks.specs.Purposes.{Purpose, Enters, Releases, Converts, Bumps, CallsOnce, Awaits, Waits, Notifies, Recall, Blank, Saw, SawOwner, HasMoved, WasMoved, WasNotified, MayWait}
-use Rattle.spec_locks.specs.Sites.{Line, Main, Second, IsOpen, counts_some, has_readers, is_full}
-use Rattle.spec_locks.specs.Runs.{LocksState, Status, rules_at, IsOpening, IsStep}
-
-abbrev pub sort_in : LocksState → ℕ → Sort
-sort_in w l = (rules_at w l).sort
+use Rattle.spec_locks.specs.Sites.{Line, Main, Second, IsOpen, counts_some, has_readers}
+use Rattle.spec_locks.specs.Runs.{LocksState, Status, AreLockStates, IsStep, LetsGo, ShowsWaiters, rules_at}
+pub use Rattle.spec_locks.specs.Guarantees.{IsUp, Opens, full_by, sort_in}
 
 -- ---------------------------------------------------------------- threads that wake the next waiter
 
@@ -70,13 +68,13 @@ IsDebtor w t l Main =
     × WakesWaiters (sort_in w l) (w.calls t).purpose (w.calls t).gave_up (w.calls t).recalls l)
     ⊎ (((w.calls t).retries ≡ Some l)
     × (counts_some (sort_in w l) (want_of (w.calls t).purpose) ≡ true))
-IsDebtor w t l Second = IsAtLine w t l Second
+IsDebtor w t l Second = IsAtLine w t l Second × ((w.calls t).purpose ≢ None)
 
 -- some thread is such a debtor, and is awake
 pub record IsLookedAfter (w : LocksState) (l : ℕ) (m : Line) : Type 0 where
   pub debtor : ℕ
   pub debt : IsDebtor w debtor l m
-  pub awake : (w.stances debtor).asleep ≡ false
+  pub awake : IsUp (w.stances debtor)
 
 -- ---------------------------------------------------------------- nobody is forgotten
 
@@ -116,34 +114,38 @@ pub record NobodyForgotten (w : LocksState) (was_full : ℕ → Bool) : Type 0 w
   -- a thread that was taken is in the hand of one that is inside a section of the lock
   pub in_hand : (t l : ℕ) (h : Taken) → (w.locks l).taken t ≡ Some h
       → (m : Line) × (w.inside (key_of l m) ≡ Some h.by)
-  -- and a thread that sleeps, but stands in no queue and is in no hand, was handed its lock
-  pub asleep : (t : ℕ) → (w.stances t).asleep ≡ true → ((l : ℕ) → standing t (w.locks l) ≡ 0)
-      → IsHandedOver w t
-  -- a thread that is inside a section goes on freely
-  pub inside : (t l : ℕ) (m : Line) → w.inside (key_of l m) ≡ Some t → GoesFreely (w.stances t)
+  -- and a thread that sleeps stands in a queue or aside, is in a hand, or was handed its lock
+  pub asleep : (t : ℕ) → (w.stances t).asleep ≡ true
+      → ((l : ℕ) × (1 ≤ standing t (w.locks l))) ⊎ IsHandedOver w t
+  -- a thread that is inside a section is in a call, and goes on freely
+  pub inside : (t l : ℕ) (m : Line) → w.inside (key_of l m) ≡ Some t
+      → ((w.calls t).purpose ≢ None) × GoesFreely (w.stances t)
 
--- ---------------------------------------------------------------- the headline
+-- ---------------------------------------------------------------- every state
 
--- the locks that were at their limit by then: those that were so before, and those that are so now
-abbrev pub full_by : (ℕ → Bool) → LocksState → ℕ → Bool
-full_by before w l = before l || is_full (rules_at w l) (w.locks l)
+-- in a state in which these locks were once at their limit
+pub record IsSafe (w : LocksState) (was_full : ℕ → Bool) : Type 0 where
+  -- owners exclude each other, and each thread stands once in a queue at most
+  pub exclude : AreLockStates w
+  pub waiters : NobodyForgotten w was_full
+  -- a condition variable shows the mutex with which all wait there
+  pub shown : (c : ℕ) → sort_in w c ≡ Condvar → ShowsWaiters w c
+  -- who stands in a queue, stands aside or is in a hand is in a call that waits for the lock
+  pub waiting : (t l : ℕ) → 1 ≤ standing t (w.locks l) → MayWait (w.calls t).purpose l
+  -- and whoever waits there and sleeps has let its mutex go
+  pub let_go : (t : ℕ) → LetsGo w t
+
+-- ---------------------------------------------------------------- every list of steps
 
 -- the steps with their outcomes lead from w to v by steps of the abstract locks, and in each state
--- on the way nobody is forgotten
+-- on the way owners exclude each other and nobody is forgotten
 abbrev pub Behaves : (ℕ → Bool) → LocksState → List Step → List Outcome → LocksState → Type 0
-Behaves full w [] [] v = NobodyForgotten w full × (v ≡ w)
+Behaves full w [] [] v = IsSafe w full × (v ≡ w)
 Behaves full w (s ∷ ss) (o ∷ os) v =
-    NobodyForgotten w full
+    IsSafe w full
     × ((u : LocksState) × IsStep w s o u × Behaves (full_by full u) u ss os v)
 Behaves full w [] (o ∷ os) v = ⊥
 Behaves full w (s ∷ ss) [] v = ⊥
-
--- so many threads over locks of these kinds, and nothing has happened yet
-pub record Opens (kinds : List Kind) (threads : ℕ) (w : LocksState) : Type 0 where
-  pub opening : IsOpening w
-  pub threads_there : w.threads ≡ threads
-  pub locks_there : w.size ≡ length kinds
-  pub kinds_there : (l : ℕ) → w.kinds l ≡ get_or kinds l kind.Mutex
 
 -- from their opening state so many threads, over locks of these kinds, may tell this of these steps
 pub record MayTell (kinds : List Kind) (threads : ℕ) (steps : List Step)

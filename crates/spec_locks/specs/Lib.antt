@@ -13,6 +13,9 @@ pub mod Permits
 pub mod Deeds
 pub mod UserLaws
 pub mod Headline
+pub mod Guarantees
+pub mod GuaranteeLaws
 pub mod Calls
 pub mod Kinds
 pub mod States
+pub mod Bypass

@@ -215,11 +215,11 @@ ReleasesBy x fair Wake = (fair ≡ false) ⊎ (x ≡ Upgradable)
 ReleasesBy x fair (HandOff y successor) = (fair ≡ true) × (y ≡ x)
 ReleasesBy x fair case = ⊥
 
--- a call that converts never lets its right go
+-- a call that converts never lets its right go; one that tries never waits for readers
 abbrev pub ConvertsBy : Want → Want → Patience → Option ℕ → LockCase → Type 0
 ConvertsBy x y p gave_up (Convert a b) = (a ≡ x) × (b ≡ y)
-ConvertsBy x y p gave_up Settle = y ≡ Exclusive
-ConvertsBy x y p gave_up Aside = y ≡ Exclusive
+ConvertsBy x y p gave_up Settle = (y ≡ Exclusive) × (p ≢ Try)
+ConvertsBy x y p gave_up Aside = (y ≡ Exclusive) × (p ≢ Try)
 ConvertsBy x y p gave_up Late = (p ≡ Timed) × (gave_up ≡ None)
 ConvertsBy x y p gave_up Rollback = gave_up ≢ None
 ConvertsBy x y p gave_up (TakePicked start) =

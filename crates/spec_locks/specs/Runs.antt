@@ -4,6 +4,8 @@
 use Rattle.std.specs.Prelude.{ℕ, Option, Some, None, ◌<◌, ◌≤◌, ◌≡◌, ◌≢◌, ◌⊎◌, List, [], ◌∷◌, ◌++◌, length, nat_le, Bool, true, false, if◌then◌else◌, ◌==◌, ◌*◌, ◌+◌, ◌↔◌}
 use Rattle.core_base.specs.declared.keys.Keys.{Keys}
 use Rattle.core_base.specs.declared.keys.Keys as keys
+use Rattle.core_base.specs.declared.keys.Line.TheVariants.{Main}
+use Rattle.core_base.specs.Keys.{key_of}
 use Rattle.core_base.specs.declared.wants.Want.{Want}
 use Rattle.core_base.specs.declared.wants.Want.TheVariants.{Exclusive}
 use Rattle.spec_locks.specs.declared.kinds.Kind.{Kind}
@@ -22,7 +24,7 @@ use Rattle.spec_locks.specs.Kinds.{is_plain_mutex}
 use Rattle.spec_locks.specs.Onces.{Phase, New, Poisoned, InProgress, Done, OnceCase, Start, Finish, Fail, Rest}
 use Rattle.spec_locks.specs.Condvars.{moved_of, taken_of, line_of}
 use Rattle.spec_locks.specs.Locks.{LockState, Queued, taking, Taken, LockCase, Enter, Pend, Settle, Leave, Park, Aside, Wake, HandOff, Late, OfOnce, Look, OfCondvar, SeeOwner, Condvar, Rules, Rights, Mutex, Needs, after_case, rights_of, with_right, without_right, Owns, IsFree, IsBlocked, count, readers, putting, standing, HasTakenNobody, IsLockState, left_behind, opening_lock, times}
-use Rattle.spec_locks.specs.Purposes.{Purpose, Enters, Releases, Converts, Bumps, CallsOnce, Awaits, Waits, Notifies, Recall, Blank, Saw, SawOwner, HasMoved, WasMoved, WasNotified, Patience, Patient, Timed, Try, lock_for, purpose_of, rules_of, IsMadeOf}
+use Rattle.spec_locks.specs.Purposes.{Purpose, Enters, Releases, Converts, Bumps, CallsOnce, Awaits, Waits, Notifies, Recall, Blank, Saw, SawOwner, HasMoved, WasMoved, WasNotified, Patience, Patient, Timed, Try, lock_for, purpose_of, rules_of, MayWait, IsMadeOf}
 
 -- the memory of a call: what its answer needs of earlier steps, and whether it tries again
 pub record CallState : Type 0 where
@@ -340,7 +342,7 @@ NotifiesAnswer w t c l false answer.TheVariants.Yes = HasMovedSome 1 c.recalls �
 NotifiesAnswer w t c l false answer.TheVariants.No = MovedNobody (w.locks l) c.recalls × Keeps w t c
 NotifiesAnswer w t c l true (answer.TheVariants.Number number) =
     ((number ≡ 0) × MovedNobody (w.locks l) c.recalls × Keeps w t c)
-    ⊎ (HasMovedSome number c.recalls × Keeps w t c)
+    ⊎ ((number ≢ 0) × HasMovedSome number c.recalls × Keeps w t c)
 NotifiesAnswer w t c l all a = ⊥
 
 -- an answer is true of the state in which it is given
@@ -526,8 +528,49 @@ pub record KeepsOrder (w : LocksState) (t : ℕ) (o : Outcome) (v : LocksState) 
   -- and to run its closure exactly where it does
   pub runs : o ≢ outcome.TheVariants.NotNow → is_closure o ≡ (v.stances t).in_closure
 
+-- ---------------------------------------------------------------- the other threads
+
+-- t may wake u: it has u in hand; or it is inside the section of the lock for which u waits, and u stands
+-- there no more, since it was handed it
+abbrev pub MayWake : LocksState → ℕ → ℕ → Type 0
+MayWake w t u =
+    (l : ℕ) × ((is_taken_by t ((w.locks l).taken u) ≡ true)
+    ⊎ ((standing u (w.locks l) ≡ 0) × (w.inside (key_of l Main) ≡ Some t)
+    × MayWait (w.calls u).purpose l))
+
+-- a wait that sleeps has released its mutex
+abbrev pub LetsGo : LocksState → ℕ → Type 0
+LetsGo w t =
+    (l m : ℕ) (timed : Bool) → (w.calls t).purpose ≡ Some (Waits l m timed)
+    → (w.stances t).asleep ≡ true → (w.calls t).released ≡ true
+
+-- a thread inside the section notifies all, and so is about to move whoever is there
+pub record IsBeingEmptied (w : LocksState) (c : ℕ) : Type 0 where
+  pub thread : ℕ
+  pub inside : w.inside (key_of c Main) ≡ Some thread
+  pub notifies : (w.calls thread).purpose ≡ Some (Notifies c true)
+
+-- a condition variable shows the mutex with which all wait there
+pub record ShowsWaiters (w : LocksState) (c : ℕ) : Type 0 where
+  pub one : (t m : ℕ) → (w.locks c).shown ≡ Some m → 1 ≤ times t (w.locks c).queue
+      → (timed : Bool) × ((w.calls t).purpose ≡ Some (Waits c m timed))
+  -- and where it shows none, nobody waits, but while a notification is about to move all
+  pub none : (w.locks c).shown ≡ None → ((w.locks c).queue ≡ []) ⊎ IsBeingEmptied w c
+  -- it shows none where nobody waits, unless a thread is inside its section
+  pub left : w.inside (key_of c Main) ≡ None → (w.locks c).queue ≡ [] → (w.locks c).shown ≡ None
+
+-- a step leaves the other threads as they are
+pub record LeavesOthers (w : LocksState) (t : ℕ) (v : LocksState) : Type 0 where
+  -- they stand as they did, but for a sleeper that this thread wakes
+  pub others : (u : ℕ) → u ≢ t → (v.stances u ≡ w.stances u)
+      ⊎ (((w.stances u).asleep ≡ true) × MayWake w t u)
+  -- nobody sleeps with a mutex that it is to release
+  pub lets_go : LetsGo v t
+  -- and no waiter of a condition variable is left behind
+  pub shown : (c : ℕ) → (rules_at v c).sort ≡ Condvar → ShowsWaiters v c
+
 abbrev pub IsStep : LocksState → Step → Outcome → LocksState → Type 0
-IsStep w s o v = KeepsOrder w s.thread o v × Turned w s.thread s.turn o v
+IsStep w s o v = KeepsOrder w s.thread o v × Turned w s.thread s.turn o v × LeavesOthers w s.thread v
 
 -- steps with their outcomes lead from one state to another
 abbrev pub IsRun : LocksState → List Step → List Outcome → LocksState → Type 0

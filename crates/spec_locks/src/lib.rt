@@ -8,6 +8,9 @@ pub mod outcomes;
 
 ghost use Rattle.spec_locks.specs.Laws.{CallsTakeSteps, FairReleasesHandOver, FreeMutexIsGot, OwnersExclude, PossibleTurnsAreTaken};
 ghost use Rattle.spec_locks.specs.UserLaws.{DowngradesOwn, OfEachStep, ReadersStayOut, RereadersPass, UpgradesLetNobodyWrite};
+ghost use Rattle.spec_locks.specs.Bypass.{BypassIsBounded};
+ghost use Rattle.spec_locks.specs.Guarantees.{QueuesKeepOrder};
+ghost use Rattle.spec_locks.specs.GuaranteeLaws.{HeadlineGuarantees, NoNotificationIsLost, NotificationsReach, OwnersExcludeInRuns, QuietWorldsRest, SafeStatesHold, SomebodyGoes};
 ghost use Rattle.spec_locks.specs.Picks.{PickersPickAsTheLocksSay};
 ghost use Rattle.spec_locks.specs.Sites.{EachDeedKeeps};
 ghost use Rattle.spec_locks.specs.Permits.{EachDeedKeepsPermits, PermitsAreLookedAfter};
@@ -131,4 +134,55 @@ pub fn downgrades_own()
 /// notifies its condition variable, while the waiter stood in that queue.
 pub fn nobody_wakes_by_itself()
     ensures { OfEachStep NobodyWakesByItself }
+{}
+
+/// Proves that in each state of each run owners exclude each other.
+pub fn owners_exclude_in_runs()
+    ensures { OwnersExcludeInRuns }
+{}
+
+/// Proves that no world is stuck: where a thread in a call is awake and runs no closure, some thread
+/// can go on.
+pub fn somebody_goes()
+    ensures { SomebodyGoes }
+{}
+
+/// Proves that no wake-up is lost: where no thread has anything to do, nobody waits for a lock that
+/// is open.
+pub fn quiet_worlds_rest()
+    ensures { QuietWorldsRest }
+{}
+
+/// Proves that no notification is lost: one answers that it has moved nobody only where nobody
+/// waits, all wait with another mutex than it has seen, or another is about to move them.
+pub fn no_notification_is_lost()
+    ensures { NoNotificationIsLost }
+{}
+
+/// Proves that each queue is first in, first out: those who stay keep their order, and who joins
+/// stands behind them.
+pub fn queues_keep_order()
+    ensures { OfEachStep QueuesKeepOrder }
+{}
+
+/// Proves that a state that is safe, as the second page says, holds what the first promises.
+pub fn safe_states_hold()
+    ensures { SafeStatesHold }
+{}
+
+/// Proves that the first page follows of the second.
+pub fn headline_guarantees()
+    ensures { HeadlineGuarantees }
+{}
+
+/// Proves that a mutex that is handed over lets nobody be overtaken: while a thread waits, it passes
+/// on no more often than there were threads ahead of that one and in a hand.
+pub fn bypass_is_bounded()
+    ensures { BypassIsBounded }
+{}
+
+/// Proves that a notification of all reaches whoever stood there as it began: by its answer they are
+/// moved, or another notification of all is about to move them.
+pub fn notifications_reach()
+    ensures { NotificationsReach }
 {}

@@ -98,7 +98,7 @@ module _ (v : CondvarSite) (r : Rules) (s : Site) (t c m : ℕ) (site : IsCondva
   answers false number true e stage few w call now recalls own = (subst (MovedNobody (w.locks c)) (sym recalls) (λ x. unshown stage (sym now ∙ x)), own)
   answers false number false e stage few w call now recalls own = ((m, recalls ∙ ap (HasMoved m) (one_alone number (few refl) e)), own)
   answers true number true e stage few w call now recalls own = inl (is_zero number e, subst (MovedNobody (w.locks c)) (sym recalls) (λ x. unshown stage (sym now ∙ x)), own)
-  answers true number false e stage few w call now recalls own = inr ((m, recalls), own)
+  answers true number false e stage few w call now recalls own = inr (some_number number e, (m, recalls), own)
 
   ends : (all any : Bool) (number : ℕ) → IsAt v t (Notify all m (notify.Leave any number)) → IsReached (Notify all m (notify.Leave any number)) → (s2 : LockState) → rights_of s2 t ≡ rights_of s.lock t
       → CallOfTwoFollows c m (Notify all m (notify.Leave any number)) Done (if any then AtLock m Wake else Nothing) v.shown s.lock s2 t (Over (notified all number))

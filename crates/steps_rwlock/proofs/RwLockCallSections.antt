@@ -132,7 +132,7 @@ module _ (r : Rules) (a : Admission) (s : Site) (t l : ℕ) (admits : Admits r a
     aside_up : (to : ParkAt) (told : Reply) (finds : Bool) → ParksBy how to → IsNotLate told → MayHearParking r s t Second finds to told → Tells (raiser (at.Aside to)) (park_deeds (Case Aside) Second to told) (park_next (raiser (at.Aside to)) Second to told)
     aside_up parking.Check (reply.Parked true) finds by now hears = record {
       one = tt;
-      may = ((refl, refl), tt);
+      may = ((refl, (refl, can_wait how by)), tt);
       comes = λ rights e i.
           record (call_by l (rwlock_profile a (raiser (at.Aside parking.Check))) rights) { former = λ k. goes l t s.lock (after_case r Aside s.lock t) (purpose.Upgrade how) (at.Aside parking.Check) (at.Aside (parking.Leave true)) rights e refl k i; retries = parked_ends again i };
     }

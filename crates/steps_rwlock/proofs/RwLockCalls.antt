@@ -382,18 +382,18 @@ module _ (r : Rules) (a : Admission) (s : Site) (t l : ℕ) (op : Op) (admits : 
             → call_by l (rwlock_profile a (of (purpose.Upgrade how) false at.Look)) (rights_where l upgraded t rights) ≡ by_case (Convert Upgradable Exclusive) (raiser at.GiveWay) rights
         next_call rights same = λ i. record (call_by l (rwlock_profile a (raiser at.GiveWay)) rights) { former = λ k. same k i; retries = (ap (λ b. if b then Some l else None) (sym first)) i }
 
-    pub settles_up : (to : RwLockAt) → IsCounting how again to → s.role t ≡ rwlock_role (raiser to) → (b : Bool) → Tells (raiser to) (if b then Case Settle ∷ End ∷ [] else []) (if b then next.End (entered how) else stays (raiser to) (at.Count v))
-    settles_up at.Look is role true = let own : s.lock.pending ≡ Some (record { thread = t; falls_back = true }) = h.held t (Pends true) (ap (λ (d : Role). d.claims) role) in
-        record { one = tt; may = ((refl, refl), tt); comes = λ w rights ruled now e has. raises l t s.lock (after_case r Settle s.lock t) (purpose.Upgrade how) at.Look r w rights ruled now e has (by_case Settle (raiser at.Look) rights) refl Upgradable Exclusive how (ap (with_right Upgradable) (settled s.lock t true own (alone how again true own))) }
-    settles_up (at.Count was) is role true = let own : s.lock.pending ≡ Some (record { thread = t; falls_back = true }) = h.held t (Pends true) (ap (λ (d : Role). d.claims) role) in
-        record { one = tt; may = ((refl, refl), tt); comes = λ w rights ruled now e has. raises l t s.lock (after_case r Settle s.lock t) (purpose.Upgrade how) (at.Count was) r w rights ruled now e has (by_case Settle (raiser (at.Count was)) rights) refl Upgradable Exclusive how (ap (with_right Upgradable) (settled s.lock t true own (alone how again true own))) }
-    settles_up at.Look is role false = record { one = tt; may = tt; comes = λ rights e. recalls _ _ (goes l t s.lock s.lock (purpose.Upgrade how) at.Look (at.Count v) rights e refl) }
-    settles_up (at.Count was) is role false = record { one = tt; may = tt; comes = λ rights e. recalls _ _ (goes l t s.lock s.lock (purpose.Upgrade how) (at.Count was) (at.Count v) rights e refl) }
-    settles_up to is role b = absurd is
+    pub settles_up : how ≢ Try → (to : RwLockAt) → IsCounting how again to → s.role t ≡ rwlock_role (raiser to) → (b : Bool) → Tells (raiser to) (if b then Case Settle ∷ End ∷ [] else []) (if b then next.End (entered how) else stays (raiser to) (at.Count v))
+    settles_up more at.Look is role true = let own : s.lock.pending ≡ Some (record { thread = t; falls_back = true }) = h.held t (Pends true) (ap (λ (d : Role). d.claims) role) in
+        record { one = tt; may = ((refl, (refl, more)), tt); comes = λ w rights ruled now e has. raises l t s.lock (after_case r Settle s.lock t) (purpose.Upgrade how) at.Look r w rights ruled now e has (by_case Settle (raiser at.Look) rights) refl Upgradable Exclusive how (ap (with_right Upgradable) (settled s.lock t true own (alone how again true own))) }
+    settles_up more (at.Count was) is role true = let own : s.lock.pending ≡ Some (record { thread = t; falls_back = true }) = h.held t (Pends true) (ap (λ (d : Role). d.claims) role) in
+        record { one = tt; may = ((refl, (refl, more)), tt); comes = λ w rights ruled now e has. raises l t s.lock (after_case r Settle s.lock t) (purpose.Upgrade how) (at.Count was) r w rights ruled now e has (by_case Settle (raiser (at.Count was)) rights) refl Upgradable Exclusive how (ap (with_right Upgradable) (settled s.lock t true own (alone how again true own))) }
+    settles_up more at.Look is role false = record { one = tt; may = tt; comes = λ rights e. recalls _ _ (goes l t s.lock s.lock (purpose.Upgrade how) at.Look (at.Count v) rights e refl) }
+    settles_up more (at.Count was) is role false = record { one = tt; may = tt; comes = λ rights e. recalls _ _ (goes l t s.lock s.lock (purpose.Upgrade how) (at.Count was) (at.Count v) rights e refl) }
+    settles_up more to is role b = absurd is
 
-    sets_aside_up : (was : ℕ) → s.role t ≡ rwlock_role (raiser (at.Count was)) → (b : Bool) → Tells (raiser (at.Count was)) (if b then Mark Second ∷ [] else counted_deeds v) (if b then stays (raiser (at.Count was)) at.Marked else after_count (raiser (at.Count was)) v)
-    sets_aside_up was role true = record { one = tt; may = tt; comes = λ rights e. recalls _ _ (goes l t s.lock s.lock (purpose.Upgrade how) (at.Count was) at.Marked rights e refl) }
-    sets_aside_up was role false = settles_up (at.Count was) tt role (count_in v == 0)
+    sets_aside_up : how ≢ Try → (was : ℕ) → s.role t ≡ rwlock_role (raiser (at.Count was)) → (b : Bool) → Tells (raiser (at.Count was)) (if b then Mark Second ∷ [] else counted_deeds v) (if b then stays (raiser (at.Count was)) at.Marked else after_count (raiser (at.Count was)) v)
+    sets_aside_up more was role true = record { one = tt; may = tt; comes = λ rights e. recalls _ _ (goes l t s.lock s.lock (purpose.Upgrade how) (at.Count was) at.Marked rights e refl) }
+    sets_aside_up more was role false = settles_up more (at.Count was) tt role (count_in v == 0)
 
     falls : HasDeadline how → s.role t ≡ rwlock_role (raiser at.RollBack) → (b : Bool) → Tells (raiser at.RollBack) (does_and_wakes b (Case Rollback)) (if b then stays (raiser at.RollBack) (wakes Main) else next.End No)
     falls late role b = by_bit b
@@ -421,8 +421,8 @@ module _ (r : Rules) (a : Admission) (s : Site) (t l : ℕ) (op : Op) (admits : 
         unwoken Patient f m = f
         unwoken Timed f m = f
         unwoken Try f m = absurd (m refl)
-    waits_up at.Look pending fits role e more = settles_up at.Look tt role (count_in v == 0)
-    waits_up (at.Count was) pending fits role e more = sets_aside_up was role (v == was)
+    waits_up at.Look pending fits role e more = settles_up more at.Look tt role (count_in v == 0)
+    waits_up (at.Count was) pending fits role e more = sets_aside_up more was role (v == was)
     waits_up (at.Aside parking.Clear) pending fits role e more = record { one = tt; may = tt; comes = λ rights e. recalls _ _ (goes l t s.lock s.lock (purpose.Upgrade how) (at.Aside parking.Clear) (at.Aside parking.GiveUp) rights e refl) }
     waits_up at.RollBack pending fits role e more = falls (deadline how fits) role (has_parked v)
       where

@@ -3,7 +3,7 @@ use Rattle.std.proofs.Common.{ℕ, zero, suc, ◌≡◌, ◌≤◌, List, [], �
 use Rattle.spec_locks.specs.declared.calls.Step.{Step}
 use Rattle.spec_locks.specs.declared.outcomes.Outcome.{Outcome}
 use Rattle.spec_locks.specs.declared.outcomes.Outcome as outcome
-use Rattle.spec_locks.specs.Runs.{IsRun, LocksState}
+use Rattle.spec_locks.specs.Runs.{IsRun, IsStep, LocksState}
 use Rattle.spec_locks.specs.UserLaws.{OfEachStep}
 use Rattle.lot_machine.specs.Machine.{State, after, step_outcome, after_steps, step_outcomes, alone_after, go_of, solo}
 use Rattle.lot_laws.specs.Promises.{IsKept}
@@ -18,6 +18,7 @@ use Rattle.lot_laws.proofs.machine.Filled.{filled_after}
 use Rattle.lot_laws.proofs.calls.LockSteps.{after_step}
 use Rattle.lot_laws.proofs.machine.OneChange.{one_thing, touches}
 use Rattle.lot_laws.specs.SitesOf.{IsWorld}
+use Rattle.lot_laws.proofs.promises.LeavesOthers.{leaves_others}
 use Rattle.lot_laws.proofs.promises.Promises.{kept}
 use Rattle.lot_laws.proofs.once.Runs.{running_after}
 use Rattle.lot_machine.proofs.Shape.{after_shaped}
@@ -37,9 +38,14 @@ world_after w s h = record {
 pub world_kept : (w : State) → IsWorld w → IsKept w
 world_kept w h = kept w h.steady h.condvars h.running
 
+-- each step is one of the abstract locks
+pub step_is : (w : State) (s : Step) → IsWorld w → IsStep (locks_of w) s (step_outcome w s) (locks_of (after w s))
+step_is w s h = let turned = after_step w s h.shaped h.steady h.counted h.condvars in
+    (turned.0, turned.1, leaves_others w s (world_kept w h) (world_kept (after w s) (world_after w s h)))
+
 pub world_step : (w : State) (s : Step) → IsWorld w → IsWorldStep w s (step_outcome w s) (after w s)
 world_step w s h = record {
-  refines = after_step w s h.shaped h.steady h.counted h.condvars;
+  refines = step_is w s h;
   one_thing = one_thing w s h.steady;
   touches = touches w s;
   filled = filled_after w s (world_after w s h);
@@ -53,7 +59,7 @@ world_step w s h = record {
 -- a fact of each step of the abstract locks is one of each step of the world
 pub of_step : {law : LocksState → LocksState → Type 0} → OfEachStep law → (w : State) (s : Step) → IsWorld w
     → law (locks_of w) (locks_of (after w s))
-of_step each w s h = each (locks_of w) (locks_of (after w s)) s (step_outcome w s) (world_kept w h).state (after_step w s h.shaped h.steady h.counted h.condvars)
+of_step each w s h = each (locks_of w) (locks_of (after w s)) s (step_outcome w s) (world_kept w h).state (step_is w s h)
 
 pub world_run : (w : State) (ss : List Step) → IsWorld w → IsWorldRun w ss (step_outcomes w ss) (after_steps w ss)
 world_run w [] h = refl

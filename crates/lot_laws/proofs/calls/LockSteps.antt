@@ -48,6 +48,7 @@ use Rattle.spec_locks.specs.declared.calls.Turn.{Turn}
 use Rattle.spec_locks.specs.declared.calls.Turn as turn
 use Rattle.spec_locks.specs.declared.calls.Step.{Step}
 use Rattle.spec_locks.specs.Calls.{lock_in}
+use Rattle.spec_locks.specs.declared.outcomes.Outcome.{Outcome}
 use Rattle.spec_locks.specs.declared.outcomes.Outcome as outcome
 use Rattle.steps_mutex.specs.declared.lock.Entry.TheVariants as entries
 use Rattle.steps_mutex.specs.declared.places.MutexPlace.TheVariants.{Lock, TryLock, Unlock, UnlockFair, Bump, HandOff}
@@ -67,7 +68,7 @@ use Rattle.lot_laws.proofs.calls.Closures.{closes_one, runs_one}
 use Rattle.lot_laws.specs.SitesOf.{AreCondvars, AreCounted, FitsCondvar, IsInductive, FitsItsLock, rules_in}
 use Rattle.spec_locks.specs.Sites.{Main}
 use Rattle.spec_locks.specs.Locks.{LockCase, Wake, Leave as GivesBack, HandOff as HandsOff, Rights, rights_of, standing}
-use Rattle.spec_locks.specs.Runs.{GoesOn, Stays, Looks, IsOfMutex, Does, SectionChanges, MayTurn, Turned, IsStep}
+use Rattle.spec_locks.specs.Runs.{GoesOn, KeepsOrder, LocksState, Stays, Looks, IsOfMutex, Does, SectionChanges, MayTurn, Turned}
 use Rattle.lot_laws.specs.Refinement.{taken_at, call_state, locks_of, sleeps}
 use Rattle.lot_laws.proofs.machine.KindsStay.{after_kinds}
 use Rattle.lot_laws.proofs.condvar.Begins.{condvar_is_late}
@@ -386,8 +387,12 @@ module _ (w : State) (t : ℕ) (shape : IsWellFormed w) (steady : IsInductive w)
   turned_runs turn.TheVariants.Ok can = closing_runs true can
   turned_runs turn.TheVariants.Err can = closing_runs false can
 
+-- a step, but for what it leaves of the other threads
+abbrev pub IsTurn : LocksState → Step → Outcome → LocksState → Type 0
+IsTurn w s o v = KeepsOrder w s.thread o v × Turned w s.thread s.turn o v
+
 pub after_step : (w : State) (s : Step) → IsWellFormed w → IsInductive w → AreCounted w → AreCondvars w
-    → IsStep (locks_of w) s (step_outcome w s) (locks_of (after w s))
+    → IsTurn (locks_of w) s (step_outcome w s) (locks_of (after w s))
 after_step w s shape steady counted condvars = (record { threads = size.threads; size = size.locks; kinds = after_kinds w s; sections = sections (is_possible w s) refl; told = told (is_possible w s) refl; runs = runs (is_possible w s) refl }, either (is_possible w s) refl)
   where
     size : SameSize w (after w s)

@@ -18,7 +18,7 @@ use Rattle.spec_locks.specs.Condvars.{moved_of}
 use Rattle.spec_locks.specs.Locks as locks
 use Rattle.spec_locks.specs.Locks.{LockCase, LockState, Rules, SeeOwner, Wake, after_case, left_behind}
 use Rattle.spec_locks.specs.Purposes.{Purpose, Enters, Releases, Converts, Bumps, CallsOnce, Awaits, Waits, Notifies, IsMadeOf, NotifiesBeside, Recall, lock_for, rules_of}
-use Rattle.spec_locks.specs.Runs.{AtLock, CallState, Event, GoesOn, IsStep, LocksState, MayDo, MayHappen, MayTurn, Does, Moves, Nothing, SectionChanges, going_on, joined_by, locks_after, rules_at, unless_ended, woken}
+use Rattle.spec_locks.specs.Runs.{AtLock, CallState, Event, GoesOn, LocksState, MayDo, MayHappen, MayTurn, Does, Moves, Nothing, SectionChanges, going_on, joined_by, locks_after, rules_at, unless_ended, woken}
 use Rattle.spec_locks.specs.Sites.{Main}
 use Rattle.lot_machine.specs.Fits.{IsWellFormed}
 use Rattle.lot_machine.specs.Machine.{State, after, kind_at, place_at, section_at, step_outcome}
@@ -31,7 +31,7 @@ use Rattle.lot_laws.proofs.calls.Events.{rights}
 use Rattle.lot_laws.proofs.condvar.Rows.{names_of, names_unmoved, stage_of, stage_unmoved}
 use Rattle.lot_laws.proofs.machine.Parts.{IsSingle, put_here, same, single_location}
 use Rattle.lot_laws.proofs.machine.KindsStay.{after_kinds}
-use Rattle.lot_laws.proofs.calls.LockSteps.{after_step}
+use Rattle.lot_laws.proofs.calls.LockSteps.{IsTurn, after_step}
 use Rattle.lot_laws.proofs.promises.PlacePromises.{row_promises}
 use Rattle.lot_laws.proofs.calls.SingleCalls.{call_here}
 use Rattle.lot_laws.proofs.alone.Answers.{purpose_stays, woken_purpose}
@@ -207,7 +207,7 @@ module _ (w : State) (s : Step) (shape : IsWellFormed w) (steady : IsInductive w
   steady_then : IsInductive v
   steady_then = after_steady w s shape steady counted condvars
 
-  step : IsStep (locks_of w) s (step_outcome w s) (locks_of v)
+  step : IsTurn (locks_of w) s (step_outcome w s) (locks_of v)
   step = after_step w s shape steady counted condvars
 
   -- its call is of the lock that it was of, or it has ended

@@ -27,7 +27,7 @@ use Rattle.spec_locks.specs.Locks as locks
 use Rattle.spec_locks.specs.Locks.{Rules, putting, times}
 use Rattle.spec_locks.specs.Purposes.{rules_of}
 use Rattle.spec_locks.proofs.CondvarKeeps.{condvar_deed_keeps}
-use Rattle.spec_locks.specs.Runs.{IsStep, SectionChanges}
+use Rattle.spec_locks.specs.Runs.{SectionChanges}
 use Rattle.spec_locks.specs.Sites.{Line, Main, has_readers}
 use Rattle.lot_machine.specs.Fits.{IsWellFormed, PlaceFits}
 use Rattle.lot_machine.specs.Machine.{State, after, can_do, can_turn, is_free_under, is_open_to, is_possible, kind_at, place_at, put, queue_at, reply_to, runs_closure, section_at, state_after_going, state_after_late_on, state_after_look, state_after_turn, step_outcome}
@@ -46,7 +46,7 @@ use Rattle.lot_laws.proofs.condvar.SameCondvars.{same_condvar}
 use Rattle.lot_laws.proofs.condvar.MachineFollows.{goes_led}
 use Rattle.lot_laws.proofs.machine.Parts.{calls_none, put_other, same}
 use Rattle.lot_laws.proofs.machine.KindsStay.{after_kinds}
-use Rattle.lot_laws.proofs.calls.LockSteps.{after_step}
+use Rattle.lot_laws.proofs.calls.LockSteps.{IsTurn, after_step}
 use Rattle.lot_laws.proofs.calls.Looking.{looking_steady}
 use Rattle.lot_laws.proofs.sites.OneStep.{queued_times}
 use Rattle.lot_laws.proofs.sites.StandsMoved.{mutex_rules}
@@ -134,7 +134,7 @@ module _ (w : State) (s : Step) (shape : IsWellFormed w) (steady : IsInductive w
   says u ne = (others_keep_it (λ p. stage_of p l) (stage_unmoved l) w s u ne, others_keep_it (λ p. names_of p l) (names_unmoved l) w s u ne)
 
   section : SectionChanges (section_at w (key_of l Main)) t (section_at v (key_of l Main))
-  section = let step : IsStep (locks_of w) s (step_outcome w s) (locks_of v) = after_step w s shape steady counted condvars in step.0.sections (key_of l Main)
+  section = let step : IsTurn (locks_of w) s (step_outcome w s) (locks_of v) = after_step w s shape steady counted condvars in step.0.sections (key_of l Main)
 
   -- from where it looks
   looks : (q : Place) → t < length w.places → looking (place_at w t) ≡ Some q → v ≡ state_after_look w t (Some q)

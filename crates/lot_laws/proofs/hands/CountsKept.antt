@@ -44,7 +44,7 @@ use Rattle.lot_steps.specs.declared.places.Place.{Place}
 use Rattle.lot_steps.specs.declared.places.Place.TheVariants.{Idle, Mutex, RwLock, Once, Condvar, Semaphore}
 use Rattle.lot_steps.specs.Steps.{act_of, first_place, late_key, looking, next_place, rwlock_goes}
 use Rattle.spec_locks.specs.Locks.{LockState}
-use Rattle.spec_locks.specs.Runs.{IsStep, Turned}
+use Rattle.spec_locks.specs.Runs.{Turned}
 use Rattle.lot_machine.specs.Machine.{State, after, can_turn, go_reply, held, is_possible, kind_at, place_at, put, state_after_act, state_after_hand_over_by, state_after_late_on, state_after_look, state_after_operation, state_after_turn, step_outcome, word_at}
 use Rattle.lot_machine.specs.Fits.{IsWellFormed}
 use Rattle.lot_machine.proofs.Shape.{after_size, both}
@@ -59,7 +59,7 @@ use Rattle.lot_laws.proofs.machine.Parts.{same}
 use Rattle.lot_laws.proofs.hands.Cases.{others_hold}
 use Rattle.lot_laws.proofs.hands.Counted.{counted_stays, same_hand}
 use Rattle.lot_laws.proofs.hands.InHand.{wanted_of}
-use Rattle.lot_laws.proofs.calls.LockSteps.{after_step}
+use Rattle.lot_laws.proofs.calls.LockSteps.{IsTurn, after_step}
 use Rattle.lot_laws.proofs.calls.Looking.{closing_here, looking_steady, set_keeps}
 use Rattle.lot_laws.proofs.sites.TurnsKept.{after_steady}
 
@@ -295,7 +295,7 @@ counted_after w s shape steady counted condvars = are_counted (after w s) each
     behind : IsInductive (after w s)
     behind = after_steady w s shape steady counted condvars
 
-    stepped : IsStep (locks_of w) s (step_outcome w s) (locks_of (after w s))
+    stepped : IsTurn (locks_of w) s (step_outcome w s) (locks_of (after w s))
     stepped = after_step w s shape steady counted condvars
 
     own : (b : Bool) → is_possible w s ≡ b → IsInductive (if b then state_after_turn w s.thread s.turn else w)

@@ -16,7 +16,7 @@ use Rattle.spec_locks.specs.Locks.{LockCase, LockState, OfOnce, Rules, left_behi
 use Rattle.spec_locks.proofs.OnceLaws.{phase_by}
 use Rattle.spec_locks.specs.Onces.{Phase, OnceCase, New, InProgress, Start, Finish, Fail, Rest, TakeAll}
 use Rattle.spec_locks.specs.Purposes.{Purpose, Enters, Releases, Converts, Bumps, CallsOnce, Awaits, Waits, Notifies}
-use Rattle.spec_locks.specs.Runs.{AtLock, Begins, CallState, Closes, Does, Event, GoesOn, IsStep, LocksState, MayDo, MayHappen, MayTurn, Nothing, calls_after, is_closure, locks_after, rules_at, state_told, Moves, joined_by}
+use Rattle.spec_locks.specs.Runs.{AtLock, Begins, CallState, Closes, Does, Event, GoesOn, LocksState, MayDo, MayHappen, MayTurn, Nothing, calls_after, is_closure, locks_after, rules_at, state_told, Moves, joined_by}
 use Rattle.spec_locks.specs.declared.calls.OnceCall.{OnceCall}
 use Rattle.steps_mutex.specs.declared.places.MutexPlace.{MutexPlace}
 use Rattle.steps_mutex.specs.MutexSteps.{mutex_next}
@@ -44,7 +44,7 @@ use Rattle.lot_laws.specs.SitesOf.{AreCondvars, AreCounted, IsInductive, RunsInC
 use Rattle.lot_laws.proofs.machine.Befallen.{others_keep_it}
 use Rattle.lot_laws.proofs.calls.Closures.{call_runs_none, course_runs_none, mutex_runs_none, runs_one, condvar_runs_none, semaphore_runs_none}
 use Rattle.lot_laws.proofs.machine.Parts.{put_here, put_other, same}
-use Rattle.lot_laws.proofs.calls.LockSteps.{after_step}
+use Rattle.lot_laws.proofs.calls.LockSteps.{IsTurn, after_step}
 use Rattle.lot_laws.proofs.promises.Promises.{opening_state}
 use Rattle.lot_laws.proofs.promises.RowPromises.{Befalls}
 
@@ -248,7 +248,7 @@ starts_only w t l forced (Some (Bumps k x)) may = absurd (elim (may.0.1) [ inl g
 
 -- ---------------------------------------------------------------- a step
 
-module _ (w : State) (s : Step) (o : Outcome) (step : IsStep (locks_of w) s o (locks_of (after w s)))
+module _ (w : State) (s : Step) (o : Outcome) (step : IsTurn (locks_of w) s o (locks_of (after w s)))
     (running : RunsInClosures w) where
   abbrev v : State
   v = after w s

@@ -45,7 +45,7 @@ use Rattle.std.specs.Prelude.{nat_lt}
 use Rattle.spec_locks.specs.Onces.{OnceCase, Start, Finish, Fail, Rest, TakeAll}
 use Rattle.spec_locks.specs.Locks.{LockState, Rules, Taken, LockCase, Enter, Pend, Settle, Leave, Convert, Park, Aside, TakeFirst, TakeAside, TakePicked, Wake, HandOff as HandsLockOff, Late, Rollback, OfOnce, Needs, IsTaken, HasTakenNobody, IsLockState, keep_from, first_thread, Owns}
 use Rattle.spec_locks.specs.Locks as locks
-use Rattle.spec_locks.specs.Runs.{CallState, AreLockStates, IsStep, MayMove, rules_at, locks_after, Moves}
+use Rattle.spec_locks.specs.Runs.{CallState, AreLockStates, MayMove, rules_at, locks_after, Moves}
 use Rattle.lot_laws.specs.Refinement.{call_at, lock_state, locks_of, call_state, owner_at}
 use Rattle.lot_laws.specs.Fair.{OwnerReleasesFairly, IsFairRelease, OwnsOn, HandsMutexOver, LetsMutexGo, IsFair, IsToGiveAt, GivesUpFairly, FairReleaseComesTo as GivesFrom}
 use Rattle.steps_rwlock_fair.specs.FairGives.{IsToGive}
@@ -70,7 +70,7 @@ use Rattle.lot_laws.proofs.sites.SitesKept.{unshared_at, single_at, alone_at, mu
 use Rattle.steps_base.specs.declared.owners.Owners.{Owners}
 use Rattle.steps_base.specs.Owners.{with_exclusive}
 use Rattle.lot_laws.proofs.calls.Events.{rights}
-use Rattle.lot_laws.proofs.calls.LockSteps.{after_step}
+use Rattle.lot_laws.proofs.calls.LockSteps.{IsTurn, after_step}
 use Rattle.spec_locks.specs.Purposes.{Purpose, Enters, Releases, Converts, Bumps, CallsOnce, Awaits, Waits, Notifies, lock_for}
 use Rattle.spec_locks.specs.Sites.{has_readers}
 use Rattle.steps_rwlock_fair.specs.FairProfiles.{call_profile}
@@ -454,7 +454,7 @@ is_fair w s shape steady counted condvars = record {
     all : AreLockStates (locks_of w)
     all l = (steady.sites.site l).state
 
-    step : IsStep (locks_of w) s (step_outcome w s) (locks_of (after w s))
+    step : IsTurn (locks_of w) s (step_outcome w s) (locks_of (after w s))
     step = after_step w s shape steady counted condvars
 
     -- a thread that a notification takes is in its own hand

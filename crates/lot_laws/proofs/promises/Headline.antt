@@ -1,5 +1,5 @@
 -- The promises of the world say the headline: in the words of the abstract locks alone, nobody is forgotten.
-use Rattle.std.proofs.Common.{ℕ, true, false, List, [], ◌∷◌, ◌++◌, ◌≡◌, ◌≢◌, inl, inr, refl, sym, ap, subst}
+use Rattle.std.proofs.Common.{ℕ, Bool, true, false, Option, Some, None, ◌≤◌, ◌⊎◌, List, [], ◌∷◌, ◌++◌, ◌≡◌, ◌≢◌, inl, inr, refl, sym, ap, subst}
 use Rattle.std.proofs.lemmas.List.{length-replicate, length-map}
 use Rattle.core_base.specs.declared.keys.Line.{Line}
 use Rattle.core_base.specs.declared.keys.Line.TheVariants.{Main, Second}
@@ -8,19 +8,28 @@ use Rattle.spec_locks.specs.declared.calls.Step.{Step}
 use Rattle.spec_locks.specs.declared.outcomes.Outcome.{Outcome}
 use Rattle.steps_base.specs.declared.acts.Act.{Act}
 use Rattle.steps_base.specs.declared.acts.Act.TheVariants.{Sleep}
-use Rattle.lot_steps.specs.declared.places.Place.TheVariants.{Idle}
-use Rattle.lot_steps.specs.Steps.{act_of}
+use Rattle.lot_steps.specs.declared.places.Place.{Place}
+use Rattle.lot_steps.specs.declared.places.Place.TheVariants.{Idle, Once}
+use Rattle.lot_steps.specs.Steps.{act_of, beside_of, called_lock, line_owed, profile, profile_beside, retries_on}
+use Rattle.steps_once.specs.declared.places.OncePlace.TheVariants.{Run}
+use Rattle.steps_once.specs.declared.run.RunAt.TheVariants as running
+use Rattle.lot_machine.proofs.Closures.{runs_one}
+use Rattle.lot_laws.proofs.machine.Parts.{calls_none}
+use Rattle.spec_locks.specs.Locks.{Rights, rights_of, standing}
 use Rattle.spec_locks.specs.Headline as headline
 use Rattle.spec_locks.specs.Headline.{MayTell, Behaves, Opens}
 use Rattle.lot_machine.specs.Machine.{State, opening, unlocked, place_at, filled_at, after, step_outcome, after_steps, step_outcomes}
-use Rattle.lot_laws.specs.Refinement.{locks_of, sleeps, keys_entered}
+use Rattle.lot_laws.specs.Refinement.{call_at, call_on_both, call_state, keys_entered, lock_state, locks_of, runs_closure, sleeps}
 use Rattle.lot_laws.specs.Promises.{IsKept, IsDebtorOf, IsLookedAfterIn, IsHandedOverIn}
 use Rattle.lot_laws.specs.Owing.{Owes}
 use Rattle.lot_laws.specs.SitesOf.{IsWorld}
 use Rattle.lot_laws.specs.WorldRuns.{IsWorldRun, Tells}
 use Rattle.lot_laws.proofs.sites.Opening.{kind_is, unfilled_0}
 use Rattle.lot_laws.proofs.promises.Promises.{opening_is}
-use Rattle.lot_laws.proofs.alone.WorldRuns.{world_kept, world_run, world_step}
+use Rattle.lot_laws.proofs.alone.WorldRuns.{step_is, world_after, world_kept, world_run, world_step}
+use Rattle.spec_locks.specs.Guarantees.{IsGuaranteed, StateHolds, StepHolds}
+use Rattle.spec_locks.specs.Headline.{IsSafe}
+use Rattle.spec_locks.proofs.Guarantees.{headline_guarantees, safe_holds, step_holds}
 
 awake_is : (a : Act) → a ≢ Sleep → sleeps a ≡ false
 awake_is Sleep n = absurd (n refl)
@@ -32,21 +41,57 @@ asleep_is a h = absurd cc
 
 -- ---------------------------------------------------------------- a state
 
+-- a thread that isn't idle is in a call
+in_call : (p : Place) (r : ℕ → Rights) → (p ≡ Idle → ⊥) → (call_state p r).purpose ≢ None
+in_call p r busy = by_lock (beside_of p) (called_lock p) refl
+  where
+    by_lock : (m o : Option ℕ) → called_lock p ≡ o → (call_on_both m o (profile p) (profile_beside p) r).purpose ≢ None
+    by_lock None (Some l) e = λ h. cc
+    by_lock (Some m) (Some l) e = λ h. cc
+    by_lock m None e = absurd (busy (calls_none p e))
+
+-- an idle one owes nothing
+idle_owes : (l : ℕ) (m : Line) → line_owed Idle l ≡ Some m → ⊥
+idle_owes l m e = absurd cc
+
+-- a thread that runs its closure tries no lock again
+closure_tries : (p : Place) (l : ℕ) → runs_closure (act_of p) ≡ true → retries_on p l ≡ true → ⊥
+closure_tries p l runs again = let one = runs_one p runs in absurd (let e : retries_on (Once one.lock (Run one.forced (running.Closure one.poisoned))) l ≡ true = subst (λ q. retries_on q l ≡ true) one.is again in cc)
+
 module _ (w : State) (k : IsKept w) where
+  busy : (t l : ℕ) (m : Line) → Owes w t l m → (call_at w t).purpose ≢ None
+  busy t l m owes = in_call (place_at w t) (λ l. rights_of (lock_state w l) t) (λ idle. idle_owes l m (subst (λ p. line_owed p l ≡ Some m) idle owes))
+
   -- a thread that owes a wake is inside the section, or enters it next
   at_line : (t l : ℕ) (m : Line) → Owes w t l m → headline.IsAtLine (locks_of w) t l m
   at_line t l m owes = elim (k.owing t l m owes) [ inl inside ↦ inl inside | inr goes ↦ inr (ap keys_entered goes.0) ]
 
+  -- and runs no closure
+  no_closure : (t l : ℕ) (m : Line) → Owes w t l m → runs_closure (act_of (place_at w t)) ≡ false
+  no_closure t l m owes = elim (k.owing t l m owes) [ inl inside ↦ (k.inside_goes t l m inside).1 | inr goes ↦ ap runs_closure goes.0 ]
+
+  tries_open : (t l : ℕ) → (call_at w t).retries ≡ Some l → runs_closure (act_of (place_at w t)) ≡ false
+  tries_open t l again = by_act (runs_closure (act_of (place_at w t))) refl
+    where
+      by_act : (b : Bool) → runs_closure (act_of (place_at w t)) ≡ b → runs_closure (act_of (place_at w t)) ≡ false
+      by_act false e = e
+      by_act true e = absurd (closure_tries (place_at w t) l e ((k.retrying t l).1 again))
+
   debt_so : (t l : ℕ) (m : Line) → IsDebtorOf w t l m → headline.IsDebtor (locks_of w) t l m
   debt_so t l Main (inl owes) = inl (at_line t l Main owes.0, owes.1)
   debt_so t l Main (inr again) = inr again
-  debt_so t l Second owes = at_line t l Second owes
+  debt_so t l Second owes = (at_line t l Second owes, busy t l Second owes)
+
+  debt_awake : (t l : ℕ) (m : Line) → IsDebtorOf w t l m → runs_closure (act_of (place_at w t)) ≡ false
+  debt_awake t l Main (inl owes) = no_closure t l Main owes.0
+  debt_awake t l Main (inr again) = tries_open t l again.0
+  debt_awake t l Second owes = no_closure t l Second owes
 
   looked_after : (l : ℕ) (m : Line) → IsLookedAfterIn w l m → headline.IsLookedAfter (locks_of w) l m
   looked_after l m h = record {
     debtor = h.debtor;
     debt = debt_so h.debtor l m h.debt;
-    awake = awake_is (act_of (place_at w h.debtor)) h.awake;
+    awake = (awake_is (act_of (place_at w h.debtor)) h.awake, debt_awake h.debtor l m h.debt);
   }
 
   handed_over : (t : ℕ) → IsHandedOverIn w t → headline.IsHandedOver (locks_of w) t
@@ -59,22 +104,34 @@ module _ (w : State) (k : IsKept w) where
     inside = h.inside;
   }
 
+  sleeps_so : (t : ℕ) → act_of (place_at w t) ≡ Sleep → ((l : ℕ) × (1 ≤ standing t (lock_state w l))) ⊎ headline.IsHandedOver (locks_of w) t
+  sleeps_so t asleep = elim (k.sleeping t asleep) [ inl some ↦ inl some | inr handed ↦ inr (handed_over t handed) ]
+
   pub nobody_forgotten : headline.NobodyForgotten (locks_of w) (filled_at w)
   nobody_forgotten = record {
     main = λ t l waits way full. looked_after l Main (k.nobody_forgotten.main t l waits way full);
     second = λ l aside alone. looked_after l Second (k.nobody_forgotten.second l aside alone);
     in_hand = k.in_hand;
-    asleep = λ t sleeping nowhere. handed_over t (k.handing t (asleep_is (act_of (place_at w t)) sleeping, nowhere));
-    inside = k.inside_goes;
+    asleep = λ t sleeping. sleeps_so t (asleep_is (act_of (place_at w t)) sleeping);
+    inside = λ t l m inside. (busy t l m (k.inside_owes t l m inside), k.inside_goes t l m inside);
+  }
+
+  pub is_safe : headline.IsSafe (locks_of w) (filled_at w)
+  is_safe = record {
+    exclude = k.state;
+    waiters = nobody_forgotten;
+    shown = k.shows;
+    waiting = k.waiting;
+    let_go = k.let_go;
   }
 
 -- ---------------------------------------------------------------- a run
 
 pub run_behaves : (steps : List Step) (told : List Outcome) (w v : State) → IsKept w → IsWorldRun w steps told v
     → Behaves (filled_at w) (locks_of w) steps told (locks_of v)
-run_behaves [] [] w v k run = (nobody_forgotten w k, ap locks_of run)
+run_behaves [] [] w v k run = (is_safe w k, ap locks_of run)
 run_behaves (s ∷ ss) (o ∷ os) w v k run = (
-  nobody_forgotten w k,
+  is_safe w k,
   (locks_of run.0, run.1.refines, subst (λ full. Behaves full (locks_of run.0) ss os (locks_of v)) (λ i l. run.1.filled l i) (run_behaves ss os run.0 v run.1.kept run.2)),
 )
 run_behaves [] (o ∷ os) w v k run = absurd run
@@ -118,3 +175,24 @@ module _ (w v : State) (ss : List Step) (before now : List Outcome) (h : IsWorld
   pub tells_headline : (kinds : List Kind) (threads : ℕ) → w ≡ opening kinds threads
       → Tells before now (λ told. MayTell kinds threads ss told)
   tells_headline kinds threads is = (step_outcomes w ss, answers, run_tells kinds threads ss (step_outcomes w ss) w v is (world_kept w h) runs)
+
+  pub tells_guaranteed : (kinds : List Kind) (threads : ℕ) → w ≡ opening kinds threads
+      → Tells before now (λ told. IsGuaranteed kinds threads ss told)
+  tells_guaranteed kinds threads is = let h = tells_headline kinds threads is in (h.0, h.1, headline_guarantees kinds threads ss h.0 h.2)
+
+-- ---------------------------------------------------------------- what follows of a state that is safe
+
+pub safe_now : (w : State) → IsWorld w → IsSafe (locks_of w) (filled_at w)
+safe_now w h = is_safe w (world_kept w h)
+
+pub safe_after : (ss : List Step) (w v : State) → IsWorld w → v ≡ after_steps w ss → IsSafe (locks_of v) (filled_at v)
+safe_after [] w v h led = subst (λ u. IsSafe (locks_of u) (filled_at u)) (sym led) (safe_now w h)
+safe_after (s ∷ ss) w v h led = safe_after ss (after w s) v (world_after w s h) led
+
+-- a state that is led to holds what the first page promises
+pub holds_after : (ss : List Step) (w v : State) → IsWorld w → v ≡ after_steps w ss → StateHolds (locks_of v) (filled_at v)
+holds_after ss w v h led = safe_holds (locks_of v) (filled_at v) (safe_after ss w v h led)
+
+-- each step holds what the first page promises
+pub step_guaranteed : (w : State) (s : Step) → IsWorld w → StepHolds (locks_of w) s (step_outcome w s) (locks_of (after w s))
+step_guaranteed w s h = step_holds (locks_of w) (locks_of (after w s)) s (step_outcome w s) (filled_at w) (safe_now w h) (step_is w s h)

@@ -31,7 +31,8 @@ use Rattle.lot_laws.proofs.sites.Held.{held}
 use Rattle.lot_laws.proofs.machine.InsideAwake.{inside_goes}
 use Rattle.lot_laws.proofs.calls.LooksOnce.{looks}
 use Rattle.lot_laws.proofs.calls.TriesPass.{tries_go}
-use Rattle.lot_laws.proofs.condvar.ShownMutex.{shows_waiters}
+use Rattle.lot_laws.proofs.condvar.ShownMutex.{shows_always, shows_waiters}
+use Rattle.lot_laws.proofs.condvar.LetsGo.{lets_go}
 use Rattle.lot_laws.proofs.promises.SitesPromise.{not_empty}
 use Rattle.lot_laws.proofs.promises.RowPromises.{CallsOneLock, IsDebtorIn, HasClaimed, HasDebt, WasHanded, RowLooksAfter}
 use Rattle.lot_laws.proofs.promises.PlacePromises.{row_promises, location_own, role_own, owed_own, owes_own, calls_one_lock, role_calls, location_calls, stands_waiting, waiting_stands, call_own, inside_own}
@@ -337,7 +338,7 @@ module _ (w : State) (steady : IsInductive w) where
 
   -- ---------------------------------------------------------------- a thread that was handed a lock
 
-  module _ (t : ℕ) (asleep : act_of (place_at w t) ≡ Sleep) (nowhere : (l : ℕ) → standing t (lock_state w l) ≡ 0) where
+  module _ (t : ℕ) (asleep : act_of (place_at w t) ≡ Sleep) where
     -- tells what it has, by what it claims
     claimed_at : (l : ℕ) → called_lock (place_at w t) ≡ Some l → (x : Want)
         → HasClaimed (sort_at w l) (profile (place_at w t)).role.claims x → HasOrPends (sort_at w l) (lock_state w l) t x
@@ -394,21 +395,28 @@ module _ (w : State) (steady : IsInductive w) where
           wakes = told.1;
         }
 
-    handed_over : IsHandedOverIn w t
-    handed_over = elim (single_or_two (place_at w t)) [ inl single ↦ by_lock single (called_lock (place_at w t)) refl | inr two ↦ by_two two ]
+    sleeping : ((l : ℕ) × (1 ≤ standing t (lock_state w l))) ⊎ IsHandedOverIn w t
+    sleeping = elim (single_or_two (place_at w t)) [ inl single ↦ by_lock single (called_lock (place_at w t)) refl | inr two ↦ by_two two ]
       where
-        by_two : IsOfTwo (place_at w t) → IsHandedOverIn w t
+        by_two : IsOfTwo (place_at w t) → ((l : ℕ) × (1 ≤ standing t (lock_state w l))) ⊎ IsHandedOverIn w t
         by_two two = let fits = fits_two w t steady two in elim (two_asleep two.lock two.at (condvar_apart w two.lock two.at fits) fits.reached (sym (ap act_of two.is) ∙ asleep)) [
-          | inl some ↦ absurd (let stood = there_stands w t steady some.0 (subst (λ p. StandsAt p some.0) (sym two.is) some.1) in let none = nowhere some.0 in omega arith)
-          | inr handed ↦ handed_beside two handed
+          | inl some ↦ inl (some.0, there_stands w t steady some.0 (subst (λ p. StandsAt p some.0) (sym two.is) some.1))
+          | inr handed ↦ inr (handed_beside two handed)
         ]
 
-        by_lock : IsSingle (place_at w t) → (o : Option ℕ) → called_lock (place_at w t) ≡ o → IsHandedOverIn w t
+        by_lock : IsSingle (place_at w t) → (o : Option ℕ) → called_lock (place_at w t) ≡ o → ((l : ℕ) × (1 ≤ standing t (lock_state w l))) ⊎ IsHandedOverIn w t
         by_lock single None e = absurd (let f : Rest ≡ Sleep = sym (ap act_of (calls_none (place_at w t) e)) ∙ asleep in cc)
         by_lock single (Some l) e = elim ((row_promises w t steady l single e).asleep asleep) [
-          | inl waiting ↦ absurd (let some = waiting_stands w t steady l e waiting in let none = nowhere l in omega arith)
-          | inr handed ↦ handed_at l single e handed
+          | inl waiting ↦ inl (l, waiting_stands w t steady l e waiting)
+          | inr handed ↦ inr (handed_at l single e handed)
         ]
+
+  -- one that stands nowhere was handed its lock
+  handed_over : (t : ℕ) → act_of (place_at w t) ≡ Sleep → ((l : ℕ) → standing t (lock_state w l) ≡ 0) → IsHandedOverIn w t
+  handed_over t asleep nowhere = elim (sleeping t asleep) [
+    | inl some ↦ absurd (let stood : 1 ≤ standing t (lock_state w some.0) = some.1 in let none = nowhere some.0 in omega arith)
+    | inr handed ↦ handed
+  ]
 
   pub kept : AreCondvars w → RunsInClosures w → IsKept w
   kept condvars running = record {
@@ -432,12 +440,15 @@ module _ (w : State) (steady : IsInductive w) where
     inside_goes = inside_goes w steady;
     tries = tries_go w steady;
     handing = λ t h. handed_over t h.0 h.1;
+    sleeping = sleeping;
     parked = λ t l waiting. elim ((steady.sites.site l).parked (not_empty t (lock_state w l).queue waiting)) [
       | inl set ↦ inl set
       | inr sets ↦ inr (sets.0, is_to_mark w steady sets.0 l sets.1)
     ];
     aside_parked = λ l. (steady.sites.site l).aside_parked;
     shown = λ l sort free. shows_waiters w l (condvars l sort) free;
+    shows = λ l sort. shows_always w l (condvars l sort);
+    let_go = lets_go w steady;
   }
 
 -- ---------------------------------------------------------------- the opening state, of the abstract locks

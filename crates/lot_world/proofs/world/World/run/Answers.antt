@@ -7,7 +7,7 @@ use Rattle.std.proofs.lemmas.List.{take_all}
 use Rattle.std.proofs.Common.{◌≡◌, ap, ◌∙◌, ◌++◌, arith}
 use Rattle.lot_machine.specs.Machine.{after_steps, step_outcomes}
 use Rattle.lot_laws.proofs.alone.WorldRuns.{tells_run, tells_refines, world_kept}
-use Rattle.lot_laws.proofs.promises.Headline.{tells_behaves, tells_headline}
+use Rattle.lot_laws.proofs.promises.Headline.{holds_after, tells_behaves, tells_guaranteed, tells_headline}
 use Rattle.lot_world.proofs.world.World.run.Goals as goal
 
 pub loop-taken-preserved : goal.loop-taken-preserved
@@ -87,3 +87,24 @@ returns-then-is_err-clause-stopped_headline g c kinds threads is =
     let before : IsWorld c.self.inside.machine = c.self.invariant in
     let holds : IsWorld c.args.self.now = rw (← c.self.view_is) before in
     rw c.reserve.ensures.items (tells_headline c.args.self.now c.loop-taken.self (take c.loop-taken.taken c.args.steps.now) c.args.outcomes.now.items c.loop-taken.outcomes.items holds c.loop-taken.invariant.state c.loop-taken.invariant.outcomes kinds threads is)
+
+pub returns-clause-guaranteed : goal.returns-clause-guaranteed
+returns-clause-guaranteed g c kinds threads is =
+    let before : IsWorld c.self.inside.machine = c.self.invariant in
+    let holds : IsWorld c.args.self.now = rw (← c.self.view_is) before in
+    let all : take c.loop-taken.taken c.args.steps.now ≡ c.args.steps.now = take_all c.loop-taken.taken c.args.steps.now (omega arith) in
+    tells_guaranteed c.args.self.now c.loop-taken.self c.args.steps.now c.args.outcomes.now.items c.loop-taken.outcomes.items holds
+    (c.loop-taken.invariant.state ∙ ap (after_steps c.args.self.now) all) (c.loop-taken.invariant.outcomes ∙ ap (λ ss. c.args.outcomes.now.items ++ step_outcomes c.args.self.now ss) all) kinds threads is
+
+pub returns-clause-holds : goal.returns-clause-holds
+returns-clause-holds g c =
+    let before : IsWorld c.self.inside.machine = c.self.invariant in
+    let holds : IsWorld c.args.self.now = rw (← c.self.view_is) before in
+    let all : take c.loop-taken.taken c.args.steps.now ≡ c.args.steps.now = take_all c.loop-taken.taken c.args.steps.now (omega arith) in
+    holds_after c.args.steps.now c.args.self.now c.loop-taken.self holds (c.loop-taken.invariant.state ∙ ap (after_steps c.args.self.now) all)
+
+pub returns-then-is_err-clause-stopped_guaranteed : goal.returns-then-is_err-clause-stopped_guaranteed
+returns-then-is_err-clause-stopped_guaranteed g c kinds threads is =
+    let before : IsWorld c.self.inside.machine = c.self.invariant in
+    let holds : IsWorld c.args.self.now = rw (← c.self.view_is) before in
+    rw c.reserve.ensures.items (tells_guaranteed c.args.self.now c.loop-taken.self (take c.loop-taken.taken c.args.steps.now) c.args.outcomes.now.items c.loop-taken.outcomes.items holds c.loop-taken.invariant.state c.loop-taken.invariant.outcomes kinds threads is)

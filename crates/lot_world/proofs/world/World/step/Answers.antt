@@ -1,12 +1,13 @@
 use Rattle.lot_laws.specs.SitesOf.{IsWorld}
 use Rattle.lot_machine.proofs.Shape.{after_size}
-use Rattle.lot_laws.proofs.calls.LockSteps.{after_step}
 use Rattle.lot_laws.proofs.machine.OneChange.{one_thing, touches}
 use Rattle.lot_laws.proofs.promises.Fair.{is_fair}
 use Rattle.spec_locks.proofs.NobodyWakes.{nobody_wakes}
 use Rattle.lot_laws.proofs.promises.Owing.{owes_since}
-use Rattle.lot_laws.proofs.promises.Headline.{step_behaves}
-use Rattle.lot_laws.proofs.alone.WorldRuns.{of_step, world_after, world_step}
+use Rattle.std.proofs.Common.{[], ◌∷◌, refl}
+use Rattle.lot_machine.specs.Machine.{after}
+use Rattle.lot_laws.proofs.promises.Headline.{holds_after, step_behaves, step_guaranteed}
+use Rattle.lot_laws.proofs.alone.WorldRuns.{of_step, step_is, world_after, world_step}
 use Rattle.spec_locks.proofs.UserLaws.{readers_stay_out, rereaders_pass, upgrades_hold, downgrades_hold}
 use Rattle.lot_world.proofs.world.World.step.Goals as goal
 
@@ -17,7 +18,7 @@ invariant_of-self g c =
 pub returns-clause-refines : goal.returns-clause-refines
 returns-clause-refines g c =
     let before : IsWorld c.self.inside.machine = c.self.invariant in
-    rw (c.turn.ensures.outcome, c.turn.ensures.state, ← c.self.view_is) (after_step c.self.inside.machine c.args.step before.shaped before.steady before.counted before.condvars)
+    rw (c.turn.ensures.outcome, c.turn.ensures.state, ← c.self.view_is) (step_is c.self.inside.machine c.args.step before)
 
 pub returns-clause-one_thing : goal.returns-clause-one_thing
 returns-clause-one_thing g c =
@@ -89,3 +90,13 @@ pub returns-clause-sleepers : goal.returns-clause-sleepers
 returns-clause-sleepers g c =
     let before : IsWorld c.self.inside.machine = c.self.invariant in
     rw (c.turn.ensures.state, ← c.self.view_is) ((world_step c.self.inside.machine c.args.step before).sleepers)
+
+pub returns-clause-stays : goal.returns-clause-stays
+returns-clause-stays g c =
+    let before : IsWorld c.self.inside.machine = c.self.invariant in
+    rw c.turn.ensures.state (holds_after (c.args.step ∷ []) c.self.inside.machine (after c.self.inside.machine c.args.step) before refl)
+
+pub returns-clause-holds : goal.returns-clause-holds
+returns-clause-holds g c =
+    let before : IsWorld c.self.inside.machine = c.self.invariant in
+    rw (c.turn.ensures.outcome, c.turn.ensures.state, ← c.self.view_is) (step_guaranteed c.self.inside.machine c.args.step before)
