@@ -11,3 +11,4 @@ pub mod Shown
 pub mod Shape
 pub mod DebtLemmas
 pub mod CopyLemmas
+pub mod RestoreLemmas

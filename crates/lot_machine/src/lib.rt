@@ -6,6 +6,7 @@ pub mod hands;
 pub mod laws;
 pub mod locks;
 pub mod machine;
+pub mod parts;
 pub mod shares;
 pub mod views;
 
@@ -13,4 +14,5 @@ pub use debts::{Debt, DebtBook, Debts};
 pub use hands::Successor;
 pub use locks::Lock;
 pub use machine::Machine;
+pub use parts::Parts;
 pub use views::{OwnersOf, QueueOf};

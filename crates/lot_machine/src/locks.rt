@@ -14,7 +14,7 @@ const READER: u64 = 16;
 ///
 /// The mutex that a condition variable shows, and the permits that are left of a semaphore, are
 /// what the word says.
-#[derive(Clone, Copy)]
+#[derive(Clone, Copy, PartialEq, Eq)]
 pub struct Lock {
     pub kind: Kind,
     pub word: u64,

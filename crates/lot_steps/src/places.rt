@@ -14,7 +14,7 @@ use steps_rwlock_fair::{RwLockCallPlace, call_right};
 use steps_semaphore::{SemaphorePlace, semaphore_right};
 
 /// Where a thread stands: in no call, or in a call of a lock, with all that the call remembers.
-#[derive(Clone, Copy)]
+#[derive(Clone, Copy, PartialEq, Eq)]
 pub enum Place {
     Idle,
     Mutex {

@@ -13,7 +13,7 @@ pub mod world;
 
 pub use drainable::is_drainable;
 pub use draining::schedule;
-pub use lot_machine::{Debt, DebtBook, Debts, Lock, OwnersOf, QueueOf};
+pub use lot_machine::{Debt, DebtBook, Debts, Lock, OwnersOf, Parts, QueueOf};
 pub use lot_steps::{
     Act, Check, Entry, Fallback, HandOffAt, LockAt, MutexPlace, Next, Op, Owner, Owners, Pending,
     Phase, Place, Reply, UnlockAt, Wakes, Whom, advance, has_right,

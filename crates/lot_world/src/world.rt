@@ -3,13 +3,14 @@ ghost use Rattle.std.specs.Prelude.{ℕ, List, [], ◌∷◌, ◌≡◌, ◌<◌
 ghost use Rattle.spec_locks.specs.Kinds.{fits};
 ghost use Rattle.spec_locks.specs.Calls.{lock_in};
 ghost use Rattle.lot_steps.specs.Steps.{first_place};
-ghost use Rattle.lot_machine.specs.Machine.{opening, place_at, word_at, kind_at, filled_at, queue_at, section_at, after, step_outcome, after_steps, step_outcomes, solo};
+ghost use Rattle.lot_machine.specs.Machine.{opening, place_at, lock_at, share_at, word_at, kind_at, filled_at, queue_at, section_at, after, step_outcome, after_steps, step_outcomes, solo};
 ghost use Rattle.lot_machine.specs.Fits.{SameSize};
 ghost use Rattle.spec_locks.specs.Runs.{IsOpening, IsStep, IsRun, purpose_at};
 ghost use Rattle.spec_locks.specs.Headline.{Behaves, MayTell, Opens, full_by};
 ghost use Rattle.spec_locks.specs.Guarantees.{IsGuaranteed, StateHolds, StepHolds};
 ghost use Rattle.spec_locks.specs.UserLaws.{ReadersStayOut, RereadersPass, UpgradesLetNobodyWrite, DowngradesOwn};
 ghost use Rattle.spec_locks.specs.CondvarLaws.{NobodyWakesByItself};
+ghost use Rattle.lot_laws.specs.SitesOf.{IsWorld};
 ghost use Rattle.lot_laws.specs.Refinement.{locks_of, ChangesOneThing};
 ghost use Rattle.lot_laws.specs.Promises.{IsKept};
 ghost use Rattle.lot_laws.specs.Fair.{IsFair};
@@ -23,7 +24,7 @@ ghost use Rattle.lot_world.specs.Schedules.{schedule_of};
 
 use crate::{is_drainable, schedule};
 use core_base::{Fault, Queues, main_key, second_key};
-use lot_machine::{DebtBook, Debts, Machine, OwnersOf, QueueOf};
+use lot_machine::{DebtBook, Debts, Lock, Machine, OwnersOf, Parts, QueueOf};
 use lot_steps::{Call, Kind, Outcome, Place, Step, Turn};
 use std::alloc::Global;
 use std::marker::Model;
@@ -316,6 +317,16 @@ impl<Q: Queues + Drop> World<Q> {
         schedule(alloc, self.machine.copy(alloc)?)
     }
 
+    /// Takes the state of these parts in place of its own: one that a world may be in, with as many
+    /// threads and locks. It takes no memory.
+    pub fn restore<P: Parts>(&mut self, parts: &P)
+        requires world { IsWorld (P.state parts.now) }
+        requires size { SameSize self.old (P.state parts.now) }
+        ensures { self.new ≡ P.state parts.now }
+    {
+        self.machine.restore(parts);
+    }
+
     /// How many threads there are.
     pub fn threads(&self) -> usize
         ensures { result ≡ length self.now.places }
@@ -328,6 +339,22 @@ impl<Q: Queues + Drop> World<Q> {
         ensures { result ≡ length self.now.locks }
     {
         self.machine.locks()
+    }
+
+    /// Returns a lock: its kind, word and owners, but for the threads that share it.
+    pub fn lock(&self, lock: usize) -> Lock
+        requires { lock < length self.now.locks }
+        ensures { result ≡ lock_at self.now lock }
+    {
+        self.machine.lock(lock)
+    }
+
+    /// A thread's number of shared rights of a lock.
+    pub fn share(&self, lock: usize, thread: usize) -> usize
+        requires { lock < length self.now.locks }
+        ensures { result ≡ share_at self.now lock thread }
+    {
+        self.machine.share(lock, thread)
     }
 
     /// The kind of a lock.

@@ -15,21 +15,21 @@ pub enum Owner {
 }
 
 /// The right that a pending writer has again when it gives up.
-#[derive(Clone, Copy)]
+#[derive(Clone, Copy, PartialEq, Eq)]
 pub enum Fallback {
     Nothing,
     Upgradable,
 }
 
 /// A writer that waits for the last readers.
-#[derive(Clone, Copy)]
+#[derive(Clone, Copy, PartialEq, Eq)]
 pub struct Pending {
     pub thread: usize,
     pub fallback: Fallback,
 }
 
 /// How far a `Once` has come.
-#[derive(Clone, Copy)]
+#[derive(Clone, Copy, PartialEq, Eq)]
 pub enum Phase {
     New,
     /// The last run failed.
@@ -42,7 +42,7 @@ pub enum Phase {
 
 /// The owners of a lock, of each sort that one thread has alone; of a `Once`, how far it has come;
 /// of a condition variable, the mutex with which its waiters wait.
-#[derive(Clone, Copy)]
+#[derive(Clone, Copy, PartialEq, Eq)]
 pub struct Owners {
     pub exclusive: Option<usize>,
     pub pending: Option<Pending>,

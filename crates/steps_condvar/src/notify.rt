@@ -23,7 +23,7 @@ use steps_base::{Act, Next, Reply, Wakes, Whom};
 use steps_mutex::places::{LOCKED, PARKED, is_locked};
 
 /// Where a thread stands that notifies.
-#[derive(Clone, Copy)]
+#[derive(Clone, Copy, PartialEq, Eq)]
 pub enum NotifyAt {
     Enter,
     Again,

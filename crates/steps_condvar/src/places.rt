@@ -19,7 +19,7 @@ use steps_base::{Act, Next, Owners, Reply};
 use steps_mutex::MutexPlace;
 
 /// Where a thread stands in a call of a condition variable.
-#[derive(Clone, Copy)]
+#[derive(Clone, Copy, PartialEq, Eq)]
 pub enum CondvarPlace {
     Wait {
         mutex: usize,

@@ -26,7 +26,7 @@ use steps_base::{Act, Next, Reply, Wakes};
 use steps_mutex::{Entry, LockAt, MutexPlace, UnlockAt};
 
 /// The state of a waiter, by what has befallen it since it joined the queue.
-#[derive(Clone, Copy)]
+#[derive(Clone, Copy, PartialEq, Eq)]
 pub enum Stands {
     /// Nothing: it stands in the queue of the condition variable.
     Listed,
@@ -41,7 +41,7 @@ pub enum Stands {
 }
 
 /// Where a thread stands that waits.
-#[derive(Clone, Copy)]
+#[derive(Clone, Copy, PartialEq, Eq)]
 pub enum WaitAt {
     Enter,
     Show,

@@ -15,7 +15,7 @@ use spec_locks::Answer;
 use steps_base::{Act, Next, Reply, Wakes, Whom};
 
 /// Where an owner stands that saw `PARKED` in `unlock_fair` or `bump`.
-#[derive(Clone, Copy)]
+#[derive(Clone, Copy, PartialEq, Eq)]
 pub enum HandOffAt {
     Enter,
     Take,

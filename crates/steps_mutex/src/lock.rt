@@ -25,7 +25,7 @@ use spec_locks::Answer;
 use steps_base::{Act, Check, Next, Owners, Reply, Wakes};
 
 /// For which call a thread enters.
-#[derive(Clone, Copy)]
+#[derive(Clone, Copy, PartialEq, Eq)]
 pub enum Entry {
     Lock,
     LockTimed,
@@ -34,7 +34,7 @@ pub enum Entry {
 }
 
 /// Where a thread stands that enters: in `lock`, `lock_timed`, or the second half of `bump`.
-#[derive(Clone, Copy)]
+#[derive(Clone, Copy, PartialEq, Eq)]
 pub enum LockAt {
     /// Tries a word that is 0.
     First,

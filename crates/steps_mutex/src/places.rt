@@ -26,7 +26,7 @@ pub const PARKED: u64 = 2;
 pub const NOT_PARKED: u64 = 18446744073709551613;
 
 /// Where a thread stands in a call of a mutex.
-#[derive(Clone, Copy)]
+#[derive(Clone, Copy, PartialEq, Eq)]
 pub enum MutexPlace {
     /// It `retries` from a wake note on, until the thread stands in the queue again, owns the mutex
     /// or the call ends.

@@ -16,7 +16,7 @@ use spec_locks::Answer;
 use steps_base::{Act, Next, Reply, Wakes, Whom};
 
 /// Where a thread stands in `unlock`.
-#[derive(Clone, Copy)]
+#[derive(Clone, Copy, PartialEq, Eq)]
 pub enum UnlockAt {
     Subtract,
     /// It saw `PARKED`.

@@ -14,7 +14,7 @@ use spec_locks::Answer;
 use steps_base::{Act, Next, Reply, Wakes};
 
 /// A place of a thread that gives up, inside the section of the queue.
-#[derive(Clone, Copy)]
+#[derive(Clone, Copy, PartialEq, Eq)]
 pub enum GiveUpAt {
     /// Still in the queue.
     Remove,

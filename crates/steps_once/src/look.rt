@@ -21,7 +21,7 @@ use steps_base::bits::{is_done, is_marked, is_poisoned, is_running};
 use steps_base::{Act, Check, Next, Reply, Wakes};
 
 /// Where a thread stands that looks, or waits.
-#[derive(Clone, Copy)]
+#[derive(Clone, Copy, PartialEq, Eq)]
 pub enum LookAt {
     Load,
     /// Decides by the value that it saw last.

@@ -36,7 +36,7 @@ pub const PARKED: u64 = 8;
 pub const NOT_PARKED: u64 = 18446744073709551607;
 
 /// Where a thread stands in a call of a `Once`.
-#[derive(Clone, Copy)]
+#[derive(Clone, Copy, PartialEq, Eq)]
 pub enum OncePlace {
     /// It looks how far the `Once` has come, or waits. It `retries` from a wake note on, until the
     /// thread stands in the queue again, runs its closure or the call ends.

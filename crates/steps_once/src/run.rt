@@ -17,7 +17,7 @@ use steps_base::bits::{is_marked, is_poisoned};
 use steps_base::{Act, Next, Phase, Reply, Wakes, Whom};
 
 /// Where a thread stands that runs its closure, or ends its run.
-#[derive(Clone, Copy)]
+#[derive(Clone, Copy, PartialEq, Eq)]
 pub enum RunAt {
     /// The run before failed, or there was none.
     Closure { poisoned: bool },

@@ -20,7 +20,7 @@ use core_base::{Keys, Line, Note, Op};
 use spec_locks::{Access, Answer, Outcome};
 use steps_base::{Act, Check, Next, Reply, Wakes};
 
-#[derive(Clone, Copy)]
+#[derive(Clone, Copy, PartialEq, Eq)]
 pub enum ParkAt {
     /// Inside the section, before the check.
     Check,

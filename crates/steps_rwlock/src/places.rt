@@ -34,7 +34,7 @@ pub const NOT_PARKED: u64 = 18446744073709551614;
 pub const NOT_WRITER_PARKED: u64 = 18446744073709551613;
 
 /// The settings of a reader-writer lock.
-#[derive(Clone, Copy)]
+#[derive(Clone, Copy, PartialEq, Eq)]
 pub struct Admission {
     /// Whether readers may read again beside a waiting writer.
     pub recursive: bool,
@@ -43,7 +43,7 @@ pub struct Admission {
 }
 
 /// Where a thread stands in a call of a reader-writer lock.
-#[derive(Clone, Copy)]
+#[derive(Clone, Copy, PartialEq, Eq)]
 pub enum RwLockAt {
     /// Tries a word that is 0.
     First,
@@ -69,7 +69,7 @@ pub enum RwLockAt {
 }
 
 /// Where a thread stands, and what its call remembers.
-#[derive(Clone, Copy)]
+#[derive(Clone, Copy, PartialEq, Eq)]
 pub struct RwLockPlace {
     pub purpose: RwLockPurpose,
     /// From a wake note on, until the thread stands in a queue again, owns, or its call ends.

@@ -14,7 +14,7 @@ use crate::places::{READER, UPGRADABLE, WRITER};
 use core_base::{Op, Want};
 use spec_locks::{Access, Answer, Downgrade, Patience};
 
-#[derive(Clone, Copy)]
+#[derive(Clone, Copy, PartialEq, Eq)]
 pub enum RwLockPurpose {
     Enter { access: Access, patience: Patience },
     Release(Access),

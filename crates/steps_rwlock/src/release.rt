@@ -22,7 +22,7 @@ use spec_locks::{Access, Answer};
 use steps_base::bits::{count_in, has_aside, has_parked};
 use steps_base::{Act, Next, Reply, Wakes, Whom};
 
-#[derive(Clone, Copy)]
+#[derive(Clone, Copy, PartialEq, Eq)]
 pub enum WakeAt {
     Enter,
     /// Inside the section.

@@ -24,7 +24,7 @@ use steps_rwlock::places::{PARKED, READER, UPGRADABLE, WRITER};
 use steps_rwlock::purposes::token;
 
 /// The waiters that an owner has taken, to hand them the lock.
-#[derive(Clone, Copy)]
+#[derive(Clone, Copy, PartialEq, Eq)]
 pub struct Taken {
     /// How many of them want to share.
     pub sharers: usize,
@@ -35,7 +35,7 @@ pub struct Taken {
 }
 
 /// Where an owner stands that hands the lock over.
-#[derive(Clone, Copy)]
+#[derive(Clone, Copy, PartialEq, Eq)]
 pub enum HandOverAt {
     Load,
     /// The word that it saw last tells of nobody who waits.

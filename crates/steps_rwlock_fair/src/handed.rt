@@ -14,7 +14,7 @@ use steps_base::{Act, Next, Reply};
 use steps_rwlock::purposes::entered;
 use steps_rwlock::{RwLockAt, RwLockPlace, RwLockPurpose};
 
-#[derive(Clone, Copy)]
+#[derive(Clone, Copy, PartialEq, Eq)]
 pub enum HandedAt {
     /// The thread that took it has handed it the lock, and has not left its section yet. Whether
     /// nobody shared the lock then.

@@ -17,7 +17,7 @@ use steps_rwlock::park::ParkAt;
 use steps_rwlock::purposes::wanted;
 use steps_rwlock::{Admission, RwLockAt, RwLockPlace, RwLockPurpose};
 
-#[derive(Clone, Copy)]
+#[derive(Clone, Copy, PartialEq, Eq)]
 pub enum RwLockCallPlace {
     /// In a call that neither hands the lock over nor bumps.
     Plain(RwLockPlace),

@@ -22,7 +22,7 @@ use spec_locks::Answer;
 use steps_base::{Act, Check, Next, Reply, Wakes};
 
 /// Where a thread stands that waits for a permit.
-#[derive(Clone, Copy)]
+#[derive(Clone, Copy, PartialEq, Eq)]
 pub enum AcquireAt {
     Load,
     /// Decides by the value that it saw last.

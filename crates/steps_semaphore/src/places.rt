@@ -25,7 +25,7 @@ pub const NOT_PARKED: u64 = 18446744073709551614;
 pub const ONE_FREE: u64 = 2;
 
 /// Where a thread stands in a call of a semaphore.
-#[derive(Clone, Copy)]
+#[derive(Clone, Copy, PartialEq, Eq)]
 pub enum SemaphorePlace {
     /// It waits for a permit, up to a deadline where it is `timed`. It `retries` from a wake note
     /// on, until the thread stands in the queue again, holds a permit or the call ends.

@@ -17,7 +17,7 @@ use steps_base::bits::has_parked;
 use steps_base::{Act, Next, Reply, Wakes, Whom};
 
 /// Where a thread stands that gives a permit back.
-#[derive(Clone, Copy)]
+#[derive(Clone, Copy, PartialEq, Eq)]
 pub enum ReleaseAt {
     Add,
     /// It saw `PARKED`.

@@ -13,7 +13,7 @@ use spec_locks::Answer;
 use steps_base::{Act, Next, Reply};
 
 /// Where a thread stands that only tries.
-#[derive(Clone, Copy)]
+#[derive(Clone, Copy, PartialEq, Eq)]
 pub enum TryAt {
     Load,
     /// Decides by the value that it saw last, by which a permit was free.

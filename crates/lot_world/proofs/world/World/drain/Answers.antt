@@ -3,14 +3,14 @@ use Rattle.std.proofs.lemmas.Result.{IfOk-weaker}
 use Rattle.lot_laws.specs.SitesOf.{IsWorld}
 use Rattle.lot_machine.specs.Fits.{IsWellFormed}
 use Rattle.lot_machine.specs.Machine.{State}
-use Rattle.lot_world.specs.Drains.{HasOneLock, IsDrain}
+use Rattle.lot_world.specs.Drains.{IsDrain}
 use Rattle.lot_world.specs.Schedules.{schedule_of}
 use Rattle.lot_world.proofs.ScheduleEnds.{schedules_drain}
 use Rattle.lot_world.proofs.StandsOnce.{stand_once}
 use Rattle.lot_world.proofs.world.World.drain.Goals as goal
 
 pub copy-requires-clause-once : goal.copy-requires-clause-once
-copy-requires-clause-once g c = stand_once c.self.inside.machine c.self.invariant (subst HasOneLock (sym c.self.view_is) c.requires.lock)
+copy-requires-clause-once g c = stand_once c.self.inside.machine c.self.invariant
 
 pub copy-requires-clause-below : goal.copy-requires-clause-below
 copy-requires-clause-below g c = c.self.invariant.shaped.waiting
