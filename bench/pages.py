@@ -1,8 +1,8 @@
 #!/usr/bin/env python3
 """Checks what a script can of the pages: that each block "```rust PATH" shows lines of that file, in their order; that
-each clause, test and must-fail edit that a page names is there; that lines keep to the width and sentences to the rules
-of CONTRIBUTING; that numbers which README takes from SPEED are SPEED's; and that pages written by a script are current.
-Usage: pages.py, at the top of the repository."""
+each clause, test and must-fail edit that a page names is there; that lines keep to the width, and sentences and comments
+to the rules of CONTRIBUTING; that numbers which README takes from SPEED are SPEED's; and that pages written by a script
+are current. Usage: pages.py, at the top of the repository."""
 import pathlib
 import re
 import subprocess
@@ -113,6 +113,33 @@ def wrong_prose():
                     yield f"{page}:{number}: {longest} words: {sentence[:60]}"
 
 
+# ------------------------------------------------------------------ how comments read
+
+
+def comments(path):
+    """Yields the first line's number and the text of each comment of a source file."""
+    first, held = 0, []
+    for number, line in enumerate(path.read_text().split("\n") + [""], 1):
+        match = re.match(r"^\s*(?://[/!]?|--) ?(.*)$", line)
+        if match:
+            first = first if held else number
+            held.append(match.group(1))
+        elif held:
+            yield first, " ".join(held).strip()
+            held = []
+
+
+def wrong_comments():
+    for path in sorted(path for end in ("src/**/*.rt", "specs/*.antt", "proofs/**/*.antt")
+                       for path in pathlib.Path("crates").glob("*/" + end)):
+        for number, text in comments(path):
+            plain = MARKED.sub("", text)
+            if re.match(r"(Who|Whom|Whose|Of whom|Behind|The same|So|and|or|And|Or)\b", text):
+                yield f"{path}:{number}: a comment begins so: {text[:60]}"
+            if re.search(r"\b(who|whom|whoever|whomever)\b", plain, re.IGNORECASE):
+                yield f"{path}:{number}: a comment says who or whom: {text[:60]}"
+
+
 # ------------------------------------------------------------------ clauses, tests and edits
 
 
@@ -196,7 +223,8 @@ def wrong_numbers():
 
 
 def main():
-    wrong = [line for check in (wrong_blocks, wrong_prose, wrong_clauses, wrong_tests, wrong_numbers) for line in check()]
+    wrong = [line for check in (wrong_blocks, wrong_prose, wrong_comments, wrong_clauses, wrong_tests,
+                                  wrong_numbers) for line in check()]
     for line in wrong:
         print(line)
     current = subprocess.run([sys.executable, "bench/definitions.py", "--check"], check=False).returncode
