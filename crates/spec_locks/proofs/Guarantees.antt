@@ -20,7 +20,7 @@ use Rattle.spec_locks.specs.Sites.{Line, Main, Second, IsOpen, counts_some}
 use Rattle.spec_locks.specs.Runs.{LocksState, CallState, Event, Nothing, AtLock, Moves, AnswerHolds, Agrees, AreFree, Does, GoesOn, IsNotified, IsStep, IsTimely, MayDo, MayGo, MayHappen, MayTurn, MovedNobody, NotifiesAnswer, Turned, going_on, gives_up, rules_at}
 use Rattle.spec_locks.specs.Guarantees.{AllHold, IsQuiet, IsUp, Recalls, Rests, StepHolds, WaitsForSome, full_by, sort_in}
 use Rattle.spec_locks.specs.GuaranteeLaws.{HeadlineGuarantees, NoNotificationIsLost, OwnersExcludeInRuns, QuietWorldsRest, SafeStatesHold, SomebodyGoes, TellsNobody}
-use Rattle.spec_locks.specs.Headline.{Behaves, GoesFreely, IsDebtor, IsLookedAfter, IsSafe, WakesWaiters, want_of}
+use Rattle.spec_locks.specs.Headline.{Behaves, GoesFreely, IsDebtor, IsLookedAfter, IsOpenNow, IsSafe, WakesWaiters, want_of}
 use Rattle.spec_locks.proofs.LockKeeps.{opening_is_state}
 use Rattle.spec_locks.proofs.Runs.{run_keeps}
 use Rattle.spec_locks.proofs.QueueOrder.{queues_keep_order}
@@ -45,7 +45,11 @@ key_is (suc key) = next (key_is key)
 
 -- ------------------------------------------------ what a state says
 
-some_writer : (s : LockState) (limit : ℕ) → ((IsOpen Normal s ⊎ ((Normal ≡ Semaphore) × (readers s < limit))) → ⊥) → (s.exclusive ≢ None) ⊎ ((s.pending ≢ None) ⊎ (s.upgradable ≢ None))
+-- nobody bars the way of the first waiter
+abbrev Way : Sort → ℕ → LockState → Type 0
+Way sort limit s = IsOpenNow (record { sort = sort; limit = limit }) s
+
+some_writer : (s : LockState) (limit : ℕ) → (Way Normal limit s → ⊥) → (s.exclusive ≢ None) ⊎ ((s.pending ≢ None) ⊎ (s.upgradable ≢ None))
 some_writer s limit closed = writers s.exclusive s.pending s.upgradable refl refl refl
   where
     writers : (a : Option ℕ) (b : Option Pending) (c : Option ℕ) → s.exclusive ≡ a → s.pending ≡ b → s.upgradable ≡ c → (s.exclusive ≢ None) ⊎ ((s.pending ≢ None) ⊎ (s.upgradable ≢ None))
@@ -54,9 +58,10 @@ some_writer s limit closed = writers s.exclusive s.pending s.upgradable refl ref
     writers None None (Some x) e f g = inr (inr (λ h. let k : ◌≡◌ {A = Option ℕ} (Some x) None = sym g ∙ h in cc))
     writers None None None e f g = absurd (closed (inl (e, f, g)))
 
-recursive_so : (limit : ℕ) (s : LockState) → (IsOpen Normal s ⊎ ((Normal ≡ Semaphore) × (readers s < limit))) → IsOpen Recursive s ⊎ ((Recursive ≡ Semaphore) × (readers s < limit))
+recursive_so : (limit : ℕ) (s : LockState) → Way Normal limit s → Way Recursive limit s
 recursive_so limit s (inl h) = inl h
-recursive_so limit s (inr h) = absurd (let e : Normal ≡ Semaphore = h.0 in cc)
+recursive_so limit s (inr (inl h)) = absurd (let e : Normal ≡ Semaphore = h.0 in cc)
+recursive_so limit s (inr (inr h)) = absurd (let e : Normal ≡ Once = h.0 in cc)
 
 module _ (w : LocksState) (full : ℕ → Bool) (safe : IsSafe w full) where
   inside_goes : (key u : ℕ) → w.inside key ≡ Some u → ((w.calls u).purpose ≢ None) × GoesFreely (w.stances u)
@@ -114,16 +119,16 @@ module _ (w : LocksState) (full : ℕ → Bool) (safe : IsSafe w full) where
     unattended : (l : ℕ) (m : Line) → IsLookedAfter w l m → ⊥
     unattended l m h = not_up h.debtor (called h.debtor l m h.debt) h.awake
 
-    owner_there : (sort : Sort) (limit : ℕ) (s : LockState) → ((IsOpen sort s ⊎ ((sort ≡ Semaphore) × (readers s < limit))) → ⊥) → (sort ≡ Condvar → s.shown ≢ None)
+    owner_there : (sort : Sort) (limit : ℕ) (s : LockState) → (Way sort limit s → ⊥) → (sort ≡ Condvar → s.shown ≢ None)
         → WaitsForSome sort limit s
     owner_there Mutex limit s closed shows = λ e. closed (inl e)
     owner_there Normal limit s closed shows = some_writer s limit closed
     owner_there Recursive limit s closed shows = some_writer s limit (λ h. closed (recursive_so limit s h))
     owner_there Semaphore limit s closed shows = elim (cases_lt (readers s) limit) [
-      | inl lt ↦ absurd (closed (inr (refl, lt)))
+      | inl lt ↦ absurd (closed (inr (inl (refl, lt))))
       | inr ge ↦ ge
     ]
-    owner_there Once limit s closed shows = runs s.phase refl
+    owner_there Once limit s closed shows = (λ e. closed (inr (inr (refl, e))), runs s.phase refl)
       where
         runs : (p : Phase) → s.phase ≡ p → has_caller s.queue ≡ true → IsRunning s.phase
         runs (InProgress t) e h = subst IsRunning (sym e) tt

@@ -31,3 +31,5 @@ pub mod Guarantees
 pub mod Bypass
 pub mod Idle
 pub mod Reach
+pub mod FairQueues
+pub mod FairEvents

@@ -10,7 +10,7 @@ use Rattle.spec_locks.specs.declared.kinds.Kind.TheVariants as kind
 use Rattle.spec_locks.specs.declared.outcomes.Answer.{Answer}
 use Rattle.spec_locks.specs.declared.outcomes.Outcome.{Outcome}
 use Rattle.spec_locks.specs.declared.outcomes.Outcome as outcome
-use Rattle.spec_locks.specs.Onces.{IsRunning}
+use Rattle.spec_locks.specs.Onces.{Done, IsRunning}
 use Rattle.spec_locks.specs.Locks.{Sort, Mutex, Normal, Recursive, Semaphore, Once, Condvar, LockState, Queued, has_caller, readers, times}
 use Rattle.spec_locks.specs.Sites.{has_readers, is_full}
 use Rattle.spec_locks.specs.Runs.{LocksState, CallState, Status, AreLockStates, AnswerHolds, IsNotified, IsOpening, LetsGo, MayGo, MayWake, ShowsWaiters, new_call, no_call, purpose_at, rights_in, rules_at}
@@ -38,7 +38,7 @@ WaitsForSome Normal limit s = (s.exclusive ≢ None) ⊎ ((s.pending ≢ None) �
 WaitsForSome Recursive limit s =
     (s.exclusive ≢ None) ⊎ ((s.pending ≢ None) ⊎ (s.upgradable ≢ None))
 WaitsForSome Semaphore limit s = limit ≤ readers s
-WaitsForSome Once limit s = has_caller s.queue ≡ true → IsRunning s.phase
+WaitsForSome Once limit s = (s.phase ≢ Done) × (has_caller s.queue ≡ true → IsRunning s.phase)
 WaitsForSome Condvar limit s = s.shown ≢ None
 
 pub record Rests (w : LocksState) (was_full : ℕ → Bool) : Type 0 where
