@@ -2,7 +2,7 @@
 -- sort of lock, so that it stays as it is for a further sort.
 use Rattle.steps_base.specs.Rows.{KnowsRights, WakesAside}
 use Rattle.spec_locks.specs.Locks as locks
-use Rattle.std.specs.Prelude.{ℕ, Bool, false, true, None, Option, ◌≡◌, ◌≢◌, ◌≤◌, ◌⊎◌, ◌↔◌, Some, ◌*◌, ◌+◌, []}
+use Rattle.std.specs.Prelude.{ℕ, Bool, false, true, None, Option, ◌≡◌, ◌≢◌, ◌≤◌, ◌<◌, ◌-◌, ◌⊎◌, ◌↔◌, Some, ◌*◌, ◌+◌, []}
 use Rattle.core_base.specs.declared.keys.Keys.TheVariants.{One}
 use Rattle.core_base.specs.declared.wants.Want.{Want}
 use Rattle.core_base.specs.declared.ops.Op.TheVariants.{Exchange}
@@ -91,6 +91,12 @@ pub record IsLookedAfterIn (w : State) (l : ℕ) (m : Line) : Type 0 where
   pub stands_nowhere : (k : ℕ) → (standing debtor (lock_state w k) ≡ 0)
       ⊎ (WaitHasReleased (call_at w debtor).purpose (call_at w debtor).released l m × Owes w debtor l m)
 
+-- so many different threads are
+pub record AreLookedAfterIn (w : State) (l number : ℕ) : Type 0 where
+  pub debtor : ℕ → ℕ
+  pub apart : (i j : ℕ) → i < number → j < number → debtor i ≡ debtor j → i ≡ j
+  pub each : (i : ℕ) → i < number → (h : IsLookedAfterIn w l Main) × (h.debtor ≡ debtor i)
+
 -- a lock that is shared was never at its limit
 abbrev pub WasNeverFull : State → ℕ → Type 0
 WasNeverFull w l = has_readers (sort_at w l) ≡ true → filled_at w l ≡ false
@@ -100,6 +106,10 @@ pub record NobodyForgottenIn (w : State) : Type 0 where
   pub main : (t l : ℕ) → WaitsFor w t l → IsOpenNow (rules_in w l) (lock_state w l)
       → WasNeverFull w l
       → IsLookedAfterIn w l Main
+  -- while a thread waits for a permit, as many different threads look after the line as permits
+  -- are free
+  pub permits : (t l : ℕ) → WaitsFor w t l → sort_at w l ≡ locks.Semaphore
+      → AreLookedAfterIn w l ((rules_in w l).limit - readers (lock_state w l))
   -- and so is a writer aside of whom nobody shares any more
   pub second : (l : ℕ) → (lock_state w l).aside ≢ None → readers (lock_state w l) ≡ 0
       → IsLookedAfterIn w l Second

@@ -27,7 +27,7 @@ use Rattle.spec_locks.specs.declared.outcomes.Outcome as outcome
 use Rattle.spec_locks.specs.Calls.{lock_in}
 use Rattle.spec_locks.specs.Kinds.{is_plain_mutex}
 use Rattle.spec_locks.specs.Purposes.{Purpose, Enters, Releases, Converts, Bumps, CallsOnce, Awaits, Waits, Notifies, purpose_of, mutex_purpose, rwlock_purpose}
-use Rattle.spec_locks.specs.Runs.{LocksState, CallState, Does, HasRight, IsStep, MayTurn, Stays, Turned, new_call, purpose_at, rights_in}
+use Rattle.spec_locks.specs.Runs.{LocksState, CallState, Does, HasRight, MayTurn, Turned, new_call, purpose_at, rights_in}
 use Rattle.spec_locks.specs.Bypass.{AllReleaseFairly, ReleasesFairly}
 use Rattle.spec_locks.proofs.Idle.{ends, goes_on, stay_own}
 
@@ -137,7 +137,7 @@ is_end outcome.TheVariants.Sleep = inr (λ a e. cc)
 is_end (outcome.TheVariants.Closure state) = inr (λ a e. cc)
 
 -- calls of the mutex are fair ones behind it
-module _ (w v : LocksState) (s : Step) (o : Outcome) (l : ℕ) (fair : w.kinds l ≡ kind.Fair) (all : AllReleaseFairly w l) (step : IsStep w s o v) where
+module _ (w v : LocksState) (s : Step) (o : Outcome) (l : ℕ) (fair : w.kinds l ≡ kind.Fair) (all : AllReleaseFairly w l) (turned : Turned w s.thread s.turn o v) where
   same_call : (c d : CallState) → d.purpose ≡ c.purpose → ReleasesFairly c.purpose l → ReleasesFairly d.purpose l
   same_call c d e h = subst (λ p. ReleasesFairly p l) (sym e) h
 
@@ -145,15 +145,15 @@ module _ (w v : LocksState) (s : Step) (o : Outcome) (l : ℕ) (fair : w.kinds l
       → ReleasesFairly (v.calls s.thread).purpose l
   by_turn (turn.TheVariants.Begin c) e more may does = same_call (new_call (purpose_at w c) (rights_in w s.thread)) (v.calls s.thread) (ap (λ (d : CallState). d.purpose) (stay_own w v s.thread o (new_call (purpose_at w c) (rights_in w s.thread)) does)) (begun l w s.thread fair c may.right)
   by_turn turn.TheVariants.Late e more may does = same_call (w.calls s.thread) (v.calls s.thread) (ap (λ (d : CallState). d.purpose) (stay_own w v s.thread o (record (w.calls s.thread) { late = true }) does)) (all s.thread)
-  by_turn turn.TheVariants.Go e more may does = same_call (w.calls s.thread) (v.calls s.thread) (goes_on w v s o step.1 s.thread (λ f. ((λ c g. let h : turn.TheVariants.Go ≡ turn.TheVariants.Begin c = sym e ∙ g in cc), (λ g. let h : turn.TheVariants.Go ≡ turn.TheVariants.Late = sym e ∙ g in cc), more))).purpose (all s.thread)
-  by_turn turn.TheVariants.Spin e more may does = same_call (w.calls s.thread) (v.calls s.thread) (goes_on w v s o step.1 s.thread (λ f. ((λ c g. let h : turn.TheVariants.Spin ≡ turn.TheVariants.Begin c = sym e ∙ g in cc), (λ g. let h : turn.TheVariants.Spin ≡ turn.TheVariants.Late = sym e ∙ g in cc), more))).purpose (all s.thread)
-  by_turn turn.TheVariants.Ok e more may does = same_call (w.calls s.thread) (v.calls s.thread) (goes_on w v s o step.1 s.thread (λ f. ((λ c g. let h : turn.TheVariants.Ok ≡ turn.TheVariants.Begin c = sym e ∙ g in cc), (λ g. let h : turn.TheVariants.Ok ≡ turn.TheVariants.Late = sym e ∙ g in cc), more))).purpose (all s.thread)
-  by_turn turn.TheVariants.Err e more may does = same_call (w.calls s.thread) (v.calls s.thread) (goes_on w v s o step.1 s.thread (λ f. ((λ c g. let h : turn.TheVariants.Err ≡ turn.TheVariants.Begin c = sym e ∙ g in cc), (λ g. let h : turn.TheVariants.Err ≡ turn.TheVariants.Late = sym e ∙ g in cc), more))).purpose (all s.thread)
+  by_turn turn.TheVariants.Go e more may does = same_call (w.calls s.thread) (v.calls s.thread) (goes_on w v s o turned s.thread (λ f. ((λ c g. let h : turn.TheVariants.Go ≡ turn.TheVariants.Begin c = sym e ∙ g in cc), (λ g. let h : turn.TheVariants.Go ≡ turn.TheVariants.Late = sym e ∙ g in cc), more))).purpose (all s.thread)
+  by_turn turn.TheVariants.Spin e more may does = same_call (w.calls s.thread) (v.calls s.thread) (goes_on w v s o turned s.thread (λ f. ((λ c g. let h : turn.TheVariants.Spin ≡ turn.TheVariants.Begin c = sym e ∙ g in cc), (λ g. let h : turn.TheVariants.Spin ≡ turn.TheVariants.Late = sym e ∙ g in cc), more))).purpose (all s.thread)
+  by_turn turn.TheVariants.Ok e more may does = same_call (w.calls s.thread) (v.calls s.thread) (goes_on w v s o turned s.thread (λ f. ((λ c g. let h : turn.TheVariants.Ok ≡ turn.TheVariants.Begin c = sym e ∙ g in cc), (λ g. let h : turn.TheVariants.Ok ≡ turn.TheVariants.Late = sym e ∙ g in cc), more))).purpose (all s.thread)
+  by_turn turn.TheVariants.Err e more may does = same_call (w.calls s.thread) (v.calls s.thread) (goes_on w v s o turned s.thread (λ f. ((λ c g. let h : turn.TheVariants.Err ≡ turn.TheVariants.Begin c = sym e ∙ g in cc), (λ g. let h : turn.TheVariants.Err ≡ turn.TheVariants.Late = sym e ∙ g in cc), more))).purpose (all s.thread)
 
   own : ReleasesFairly (v.calls s.thread).purpose l
   own = elim (is_end o) [
-    | inl ended ↦ subst (λ (c : CallState). ReleasesFairly c.purpose l) (sym (ends w v s o step.1 ended.0 ended.1)) tt
-    | inr more ↦ elim step.1 [
+    | inl ended ↦ subst (λ (c : CallState). ReleasesFairly c.purpose l) (sym (ends w v s o turned ended.0 ended.1)) tt
+    | inr more ↦ elim turned [
       | inl does ↦ by_turn s.turn refl more does.0 does.1
       | inr refused ↦ subst (λ (k : LocksState). ReleasesFairly (k.calls s.thread).purpose l) (sym refused.1.1) (all s.thread)
     ]
@@ -162,5 +162,5 @@ module _ (w v : LocksState) (s : Step) (o : Outcome) (l : ℕ) (fair : w.kinds l
   pub fair_stays : AllReleaseFairly v l
   fair_stays u = elim (cases_eq u s.thread) [
     | inl e ↦ subst (λ k. ReleasesFairly (v.calls k).purpose l) (sym e) own
-    | inr ne ↦ same_call (w.calls u) (v.calls u) (goes_on w v s o step.1 u (λ e. absurd (ne e))).purpose (all u)
+    | inr ne ↦ same_call (w.calls u) (v.calls u) (goes_on w v s o turned u (λ e. absurd (ne e))).purpose (all u)
   ]

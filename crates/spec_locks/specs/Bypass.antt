@@ -81,7 +81,7 @@ ReleasesFairly (Some (Notifies k all)) l = Unit {0}
 abbrev pub AllReleaseFairly : LocksState → ℕ → Type 0
 AllReleaseFairly w l = (t : ℕ) → ReleasesFairly (w.calls t).purpose l
 
--- a fair release, or a bump
+-- unlock_fair, the unlock of a fair mutex, or a bump
 abbrev pub IsFairRelease : Option Purpose → ℕ → Type 0
 IsFairRelease (Some (Releases l Exclusive fair)) k = (l ≡ k) × (fair ≡ true)
 IsFairRelease (Some (Bumps l Exclusive)) k = l ≡ k

@@ -79,9 +79,9 @@ pub record IsLookedAfter (w : LocksState) (l : ℕ) (m : Line) : Type 0 where
 
 -- so many different threads are
 pub record AreLookedAfter (w : LocksState) (l number : ℕ) : Type 0 where
-  pub each : (i : ℕ) → i < number → IsLookedAfter w l Main
-  pub apart : (i j : ℕ) (a : i < number) (b : j < number) → (each i a).debtor ≡ (each j b).debtor
-      → i ≡ j
+  pub debtor : ℕ → ℕ
+  pub apart : (i j : ℕ) → i < number → j < number → debtor i ≡ debtor j → i ≡ j
+  pub each : (i : ℕ) → i < number → IsDebtor w (debtor i) l Main × IsUp (w.stances (debtor i))
 
 -- ---------------------------------------------------------------- nobody is forgotten
 
