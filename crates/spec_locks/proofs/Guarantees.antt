@@ -5,6 +5,7 @@ use Rattle.std.specs.Prelude.{◌<◌}
 use Rattle.core_base.specs.declared.keys.Keys.{Keys}
 use Rattle.core_base.specs.declared.keys.Keys.TheVariants.{One, Two}
 use Rattle.core_base.specs.Keys.{key_of}
+use Rattle.spec_locks.specs.declared.calls.Call.{Call}
 use Rattle.spec_locks.specs.declared.calls.Turn.{Turn}
 use Rattle.spec_locks.specs.declared.calls.Turn as turn
 use Rattle.spec_locks.specs.declared.calls.Step.{Step}
@@ -17,8 +18,11 @@ use Rattle.spec_locks.specs.Locks.{LockState, LockCase, Pending, Sort, Mutex, No
 use Rattle.spec_locks.specs.Locks as locks
 use Rattle.spec_locks.specs.Purposes.{Purpose, Enters, Releases, Converts, Bumps, CallsOnce, Awaits, Waits, Notifies, Recall, Blank, Saw, SawOwner, HasMoved, WasMoved, WasNotified}
 use Rattle.spec_locks.specs.Sites.{Line, Main, Second, IsOpen, counts_some}
-use Rattle.spec_locks.specs.Runs.{LocksState, CallState, Event, Nothing, AtLock, Moves, AnswerHolds, Agrees, AreFree, Does, GoesOn, IsNotified, IsStep, IsTimely, MayDo, MayGo, MayHappen, MayTurn, MovedNobody, NotifiesAnswer, Turned, going_on, gives_up, rules_at}
-use Rattle.spec_locks.specs.Guarantees.{AllHold, IsQuiet, IsUp, Recalls, Rests, StepHolds, WaitsForSome, full_by, sort_in}
+use Rattle.spec_locks.specs.Runs.{LocksState, CallState, Event, Nothing, AtLock, Moves, AnswerHolds, Agrees, AreFree, Does, GoesOn, IsNotified, IsStep, IsTimely, MayBegin, MayDo, MayGo, MayHappen, MayTurn, MovedNobody, NotifiesAnswer, Turned, going_on, gives_up, new_call, rights_in, rules_at}
+use Rattle.spec_locks.specs.EachState.{IsQuiet, IsUp, Rests, WaitsForSome, full_by, sort_in}
+use Rattle.spec_locks.specs.EachStep.{Recalls, StepHolds}
+use Rattle.spec_locks.specs.Guarantees.{AllHold}
+use Rattle.spec_locks.proofs.CallTable.{answer_is, goal_is}
 use Rattle.spec_locks.specs.GuaranteeLaws.{HeadlineGuarantees, NoNotificationIsLost, OwnersExcludeInRuns, QuietWorldsRest, SafeStatesHold, SomebodyGoes, TellsNobody}
 use Rattle.spec_locks.specs.Headline.{Behaves, GoesFreely, IsDebtor, IsLookedAfter, IsOpenNow, IsSafe, WakesWaiters, want_of}
 use Rattle.spec_locks.proofs.LockKeeps.{opening_is_state}
@@ -273,8 +277,8 @@ module _ (w v : LocksState) (t : ℕ) where
 
 pub step_holds : (w v : LocksState) (s : Step) (o : Outcome) (full : ℕ → Bool) → IsSafe w full → IsStep w s o v → StepHolds w s o v
 step_holds w v s o full safe h = record {
-  answer = λ a e. (let g = ended w v s.thread o s.turn a e h.1 in (going_on g.event (w.calls s.thread), recalls w v s.thread g.event g.may, answered w v s.thread o a e g));
-  begins = begins w v s o h.1;
+  answer = λ a e. (let g = ended w v s.thread o s.turn a e h.1 in (going_on g.event (w.calls s.thread), recalls w v s.thread g.event g.may, answer_is (going_on g.event (w.calls s.thread)).purpose v s.thread (going_on g.event (w.calls s.thread)) a (answered w v s.thread o a e g)));
+  begins = λ begun e told. begins w v s o h.1 begun e told ∙ ap (λ p. new_call p (rights_in w s.thread)) (goal_is w s.thread begun (may_begin begun e told).right);
   is_late = is_late w v s o h.1;
   ends = ends w v s o h.1;
   goes_on = goes_on w v s o h.1;
@@ -285,6 +289,12 @@ step_holds w v s o full safe h = record {
   others = h.2.others;
   order = queues_keep_order w v s o h;
 }
+  where
+    may_begin : (begun : Call) → s.turn ≡ turn.TheVariants.Begin begun → o ≢ outcome.TheVariants.NotNow → MayBegin w s.thread begun
+    may_begin begun e told = elim h.1 [
+      | inl does ↦ subst (MayTurn w s.thread) e does.0
+      | inr refused ↦ absurd (told refused.1.0)
+    ]
 
 pub safe_holds : SafeStatesHold
 safe_holds w full safe = record {

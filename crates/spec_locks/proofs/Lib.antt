@@ -33,3 +33,4 @@ pub mod Idle
 pub mod Reach
 pub mod FairQueues
 pub mod FairEvents
+pub mod CallTable

@@ -14,7 +14,7 @@ use Rattle.spec_locks.specs.Locks.{Sort, Semaphore, Once, Condvar, LockState, Ru
 use Rattle.spec_locks.specs.Purposes.{Purpose, Enters, Releases, Converts, Bumps, CallsOnce, Awaits, Waits, Notifies, Recall, Blank, Saw, SawOwner, HasMoved, WasMoved, WasNotified, MayWait}
 use Rattle.spec_locks.specs.Sites.{Line, Main, Second, IsOpen, counts_some, has_readers}
 use Rattle.spec_locks.specs.Runs.{LocksState, Status, AreLockStates, IsStep, LetsGo, ShowsWaiters, rules_at}
-pub use Rattle.spec_locks.specs.Guarantees.{IsUp, Opens, full_by, sort_in}
+pub use Rattle.spec_locks.specs.EachState.{IsUp, Opens, full_by, sort_in}
 
 -- ---------------------------------------------------------------- threads that wake the next waiter
 

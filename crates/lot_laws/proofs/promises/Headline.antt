@@ -27,7 +27,9 @@ use Rattle.lot_laws.specs.WorldRuns.{IsWorldRun, Tells}
 use Rattle.lot_laws.proofs.sites.Opening.{kind_is, unfilled_0}
 use Rattle.lot_laws.proofs.promises.Promises.{opening_is}
 use Rattle.lot_laws.proofs.alone.WorldRuns.{step_is, world_after, world_kept, world_run, world_step}
-use Rattle.spec_locks.specs.Guarantees.{IsGuaranteed, StateHolds, StepHolds}
+use Rattle.spec_locks.specs.EachState.{StateHolds}
+use Rattle.spec_locks.specs.EachStep.{StepHolds}
+use Rattle.spec_locks.specs.Guarantees.{IsGuaranteed}
 use Rattle.spec_locks.specs.Headline.{IsSafe}
 use Rattle.spec_locks.proofs.Guarantees.{headline_guarantees, safe_holds, step_holds}
 
