@@ -9,4 +9,4 @@ pub mod Locations
 pub mod MutexDeeds
 pub mod SitesOf
 pub mod Laws
-pub mod Turns
+pub mod Overtaking

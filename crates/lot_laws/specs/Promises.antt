@@ -17,10 +17,10 @@ use Rattle.spec_locks.specs.Onces.{InProgress, IsRunning}
 use Rattle.spec_locks.specs.Codes.{word_by, parked_in, aside_in, has_aside, is_running}
 use Rattle.steps_rwlock.specs.RwLockSteps.{plus}
 use Rattle.steps_once.specs.OnceSteps.{marked}
-use Rattle.spec_locks.specs.Runs.{AreLockStates, LetsGo, ShowsWaiters}
+use Rattle.spec_locks.specs.Runs.{AreLockStates, CallState, LetsGo, ShowsWaiters}
 use Rattle.spec_locks.specs.Sites.{Line, Main, Second, counts_some, has_readers}
 pub use Rattle.spec_locks.specs.Headline.{want_of, mutex_seen, WakesWaiters, IsOpenNow, HasOrPends, GoesFreely}
-use Rattle.spec_locks.specs.Purposes.{Purpose, Enters, Releases, Converts, Bumps, CallsOnce, Awaits, MayWait, Waits, Notifies}
+use Rattle.spec_locks.specs.Purposes.{Purpose, Enters, Releases, Converts, Bumps, CallsOnce, Awaits, IsReleasing, MayWait, Waits, Notifies}
 use Rattle.spec_locks.specs.declared.calls.Patience.TheVariants.{Try}
 use Rattle.lot_laws.specs.Refinement.{RunsClosure, lock_state, locks_of, call_at}
 use Rattle.lot_laws.specs.Locations.{role_on}
@@ -174,6 +174,10 @@ LeadsToSleep sort l a =
     ((seen : ℕ) × (now : ℕ) × (a ≡ Word l (Exchange seen now)) × SetsBit sort seen now)
     ⊎ (a ≡ Enter (One (key_of l Second)))
 
+-- a call waits for the lock, or sets out to, and isn't about to release it
+abbrev pub IsWaitingCall : CallState → ℕ → Type 0
+IsWaitingCall c l = MayWait c.purpose l × (IsReleasing c.purpose c.released l → ⊥)
+
 -- a call that tries
 abbrev pub IsTry : Option Purpose → Type 0
 IsTry None = ⊥
@@ -229,6 +233,10 @@ pub record IsKept (w : State) : Type 0 where
   -- a thread may look at a word once more only in place of such an act
   pub looks : (t : ℕ) → ((locks_of w).stances t).may_spin ≡ true
       → (l : ℕ) × LeadsToSleep (sort_at w l) l (act_of (place_at w t))
+  -- and in place of each such exchange of a call that waits for the lock it may
+  pub spins : (t l seen now : ℕ) → IsWaitingCall (call_at w t) l
+      → act_of (place_at w t) ≡ Word l (Exchange seen now) → SetsBit (sort_at w l) seen now
+      → ((locks_of w).stances t).may_spin ≡ true
   -- a thread that is inside a section goes on freely: it is awake, and enters no other
   pub inside_goes : (t l : ℕ) (m : Line) → IsInside w t l m → GoesFreely ((locks_of w).stances t)
   -- so does a try, wherever it is

@@ -17,7 +17,7 @@ ghost use Rattle.lot_laws.specs.Refinement.{locks_of, ChangesOneThing};
 ghost use Rattle.lot_laws.specs.Promises.{IsKept};
 ghost use Rattle.lot_laws.specs.Fair.{IsFair};
 ghost use Rattle.lot_laws.specs.Owing.{OwesSince};
-ghost use Rattle.lot_laws.specs.Turns.{NobodyIsOvertaken};
+ghost use Rattle.lot_laws.specs.Overtaking.{NobodyIsOvertaken};
 ghost use Rattle.lot_laws.specs.WorldRuns.{IsWorldRun, Tells, SleepersStay, TouchesOnlyByGoing, TriesAtOnce};
 ghost use Rattle.lot_laws.specs.Solo.{IsUnderWay, IsUnobstructed, HasWhatItReads, IsBarred, OnlyTries, Rests, EndsAlone, IsSoloRun};
 ghost use Rattle.lot_machine.specs.Views.{StandUnder, owners_of, queue_of, debts_of};

@@ -21,7 +21,7 @@ use Rattle.lot_laws.specs.Promises.{IsKept, WaitsFor}
 use Rattle.lot_laws.specs.Owing.{IsInside}
 use Rattle.lot_laws.specs.Refinement.{call_at, call_state, lock_state, locks_of, taken_at}
 use Rattle.lot_laws.specs.SitesOf.{IsWorld, TakesOne, hand_at, key_of, rules_in}
-use Rattle.lot_laws.specs.Turns.{NobodyIsOvertaken, StandsThroughout, passes}
+use Rattle.lot_laws.specs.Overtaking.{NobodyIsOvertaken, StandsThroughout, passes}
 use Rattle.lot_laws.proofs.alone.WorldRuns.{step_is, world_after, world_kept}
 use Rattle.lot_laws.proofs.calls.SingleCalls.{call_none}
 use Rattle.lot_laws.proofs.machine.KindsStay.{after_kinds}

@@ -32,6 +32,7 @@ use Rattle.lot_laws.proofs.hands.Inside.{hands_inside, is_to_mark}
 use Rattle.lot_laws.proofs.sites.Held.{held}
 use Rattle.lot_laws.proofs.machine.InsideAwake.{inside_goes}
 use Rattle.lot_laws.proofs.calls.LooksOnce.{looks}
+use Rattle.lot_laws.proofs.calls.Spins.{spins}
 use Rattle.lot_laws.proofs.calls.TriesPass.{tries_go}
 use Rattle.lot_laws.proofs.condvar.ShownMutex.{shows_always, shows_waiters}
 use Rattle.lot_laws.proofs.condvar.LetsGo.{lets_go}
@@ -475,6 +476,7 @@ module _ (w : State) (steady : IsInductive w) where
     second_line = second_line;
     retrying = retrying;
     looks = looks w steady;
+    spins = spins w steady;
     inside_goes = inside_goes w steady;
     tries = tries_go w steady;
     handing = λ t h. handed_over t h.0 h.1;
