@@ -15,3 +15,4 @@ pub mod EachLock
 pub mod TriesPass
 pub mod LooksOnce
 pub mod Tries
+pub mod Spins

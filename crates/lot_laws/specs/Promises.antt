@@ -2,7 +2,7 @@
 -- sort of lock, so that it stays as it is for a further sort.
 use Rattle.steps_base.specs.Rows.{KnowsRights, WakesAside}
 use Rattle.spec_locks.specs.Locks as locks
-use Rattle.std.specs.Prelude.{ℕ, Bool, false, true, None, Option, ◌≡◌, ◌≢◌, ◌≤◌, ◌⊎◌, ◌↔◌, Some, ◌*◌, ◌+◌, []}
+use Rattle.std.specs.Prelude.{ℕ, Bool, false, true, None, Option, ◌≡◌, ◌≢◌, ◌≤◌, ◌<◌, ◌-◌, ◌⊎◌, ◌↔◌, Some, ◌*◌, ◌+◌, []}
 use Rattle.core_base.specs.declared.keys.Keys.TheVariants.{One}
 use Rattle.core_base.specs.declared.wants.Want.{Want}
 use Rattle.core_base.specs.declared.ops.Op.TheVariants.{Exchange}
@@ -17,10 +17,10 @@ use Rattle.spec_locks.specs.Onces.{InProgress, IsRunning}
 use Rattle.spec_locks.specs.Codes.{word_by, parked_in, aside_in, has_aside, is_running}
 use Rattle.steps_rwlock.specs.RwLockSteps.{plus}
 use Rattle.steps_once.specs.OnceSteps.{marked}
-use Rattle.spec_locks.specs.Runs.{AreLockStates, LetsGo, ShowsWaiters}
+use Rattle.spec_locks.specs.Runs.{AreLockStates, CallState, LetsGo, ShowsWaiters}
 use Rattle.spec_locks.specs.Sites.{Line, Main, Second, counts_some, has_readers}
 pub use Rattle.spec_locks.specs.Headline.{want_of, mutex_seen, WakesWaiters, IsOpenNow, HasOrPends, GoesFreely}
-use Rattle.spec_locks.specs.Purposes.{Purpose, Enters, Releases, Converts, Bumps, CallsOnce, Awaits, MayWait, Waits, Notifies}
+use Rattle.spec_locks.specs.Purposes.{Purpose, Enters, Releases, Converts, Bumps, CallsOnce, Awaits, IsReleasing, MayWait, Waits, Notifies}
 use Rattle.spec_locks.specs.declared.calls.Patience.TheVariants.{Try}
 use Rattle.lot_laws.specs.Refinement.{RunsClosure, lock_state, locks_of, call_at}
 use Rattle.lot_laws.specs.Locations.{role_on}
@@ -51,8 +51,7 @@ IsCoded w l =
 abbrev pub IsAboutToMark : State → ℕ → ℕ → Type 0
 IsAboutToMark w t l = (role_on (place_at w t) l).sets ≡ true
 
--- A thread that is about to set a parked bit: it is inside the section, or, at a `Once`, owes those waiters
--- their wake.
+-- and it is inside the section, or, at a `Once`, owes those waiters their wake
 abbrev pub IsToMark : State → ℕ → ℕ → Type 0
 IsToMark w t l = IsAboutToMark w t l
     × (IsInside w t l Main ⊎ ((sort_at w l ≡ Once) × Owes w t l Main))
@@ -72,7 +71,7 @@ GoesToWake w t l m =
     ⊎ (WakesAside (call_at w t).purpose l m
     ⊎ WaitHasReleased (call_at w t).purpose (call_at w t).released l m))
 
--- it owes a wake on the main line, and its call wakes the threads that it takes; or it was woken, is about to
+-- it owes a wake on the main line, and its call wakes whom it takes; or it was woken, is about to
 -- try again, and wants what passes the turn on (of a mutex anything, of a reader-writer lock more
 -- than to share)
 abbrev pub IsDebtorOf : State → ℕ → ℕ → Line → Type 0
@@ -92,6 +91,12 @@ pub record IsLookedAfterIn (w : State) (l : ℕ) (m : Line) : Type 0 where
   pub stands_nowhere : (k : ℕ) → (standing debtor (lock_state w k) ≡ 0)
       ⊎ (WaitHasReleased (call_at w debtor).purpose (call_at w debtor).released l m × Owes w debtor l m)
 
+-- so many different threads are
+pub record AreLookedAfterIn (w : State) (l number : ℕ) : Type 0 where
+  pub debtor : ℕ → ℕ
+  pub apart : (i j : ℕ) → i < number → j < number → debtor i ≡ debtor j → i ≡ j
+  pub each : (i : ℕ) → i < number → (h : IsLookedAfterIn w l Main) × (h.debtor ≡ debtor i)
+
 -- a lock that is shared was never at its limit
 abbrev pub WasNeverFull : State → ℕ → Type 0
 WasNeverFull w l = has_readers (sort_at w l) ≡ true → filled_at w l ≡ false
@@ -101,7 +106,11 @@ pub record NobodyForgottenIn (w : State) : Type 0 where
   pub main : (t l : ℕ) → WaitsFor w t l → IsOpenNow (rules_in w l) (lock_state w l)
       → WasNeverFull w l
       → IsLookedAfterIn w l Main
-  -- A writer aside is looked after once nobody shares the lock.
+  -- while a thread waits for a permit, as many different threads look after the line as permits
+  -- are free
+  pub permits : (t l : ℕ) → WaitsFor w t l → sort_at w l ≡ locks.Semaphore
+      → AreLookedAfterIn w l ((rules_in w l).limit - readers (lock_state w l))
+  -- and so is a writer aside of whom nobody shares any more
   pub second : (l : ℕ) → (lock_state w l).aside ≢ None → readers (lock_state w l) ≡ 0
       → IsLookedAfterIn w l Second
 
@@ -118,7 +127,7 @@ abbrev pub IsAsleepNowhere : State → ℕ → Type 0
 IsAsleepNowhere w t = (act_of (place_at w t) ≡ Sleep) × ((l : ℕ) → standing t (lock_state w l) ≡ 0)
 
 -- it has what it waited for, and the thread inside the section has it in its hand, and wakes all
--- that it has there as it leaves
+-- whom it has there as it leaves
 pub record IsHandedOverIn (w : State) (t : ℕ) : Type 0 where
   pub lock : ℕ
   pub by : ℕ
@@ -141,7 +150,7 @@ pub record ShowsItsWaiters (w : State) (l : ℕ) : Type 0 where
   pub one : (t m : ℕ) → (lock_state w l).shown ≡ Some m → WaitsFor w t l
       → (timed : Bool) × ((call_at w t).purpose ≡ Some (Waits l m timed))
 
--- the thread by which a thread was taken
+-- by whom a thread was taken
 abbrev pub holder : Option Taken → Option ℕ
 holder None = None
 holder (Some h) = Some h.by
@@ -165,6 +174,10 @@ LeadsToSleep sort l a =
     ((seen : ℕ) × (now : ℕ) × (a ≡ Word l (Exchange seen now)) × SetsBit sort seen now)
     ⊎ (a ≡ Enter (One (key_of l Second)))
 
+-- a call waits for the lock, or sets out to, and isn't about to release it
+abbrev pub IsWaitingCall : CallState → ℕ → Type 0
+IsWaitingCall c l = MayWait c.purpose l × (IsReleasing c.purpose c.released l → ⊥)
+
 -- a call that tries
 abbrev pub IsTry : Option Purpose → Type 0
 IsTry None = ⊥
@@ -181,19 +194,19 @@ pub record IsKept (w : State) : Type 0 where
   -- owners exclude each other, and a thread stands at most once in the queue of a lock, aside of it
   -- or taken from it
   pub state : AreLockStates (locks_of w)
-  -- A thread stands at one lock at most.
+  -- and at one lock at most
   pub one_place : (t l k : ℕ) → 1 ≤ standing t (lock_state w l) → 1 ≤ standing t (lock_state w k)
       → l ≡ k
   -- a thread that is taken is in the hand of one that is inside a section of the lock
   pub in_hand : (u l : ℕ) (h : Taken) → (lock_state w l).taken u ≡ Some h
       → (m : Line) × IsInside w h.by l m
-  -- A taken waiter is held by its place in its taker's hand. One that stands in a line is in nobody's, so
-  -- that no other thread's step wakes it.
+  -- and by its place in that hand; one that stands in a line is in nobody's, so that no other
+  -- thread's step wakes it
   pub held : (t l : ℕ) → 1 ≤ standing t (lock_state w l)
       → taker (place_at w t) ≡ holder ((lock_state w l).taken t)
   -- one that stands there, or is taken, is in a call that waits for the lock
   pub waiting : (t l : ℕ) → 1 ≤ standing t (lock_state w l) → MayWait (call_at w t).purpose l
-  -- Each call is for rights that its lock knows.
+  -- and each call is for rights that its lock knows
   pub known : (t : ℕ) → KnowsRights (sort_at w) (call_at w t).purpose
   pub coded : (l : ℕ) → IsCoded w l
   pub limited : (l : ℕ) → has_readers (sort_at w l) ≡ true
@@ -212,7 +225,7 @@ pub record IsKept (w : State) : Type 0 where
   pub inside_owes : (t l : ℕ) (m : Line) → IsInside w t l m → Owes w t l m
   pub going_owes : (t l : ℕ) (m : Line) → GoesToWake w t l m
       → Owes w t l m ⊎ IsWait (call_at w t).purpose
-  -- Only a lock that is shared has a second line.
+  -- and only a lock that is shared has a second line
   pub second_line : (t l : ℕ) → Owes w t l Second → has_readers (sort_at w l) ≡ true
   -- a thread that is shown to try a lock again was woken on it, and has got neither the lock nor a place in a
   -- queue since
@@ -220,14 +233,18 @@ pub record IsKept (w : State) : Type 0 where
   -- a thread may look at a word once more only in place of such an act
   pub looks : (t : ℕ) → ((locks_of w).stances t).may_spin ≡ true
       → (l : ℕ) × LeadsToSleep (sort_at w l) l (act_of (place_at w t))
+  -- and in place of each such exchange of a call that waits for the lock it may
+  pub spins : (t l seen now : ℕ) → IsWaitingCall (call_at w t) l
+      → act_of (place_at w t) ≡ Word l (Exchange seen now) → SetsBit (sort_at w l) seen now
+      → ((locks_of w).stances t).may_spin ≡ true
   -- a thread that is inside a section goes on freely: it is awake, and enters no other
   pub inside_goes : (t l : ℕ) (m : Line) → IsInside w t l m → GoesFreely ((locks_of w).stances t)
-  -- a try does so too, wherever it is
+  -- so does a try, wherever it is
   pub tries : (t : ℕ) → IsTry (call_at w t).purpose → GoesFreely ((locks_of w).stances t)
   -- a sleeper that stands nowhere was handed the lock that it waited for, by a thread that is inside the
   -- section and wakes it
   pub handing : (t : ℕ) → IsAsleepNowhere w t → IsHandedOverIn w t
-  -- each sleeper stands somewhere, or was handed its lock
+  -- so each sleeper stands somewhere, or was handed its lock
   pub sleeping : (t : ℕ) → act_of (place_at w t) ≡ Sleep
       → ((l : ℕ) × (1 ≤ standing t (lock_state w l))) ⊎ IsHandedOverIn w t
   -- a waiter implies the parked bit while nobody is inside the section: else the thread inside has
@@ -235,14 +252,14 @@ pub record IsKept (w : State) : Type 0 where
   -- cleared the bit owes it its wake
   pub parked : (t l : ℕ) → WaitsFor w t l
       → (has_parked_bit w l ≡ true) ⊎ ((u : ℕ) × IsToMark w u l)
-  -- A writer aside implies its own parked bit.
+  -- and a writer aside implies its own
   pub aside_parked : (l : ℕ) → (lock_state w l).aside ≢ None → has_aside_bit w l ≡ true
   -- while nobody is inside its section, a condition variable shows a mutex exactly while somebody
   -- waits, and all wait with that one
   pub shown : (l : ℕ) → sort_at w l ≡ locks.Condvar → section_at w (key_of l Main) ≡ None
       → ShowsItsWaiters w l
-  -- At any time a condition variable shows the mutex with which all wait. It shows none where nobody waits,
-  -- or while a notification of all is inside that is about to move them.
+  -- and at any time it shows the mutex with which all wait; it shows none where nobody waits, or
+  -- while a notification of all is inside that is about to move them
   pub shows : (l : ℕ) → sort_at w l ≡ locks.Condvar → ShowsWaiters (locks_of w) l
   -- a wait that sleeps has released its mutex
   pub let_go : (t : ℕ) → LetsGo (locks_of w) t

@@ -7,7 +7,9 @@ ghost use Rattle.lot_machine.specs.Machine.{opening, place_at, lock_at, share_at
 ghost use Rattle.lot_machine.specs.Fits.{SameSize};
 ghost use Rattle.spec_locks.specs.Runs.{IsOpening, IsStep, IsRun, purpose_at};
 ghost use Rattle.spec_locks.specs.Headline.{Behaves, MayTell, Opens, full_by};
-ghost use Rattle.spec_locks.specs.Guarantees.{IsGuaranteed, StateHolds, StepHolds};
+ghost use Rattle.spec_locks.specs.Guarantees.{IsGuaranteed};
+ghost use Rattle.spec_locks.specs.EachState.{StateHolds};
+ghost use Rattle.spec_locks.specs.EachStep.{StepHolds};
 ghost use Rattle.spec_locks.specs.UserLaws.{ReadersStayOut, RereadersPass, UpgradesLetNobodyWrite, DowngradesOwn};
 ghost use Rattle.spec_locks.specs.CondvarLaws.{NobodyWakesByItself};
 ghost use Rattle.lot_laws.specs.SitesOf.{IsWorld};
@@ -15,6 +17,7 @@ ghost use Rattle.lot_laws.specs.Refinement.{locks_of, ChangesOneThing};
 ghost use Rattle.lot_laws.specs.Promises.{IsKept};
 ghost use Rattle.lot_laws.specs.Fair.{IsFair};
 ghost use Rattle.lot_laws.specs.Owing.{OwesSince};
+ghost use Rattle.lot_laws.specs.Overtaking.{NobodyIsOvertaken};
 ghost use Rattle.lot_laws.specs.WorldRuns.{IsWorldRun, Tells, SleepersStay, TouchesOnlyByGoing, TriesAtOnce};
 ghost use Rattle.lot_laws.specs.Solo.{IsUnderWay, IsUnobstructed, HasWhatItReads, IsBarred, OnlyTries, Rests, EndsAlone, IsSoloRun};
 ghost use Rattle.lot_machine.specs.Views.{StandUnder, owners_of, queue_of, debts_of};
@@ -230,6 +233,10 @@ impl<Q: Queues + Drop> World<Q> {
             (IsGuaranteed kinds threads steps.now)) }
         ensures holds { OnOk result (StateHolds (locks_of self.new) (filled_at self.new)) }
 
+        // A fair mutex lets nobody be overtaken: who stands k-th in its queue owns it after k
+        // releases at most.
+        ensures in_turn { OnOk result (NobodyIsOvertaken self.old steps.now self.new) }
+
         // The headline, from the opening state on: some run of the abstract locks tells these
         // outcomes, and in each of its states nobody is forgotten.
         ensures headline { (kinds : List Kind) (threads : ℕ) → self.old ≡ opening kinds threads
@@ -260,6 +267,8 @@ impl<Q: Queues + Drop> World<Q> {
             (locks_of self.new))) }
         ensures stopped_run { IfErr result (λ stopped. Tells outcomes.old.items outcomes.new.items
             (λ told. IsWorldRun self.old (take stopped.taken steps.now) told self.new)) }
+        ensures stopped_in_turn { IfErr result
+            (λ stopped. NobodyIsOvertaken self.old (take stopped.taken steps.now) self.new) }
         ensures stopped_headline { (kinds : List Kind) (threads : ℕ)
             → self.old ≡ opening kinds threads
             → IfErr result (λ stopped. Tells outcomes.old.items outcomes.new.items
