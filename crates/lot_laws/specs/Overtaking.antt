@@ -1,4 +1,4 @@
--- A fair mutex lets nobody be overtaken: who stands k-th in its queue owns it after k releases at most.
+-- A fair mutex lets nobody be overtaken: a thread that is k-th in its queue owns it after k releases at most.
 use Rattle.std.specs.Prelude.{ℕ, ◌+◌, ◌≡◌, ◌≤◌, List, [], ◌∷◌}
 use Rattle.spec_locks.specs.declared.calls.Step.{Step}
 use Rattle.spec_locks.specs.declared.kinds.Kind.TheVariants as kind

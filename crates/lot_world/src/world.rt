@@ -233,7 +233,7 @@ impl<Q: Queues + Drop> World<Q> {
             (IsGuaranteed kinds threads steps.now)) }
         ensures holds { OnOk result (StateHolds (locks_of self.new) (filled_at self.new)) }
 
-        // A fair mutex lets nobody be overtaken: who stands k-th in its queue owns it after k
+        // A fair mutex lets nobody be overtaken: a thread that is k-th in its queue owns it after k
         // releases at most.
         ensures in_turn { OnOk result (NobodyIsOvertaken self.old steps.now self.new) }
 

@@ -41,7 +41,7 @@ leave_call (Waits k m timed) g b r l (inr made) fairly = absurd (fairly (sym mad
 leave_call (Notifies k all) g b r l (inl made) fairly = absurd made.1
 leave_call (Notifies k all) g b r l (inr made) fairly = absurd made
 
--- or hands it over
+-- The event hands it over.
 hand_call : (q : Purpose) (gave_up : Option ℕ) (released : Bool) (r : Recall) (l : ℕ) (y : Option Queued) → IsMadeOf q gave_up released r l (HandOff Exclusive y)
     → ReleasesFairly (Some q) l → IsFairRelease (Some q) l
 hand_call (Releases k x fair) g b r l y made fairly = fair_release k l x fair made.0 made.1.1 fairly
@@ -61,7 +61,7 @@ hand_call (Notifies k all) g b r l y (inr made) fairly = absurd made
 abbrev Gone : LockState → LockState → ℕ → Type 0
 Gone s v t = (v.exclusive ≡ None) × (s.exclusive ≡ Some t)
 
--- who is in a hand was in one, or stood in the queue
+-- a thread that is in a hand was in one, or stood in the queue
 abbrev FromQueue : LockState → LockState → Type 0
 FromQueue s v = (u : ℕ) → v.taken u ≢ None → (s.taken u ≢ None) ⊎ (1 ≤ times u s.queue)
 

@@ -41,7 +41,7 @@ pub record Rests (w : LocksState) (was_full : ℕ → Bool) : Type 0 where
   pub aside : (l : ℕ) → (w.locks l).aside ≢ None → 1 ≤ readers (w.locks l)
   -- nobody is in the hand of another
   pub in_no_hand : (t l : ℕ) → (w.locks l).taken t ≡ None
-  -- and whoever sleeps stands in a queue or aside
+  -- A thread that sleeps stands in a queue or aside.
   pub somewhere : (t : ℕ) → (w.stances t).asleep ≡ true
       → (l : ℕ) × ((1 ≤ times t (w.locks l).queue) ⊎ ((w.locks l).aside ≡ Some t))
 
@@ -53,11 +53,11 @@ pub record StateHolds (w : LocksState) (was_full : ℕ → Bool) : Type 0 where
   pub exclude : AreLockStates w
   -- where no thread has anything to do, nobody waits for a lock that is open
   pub rests : IsQuiet w → Rests w was_full
-  -- and where one has, some thread can go on
+  -- While a thread is awake in a call, some thread can go on.
   pub goes : (t : ℕ) → (w.calls t).purpose ≢ None → IsUp (w.stances t) → (u : ℕ) × MayGo w u
   -- a condition variable shows the mutex with which all wait there
   pub shown : (c : ℕ) → sort_in w c ≡ Condvar → ShowsWaiters w c
-  -- and whoever waits there and sleeps has let its mutex go
+  -- A sleeper that waits for a notification has let its mutex go.
   pub let_go : (t : ℕ) → LetsGo w t
 
 -- ---------------------------------------------------------------- the first state

@@ -21,7 +21,7 @@ IsPartOf [] q = Unit {0}
 IsPartOf (x ∷ xs) [] = ⊥
 IsPartOf (x ∷ xs) (y ∷ q) = ((x ≡ y) × IsPartOf xs q) ⊎ IsPartOf (x ∷ xs) q
 
--- those who stay in a line keep their order, and who joins it stands after them
+-- those that stay in a line keep their order, and a thread that joins it stands behind them
 pub record KeepsOrderOf (before now : List Queued) : Type 0 where
   pub left : List Queued
   pub joined : List Queued
@@ -69,7 +69,7 @@ pub record StepHolds (w : LocksState) (step : Step) (o : Outcome) (v : LocksStat
       → v.calls step.thread ≡ record (w.calls step.thread) { late = true }
   pub ends : (a : Answer) → o ≡ End a → v.calls step.thread ≡ no_call
   pub goes_on : (u : ℕ) → (u ≡ step.thread → IsUnderWay step o) → CallGoesOn (w.calls u) (v.calls u)
-  -- who is in no call owns what it owned
+  -- a thread that is in no call owns what it owned
   pub idle : (u : ℕ) → (w.calls u).purpose ≡ None → (l : ℕ) → rights_in v u l ≡ rights_in w u l
   -- no wait wakes by itself: another thread notifies it
   pub notified : NobodyWakesByItself w v

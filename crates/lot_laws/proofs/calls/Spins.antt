@@ -156,7 +156,7 @@ shared_bit locks.Normal seen now h bit = bit
 shared_bit locks.Recursive seen now h bit = bit
 shared_bit sort seen now h bit = absurd cc
 
--- whoever takes the right sets no bit
+-- a thread that takes the right sets no bit
 adds : (seen k : ℕ) → ((k ≡ 16) ⊎ ((k ≡ 20) ⊎ (k ≡ 8))) → plus seen k ≢ plus seen 1
 adds seen k (inl e) f = let g : (seen + k) % 2 ^ 64 ≡ (seen + 1) % 2 ^ 64 = f in omega arith
 adds seen k (inr (inl e)) f = let g : (seen + k) % 2 ^ 64 ≡ (seen + 1) % 2 ^ 64 = f in omega arith

@@ -42,7 +42,7 @@ one_hand n taken same = (by_number n).0
     some_so None = inl refl
     some_so (Some x) = inr ((λ e. cc), refl)
 
-    -- and none, where a later one is in a hand
+    -- no thread is, where a later one is in a hand
     by_number : (n : ℕ) → (in_hands n taken ≤ 1) × ((i : ℕ) → n ≤ i → taken i ≢ None → in_hands n taken ≡ 0)
     by_number zero = (omega arith, λ i le some. refl)
     by_number (suc n) = let more = by_number n in elim (some_so (taken n)) [

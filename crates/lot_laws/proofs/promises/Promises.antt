@@ -295,7 +295,7 @@ module _ (w : State) (steady : IsInductive w) where
         few = (steady.sites.site l).state.within sort;
       }
 
-  -- or at a `Once` that is done
+  -- A waiter is looked after at a `Once` that is done.
   beside_done : AreUnmarked w → (l : ℕ) → sort_at w l ≡ sorts.Once → (lock_state w l).queue ≢ [] → (lock_state w l).phase ≡ Done
       → IsLookedAfterIn w l Main
   beside_done unmarked l sort some done = elim ((steady.sites.site l).parked some) [
