@@ -18,7 +18,7 @@ picked answer next picker (x ∷ xs) = elim (answer picker x.want) [
   | Stop ↦ []
 ]
 
--- the list without those who are taken of the line of a key
+-- the list without those that are taken of the line of a key
 abbrev pub without_picked : {P : Type 0} → (P → Want → Pick) → (P → Want → P) → P → ℕ → List Waiter
     → List Waiter
 without_picked answer next picker key [] = []

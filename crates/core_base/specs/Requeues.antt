@@ -11,18 +11,18 @@ abbrev pub taken_by : Requeue → List Waiter → Option ℕ
 taken_by TakeOneMoveRest line = first_of line
 taken_by _ line = None
 
--- those of a line who are moved
+-- the waiters of a line that are moved
 abbrev pub moved_by : Requeue → List Waiter → List Waiter
 moved_by One line = take 1 line
 moved_by All line = line
 moved_by TakeOneMoveRest line = drop 1 line
 
--- the list without those who are taken or moved of the line of a key
+-- the list without those that are taken or moved of the line of a key
 abbrev pub left_by : Requeue → ℕ → List Waiter → List Waiter
 left_by One key waiters = without_first key waiters
 left_by _ key waiters = without_key key waiters
 
--- the list after a requeue: who was moved stands behind the last of another key, and wants to own
+-- the list after a requeue: a thread that was moved stands behind the last of another key, and wants to own
 -- alone
 abbrev pub requeued : Requeue → ℕ → ℕ → List Waiter → List Waiter
 requeued op from to waiters =

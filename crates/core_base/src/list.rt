@@ -45,7 +45,7 @@ fn take_under(waiters: &mut Vec<Waiter>, key: Key) -> Option<usize>
     None
 }
 
-/// Takes those under a key whom a picker picks, and pushes them to `out`.
+/// Takes the waiters under a key that a picker picks, and pushes them to `out`.
 fn take_picked<P: Picker + Drop>(
     waiters: &mut Vec<Waiter>,
     key: Key,
@@ -111,7 +111,7 @@ fn move_all(waiters: &mut Vec<Waiter>, from: Key, to: Key) -> usize
 }
 
 /// One list of all waiters. A call goes through the whole list, at most; a requeue does so for each
-/// whom it moves.
+/// that it moves.
 #[derive(Drop)]
 pub struct ListQueues {
     waiters: Vec<Waiter>,

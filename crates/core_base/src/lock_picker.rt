@@ -5,7 +5,7 @@ ghost use Rattle.core_base.specs.Picks.{lock_picker, lock_answer, next_picker};
 use crate::picks::{Pick, Picker};
 use crate::wants::Want;
 
-/// Picks whom a thread wakes that gives up a right to a reader-writer lock.
+/// Picks the threads that are woken by a thread that gives up a right to a reader-writer lock.
 #[derive(Clone, Copy)]
 pub enum LockPicker {
     /// Every waiter that wants to share, and the first that wants more.

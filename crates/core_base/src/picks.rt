@@ -16,8 +16,8 @@ pub enum Pick {
     Stop,
 }
 
-/// Picks who is taken of a line. It is asked for each want from the front, and may remember what it
-/// answered.
+/// Picks the waiters of a line that are taken. It is asked for each want from the front, and may
+/// remember what it answered.
 pub trait Picker {
     /// The answer to a want.
     ghost answer: { Self → Want → Pick };

@@ -54,8 +54,8 @@ pub trait Queues {
         ensures lines { lines (waiting self.new) ≡ lines (without_key key (waiting self.old)) }
         ensures capacity { capacity self.new ≡ capacity self.old };
 
-    /// Takes those under a key whom a picker picks, and pushes them to `out` in their order. The
-    /// others keep theirs.
+    /// Takes the waiters under a key that a picker picks, and pushes them to `out` in their order.
+    /// The others keep theirs.
     fn take_by<P: Picker + Drop>(&mut self, key: Key, picker: P, out: &mut Vec<usize>)
         requires { vec_len out.old + capacity self.old ≤ vec_capacity out.old }
         ensures taken { out.new.items ≡ out.old.items
@@ -65,8 +65,9 @@ pub trait Queues {
             ≡ lines (without_picked P.answer P.next picker key (waiting self.old)) }
         ensures capacity { capacity self.new ≡ capacity self.old };
 
-    /// Moves waiters from under a key behind the last under another. Those who are moved want to
-    /// own alone from then on. It answers who was taken, if any, and how many were moved.
+    /// Moves waiters from under a key behind the last under another. Those that are moved want to
+    /// own alone from then on. It answers the thread that was taken, if any, and how many were
+    /// moved.
     fn requeue(&mut self, from: Key, to: Key, op: Requeue) -> (Option<usize>, usize)
         requires { from ≢ to }
         ensures taken { result.0 ≡ taken_by op (line from (waiting self.old)) }
@@ -89,7 +90,7 @@ pub trait Queues {
     fn key_of(&self, thread: usize) -> Option<Key>
         ensures { result ≡ queued_under thread (waiting self.now) };
 
-    /// The first who stands under a key from a place of the queues on, and the place behind it.
+    /// The first that stands under a key from a place of the queues on, and the place behind it.
     /// The first place is 0.
     fn find(&self, key: Key, place: usize) -> Option<(Waiter, usize)>
         ensures few { length (line key (waiting self.now)) ≤ capacity self.now }

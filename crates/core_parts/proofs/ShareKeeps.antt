@@ -43,7 +43,7 @@ tagged-snoc : {K : Type 0} (i t : ℕ) (views : List (View K)) (new : View K) �
 tagged-snoc {K} i t views new all mine seat u there some' = ⊎_elim (λ e. all seat u e some')
     (λ e. subst (λ (x : View K). x.tag ≡ t) e (mine (subst (λ (x : View K). 0 < times i x.owns) (sym e) some'))) (at_snoc views new u seat there)
 
--- and one that is another now, if it has none or their tag
+-- A view whose place is another now has no shares of it, or has their tag.
 tagged-set : {K : Type 0} (i t : ℕ) (views : List (View K)) (id : ℕ) (w : View K) → AllTagged i t views → (0 < times i w.owns → w.tag ≡ t) → AllTagged i t (set views id w)
 tagged-set {K} i t views id w all mine seat u there some' = ⊎_elim
     (λ e. subst (λ (x : View K). x.tag ≡ t) e.1 (mine (subst (λ (x : View K). 0 < times i x.owns) (sym e.1) some')))
@@ -72,7 +72,7 @@ module _ {T K : Type 0} (fits : ℕ → T → ℕ → Type 0) (tag : T → ℕ) 
         refl,
       )
 
-  -- a swap by who is outside, which leaves the word taken
+  -- a swap by a thread that is outside, which leaves the word taken
   pub enter : (slots id i new : ℕ) (key : K) (owns : List ℕ) (mark : ℕ) → i < slots → new ≢ 0
       → Allows (Shares {T = T} {K = K} fits tag) slots id (view key owns [] 0 mark 0, []) i (λ _. new) (enters {T = T} {K = K} fits tag (step slots i new 0 none) (view key owns [] 0 mark 0, []))
   enter slots id i new key owns mark below put s r wide at small =
@@ -133,7 +133,7 @@ module _ {T K : Type 0} (fits : ℕ → T → ℕ → Type 0) (tag : T → ℕ) 
         ((λ _. refl), λ e. absurd (taken e)),
       ))
 
-  -- a store of 0 by who is inside, with what fits the shares that there are then
+  -- a store of 0 by a thread that is inside, with what fits the shares that there are then
   pub leave : (slots id i : ℕ) (key : K) (owns more : List ℕ) (knows left mark found last : ℕ) (content : Option T) → i < slots → ((k : ℕ) → k ≢ i → times k more ≡ times k owns) → ((k : ℕ) → k ≢ i → times k more ≡ 0)
       → left + times i owns ≡ knows + times i more → FitsShares (fits i) content left
       → (0 < knows → 0 < left → tag_in tag content ≡ found) → (0 < times i more → last ≡ tag_in tag content)

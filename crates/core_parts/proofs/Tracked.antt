@@ -1,4 +1,4 @@
--- A borrow of a value under a name, as who has opened its place holds it. Assumes `Logic`.
+-- A borrow of a value under a name, as a thread that has opened its place holds it. Assumes `Logic`.
 --     tracks, untracks     the borrow is named, and the name is given up.        Lends-tracked     the law of what tracks its value
 use mathlib.Core.List.{[], ◌∷◌, ◌++◌}
 use Prim.Native.Nat.{ℕ}

@@ -1,4 +1,4 @@
--- Shares of a row, by its table and its key, and who is inside a place.
+-- Shares of a row, by its table and its key, and the thread that is inside a place.
 use Rattle.std.specs.Prelude.{◌≡◌, ℕ, ◌<◌, ◌≤◌, List, [], ◌∷◌, Option}
 use Rattle.atomic_table.specs.Seated.{TableId}
 use Rattle.atomic_table.specs.declared.shared.Seat.{Seat}
@@ -21,7 +21,7 @@ abbrev pub IsInsidePlace : {K T : Type 0} → TableId → K → ℕ → List ℕ
 IsInsidePlace table key at owns entered = (entered.seat.table_id ≡ table) × (entered.at ≡ at)
     × (entered.seat.me.0.key ≡ key) × (entered.seat.me.0.owns ≡ owns)
 
--- and what was there fits the number of all shares, and has the tag of this one's shares
+-- Entering finds a value that fits the number of all shares, and has the tag of this one's shares.
 abbrev pub HasEnteredPlace : {K T : Type 0} → (K → ℕ → T → ℕ → Type 0) → (T → ℕ) → TableId → K → ℕ
     → List ℕ → ℕ → Option T → Entered K T → Type 0
 HasEnteredPlace fits tag table key at owns tagged content entered = IsInsidePlace table key at owns entered

@@ -144,8 +144,8 @@ impl<K, T: Keyed<K> + Drop> KeyedLocks<K, T> {
         }
     }
 
-    // Takes a value out that was found out. Others may be parked on the word, of whom the first try
-    // left no trace: so from here on the word says that somebody waits.
+    // Takes a value out that was found out. Others may be parked on the word, and the first try
+    // left no trace of them. From here on the word says that somebody waits.
     #[cold]
     #[inline(never)]
     fn take_later<R: Wait>(&self, rt: &R, at: usize) -> (T, Held<K, T>)
@@ -182,7 +182,7 @@ impl<K, T: Keyed<K> + Drop> KeyedLocks<K, T> {
         self.put(value, held, FREE);
     }
 
-    /// The same, and marks it until somebody takes it.
+    /// Gives a value back, and marks it until somebody takes it.
     pub fn give_back_marked(&self, value: T, held: Held<K, T>)
         requires fits { T.fits self.now.table.shared.key value }
         requires held { (held.seat.table_id ≡ self.now.table.shared.table_id)

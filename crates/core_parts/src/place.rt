@@ -1,4 +1,4 @@
-//! A value that stands in the open, and who may touch it.
+//! A value in the open, and the threads that may touch it.
 ghost use Rattle.std.specs.Prelude.{◌≡◌};
 ghost use Rattle.core_parts.specs.Ownership.{place_shares, place_owns, open_owns, open_shares};
 ghost use Rattle.core_parts.specs.PermitIds.{PermitId, permit_id_coded};
@@ -6,8 +6,8 @@ ghost use Rattle.core_parts.specs.PermitIds.{PermitId, permit_id_coded};
 use crate::permit::{NamesPermit, Permit};
 use std::marker::{Model, Move, Owns, PhantomData};
 
-/// A value that is touched by who has the permit, or the place itself. In a clause it is the id of
-/// its permit.
+/// A value that is touched by a thread that has the permit, or the place itself. In a clause it is
+/// the id of its permit.
 pub struct Place<T> {
     pub(crate) value: T,
 }
@@ -48,14 +48,14 @@ impl<T> Place<T> {
         Place { value }
     }
 
-    /// Takes the value out, whoever has the permit.
+    /// Takes the value out, whatever thread has the permit.
     #[inline]
     pub fn into_inner(self) -> T {
         let Self { value } = self;
         value
     }
 
-    /// Opens the place for who has its permit.
+    /// Opens the place for a thread that has its permit.
     #[inline]
     pub fn open(&self, permit: Permit) -> Open<'_, T>
         requires { permit.id ≡ self.now }

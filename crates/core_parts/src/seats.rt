@@ -27,7 +27,7 @@ pub fn cut<S, V, K, P: TableRule<S, V, K>, M: Split<V>>(
     ensures { (seat.new.table_id ≡ seat.old.table_id) × (seat.new.id ≡ seat.old.id) × (seat.new.me ≡ (M.left seat.old.me.0, seat.old.me.1)) × (other.new.table_id ≡ seat.old.table_id) × (other.new.views ≡ M.right seat.old.me.0 ∷ []) }
 {}
 
-/// The same, which gives the new seat.
+/// Steps by a seat, and gives the new one.
 #[inline]
 pub fn split_seat<S, V, K, P: TableRule<S, V, K>, M: Split<V>>(
     table: &Shared<S, V, K, P>,

@@ -30,7 +30,7 @@ without_here thread x xs same = grind (arith, nat_tests)
 without_later : (thread : ℕ) (x : Waiter) (xs : List Waiter) → x.thread ≢ thread → without thread (x ∷ xs) ≡ x ∷ without thread xs
 without_later thread x xs differ = grind (arith, nat_tests)
 
--- a thread that stands behind one who stands there does so too
+-- a thread that stands behind one that stands there does so too
 pub next_stands : (records : List (Option Record)) (from : Option ℕ) (xs : List Waiter) (before thread : ℕ) → Leads records from xs → 1 ≤ times before xs → next_of records before ≡ Some thread → 1 ≤ times thread xs
 next_stands records from [] before thread a h next = absurd (omega arith)
 next_stands records from (x ∷ []) before thread a h next = elim (cases_eq x.thread before) [

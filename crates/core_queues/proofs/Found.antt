@@ -31,7 +31,7 @@ first_stands (Some b) (x ∷ xs) y ys is = elim (cases_eq x.thread b) [
   | inr differ ↦ omega (arith, times_more y.thread x xs, first_stands (Some b) xs y ys (sym (behind_later b x xs differ) ∙ is))
 ]
 
--- and behind it stand the others
+-- The others stay after the one that is found.
 pub rest_slow : (before : Option ℕ) (xs : List Waiter) (y : Waiter) (ys : List Waiter) → ((thread : ℕ) → times thread xs ≤ 1) → behind before xs ≡ y ∷ ys → behind (Some y.thread) xs ≡ ys
 rest_slow None xs y ys once is = ap (behind (Some y.thread)) is ∙ behind_here y.thread y ys refl
 rest_slow (Some b) [] y ys once is = absurd cc

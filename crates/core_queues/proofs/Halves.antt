@@ -208,11 +208,11 @@ gone_first thread (x ∷ xs) first once = let e : Some x.thread ≡ Some thread 
 rest_of_line : (from : ℕ) (xs xs' : List Waiter) → lines xs' ≡ lines (without_first from xs) → line from xs' ≡ drop 1 (line from xs)
 rest_of_line from xs xs' taken = same_line xs' (without_first from xs) from taken ∙ line_without_first from xs
 
--- those who are left stay apart once the first was taken
+-- those that are left stay apart once the first was taken
 pub apart_taken : (from : ℕ) (xs ys xs' : List Waiter) → lines xs' ≡ lines (without_first from xs) → AreApart from xs ys → AreApart from xs' ys
 apart_taken from xs ys xs' taken apart t stands = apart t (omega (arith, ap (times t) (rest_of_line from xs xs' taken), times_drop t (line from xs), stands))
 
--- and once it was moved
+-- Each thread is in one half at most once it was moved.
 pub apart_moved : (from to thread : ℕ) (xs ys xs' ys' : List Waiter) → ((t : ℕ) → times t xs ≤ 1) → first_of (line from xs) ≡ Some thread → lines xs' ≡ lines (without_first from xs) → lines ys' ≡ lines (without thread ys ++ waiter to thread Exclusive ∷ []) → AreApart from xs ys → AreApart from xs' ys'
 apart_moved from to thread xs ys xs' ys' once first taken come apart t stands =
     let later : 1 ≤ times t (drop 1 (line from xs)) = subst (λ (l : List Waiter). 1 ≤ times t l) (rest_of_line from xs xs' taken) stands in

@@ -113,7 +113,7 @@ lines_come q q' key thread wanted hashed hashed' bits fits is =
     (λ k same. filter-append _ (chain q b) new ∙ sym (filter-append _ (joined q.chains) new ∙ ap (λ (l : List Waiter). l ++ line k new) (line_at q k hashed ∙ ap (λ (u : ℕ). line k (chain q u)) same)))
     (λ k differ. sym (filter-append _ (joined q.chains) new ∙ ap (λ (l : List Waiter). line k (joined q.chains) ++ l) (one_line k key thread wanted (λ (e : k ≡ key). differ (ap (bucket_of q.bits) e))) ∙ append-nil (line k (joined q.chains)))))
 
--- those whom a picker picks have left
+-- those that a picker picks have left
 pub lines_picked : {P : Type 0} (answer : P → Want → Pick) (next : P → Want → P) (picker : P) (q q' : Chained) (key : ℕ) → IsHashed q → IsHashed q' → q'.bits ≡ q.bits → bucket_of q.bits key < length q.chains → q'.chains ≡ slice_set q.chains (bucket_of q.bits key) (without_picked answer next picker key (chain q (bucket_of q.bits key))) → lines (joined q'.chains) ≡ lines (without_picked answer next picker key (joined q.chains))
 lines_picked answer next picker q q' key hashed hashed' bits fits is =
     let b : ℕ = bucket_of q.bits key in
@@ -135,7 +135,7 @@ lines_first q q' key hashed hashed' bits fits is =
     ])
     (λ k differ. sym (line_first_other k key (joined q.chains) (λ (e : k ≡ key). differ (ap (bucket_of q.bits) e)))))
 
--- a thread that is first under a key is the one without whom its line loses the first
+-- a thread that is first under a key is the one without which its line loses the first
 pub first_leaves : (key thread : ℕ) (xs : List Waiter) → ((t : ℕ) → times t xs ≤ 1) → first_of (line key xs) ≡ Some thread → without thread xs ≡ without_first key xs
 first_leaves key thread [] once first = absurd cc
 first_leaves key thread (x ∷ xs) once first = elim (cases_eq x.key key) [

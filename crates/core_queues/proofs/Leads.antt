@@ -73,7 +73,7 @@ once records from (x ∷ xs) thread a = elim (cases_eq x.thread thread) [
   | inr differ ↦ grind (arith, nat_tests, once records (next_of records x.thread) xs thread a.2)
 ]
 
--- nobody stands who has no record
+-- each thread that stands has a record
 pub nobody_without : (records : List (Option Record)) (from : Option ℕ) (xs : List Waiter) (thread : ℕ) → record_of records thread ≡ None → Leads records from xs → times thread xs ≡ 0
 nobody_without records from [] thread none a = refl
 nobody_without records from (x ∷ xs) thread none a =

@@ -112,7 +112,7 @@ key_with_next records at next other = elim (cases_eq other at) [
   | inr differ ↦ ap key_of_record (get_or-set_other records at other (leading (record_of records at) next) None differ)
 ]
 
--- each record has its key still, but for that of who has left
+-- each record has its key still, but for that of a thread that has left
 key_without : (records : List (Option Record)) (before : Option ℕ) (thread other : ℕ) → other ≢ thread → key_of_record (record_of (unlinked_records records before thread) other) ≡ key_of_record (record_of records other)
 key_without records None thread other differ = ap key_of_record (get_or-set_other records thread other None None differ)
 key_without records (Some before) thread other differ =

@@ -1,4 +1,5 @@
--- There is room for what those want whom a picker picks, and everybody's wants are those of the line.
+-- There is room for the wants of the waiters that a picker picks, and everybody's wants are those of the
+-- line.
 use Rattle.std.proofs.Common.{◌≡◌, ℕ, ◌<◌, ◌≤◌, List, [], ◌∷◌, ◌++◌, length, length-append, sym, refl, ap, ◌∙◌, arith}
 use Rattle.std.proofs.lemmas.List.{length-map}
 use Rattle.core_base.specs.Picks.{picked}

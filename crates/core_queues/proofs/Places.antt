@@ -124,7 +124,7 @@ one_more threads bits least more k enough = elim (cases_lt bits k) [
   | inr h ↦ let small : 2 ^ k ≤ 2 ^ bits = pow_mono h in absurd (omega arith)
 ]
 
--- the place behind one whom a bucket has
+-- the place behind one that a bucket has
 pub rest_behind_one : (q : Chained) (key bucket : ℕ) (x : Waiter) → bucket ≡ bucket_of q.bits key → x ∷ line key (behind (Some x.thread) (chain q bucket)) ≡ x ∷ rest_of q key (x.thread + 1)
 rest_behind_one q key bucket x is = ap (λ (l : List Waiter). x ∷ l) (ap (λ (b : ℕ). line key (behind (Some x.thread) (chain q b))) is ∙ ap (rest_of q key) (next x.thread)) where
   next : (n : ℕ) → suc n ≡ n + 1

@@ -1,4 +1,4 @@
--- A chain from which those are taken whom a picker picks, one waiter after another.
+-- A chain from which those are taken that a picker picks, one waiter after another.
 use Rattle.std.proofs.Common.{ℕ, true, ◌≡◌, ◌≢◌, ◌+◌, ◌≤◌, ◌<◌, List, [], ◌∷◌, ◌++◌, Option, Some, None, IfSome, length, refl, sym, ap, subst, ◌∙◌, arith, append_assoc, get_or-set_same, length-set}
 use Rattle.std.specs.Prelude.{◌==◌, slice_index_or, slice_set}
 use Rattle.std.proofs.lemmas.Bool.Decides.{nat_tests}

@@ -16,7 +16,7 @@ TookSame old new = (new.taken.items ≡ old.taken.items) × (new.rightless.items
 abbrev pub AreTwo : Queueing → Queueing → Type 0
 AreTwo one other = (other.seats ≡ one.seats) × (other.bits ≡ one.bits) × (other.number ≢ one.number)
 
--- those of a key who stood in one of two buckets alone do so still
+-- the waiters of a key that stood in one of two buckets alone do so still
 abbrev pub KeepApart : Queueing → Queueing → Queueing → Queueing → Type 0
 KeepApart one other one' other' = (key : ℕ) → (AreApart key one.queues.waiters other.queues.waiters
     → AreApart key one'.queues.waiters other'.queues.waiters)

@@ -8,7 +8,7 @@ use Rattle.core_base.specs.declared.wants.Want.{Want}
 abbrev pub wants_of : List Waiter → List Want
 wants_of waiters = map (λ (x : Waiter). x.want) waiters
 
--- those of a line whom a requeue takes
+-- the waiters of a line that a requeue takes
 abbrev pub taken_in_line : Requeue → List Waiter → List Waiter
 taken_in_line TakeOneMoveRest line = take 1 line
 taken_in_line _ line = []

@@ -100,7 +100,7 @@ impl Queueing {
         }
     }
 
-    /// Notes the key of whoever stands under it.
+    /// Notes the key of each thread that stands under it.
     pub fn note_line(&self, stands: &Stands, key: Key) {
         let mut place = 0;
         while let Some((waiter, next)) = self.queues.find(key, place) {

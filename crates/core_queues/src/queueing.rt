@@ -13,7 +13,8 @@ use crate::wants::{Everybody, note_first_want, note_wants};
 use core_base::{Fault, Key, ListQueues, LockPicker, Queues, Requeue, Want};
 use std::alloc::{AllocError, Global};
 
-/// The queues of the keys of one of 2 ^ bits buckets, and whom the section that has them took.
+/// The queues of the keys of one of 2 ^ bits buckets, and the threads that the section that has
+/// them took.
 #[derive(Drop)]
 pub struct Queueing {
     pub(crate) queues: ListQueues,
@@ -157,7 +158,7 @@ impl Queueing {
         copy_all(self.taken.as_slice(), &mut self.rightless);
     }
 
-    /// Takes who is picked of the main queue of a reader-writer lock.
+    /// Takes the waiters that are picked of the main queue of a reader-writer lock.
     pub fn take_picked(&mut self, key: Key, start: Option<Want>, recursive: bool)
         requires { (self.old.taken.items ≡ []) × (self.old.rightless.items ≡ [])
             × (self.old.wants.items ≡ []) }

@@ -51,7 +51,7 @@ tells_step {at} {op} {op'} family number kind me after found there is told =
     (of_plain family (word_index number kind) kind op' me after found (subst (λ (k : WordKind). TakesStepOf family k (word_index number kind) op' me found after) (word_kind_at-index number kind)
     (subst (λ (i : ℕ). TakesStep family i op' me found after) there told)))
 
--- so is a code
+-- a code is one too
 coded_plain : (at found : ℕ) (owns : List Ownership) (kind : WordKind) → CodesWith (plain kind) at found owns → CodesWith kind at found owns
 coded_plain at found owns Mutex c = c
 coded_plain at found owns RwLock c = c
@@ -180,7 +180,7 @@ module _ (lot : LotWords) (seat : Seat PermitSlot View) (word : Word) (own : IsS
             (sees_locked_allowed words from slots seat.id seat.me word.number below seated.1)),
       )
 
-  -- and an exchange
+  -- An exchange on the table sees what was there.
   pub table_tries_seen : (family i seen : ℕ) → seen % 2 ≡ 0 → family ≡ from → i ≡ word_index word.number word.kind → word.kind ≡ Mutex
       → AllowedAt lot seat i (apply (Exchange seen (seen + 1))) (tries_seen family (step slots i seen (seen + 1) none) seat.me)
   table_tries_seen family i seen even same here is = let seated = own.0 in

@@ -286,7 +286,7 @@ module _ (words family : ℕ) (s : State PermitSlot View) (o : LotRule words fam
   tied_after number Once op id v out at below tie more = tt
   tied_after number (Semaphore permits) op id v out at below tie more = tt
 
--- a step that leaves a mutex as locked as it was takes nothing from who takes it
+-- a step that leaves a mutex as locked as it was takes nothing from a thread that takes it
 no_trade : (kind : WordKind) → kind ≡ Mutex → (at : ℕ) (op : Op) (n : ℕ) (owns : List Ownership) → n % 2 ≡ apply op n % 2 → total exclusive (trade kind at op n owns).gives ≡ 0
 no_trade kind is at op n owns e = subst (λ (k : WordKind). total exclusive (trade k at op n owns).gives ≡ 0) (sym is)
     (ap (λ b. total exclusive (cond b (trading [] []) (cond (eqb (n % 2) 0) (trading [] (Exclusive ∷ [])) (trading (Exclusive ∷ []) []))).gives) (eq-eqb (n % 2) (apply op n % 2) e))

@@ -15,7 +15,8 @@ use Rattle.core_words.specs.declared.owners.Ownership.{Ownership}
 use Rattle.core_words.specs.declared.words.WordKind.TheVariants.{Mutex}
 use Rattle.core_words.proofs.Trades.{owned_some}
 
--- the law of steps on a mutex's word: each code that may be found becomes a code, and who unlocks owns the mutex
+-- the law of steps on a mutex's word: each code that may be found becomes a code, and a thread that unlocks
+-- owns the mutex
 pub mutex_step : (at : ℕ) (op : Op) (owns : List Ownership) → ((n : ℕ) → n < 4 → owned at exclusive owns ≤ n % 2 → (apply op n < 4) × (n % 2 ≡ 1 → apply op n % 2 ≡ 0 → has (owning at Exclusive) owns ≡ true)) → MayStep Mutex at op owns
 mutex_step at op owns ok n owners fits code mine agrees =
     let m : ℕ = apply op n in let small : n < 4 = code.0 in let all = code.1 in let one = code.2 in let step = ok n small (omega (arith, mine exclusive)) in let near : m < 4 = step.0 in
@@ -51,7 +52,7 @@ module _ (at : ℕ) (owns : List Ownership) where
       (λ e. subst (λ b. (cond b (from + 1) n < 4) × (n % 2 ≡ 1 → cond b (from + 1) n % 2 ≡ 0 → has (owning at Exclusive) owns ≡ true)) (sym (eq-eqb n from e)) (omega arith, λ odd now. absurd (omega arith)))
       (λ ne. subst (λ b. (cond b (from + 1) n < 4) × (n % 2 ≡ 1 → cond b (from + 1) n % 2 ≡ 0 → has (owning at Exclusive) owns ≡ true)) (sym (ne_eqb n from ne)) (h, λ odd now. absurd (omega arith))))
 
-  -- or with 1
+  -- A step that sets bit 1 may be taken.
   pub may_try : MayStep Mutex at (Or 1) owns
   may_try = locks (Or 1) (omega arith, λ a b. absurd (omega arith)) (omega arith, λ a b. absurd (omega arith)) (omega arith, λ a b. absurd (omega arith)) (omega arith, λ a b. absurd (omega arith))
 
@@ -66,24 +67,24 @@ module _ (at : ℕ) (owns : List Ownership) where
     | inr e ↦ subst (λ (k : ℕ). MayStep Mutex at (Exchange k 3) owns) (sym e) (locks (Exchange 3 3) (omega arith, λ a b. absurd (omega arith)) (omega arith, λ a b. absurd (omega arith)) (omega arith, λ a b. absurd (omega arith)) (omega arith, λ a b. absurd (omega arith)))
   ]
 
-  -- or with 2
+  -- A step that sets bit 2 may be taken.
   pub may_mark_any : MayStep Mutex at (Or 2) owns
   may_mark_any = locks (Or 2) (omega arith, λ a b. absurd (omega arith)) (omega arith, λ a b. absurd (omega arith)) (omega arith, λ a b. absurd (omega arith)) (omega arith, λ a b. absurd (omega arith))
 
-  -- and with not 2
+  -- A step that clears bit 2 may be taken.
   pub may_clear : MayStep Mutex at (And 18446744073709551613) owns
   may_clear = locks (And 18446744073709551613) (omega arith, λ a b. absurd (omega arith)) (omega arith, λ a b. absurd (omega arith)) (omega arith, λ a b. absurd (omega arith)) (omega arith, λ a b. absurd (omega arith))
 
-  -- subtract 1: who owns the mutex finds it locked
+  -- subtract 1: a thread that owns the mutex finds it locked
   pub may_leave : has (owning at Exclusive) owns ≡ true → MayStep Mutex at (Sub 1) owns
   may_leave there = let mine : 0 < owned at exclusive owns = owned_some at Exclusive owns there exclusive (omega arith) in
       mutex_step at (Sub 1) owns (λ n h counted. dite (ℕ_discrete n 1) (λ e. subst (Fits (Sub 1)) (sym e) (omega arith, λ odd even. there)) (λ ne. let e : n ≡ 3 = omega arith in subst (Fits (Sub 1)) (sym e) (omega arith, λ odd even. there)))
 
-  -- the exchange of who owns a mutex on which nobody waits
+  -- the exchange of a thread that owns a mutex on which nobody waits
   pub may_leave_alone : has (owning at Exclusive) owns ≡ true → MayStep Mutex at (Exchange 1 0) owns
   may_leave_alone there = locks (Exchange 1 0) (omega arith, λ a b. absurd (omega arith)) (omega arith, λ a b. there) (omega arith, λ a b. absurd (omega arith)) (omega arith, λ a b. absurd (omega arith))
 
-  -- the store of who owns the mutex
+  -- the store of a thread that owns the mutex
   pub may_hand_over : (m : ℕ) → m < 4 → has (owning at Exclusive) owns ≡ true → MayStep Mutex at (Store m) owns
   may_hand_over m small there = mutex_step at (Store m) owns (λ n h counted. (small, λ odd even. there))
 

@@ -54,14 +54,14 @@ module _ (at n : ℕ) (owns : List Ownership) (code : CodesWith RwLock at n owns
     pub keeps_all : is_look op n ≡ false → owns_after_step RwLock at op n owns ≡ owns
     keeps_all no_look = by_settling (trading [] []) (rw no_look refl)
 
-    -- and so does a look that finds readers
+    -- A look that finds readers changes no ownership.
     pub keeps_beside_readers : n / 16 ≢ 0 → owns_after_step RwLock at op n owns ≡ owns
     keeps_beside_readers some = by_settling (trading [] []) (elim (either_way (is_look op n)) [
       | inl l ↦ rw (l, ne_eqb (n / 16) 0 some) refl
       | inr l ↦ rw l refl
     ])
 
-    -- and one of who waits for no readers
+    -- A thread that waits for no readers keeps its ownership.
     pub keeps_settled : has (owning at Pending) owns ≡ false → has (owning at Upgrading) owns ≡ false → owns_after_step RwLock at op n owns ≡ owns
     keeps_settled np ng = by_settling (trading [] []) (elim (either_way (is_look op n)) [
       | inl l ↦ dite (ℕ_discrete (n / 16) 0) (λ z. rw (l, eq-eqb (n / 16) 0 z, np, ng) refl) (λ nz. rw (l, ne_eqb (n / 16) 0 nz) refl)
@@ -148,7 +148,7 @@ module _ (at n : ℕ) (owns : List Ownership) (code : CodesWith RwLock at n owns
     upgraded_beside mine more = let found = finds_upgradable mine in let small = fits in let some : apply (Sub 12) n / 16 ≢ 0 = λ z. more (omega arith) in
         turned Upgradable rest mine (Sub 12) Upgrading (upgradable_turns (Sub 12) 2 mine (omega arith) (omega arith) (λ e. absurd (omega arith)) ∙ rw (ne_eqb (apply (Sub 12) n / 16) 0 some) refl)
 
-    -- how who waited falls back
+    -- how a thread that waited falls back
     pub fallen_back : owns ≡ owning at Upgrading ∷ rest → owns_after_step RwLock at (Add 12) n owns ≡ owning at Upgradable ∷ rest
     fallen_back mine = let some = there at owns (Add 12) n (apply (Add 12) n) code.0 code.1 code.2 Upgrading upgrading refl (has_it Upgrading rest mine) in let c₀ = code.1.0 in let few = code.1.1 in let room = code.1.3 in
         turned Upgrading rest mine (Add 12) Upgradable (falls_back_trade at owns (Add 12) n (apply (Add 12) n) code.0 code.1 code.2 (has_it Upgrading rest mine) (omega arith))

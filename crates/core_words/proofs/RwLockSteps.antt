@@ -105,7 +105,7 @@ module _ (at : ℕ) (owns : List Ownership) (op : Op) (n m : ℕ) (owners : Owne
   pub absent : (o : Owner) (weight : Owner → ℕ) → weight o ≡ 1 → owners weight ≡ 0 → has (owning at o) owns ≡ false
   absent o weight one none = is_false (has (owning at o) owns) (λ h. absurd (omega (arith, there o weight one h)))
 
-  -- the word keeps its quarters: who waits for the last readers may settle
+  -- the word keeps its quarters: a thread that waits for the last readers may settle
   pub stays_trade : m / 4 ≡ n / 4 → rwlock_trade at op n m owns ≡ settles at op n owns
   stays_trade same = rw (eq-eqb (m / 4) (n / 4) same)
 
@@ -162,7 +162,7 @@ module _ (at : ℕ) (owns : List Ownership) (op : Op) (n m : ℕ) (owners : Owne
       (λ z. rw (eq-eqb n 0 z) (keeps (trading [] (Exclusive ∷ [])) tt (omega arith) (omega arith) (λ h. omega arith) (omega arith)))
       (λ nz. rw (ne_eqb n 0 nz) (keeps (trading [] (Pending ∷ [])) tt (omega arith) (omega arith) (λ h. absurd (omega arith)) (omega arith))))
 
-  -- a shared owner enters, also beside who waits
+  -- a shared owner enters, also beside a thread that waits
   pub reads_trade : m / 4 ≡ n / 4 + 4 → owners exclusive ≡ 0 → rwlock_trade at op n m owns ≡ trading [] (Shared ∷ [])
   reads_trade e none = let nx = absent Exclusive exclusive refl none in
       rw (ne_eqb (m / 4) (n / 4) (λ z. omega arith), nx, ne_eqb (m / 4 + 4) (n / 4) (λ z. omega arith), ne_eqb (m / 4) (n / 4 + 2) (λ z. omega arith), eq-eqb (m / 4) (n / 4 + 4) e)

@@ -1,4 +1,5 @@
--- Steps on words, as the lot's table wants them: who locks a mutex has its permit out with that step, and who unlocks one lays back what is out.
+-- Steps on words, as the lot's table wants them: a thread that locks a mutex has its permit out with that
+-- step, and a thread that unlocks one lays back what is out.
 use Rattle.std.proofs.Common.{◌≡◌, ◌≢◌, if◌then◌else◌, ℕ, ◌+◌, ◌%◌, ◌<◌, ◌≤◌, ◌⊎◌, ⊎_elim, inl, inr, List, [], ◌∷◌, get_or, set, cond, eqb, bit_or, sym, refl, ap, ◌∙◌, subst, arith, eq-eqb, ne_eqb}
 use mathlib.Core.Logic.{dite}
 use mathlib.Core.Option.{Option, some, none}
@@ -202,7 +203,7 @@ still_locked n small odd = each_code (λ k. (k % 2 ≡ 0 → ⊥) → apply (Or 
 is_locked : (n : ℕ) → n < 4 → n % 2 ≡ 0 → apply (Or 1) n ≡ n + 1
 is_locked n small even = each_code (λ k. k % 2 ≡ 0 → apply (Or 1) k ≡ k + 1) (λ even. refl) (λ even. absurd (omega arith)) (λ even. refl) (λ even. absurd (omega arith)) n small even
 
--- and an exchange, of a word that was seen so, and of any other
+-- An exchange that finds what it expects writes, and one that doesn't writes nothing.
 meets : (n seen : ℕ) → n ≡ seen → apply (Exchange seen (seen + 1)) n ≡ seen + 1
 meets n seen is = ap (λ b. if b then seen + 1 else n) (eq-eqb n seen is)
 

@@ -36,7 +36,8 @@ condvar_steps at owns = record {
 }
 
 module _ (mutex : ℕ) (owns : List Ownership) where
-  -- the law of steps on a count word: who owns its mutex finds the count that it says, and leaves a count
+  -- the law of steps on a count word: a thread that owns its mutex finds the count that it says, and leaves a
+  -- count
   count_step : (op : Op) (count : ℕ) → has (owning_with (word_index mutex Mutex) count) owns ≡ true → (count < 2 ^ 64 → IsCountCode (apply op count)) → MayStep Count (word_index (mutex + 1) Count) op owns
   count_step op count there ok n owners fits code mine agrees =
       let same : mutex_of_count (word_index (mutex + 1) Count) ≡ word_index mutex Mutex = omega arith in

@@ -37,7 +37,7 @@ pub record MutexSteps (at : ℕ) (owns : List Ownership) : Type 0 where
   pub mark_any : MayStep Mutex at (Or 2) owns
   -- a thread that subtracts 1 owns the mutex
   pub leave : has (owning at Exclusive) owns ≡ true → MayStep Mutex at (Sub 1) owns
-  -- and so does who leaves a word that nobody waits on, or stores a word in a section
+  -- An owner may leave a word that nobody waits on, and may store a word inside a section.
   pub leave_alone : has (owning at Exclusive) owns ≡ true → MayStep Mutex at (Exchange 1 0) owns
   pub hand_over : (m : ℕ) → m < 4 → has (owning at Exclusive) owns ≡ true
       → MayStep Mutex at (Store m) owns
@@ -49,7 +49,7 @@ MutexMaySteps = (at : ℕ) (owns : List Ownership) → MutexSteps at owns
 -- the kinds of step on a reader-writer lock's word
 pub record RwLockSteps (at : ℕ) (owns : List Ownership) : Type 0 where
   pub load : MayStep RwLock at Load owns
-  -- where no writer is there, or who waits has readers beside it, and the count has room
+  -- where no writer is there, or a thread that waits has readers beside it, and the count has room
   pub read : (s : ℕ) → (s / 8 % 2 ≡ 0) ⊎ (0 < s / 16) → s / 16 < 2 ^ 60 - 2
       → MayStep RwLock at (Exchange s (s + 16)) owns
   pub write_alone : MayStep RwLock at (Exchange 0 8) owns
@@ -71,11 +71,11 @@ pub record RwLockSteps (at : ℕ) (owns : List Ownership) : Type 0 where
   pub try_upgrade : (s : ℕ) → has (owning at Upgradable) owns ≡ true → s / 16 ≡ 1
       → MayStep RwLock at (Exchange s (s - 12)) owns
   pub leave_alone : has (owning at Exclusive) owns ≡ true → MayStep RwLock at (Exchange 8 0) owns
-  -- the store of the tokens of those who were taken
+  -- the store of the tokens of those that were taken
   pub hand_over : (m : ℕ) → has (owning at Exclusive) owns ≡ true → m < 2 ^ 64 → m / 4 % 4 ≤ 2
       → m / 4 ≢ 1 → m / 4 ≢ 2
       → MayStep RwLock at (Store m) owns
-  -- the exchange that adds the tokens of those who were taken, or none
+  -- the exchange that adds the tokens of those that were taken, or none
   pub hand_upgradable : (s m part : ℕ) → has (owning at Upgradable) owns ≡ true → m < 2 ^ 64
       → m / 4 + 5 ≡ s / 4 + part → part % 4 ≤ 2 → part ≢ 1 → MayStep RwLock at (Exchange s m) owns
   pub fall_back : has (owning at Upgrading) owns ≡ true → MayStep RwLock at (Add 12) owns
@@ -111,7 +111,7 @@ pub record SemaphoreSteps (permits at : ℕ) (owns : List Ownership) : Type 0 wh
   pub clear_parked : MayStep (Semaphore permits) at (And 18446744073709551614) owns
   -- a holder gives its permit back
   pub give : has (owning at Shared) owns ≡ true → MayStep (Semaphore permits) at (Add 2) owns
-  -- and who holds as many as it drew gives them all
+  -- A thread that holds as many permits as it drew may give them all.
   pub fill : (many : ℕ) → HasAll at (so_many_shared many) owns
       → MayStep (Semaphore permits) at (Add (2 * many)) owns
 
@@ -128,7 +128,7 @@ pub record SemaphoreTrades (permits at : ℕ) (owns : List Ownership) : Type 0 w
   pub has_all : (many : ℕ) → HasAll at (so_many_shared many) (holding at many ++ owns)
   pub fills : (many n : ℕ) → n / 2 + many ≤ 2 ^ 62
       → owns_after_step (Semaphore permits) at (Add (2 * many)) n (holding at many ++ owns) ≡ owns
-  -- and who finds a code has no more than the free permits leave
+  -- A thread that finds a code has no more permits than the free ones leave.
   pub few : (n : ℕ) → CodesWith (Semaphore permits) at n owns
       → n / 2 + owned at shared owns ≤ 2 ^ 62
 

@@ -98,7 +98,7 @@ draws kinds st me found after =
       me.1,
     )))
 
--- a semaphore's word is drawn where the counter is as expected, with so many permits, which who
+-- a semaphore's word is drawn where the counter is as expected, with so many permits, which the thread that
 -- draws it holds; and else the counter is greater
 abbrev pub draws_permits : {S : Type 0} → ℕ → Play S
 draws_permits permits st me found after =
@@ -115,8 +115,8 @@ draws_permits permits st me found after =
       me.1,
     )))
 
--- the free permits of a semaphore of this number, with those that a view names, are no more than
--- those with which its word was drawn, and these are known to who drew it
+-- the free permits of a semaphore of this number, with those that a view names, are no more than those with
+-- which its word was drawn, and these are known to the thread that drew it
 abbrev pub WithinPermits : ℕ → ℕ → View → Type 0
 WithinPermits number n v =
     (all : ℕ) × (n / 2 + owned (word_index number (Semaphore 0)) shared v.owns ≤ all)

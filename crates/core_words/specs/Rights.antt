@@ -32,13 +32,13 @@ want_of Shared = wants.TheVariants.Shared
 want_of Runner = wants.TheVariants.CallOnce
 want_of Witness = wants.TheVariants.Wait
 
--- how a word may be owned by who was handed what it wants: a reader-writer lock's writer may have
+-- how a word may be owned by a thread that was handed what it wants: a reader-writer lock's writer may have
 -- to wait for the last readers
 abbrev pub MayHand : WordKind → wants.Want → Owner → Type 0
 MayHand RwLock wants.TheVariants.Exclusive owner = (owner ≡ Exclusive) ⊎ (owner ≡ Pending)
 MayHand _ want owner = owner ≡ owner_for want
 
--- how who is handed a lock owns it, whose word is left at this value: a mutex alone, and a
+-- how a thread that is handed a lock owns it, whose word is left at this value: a mutex alone, and a
 -- reader-writer lock by what it wants, where a writer waits for the readers that are left
 abbrev pub owner_given : WordKind → ℕ → wants.Want → Owner
 owner_given Mutex left _ = Exclusive
@@ -65,7 +65,7 @@ abbrev pub takes_permit : WordKind → Owner → Bool
 takes_permit Mutex Exclusive = true
 takes_permit _ owner = false
 
--- the view of who owns a mutex and nothing else, with its permit out
+-- the view of a thread that owns a mutex and nothing else, with its permit out
 abbrev pub with_permit : Word → View
 with_permit word = with_out (word_index word.number word.kind ∷ []) (piece_of word Exclusive)
 

@@ -32,7 +32,7 @@ IsRightOf lot right = IsSeatOf lot right.seat × IsWordOf lot right.word
 abbrev pub IsSame : Word → Word → Type 0
 IsSame word other = (word.number ≡ other.number) × (word.kind ≡ other.kind)
 
--- it names a word, and an owner whom a want may be handed
+-- it names a word, and an owner that a want may be handed
 abbrev pub IsFor : Word → Want → Right → Type 0
 IsFor word want right = IsSame right.word word × MayHand word.kind want right.owner
 

@@ -22,7 +22,7 @@ pub record Trade : Type 0 where
 abbrev pub trading : List Owner → List Owner → Trade
 trading gives gets = record { gives = gives; gets = gets }
 
--- by the value found and the value left: who sets LOCKED enters, who clears it leaves
+-- by the value found and the value left: a thread that sets LOCKED enters, a thread that clears it leaves
 abbrev pub mutex_trade : ℕ → ℕ → Trade
 mutex_trade found left = cond (found % 2 == left % 2) (trading [] [])
     (cond (found % 2 == 0) (trading [] (Exclusive ∷ [])) (trading (Exclusive ∷ []) []))
@@ -99,9 +99,9 @@ settles at op found owns = cond (is_look op found && (found / 16 == 0))
     (trading [] [])))
     (trading [] [])
 
--- by the quarters of the word that are found and left, and by what the one who steps owns: who owns
--- alone or is upgradable gives that up for all that is there then, and everybody else enters,
--- leaves as a shared owner, or gives up waiting
+-- by the quarters of the word that are found and left, and by what the one that steps owns: a thread that
+-- owns alone or is upgradable gives that up for all that is there then, and everybody else enters, leaves as
+-- a shared owner, or gives up waiting
 abbrev pub rwlock_trade : ℕ → Op → ℕ → ℕ → List Ownership → Trade
 rwlock_trade at op found left owns = let a = found / 4 in let b = left / 4 in
     cond (b == a) (settles at op found owns)
@@ -164,12 +164,12 @@ MayTie Count at found left owns =
     (left ≡ found) ⊎ (IsCountCode left × (has (owning_with (mutex_of_count at) found) owns ≡ true))
 MayTie _ at found left owns = Unit {0}
 
--- n is the code of owners among whom these are
+-- n is the code of owners among which these are
 abbrev pub CodesWith : WordKind → ℕ → ℕ → List Ownership → Type 0
 CodesWith kind at n owns = (owners : Owners) × Codes kind n owners
     × ((weight : Owner → ℕ) → owned at weight owns ≤ owners weight) × CountAgrees kind at n owns
 
--- each code that a step finds is of owners among whom these are: these have what it gives up, it leaves the
+-- each code that a step finds is of owners among which these are: these have what it gives up, it leaves the
 -- code of the owners after it, and a word that is tied to a mutex stays so
 abbrev pub MayStep : WordKind → ℕ → Op → List Ownership → Type 0
 MayStep kind at op owns = (n : ℕ) (owners : Owners) → n < 2 ^ 64 → Codes kind n owners

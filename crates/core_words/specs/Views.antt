@@ -23,7 +23,7 @@ with_out out v =
 abbrev pub shown : View → View
 shown = with_out []
 
--- the view of who has done nothing yet, and owns nothing
+-- the view of a thread that has done nothing yet, and owns nothing
 abbrev pub blank : View
 blank = view [] [] [] 0
 
@@ -41,7 +41,7 @@ total_below weight (suc n) = total_below weight n + weight n
 abbrev pub owning : ℕ → Owner → Ownership
 owning at owner = record { at = at; owner = owner; count = 0 }
 
--- the ownership of the mutex at an index, of who says this of its count word
+-- the ownership of the mutex at an index, of a thread that says this of its count word
 abbrev pub owning_with : ℕ → ℕ → Ownership
 owning_with at count = record { at = at; owner = Exclusive; count = count }
 

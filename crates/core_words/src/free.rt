@@ -32,7 +32,8 @@ impl LotWords {
     }
 
     /// The word of a semaphore, by one load. The permits that are free by it, with those that the
-    /// seat names, are no more than those with which it was drawn, which are known to who drew it.
+    /// seat names, are no more than those with which it was drawn, which are known to the thread
+    /// that drew it.
     #[inline]
     pub fn look_free(&self, seat: &mut Seat, semaphore: Word) -> u64
         requires { IsSeatOf self.now seat.old × IsWordOf self.now semaphore

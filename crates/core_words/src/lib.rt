@@ -1,4 +1,4 @@
-//! The words of a lot under one rule: each lock word is the code of what all who step on it own
+//! The words of a lot under one rule: each lock word is the code of what all that step on it own
 //! together.
 #![tactic(auto)]
 

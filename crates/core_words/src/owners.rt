@@ -11,7 +11,7 @@ pub enum Owner {
     Exclusive,
     /// A reader-writer lock, alone once its last readers have left.
     Pending,
-    /// The same, of who upgrades: it has its upgradable ownership again where it gives up.
+    /// Upgrades: it has its upgradable ownership again where it gives up.
     Upgrading,
     /// A reader-writer lock beside readers, with the right to become its writer.
     Upgradable,
@@ -26,7 +26,7 @@ pub enum Owner {
 impl Owner {
     ghost use Rattle.core_words.specs.Rights.{MayHand, owner_for, owner_given, takes_permit, want_of};
 
-    /// How who has what was wanted owns the word.
+    /// How a thread that has what was wanted owns the word.
     #[inline]
     pub fn of_want(want: Want) -> Owner
         ensures { result ≡ owner_for want }
@@ -40,8 +40,9 @@ impl Owner {
         }
     }
 
-    /// How who is handed a lock owns it, whose word is left at this value: a mutex alone, and a
-    /// reader-writer lock by what it wants, where a writer waits for the readers that are left.
+    /// How a thread that is handed a lock owns it, whose word is left at this value: a mutex alone,
+    /// and a reader-writer lock by what it wants, where a writer waits for the readers that are
+    /// left.
     pub fn given(kind: WordKind, left: u64, want: Want) -> Owner
         ensures { result ≡ owner_given kind left want }
     {
@@ -80,7 +81,7 @@ impl Owner {
         }
     }
 
-    /// Whether who waits for a word of this kind may be handed it so.
+    /// Whether a thread that waits for a word of this kind may be handed it so.
     pub fn suits(self, kind: WordKind, want: Want) -> bool
         ensures { IsTrue result ↔ MayHand kind want self }
     {

@@ -1,5 +1,5 @@
 //! The permits of the values that mutexes guard: each lies beside the word of its mutex while that
-//! is unlocked, and is out with who owns it.
+//! is unlocked, and is out with a thread that owns it.
 ghost use Rattle.std.specs.Prelude.{IsTrue, ◌↔◌, ◌≡◌, ◌≢◌, ◌⊎◌, ◌%◌, ◌<◌, ◌≤◌, [], ◌∷◌, true, IfOk, MatchOption, MatchResult};
 ghost use Rattle.core_base.specs.declared.ops.Op.TheVariants.{Exchange, Or, Sub};
 ghost use Rattle.core_words.specs.Indices.{word_index};
@@ -87,7 +87,7 @@ impl LotWords {
         mem::replace(seat, next)
     }
 
-    // The same whatever is out, of a seat that owns the mutex.
+    // Steps whatever permit is out, by a seat that owns the mutex.
     #[inline]
     fn split_picked<P: PermitPick>(&self, seat: &mut Seat, word: Word) -> Seat
         requires pick { (P.family ≡ self.now.table.shared.key.1.family)
@@ -111,7 +111,7 @@ impl LotWords {
         self.split_picked::<Brand>(seat, word)
     }
 
-    // The permit leaves its slot, for who may touch the value.
+    // The permit leaves its slot, for a thread that may touch the value.
     #[inline]
     fn open(&self, mut owner: Seat, word: Word) -> (OpenHeld, Permit)
         requires { IsWordOf self.now word × IsOwnerOf self.now word owner × (word.kind ≡ Mutex) }
@@ -151,7 +151,7 @@ impl LotWords {
         );
     }
 
-    // The same of an owner with which a permit is out: it is out with the thread then.
+    // Steps by an owner with which a permit is out: it is out with the thread after the step.
     #[inline]
     pub(crate) fn go_on_as(&self, seat: &mut Seat, owner: Seat)
         requires own { IsSeatOf self.now seat.old × IsSeatOf self.now owner }
@@ -330,7 +330,7 @@ impl LotWords {
         self.enter_picked::<Brand>(seat, word, unlocked)
     }
 
-    /// The same where others may wait. It answers what the step saw, and writes nothing to a mutex
+    /// Locks where others may wait. It answers what the step saw, and writes nothing to a mutex
     /// that it sees locked.
     #[inline]
     pub fn try_enter_open(&self, seat: &mut Seat, word: Word) -> (u64, Option<(OpenHeld, Permit)>)
@@ -382,7 +382,7 @@ impl LotWords {
         Ok(LOCKED_AND_PARKED)
     }
 
-    /// The same where nobody waits. Where somebody does, the seat owns the mutex, and the permit is
+    /// Unlocks where nobody waits. Where somebody does, the seat owns the mutex, and the permit is
     /// out with it still.
     #[inline]
     pub fn leave_open_alone(

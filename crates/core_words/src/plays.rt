@@ -221,7 +221,7 @@ impl<P: Piece> Split<View> for SplitsOff<P> {
     ghost right = { λ _. piece P.owned };
 }
 
-/// The same of a seat that has no permit out.
+/// Splits a seat that has no permit out.
 pub struct SplitsCounted<P: Piece> {
     piece: PhantomData<P>,
 }
@@ -287,7 +287,7 @@ impl<P: PermitPick> Play<PermitSlot, View> for Leaves<P> {
     ghost then = { gives_mutex_up P.family };
 }
 
-/// The same by an exchange, where nobody waits.
+/// Leaves by an exchange, where nobody waits.
 pub struct LeavesAlone<P: PermitPick> {
     pick: PhantomData<P>,
 }
@@ -296,7 +296,7 @@ impl<P: PermitPick> Play<PermitSlot, View> for LeavesAlone<P> {
     ghost then = { leaves_alone P.family };
 }
 
-/// The permit of a mutex goes out with who owns that.
+/// The permit of a mutex goes out with a thread that owns that.
 pub struct TakesOut<P: PermitPick> {
     pick: PhantomData<P>,
 }

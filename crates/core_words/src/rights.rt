@@ -15,8 +15,8 @@ use core_parts::seats::{join_seat, split_seat};
 use core_parts::{PermitSlot, Permits};
 use std::marker::Brand;
 
-/// An ownership, split off the view of a seat, as who knows its word keeps it. It borrows nothing,
-/// and takes no memory.
+/// An ownership, split off the view of a seat, as a thread that knows its word keeps it. It borrows
+/// nothing, and takes no memory.
 ///
 /// It has to be given back, or the word stays owned.
 pub struct Held {
@@ -42,7 +42,7 @@ impl Held {
     }
 }
 
-/// The same with its word and owner, as it goes to a thread that is to be told them. A thread that
+/// A right with its word and owner, as it goes to a thread that is to be told them. A thread that
 /// is handed a mutex is handed its slot too, in which the permit of its value lies.
 pub struct Right {
     seat: Seat,
@@ -146,7 +146,8 @@ impl LotWords {
         );
     }
 
-    /// The same with its word and owner, and with the permit where it is a mutex that is owned.
+    /// Splits a right off with its word and owner, and with the permit where it is a mutex that is
+    /// owned.
     #[inline]
     pub fn split_right(&self, seat: &mut Seat, word: Word, owner: Owner) -> Right
         requires own { IsSeatOf self.now seat.old × IsWordOf self.now word }

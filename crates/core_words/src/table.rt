@@ -65,7 +65,7 @@ impl LotWords {
         }
     }
 
-    /// The table, whose rule holds for whoever steps on it.
+    /// The table, whose rule holds whatever thread steps on it.
     #[inline]
     pub fn seats(&self) -> &Shared<PermitSlot, View, (usize, Permits), OwnershipRule>
         ensures { result.now ≡ self.now.table.shared }

@@ -9,9 +9,10 @@ pub enum WordKind {
     RwLock,
     Condvar,
     Once,
-    /// How often a reentrant mutex is locked, and by whom. It is drawn with the word of its mutex.
+    /// How often a reentrant mutex is locked, and by which thread. It is drawn with the word of its
+    /// mutex.
     Count,
-    /// A semaphore of so many permits, which who draws the word holds.
+    /// A semaphore of so many permits, which the thread that draws the word holds.
     Semaphore { permits: u64 },
 }
 
@@ -43,7 +44,7 @@ pub struct Word {
     kind: WordKind,
     // The tag of its lot.
     tag: u32,
-    // So that no step computes it.
+    // The index in the table, kept so that no step computes it.
     at: usize,
     ghost indexed: { at ≡ word_index number kind },
 }

@@ -10,7 +10,7 @@ pub with_given : {Token Mutex : Type 0} (waited : Mutex → Token → Token → 
     (last new : Token) → back ≡ given → waited back last new → waited given last new
 with_given waited back given last new same then = subst (λ mutex. waited mutex last new) same then
 
--- so there is one wait more
+-- there is one wait more
 pub waits_on : {Token Mutex : Type 0} (waited : Mutex → Token → Token → Type 0) (back given : Mutex)
     (old last new : Token) → back ≡ given → WaitsAnyTimes (waited given) old last → waited back last new
     → WaitsAnyTimes (waited given) old new
@@ -29,7 +29,7 @@ pub not_late : {Token : Type 0} (waited : Answer → Token → Token → Type 0)
     → late ≡ false → WaitedSoFar waited late old new → WaitsAnyTimes (waited answers.Notified) old new
 not_late waited late old new not so_far = subst (λ late. WaitedSoFar waited late old new) not so_far
 
--- and so there is one more, which ended so
+-- One more wait ended as those before it did.
 pub waits_so_far : {Token Mutex : Type 0} (waited : Mutex → Answer → Token → Token → Type 0)
     (back given : Mutex) (late : Bool) (old last new : Token) → back ≡ given
     → WaitsAnyTimes (waited given answers.Notified) old last → waited back (late_answer late) last new

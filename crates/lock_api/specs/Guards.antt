@@ -8,7 +8,7 @@ abbrev pub lock_of : {K V X : Type 0} {k : keeps.Ghosts K} {v : shows.Ghosts V X
     → Guarded K V X k v → K
 lock_of guard = guard.taken
 
--- and the value that it shows
+-- The value that a guard shows.
 abbrev pub value_of : {K V X : Type 0} {k : keeps.Ghosts K} {v : shows.Ghosts V X}
     → Guarded K V X k v → X
 value_of {v = v} guard = v.shown guard.value

@@ -9,7 +9,7 @@ WaitsTimes waited zero old new = new ≡ old
 WaitsTimes {Token = Token} waited (suc times) old new = (last : Token)
     × WaitsTimes waited times old last × waited last new
 
--- or any number of times, also none
+-- A wait that is made any number of times, also none.
 abbrev pub WaitsAnyTimes : {Token : Type 0} → (Token → Token → Type 0) → Token → Token → Type 0
 WaitsAnyTimes waited old new = (times : ℕ) × WaitsTimes waited times old new
 

@@ -24,8 +24,8 @@ pub type Waited<'a, R, T> = Result<
     (Fault, MutexGuard<'a, <R as RawCondvar>::RawMutex, T>),
 >;
 
-/// Where who has a guard gives its mutex up and waits, until another thread notifies it. It has the
-/// guard again then.
+/// Where a thread that has a guard gives its mutex up and waits, until another thread notifies it.
+/// It has the guard again then.
 ///
 /// Nobody wakes by itself: a wait ends with a notification, or, where it has a limit, with its
 /// time. A notification tells exactly how many it woke. Those whose mutex is locked then wait for
@@ -95,7 +95,7 @@ impl<R: RawCondvar> Condvar<R> {
         }
     }
 
-    /// Notifies the first who waits. Whether anybody did.
+    /// Notifies the first that waits. Whether anybody did.
     #[inline]
     pub fn notify_one<W: Wait>(&self, rt: &W, token: &mut TokenOf<R>) -> bool
         requires { R.RawMutex.is_token_of (R.lot_of self.now) token.old }
@@ -113,7 +113,7 @@ impl<R: RawCondvar> Condvar<R> {
         self.raw.notify_one_slow(rt, token, seen)
     }
 
-    /// Notifies all who wait. How many did.
+    /// Notifies all that wait. How many did.
     #[inline]
     pub fn notify_all<W: Wait>(&self, rt: &W, token: &mut TokenOf<R>) -> usize
         requires { R.RawMutex.is_token_of (R.lot_of self.now) token.old }

@@ -16,7 +16,7 @@ use std::sync::Wait;
 pub type MutexGuard<'a, R, T> = Guarded<Taken<'a, R, T>, Open<'a, T>>;
 
 impl<'a, R: RawMutex, T> Guarded<Taken<'a, R, T>, Open<'a, T>> {
-    // The guard of who has taken the mutex, and has opened its value.
+    // The guard of a thread that has taken the mutex, and has opened its value.
     #[inline]
     pub(crate) fn new(
         mutex: &'a Mutex<R, T>,
@@ -45,7 +45,7 @@ impl<'a, R: RawMutex, T> Guarded<Taken<'a, R, T>, Open<'a, T>> {
         taken.close(value)
     }
 
-    /// Gives the mutex up, and wakes the first who waits for it.
+    /// Gives the mutex up, and wakes the first that waits for it.
     #[inline]
     pub fn unlock<W: Wait>(self, rt: &W, token: &mut R::Token)
         requires { R.is_token_of (R.lot_of (lock_of self)) token.old }
@@ -73,7 +73,7 @@ impl<'a, R: RawMutex, T> Guarded<Taken<'a, R, T>, Open<'a, T>> {
 }
 
 impl<'a, R: RawMutexFair, T> Guarded<Taken<'a, R, T>, Open<'a, T>> {
-    /// Hands the mutex to the first who waits for it. Where nobody waits, gives it up.
+    /// Hands the mutex to the first that waits for it. Where nobody waits, gives it up.
     #[inline]
     pub fn unlock_fair<W: Wait>(self, rt: &W, token: &mut R::Token)
         requires { R.is_token_of (R.lot_of (lock_of self)) token.old }
@@ -86,7 +86,7 @@ impl<'a, R: RawMutexFair, T> Guarded<Taken<'a, R, T>, Open<'a, T>> {
         mutex.raw().unlock_fair(rt, token, guard);
     }
 
-    /// Hands the mutex to the first who waits for it, and waits to take it again. Where nobody
+    /// Hands the mutex to the first that waits for it, and waits to take it again. Where nobody
     /// waits, keeps it.
     #[inline]
     pub fn bump<W: Wait>(self, rt: &W, token: &mut R::Token) -> MutexGuard<'a, R, T>

@@ -98,7 +98,7 @@ impl<R: RawMutex, T> Mutex<R, T> {
         self.open(lot, raw)
     }
 
-    // The guard of who has the raw one.
+    // The guard of a thread that has the raw one.
     #[inline]
     pub(crate) fn open<'a>(&'a self, lot: &'a R::Lot, raw: R::Guard) -> MutexGuard<'a, R, T>
         requires { R.is_guard_of self.now raw × (lot.now ≡ R.lot_of self.now) }
@@ -149,8 +149,8 @@ impl<R: RawMutex, T> Mutex<R, T> {
         answer
     }
 
-    /// The same where nobody has the mutex. None only where it is locked, and the closure was not
-    /// run.
+    /// Runs a closure on the value where nobody has the mutex. None only where it is locked, and
+    /// the closure was not run.
     pub fn try_with<W: Wait, U, F: FnOnce(&mut T) -> U + Drop>(
         &self,
         rt: &W,

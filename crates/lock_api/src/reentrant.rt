@@ -125,7 +125,7 @@ impl<R: RawMutexCounted, G: GetThreadId<R>, T> ReentrantMutex<R, G, T> {
         Ok(self.guard(share))
     }
 
-    /// The same where no other thread has the mutex. None only where it saw that this thread hasn't
+    /// Locks where no other thread has the mutex. None only where it saw that this thread hasn't
     /// the mutex, and another had it.
     ///
     /// # Errors
@@ -201,7 +201,7 @@ impl<R: RawMutexCounted, G, T> Deref for ReentrantMutexGuard<'_, R, G, T> {
 }
 
 impl<R: RawMutexCounted, G, T> ReentrantMutexGuard<'_, R, G, T> {
-    /// Gives one share up. The last one gives the mutex up, and wakes the first who waits for it.
+    /// Gives one share up. The last one gives the mutex up, and wakes the first that waits for it.
     #[inline]
     pub fn unlock<W: Wait>(self, rt: &W, token: &mut R::Token)
         requires { R.is_token_of (R.lot_of self.mutex.now.0) token.old }
@@ -274,7 +274,7 @@ impl<'a, R: RawMutexCounted, G: GetThreadId<R>, T> ReentrantMutexGuard<'a, R, G,
 }
 
 impl<'a, R: RawMutexCounted + RawMutexFair, G: GetThreadId<R>, T> ReentrantMutexGuard<'a, R, G, T> {
-    /// Hands the mutex to the first who waits for it, and waits to take it again. Where nobody
+    /// Hands the mutex to the first that waits for it, and waits to take it again. Where nobody
     /// waits, or this thread has locked the mutex more than once, it keeps the mutex.
     #[inline]
     pub fn bump<W: Wait>(self, rt: &W, token: &mut R::Token) -> ReentrantMutexGuard<'a, R, G, T>
@@ -311,7 +311,7 @@ impl<'a, R: RawMutexCounted + RawMutexFair, G: GetThreadId<R>, T> ReentrantMutex
 }
 
 impl<R: RawMutexCounted + RawMutexFair, G, T> ReentrantMutexGuard<'_, R, G, T> {
-    /// The same as `unlock`, by a fair release.
+    /// Releases fairly, and else as `unlock` does.
     #[inline]
     pub fn unlock_fair<W: Wait>(self, rt: &W, token: &mut R::Token)
         requires { R.is_token_of (R.lot_of self.mutex.now.0) token.old }

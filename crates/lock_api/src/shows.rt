@@ -20,7 +20,7 @@ pub trait Shows {
     ghost opened_by: { Self → PermitId };
     // The value that it shows.
     ghost shown: { Self → Self.Value };
-    // The same, once this was written, and it is open by the same permit then.
+    // The opened value once this was written. It is open by the same permit.
     ghost written: { Self → Self.Value → Self };
 
     ghost stays_open: { (place : Self) (value : Self.Value)

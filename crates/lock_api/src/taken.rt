@@ -7,8 +7,8 @@ use core_parts::Open;
 use lock_raw::RawMutex;
 use std::marker::Model;
 
-/// A mutex, with the raw guard of who has taken it. The raw guard comes out only for a value that
-/// is closed then.
+/// A mutex, with the raw guard of a thread that has taken it. The raw guard comes out only for a
+/// value that is closed then.
 pub struct Taken<'a, R: RawMutex, T> {
     mutex: &'a Mutex<R, T>,
     // That of the mutex. It is kept, so that the atomic step which gives the mutex up doesn't wait

@@ -62,8 +62,9 @@ impl<'a, R: RawRwLockFair, T> Held<Reading<'a, R, T>, Seen<'a, T>> {
 }
 
 impl<'a, R: RawRwLockUpgradeFair, T> Held<Upgrading<'a, R, T>, Seen<'a, T>> {
-    /// Hands the lock to those who wait for it and may have it together. Where nobody waits, gives
-    /// the right up; where those who wait would be more than may read, they are woken to try again.
+    /// Hands the lock to those that wait for it and may have it together. Where nobody waits, gives
+    /// the right up; where those that wait would be more than may read, they are woken to try
+    /// again.
     #[inline]
     pub fn unlock_fair<W: Wait>(self, rt: &W, token: &mut R::Token)
         requires { R.is_token_of (R.lot_of (lock_of self)) token.old }
@@ -78,7 +79,7 @@ impl<'a, R: RawRwLockUpgradeFair, T> Held<Upgrading<'a, R, T>, Seen<'a, T>> {
         lock.raw().unlock_upgradable_fair(rt, token, raw);
     }
 
-    /// Hands the lock to those who wait for it, and waits for the right again. Where nobody waits,
+    /// Hands the lock to those that wait for it, and waits for the right again. Where nobody waits,
     /// keeps it.
     ///
     /// # Errors
@@ -109,7 +110,7 @@ impl<'a, R: RawRwLockUpgradeFair, T> Held<Upgrading<'a, R, T>, Seen<'a, T>> {
 }
 
 impl<'a, R: RawRwLockFair, T> Held<Writing<'a, R, T>, Open<'a, T>> {
-    /// Hands the lock to those who wait for it and may have it together. Where nobody waits, gives
+    /// Hands the lock to those that wait for it and may have it together. Where nobody waits, gives
     /// it up.
     #[inline]
     pub fn unlock_fair<W: Wait>(self, rt: &W, token: &mut R::Token)
@@ -125,7 +126,7 @@ impl<'a, R: RawRwLockFair, T> Held<Writing<'a, R, T>, Open<'a, T>> {
         lock.raw().unlock_exclusive_fair(rt, token, raw);
     }
 
-    /// Hands the lock to those who wait for it, and waits to have it alone again. Where nobody
+    /// Hands the lock to those that wait for it, and waits to have it alone again. Where nobody
     /// waits, keeps it.
     #[inline]
     pub fn bump<W: Wait>(self, rt: &W, token: &mut R::Token) -> RwLockWriteGuard<'a, R, T>

@@ -71,7 +71,7 @@ impl<'a, R: RawRwLockUpgrade, T> Held<Upgrading<'a, R, T>, Seen<'a, T>> {
         right.close(value)
     }
 
-    /// Gives the right up, and wakes whom that lets in.
+    /// Gives the right up, and wakes the threads that this lets in.
     #[inline]
     pub fn unlock<W: Wait>(self, rt: &W, token: &mut R::Token)
         requires { R.is_token_of (R.lot_of (lock_of self)) token.old }
@@ -99,8 +99,8 @@ impl<'a, R: RawRwLockUpgrade, T> Held<Upgrading<'a, R, T>, Seen<'a, T>> {
         lock.raw().has_two_upgradables(token, one, other)
     }
 
-    /// Turns the right into that of who has the lock alone: further readers are kept out, and the
-    /// others are waited for.
+    /// Turns the right into that of a thread that has the lock alone: further readers are kept out,
+    /// and the others are waited for.
     #[inline]
     pub fn upgrade<W: Wait>(self, rt: &W, token: &mut R::Token) -> RwLockWriteGuard<'a, R, T>
         requires { R.is_token_of (R.lot_of (lock_of self)) token.old }
@@ -115,7 +115,7 @@ impl<'a, R: RawRwLockUpgrade, T> Held<Upgrading<'a, R, T>, Seen<'a, T>> {
         lock.open_exclusive(raw)
     }
 
-    /// The same where nobody else reads.
+    /// Upgrades where nobody else reads.
     ///
     /// # Errors
     ///
@@ -175,7 +175,7 @@ impl<'a, R: RawRwLockUpgradeTimed, T> Held<Upgrading<'a, R, T>, Seen<'a, T>> {
         }
     }
 
-    /// The same, up to a deadline.
+    /// Upgrades, or gives up at a deadline.
     ///
     /// # Errors
     ///
@@ -211,7 +211,7 @@ impl<'a, R: RawRwLockUpgradeTimed, T> Held<Upgrading<'a, R, T>, Seen<'a, T>> {
 }
 
 impl<'a, R: RawRwLockUpgradeDowngrade, T> Held<Upgrading<'a, R, T>, Seen<'a, T>> {
-    /// Goes on as a reader, and wakes whom that lets in.
+    /// Goes on as a reader, and wakes the threads that this lets in.
     #[inline]
     pub fn downgrade<W: Wait>(self, rt: &W, token: &mut R::Token) -> RwLockReadGuard<'a, R, T>
         requires { R.is_token_of (R.lot_of (lock_of self)) token.old }
@@ -239,7 +239,7 @@ impl<'a, R: RawRwLock, T> Held<Writing<'a, R, T>, Open<'a, T>> {
         right.close(value)
     }
 
-    /// Gives the lock up, and wakes whom that lets in.
+    /// Gives the lock up, and wakes the threads that this lets in.
     #[inline]
     pub fn unlock<W: Wait>(self, rt: &W, token: &mut R::Token)
         requires { R.is_token_of (R.lot_of (lock_of self)) token.old }
@@ -294,7 +294,7 @@ impl<'a, R: RawRwLockUpgrade, T> Held<Writing<'a, R, T>, Open<'a, T>> {
 }
 
 impl<'a, R: RawRwLockDowngrade, T> Held<Writing<'a, R, T>, Open<'a, T>> {
-    /// Goes on as a reader, and wakes whom that lets in.
+    /// Goes on as a reader, and wakes the threads that this lets in.
     #[inline]
     pub fn downgrade<W: Wait>(self, rt: &W, token: &mut R::Token) -> RwLockReadGuard<'a, R, T>
         requires { R.is_token_of (R.lot_of (lock_of self)) token.old }
@@ -313,7 +313,7 @@ impl<'a, R: RawRwLockDowngrade, T> Held<Writing<'a, R, T>, Open<'a, T>> {
 }
 
 impl<'a, R: RawRwLockUpgradeDowngrade, T> Held<Writing<'a, R, T>, Open<'a, T>> {
-    /// Goes on as a reader with the upgradable right, and wakes whom that lets in.
+    /// Goes on as a reader with the upgradable right, and wakes the threads that this lets in.
     #[inline]
     pub fn downgrade_to_upgradable<W: Wait>(
         self,

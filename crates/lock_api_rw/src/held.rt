@@ -4,8 +4,8 @@ ghost use Rattle.std.specs.Prelude.{◌≡◌};
 use crate::shows::{Holds, Shows, ShowsMut};
 use std::ops::{Deref, DerefMut};
 
-/// A value that may be used: its lock is held, and its place is open by the right of who holds the
-/// lock.
+/// A value that may be used: its lock is held, and its place is open by the right of a thread that
+/// holds the lock.
 pub struct Held<K: Holds, V: Shows> {
     pub(crate) right: K,
     pub(crate) value: V,

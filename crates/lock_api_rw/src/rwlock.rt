@@ -28,7 +28,7 @@ impl<R: RawRwLock> NamesPlace for Names<'_, R> {
 }
 
 /// A value that many threads may read, or one may write. It stands in a plain place, which is
-/// opened by the right of who has the raw lock.
+/// opened by the right of a thread that has the raw lock.
 #[derive(Drop)]
 pub struct RwLock<R: RawRwLock, T> {
     raw: R,
@@ -76,7 +76,7 @@ impl<R: RawRwLock, T> RwLock<R, T> {
     }
 
     /// Makes a lock that nobody has and so many may share, with its value: at least as many as the
-    /// lot has threads, so that a hand-over to all who wait never passes the limit.
+    /// lot has threads, so that a hand-over to all that wait never passes the limit.
     ///
     /// # Errors
     ///
@@ -108,7 +108,7 @@ impl<R: RawRwLock, T> RwLock<R, T> {
         }
     }
 
-    // The guard of who has the raw one.
+    // The guard of a thread that has the raw one.
     #[inline]
     pub(crate) fn open_shared(&self, raw: R::SharedGuard) -> RwLockReadGuard<'_, R, T>
         requires { R.is_shared_of self.now raw }

@@ -27,7 +27,7 @@ pub trait Shows {
     ghost opened_by: { Self → View };
     // The value that it shows.
     ghost shown: { Self → Self.Value };
-    // The same with another value, whose place is open by the same right.
+    // The opened value with another in it, whose place is open by the same right.
     ghost written: { Self → Self.Value → Self };
 
     ghost stays_opened: { (lent : Self) (value : Self.Value)

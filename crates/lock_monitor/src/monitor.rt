@@ -136,7 +136,7 @@ impl<R: RawCondvar, T, const N: usize> Monitor<R, T, N> {
         self.mutex.with(rt, token, f)
     }
 
-    /// Notifies the first who waits on a condition variable. Returns whether anybody did.
+    /// Notifies the first that waits on a condition variable. Returns whether anybody did.
     #[inline]
     pub fn notify_one<W: Wait>(&self, rt: &W, token: &mut TokenOf<R>, at: usize) -> bool
         requires token { R.RawMutex.is_token_of (R.RawMutex.lot_of self.now.0) token.old }
@@ -151,7 +151,7 @@ impl<R: RawCondvar, T, const N: usize> Monitor<R, T, N> {
         self.condition(at).notify_one(rt, token)
     }
 
-    /// Notifies all who wait on a condition variable. Returns how many did.
+    /// Notifies all that wait on a condition variable. Returns how many did.
     #[inline]
     pub fn notify_all<W: Wait>(&self, rt: &W, token: &mut TokenOf<R>, at: usize) -> usize
         requires token { R.RawMutex.is_token_of (R.RawMutex.lot_of self.now.0) token.old }

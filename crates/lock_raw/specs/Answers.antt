@@ -59,12 +59,12 @@ abbrev pub notifying_answer : Bool → Answer
 notifying_answer true = answers.Yes
 notifying_answer false = answers.No
 
--- and so how many it moved
+-- The number of waiters that a notification of one moved.
 abbrev pub moved_first : Bool → ℕ
 moved_first true = 1
 moved_first false = 0
 
--- a guard is given back, also by who was refused
+-- a guard is given back, also by a thread that was refused
 abbrev pub IsRefusedWith : {A : Type 0} → (A → Type 0) → Fault × A → Type 0
 IsRefusedWith holds refused = (refused.0 ≡ faults.TwoMutexes) × holds refused.1
 

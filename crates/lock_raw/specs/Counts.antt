@@ -13,11 +13,11 @@ advanced word number = cond (word == 0) (Ok ((number + 1) * 4294967296 + 1))
 abbrev pub Names : ℕ → ℕ → Type 0
 Names number word = word / 4294967296 ≡ number + 1
 
--- and how often that has locked the mutex
+-- How often the thread that a count names has locked the mutex.
 abbrev pub times_in : ℕ → ℕ
 times_in word = word % 4294967296
 
--- the word of who has locked it once
+-- the word of a thread that has locked it once
 abbrev pub first_count : ℕ → ℕ
 first_count number = (number + 1) * 4294967296 + 1
 
@@ -54,7 +54,7 @@ SawFull saw number old new = (word : ℕ) × saw word old new × Names number wo
 abbrev pub CountedLess : {Token : Type 0} → Stores Token → Token → Token → Type 0
 CountedLess stored old new = (word : ℕ) × (1 < times_in word) × stored word (word - 1) old new
 
--- and for the last time
+-- A release that counts off the last guard.
 abbrev pub CountedOut : {Token : Type 0} → Stores Token → Token → Token → Type 0
 CountedOut stored old new = (word : ℕ) × (times_in word ≡ 1) × stored word 0 old new
 

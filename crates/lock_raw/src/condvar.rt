@@ -12,10 +12,10 @@ use core_base::{Clock, Fault, to_deadline};
 use std::sync::{Arc, Wait};
 use std::time::Duration;
 
-/// Where who has a mutex gives it up and waits, until another thread notifies it. It has the mutex
-/// again then.
+/// Where a thread that has a mutex gives it up and waits, until another thread notifies it. It has
+/// the mutex again then.
 ///
-/// Nobody wakes by itself. Those who wait at a time all wait with one mutex.
+/// Nobody wakes by itself. Those that wait at a time all wait with one mutex.
 pub trait RawCondvar {
     /// The mutexes with which threads wait.
     type RawMutex: RawMutex;
@@ -29,7 +29,7 @@ pub trait RawCondvar {
     // this answer.
     ghost waited: { Self → Self.RawMutex → Bool → Answer → Self.RawMutex.Token → Self.RawMutex.Token
         → Type 0 };
-    // Between them it took the steps of a notification of the first who waits, or of all, to this
+    // Between them it took the steps of a notification of the first that waits, or of all, to this
     // answer.
     ghost notified: { Self → Bool → Answer → Self.RawMutex.Token → Self.RawMutex.Token → Type 0 };
     // Between them it looked at the condition variable once, and saw this.
@@ -89,7 +89,7 @@ pub trait RawCondvar {
         ensures all { result ≡ 0 → notified self.now true (Number 0) token.old token.new
             × moved self.now true 0 token.old token.new };
 
-    /// The rest of a notification of the first who waits, whose first step saw this. Whether
+    /// The rest of a notification of the first that waits, whose first step saw this. Whether
     /// anybody did.
     fn notify_one_slow<R: Wait>(
         &self,
@@ -106,7 +106,7 @@ pub trait RawCondvar {
             → notified self.now false (notifying_answer result) before token.new
             × moved self.now false (moved_first result) before token.new };
 
-    /// The rest of a notification of all who wait, whose first step saw this. How many did.
+    /// The rest of a notification of all that wait, whose first step saw this. How many did.
     fn notify_all_slow<R: Wait>(
         &self,
         rt: &R,
@@ -122,7 +122,7 @@ pub trait RawCondvar {
             → notified self.now true (Number result) before token.new
             × moved self.now true result before token.new };
 
-    /// Notifies the first who waits. Whether anybody did.
+    /// Notifies the first that waits. Whether anybody did.
     #[inline]
     fn notify_one<R: Wait>(&self, rt: &R, token: &mut <Self::RawMutex as RawMutex>::Token) -> bool
         requires { Self.RawMutex.is_token_of (lot_of self.now) token.old }
@@ -138,7 +138,7 @@ pub trait RawCondvar {
         self.notify_one_slow(rt, token, seen)
     }
 
-    /// Notifies all who wait. How many did.
+    /// Notifies all that wait. How many did.
     #[inline]
     fn notify_all<R: Wait>(&self, rt: &R, token: &mut <Self::RawMutex as RawMutex>::Token) -> usize
         requires { Self.RawMutex.is_token_of (lot_of self.now) token.old }

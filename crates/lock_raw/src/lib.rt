@@ -39,7 +39,7 @@ pub trait RawMutex {
     type Token;
     /// The ownership of a mutex, with the permit of the value that this guards. It borrows nothing.
     type Guard;
-    /// The same without the permit, which opens the value.
+    /// A guard without the permit, which opens the value.
     type Opened;
 
     // The lot of a mutex.
@@ -48,7 +48,7 @@ pub trait RawMutex {
     ghost is_token_of: { Self.Lot → Self.Token → Type 0 };
     // It is the same thread, and owns what it did.
     ghost stays: { Self.Token → Self.Token → Type 0 };
-    // So it does through two calls, one after the other.
+    // What stays through each of two calls stays through both.
     ghost stays_on: { (first next last : Self.Token) → stays first next → stays next last
         → stays first last };
     // The number of a thread, from 0, which it keeps meanwhile.
@@ -74,7 +74,7 @@ pub trait RawMutex {
     ghost found_full: { Self.Lot → Self.Token → Self.Token → Type 0 };
     // Between them it took the steps of this call of the mutex, to this answer.
     ghost walked: { Self → MutexCall → Answer → Self.Token → Self.Token → Type 0 };
-    // Between them it gave the mutex up by this call, and took the first who waits where it saw a
+    // Between them it gave the mutex up by this call, and took the first that waits where it saw a
     // waiter.
     ghost released: { Self → MutexCall → Self.Token → Self.Token → Type 0 };
     // Between them it took the first step of this call, which saw this, and the call has more to
@@ -109,7 +109,7 @@ pub trait RawMutex {
         ensures guard { IfSome result (is_guard_of self.now) }
         ensures path { walked self.now TryLock (answer_by result) token.old token.new };
 
-    /// Gives the mutex up, and wakes the first who waits for it. The guard is spent.
+    /// Gives the mutex up, and wakes the first that waits for it. The guard is spent.
     fn unlock<R: Wait>(&self, rt: &R, token: &mut Self::Token, guard: Self::Guard)
         requires token { is_token_of (lot_of self.now) token.old }
         requires guard { is_guard_of self.now guard }
@@ -164,8 +164,8 @@ pub trait RawMutex {
     /// The first step of `unlock`, which spends the guard. It answers what it saw where the call
     /// has more to do, which is `unlock_slow`.
     ///
-    /// The lot is that of the mutex: who has kept it since the mutex was taken needn't look for it
-    /// behind an atomic step.
+    /// The lot is that of the mutex: a thread that has kept it since the mutex was taken needn't
+    /// look for it behind an atomic step.
     fn unlock_fast(
         &self,
         lot: &Self::Lot,
@@ -197,10 +197,10 @@ pub trait RawMutex {
         requires guards { is_guard_of self.now one × is_guard_of self.now other };
 }
 
-/// A mutex that its owner may hand to the first who waits.
+/// A mutex that its owner may hand to the first that waits.
 pub trait RawMutexFair: RawMutex {
-    /// Hands the mutex to the first who waits for it. Where nobody waits, gives it up. The guard is
-    /// spent.
+    /// Hands the mutex to the first that waits for it. Where nobody waits, gives it up. The guard
+    /// is spent.
     fn unlock_fair<R: Wait>(&self, rt: &R, token: &mut Self::Token, guard: Self::Guard)
         requires token { Self.is_token_of (Self.lot_of self.now) token.old }
         requires guard { Self.is_guard_of self.now guard }
@@ -209,7 +209,7 @@ pub trait RawMutexFair: RawMutex {
         ensures path { Self.walked self.now UnlockFair answers.Ok token.old token.new }
         ensures record { Self.released self.now UnlockFair token.old token.new };
 
-    /// Hands the mutex to the first who waits for it, and waits to take it again. Where nobody
+    /// Hands the mutex to the first that waits for it, and waits to take it again. Where nobody
     /// waits, keeps it.
     fn bump<R: Wait>(&self, rt: &R, token: &mut Self::Token, guard: Self::Guard) -> Self::Guard
         requires token { Self.is_token_of (Self.lot_of self.now) token.old }

@@ -30,7 +30,7 @@ pub trait RawRwLock {
     type Token;
     /// The right to read. It borrows nothing.
     type SharedGuard;
-    /// The right of who has the lock alone. It borrows nothing.
+    /// The right of a thread that has the lock alone. It borrows nothing.
     type ExclusiveGuard;
     /// The rest of a call, which its first half leaves to its second one.
     type Rest;
@@ -41,7 +41,7 @@ pub trait RawRwLock {
     ghost is_token_of: { Self.Lot → Self.Token → Type 0 };
     // It is the same thread, and owns what it did.
     ghost stays: { Self.Token → Self.Token → Type 0 };
-    // So it does through two calls, one after the other.
+    // What stays through each of two calls stays through both.
     ghost stays_on: { (first next last : Self.Token) → stays first next → stays next last
         → stays first last };
     // A guard is of this lock. That has one proof at most, so a struct may keep it as a ghost
@@ -55,14 +55,14 @@ pub trait RawRwLock {
 
     ghost exclusive_once: { (lock : Self) (guard : Self.ExclusiveGuard)
         → IsProp (is_exclusive_of lock guard) };
-    // So many may share a lock.
+    // The number of threads that may share a lock.
     ghost limit_of: { Self → ℕ };
     // A lot is of so many threads.
     ghost seats_of: { Self.Lot → ℕ };
     // The place of the value that a lock guards.
     ghost place_of: { Self → PlaceId };
-    // A place that is open to read keeps this of who reads, and one that is open to write that of
-    // who has the lock alone.
+    // A place that is open to read keeps this of a thread that reads, and one that is open to write
+    // that of a thread that has the lock alone.
     ghost shared_view: { Self → View };
 
     ghost exclusive_view: { Self → View };
@@ -73,20 +73,20 @@ pub trait RawRwLock {
     ghost found_full: { Self.Lot → Self.Token → Self.Token → Type 0 };
     // Between them it took the steps of this call of the lock, to this answer.
     ghost walked: { Self → RwLockCall → Answer → Self.Token → Self.Token → Type 0 };
-    // Between them it gave a right up by this call, and took those whom that lets in where it saw
+    // Between them it gave a right up by this call, and took those that this lets in where it saw
     // that somebody waits.
     ghost woke: { Self → RwLockCall → Self.Token → Self.Token → Type 0 };
     // Between them it took the first steps of this call, which leave it this to do.
     ghost begun: { Self → RwLockCall → Self.Rest → Self.Token → Self.Token → Type 0 };
     // Between them it took one step, which saw that somebody has the lock, or not.
     ghost looked: { Self → Bool → Self.Token → Self.Token → Type 0 };
-    // The same, of who has it alone.
+    // What a look for an exclusive owner saw.
     ghost looked_for_writer: { Self → Bool → Self.Token → Self.Token → Type 0 };
     // Between them its last step saw that nobody keeps this right out, and that as many share the
     // lock as may.
     ghost saw_full: { Self → Access → Self.Token → Self.Token → Type 0 };
     // This call gave up: it left no section behind a last step that saw nobody to wake, or one in
-    // which it took those whom it had kept out, or that of the main queue, where it took nobody.
+    // which it took those that it had kept out, or that of the main queue, where it took nobody.
     ghost gave_up: { Self → RwLockCall → Self.Token → Type 0 };
 
     /// A lock that nobody has, and that as many may share as there can be.
@@ -103,7 +103,7 @@ pub trait RawRwLock {
         ensures drawn { IfOk result (λ lock. drew lock token.old token.new) };
 
     /// Makes a lock that nobody has, and that so many may share: at least as many as the lot has
-    /// threads, so that a hand-over to all who wait never passes the limit.
+    /// threads, so that a hand-over to all that wait never passes the limit.
     ///
     /// # Errors
     ///
@@ -177,7 +177,7 @@ pub trait RawRwLock {
         ensures path { walked self.now (Enter access.Exclusive Try)
             (answer_by result) token.old token.new };
 
-    /// Gives the lock up, and wakes whom that lets in.
+    /// Gives the lock up, and wakes the threads that this lets in.
     fn unlock_exclusive<R: Wait>(
         &self,
         rt: &R,
@@ -343,7 +343,7 @@ pub trait RawRwLock {
         requires { (seen.of ≡ place_of self.now) × (seen.view ≡ shared_view self.now) }
         ensures { is_shared_of self.now result };
 
-    /// Opens the value to write, by the right of who has the lock alone.
+    /// Opens the value to write, by the right of a thread that has the lock alone.
     fn open_exclusive<'a, T>(&self, place: &'a Place<T>, guard: Self::ExclusiveGuard) -> Open<'a, T>
         requires { is_exclusive_of self.now guard × (place.now ≡ place_of self.now) }
         ensures { (result.of ≡ place_of self.now) × (result.view ≡ exclusive_view self.now) };
@@ -378,8 +378,8 @@ pub trait RawRwLock {
 
 /// A lock whose writer may go on as a reader.
 pub trait RawRwLockDowngrade: RawRwLock {
-    /// Turns the right of who has the lock alone into the right to read, in one step, and wakes
-    /// whom that lets in.
+    /// Turns the right of a thread that has the lock alone into the right to read, in one step, and
+    /// wakes the threads that this lets in.
     fn downgrade<R: Wait>(
         &self,
         rt: &R,
@@ -427,7 +427,7 @@ pub trait RawRwLockTimed: RawRwLock {
         ensures late { IfOk result
             (λ entered. IfNone entered (HasElapsed (C.tells clock.now) (as_nanos timeout))) };
 
-    /// The same, up to a deadline. None only where the clock had come to it.
+    /// Shares the lock, or gives up at a deadline. None only where the clock had come to it.
     ///
     /// # Errors
     ///
@@ -474,7 +474,7 @@ pub trait RawRwLockTimed: RawRwLock {
             (Self.gave_up self.now (Enter access.Exclusive Timed) token.new) }
         ensures late { IfNone result (HasElapsed (C.tells clock.now) (as_nanos timeout)) };
 
-    /// The same, up to a deadline. None only where the clock had come to it.
+    /// Locks exclusively, or gives up at a deadline. None only where the clock had come to it.
     fn try_lock_exclusive_until<R: Wait, C: Clock>(
         &self,
         rt: &R,

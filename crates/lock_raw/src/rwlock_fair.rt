@@ -10,7 +10,7 @@ use crate::rwlock_upgrade::RawRwLockUpgrade;
 use core_base::Fault;
 use std::sync::Wait;
 
-/// A reader-writer lock that is handed over to those who wait for it.
+/// A reader-writer lock that is handed over to those that wait for it.
 pub trait RawRwLockFair: RawRwLock {
     /// Gives a right to read up, and as the last reader wakes the writer that waits for it: that
     /// has the lock by then, so there is nothing to hand over. The guard is spent.
@@ -23,7 +23,7 @@ pub trait RawRwLockFair: RawRwLock {
             (ReleaseFair access.Shared) answers.Ok token.old token.new }
         ensures record { Self.woke self.now (ReleaseFair access.Shared) token.old token.new };
 
-    /// Hands the lock to those who wait for it and may have it together. Where nobody waits, gives
+    /// Hands the lock to those that wait for it and may have it together. Where nobody waits, gives
     /// it up. The guard is spent.
     fn unlock_exclusive_fair<R: Wait>(
         &self,
@@ -62,7 +62,7 @@ pub trait RawRwLockFair: RawRwLock {
         ensures full { IfErr result
             (λ _. Self.saw_full self.now access.Shared token.old token.new) };
 
-    /// Hands the lock to those who wait for it, and waits to have it alone again. Where nobody
+    /// Hands the lock to those that wait for it, and waits to have it alone again. Where nobody
     /// waits, keeps it.
     fn bump_exclusive<R: Wait>(
         &self,
@@ -81,9 +81,9 @@ pub trait RawRwLockFair: RawRwLock {
 
 /// A lock whose upgradable right is handed over too.
 pub trait RawRwLockUpgradeFair: RawRwLockUpgrade {
-    /// Hands the lock to those who wait for it and may have it together. Where nobody waits, gives
-    /// the right up; where those who wait would be more than may read, they are woken to try again.
-    /// The guard is spent.
+    /// Hands the lock to those that wait for it and may have it together. Where nobody waits, gives
+    /// the right up; where those that wait would be more than may read, they are woken to try
+    /// again. The guard is spent.
     fn unlock_upgradable_fair<R: Wait>(
         &self,
         rt: &R,
@@ -99,7 +99,7 @@ pub trait RawRwLockUpgradeFair: RawRwLockUpgrade {
         ensures record { Self.RawRwLock.woke self.now
             (ReleaseFair access.Upgradable) token.old token.new };
 
-    /// Hands the lock to those who wait for it, and waits for the upgradable right again. Where
+    /// Hands the lock to those that wait for it, and waits for the upgradable right again. Where
     /// nobody waits, keeps it.
     ///
     /// # Errors

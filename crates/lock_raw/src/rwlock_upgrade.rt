@@ -26,7 +26,7 @@ pub trait RawRwLockUpgrade: RawRwLock {
 
     ghost upgradable_once: { (lock : Self) (guard : Self.UpgradableGuard)
         → IsProp (is_upgradable_of lock guard) };
-    // A place that is open to read keeps this of who has this right.
+    // A place that is open to read keeps this of a thread that has this right.
     ghost upgradable_view: { Self → View };
 
     /// Waits until nobody has the lock alone or with this right, and comes in.
@@ -68,7 +68,7 @@ pub trait RawRwLockUpgrade: RawRwLock {
         ensures full { IfErr result
             (λ _. Self.saw_full self.now access.Upgradable token.old token.new) };
 
-    /// Gives the right up, and wakes whom that lets in.
+    /// Gives the right up, and wakes the threads that this lets in.
     fn unlock_upgradable<R: Wait>(
         &self,
         rt: &R,
@@ -144,8 +144,8 @@ pub trait RawRwLockUpgrade: RawRwLock {
         ensures begun { IfSome result
             (λ rest. Self.begun self.now (Release access.Upgradable) rest token.old token.new) };
 
-    /// Turns the right into that of who has the lock alone: further readers are kept out, and the
-    /// others are waited for.
+    /// Turns the right into that of a thread that has the lock alone: further readers are kept out,
+    /// and the others are waited for.
     fn upgrade<R: Wait>(
         &self,
         rt: &R,
@@ -159,7 +159,7 @@ pub trait RawRwLockUpgrade: RawRwLock {
         ensures guard { Self.is_exclusive_of self.now result }
         ensures path { Self.walked self.now (Upgrade Patient) answers.Ok token.old token.new };
 
-    /// The same where nobody else reads.
+    /// Upgrades where nobody else reads.
     ///
     /// # Errors
     ///
@@ -218,7 +218,8 @@ pub trait RawRwLockUpgrade: RawRwLock {
 
 /// A lock whose upgradable right is turned into others without an upgrade.
 pub trait RawRwLockUpgradeDowngrade: RawRwLockUpgrade {
-    /// Turns the upgradable right into the right to read, in one step, and wakes whom that lets in.
+    /// Turns the upgradable right into the right to read, in one step, and wakes the threads that
+    /// this lets in.
     fn downgrade_upgradable<R: Wait>(
         &self,
         rt: &R,
@@ -235,8 +236,8 @@ pub trait RawRwLockUpgradeDowngrade: RawRwLockUpgrade {
         ensures record { Self.RawRwLock.woke self.now
             (Downgrade downgrades.UpgradableToShared) token.old token.new };
 
-    /// Turns the right of who has the lock alone into the upgradable one, in one step, and wakes
-    /// whom that lets in.
+    /// Turns the right of a thread that has the lock alone into the upgradable one, in one step,
+    /// and wakes the threads that this lets in.
     fn downgrade_to_upgradable<R: Wait>(
         &self,
         rt: &R,
@@ -285,7 +286,7 @@ pub trait RawRwLockUpgradeTimed: RawRwLockUpgrade {
         ensures late { IfOk result
             (λ entered. IfNone entered (HasElapsed (C.tells clock.now) (as_nanos timeout))) };
 
-    /// The same, up to a deadline. None only where the clock had come to it.
+    /// Locks upgradably, or gives up at a deadline. None only where the clock had come to it.
     ///
     /// # Errors
     ///
@@ -337,7 +338,7 @@ pub trait RawRwLockUpgradeTimed: RawRwLockUpgrade {
             (λ _. Self.RawRwLock.gave_up self.now (Upgrade Timed) token.new) }
         ensures late { IfErr result (λ _. HasElapsed (C.tells clock.now) (as_nanos timeout)) };
 
-    /// The same, up to a deadline.
+    /// Upgrades, or gives up at a deadline.
     ///
     /// # Errors
     ///

@@ -1,4 +1,4 @@
--- The parts of a token along the book of who reads. Assumes `Logic`.
+-- The parts of a token along the book of a thread that reads. Assumes `Logic`.
 use Rattle.std.proofs.Common.{◌≡◌, ◌∙◌, true≢false, ℕ, zero, suc, List, [], ◌∷◌, ◌++◌, length, set, sym, refl}
 use mathlib.Core.Bool.{Bool, true, false}
 use mathlib.Core.Option.{some, some-injective, some-ne-none}
@@ -70,7 +70,7 @@ module _ {M : Type 1} {𝓤 : Ura M} (𝓛 : Logic 𝓤) {V : Type 0} (cv : Code
   collects (r ∷ rs) q a s = qed 𝓛 (‵ (Bench q a (r ∷ rs)) ∷ []) ∵ fsplit ! $ rewrite ! 0 (λ (y : Bool). ‵ (Berth q a y r.1)) s.0 refl $ move ! (1 ∷ []) $
       use1 𝓛 (‵ (flft (a ∷ []) (right q))) (collects rs (right q) a s.1) $ move ! (1 ∷ 0 ∷ []) $ by ! (𝓛.lfts.lft_join (a ∷ []) q)
 
-  -- and is laid out along a book that is shut
+  -- A bench is laid out along a book that is shut.
   pub lays_out : (rs : List (Rec V)) (q : Share) (a : ℕ) → Shut rs → A.lft (a ∷ []) q ⊢ ⟦ Bench q a rs ⟧
   lays_out [] q a s = id⊢ 𝓤 _
   lays_out (r ∷ rs) q a s = qed 𝓛 (‵ (flft (a ∷ []) q) ∷ []) ∵ use1 𝓛 (‵ (flft (a ∷ []) (left q)) ⊛ ‵ (flft (a ∷ []) (right q))) (𝓛.lfts.lft_split (a ∷ []) q) $ split ! $

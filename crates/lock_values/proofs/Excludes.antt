@@ -1,4 +1,5 @@
--- The lot's own rule excludes whoever owns the word of a reader-writer lock alone from whoever owns it.
+-- The lot's own rule excludes each thread that owns the word of a reader-writer lock alone from each thread
+-- that owns it.
 use Rattle.std.proofs.Common.{◌≡◌, ⊎_elim, ℕ, zero, suc, ◌+◌, ◌<◌, ◌≤◌, List, [], ◌∷◌, refl, sym, ap, arith, cond, eqb, eq-eqb, inl, inr, subst, ◌∙◌}
 use mathlib.Core.Option.{some, some-injective, some-ne-none}
 use lib.ListN.{get_elem?}

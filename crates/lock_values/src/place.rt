@@ -1,4 +1,4 @@
-//! A value that stands in the open, and who may touch it.
+//! A value in the open, and the threads that may touch it.
 ghost use Rattle.std.specs.Prelude.{◌≡◌, [], ◌∷◌};
 ghost use Rattle.lock_values.specs.Owning.{alone, among};
 ghost use Rattle.core_words.specs.declared.views.View.{View};
@@ -14,8 +14,8 @@ pub trait NamesPlace {
     ghost place: { Self → PlaceId };
 }
 
-/// A value that is touched by who owns a word, or the place itself. In a clause it is the table and
-/// the word's number.
+/// A value that is touched by a thread that owns a word, or the place itself. In a clause it is the
+/// table and the word's number.
 pub struct Place<T> {
     pub(crate) value: T,
 }
@@ -77,7 +77,8 @@ impl<T> Place<T> {
         value
     }
 
-    /// Opens the place to read, for who owns its word among others. The badge is left blank.
+    /// Opens the place to read, for a thread that owns its word among others. The badge is left
+    /// blank.
     #[inline]
     pub fn take_to_read<S, K, P: TableRule<S, View, K>>(
         &self,
@@ -90,7 +91,7 @@ impl<T> Place<T> {
         Seen { place: self }
     }
 
-    /// The same, of a badge that is handed in.
+    /// Opens the place to read, by a badge that is handed in.
     #[inline]
     pub fn read<S, K, P: TableRule<S, View, K>>(
         &self,
@@ -103,7 +104,7 @@ impl<T> Place<T> {
         self.take_to_read(table, &mut badge)
     }
 
-    /// Opens the place to write, for who owns its word alone. The badge is left blank.
+    /// Opens the place to write, for a thread that owns its word alone. The badge is left blank.
     #[inline]
     pub fn take_to_write<S, K, P: TableRule<S, View, K>>(
         &self,
@@ -116,7 +117,7 @@ impl<T> Place<T> {
         Open { place: self }
     }
 
-    /// The same, of a badge that is handed in.
+    /// Opens the place to write, by a badge that is handed in.
     #[inline]
     pub fn write<S, K, P: TableRule<S, View, K>>(
         &self,
@@ -144,7 +145,7 @@ impl<T> Seen<'_, T> {
         let Seen { place: _ } = self;
     }
 
-    /// The same, which answers it.
+    /// Shuts a place that was read, and answers its badge.
     #[inline]
     pub fn close<S, K, P: TableRule<S, View, K>>(self, table: &Shared<S, View, K, P>) -> Badge<View>
         requires { (table.now.table_id ≡ self.of.table) × Excluded (P.holds table.now.key) (alone self.of.at) (among self.of.at) }
@@ -170,7 +171,7 @@ impl<T> Open<'_, T> {
         let Open { place: _ } = self;
     }
 
-    /// The same, which answers it.
+    /// Shuts a place that was written, and answers its badge.
     #[inline]
     pub fn close<S, K, P: TableRule<S, View, K>>(self, table: &Shared<S, View, K, P>) -> Badge<View>
         requires { (table.now.table_id ≡ self.of.table) × Excluded (P.holds table.now.key) (alone self.of.at) (among self.of.at) }

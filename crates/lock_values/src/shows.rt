@@ -8,7 +8,7 @@ pub trait Shows {
 
     // The value that it shows.
     ghost shown: { Self → Self.Value };
-    // The same, once this was written.
+    // The opened value once this was written.
     ghost written: { Self → Self.Value → Self };
 
     // After a write it shows what was written.

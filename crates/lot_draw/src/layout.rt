@@ -17,7 +17,7 @@ pub const LANE: Pixels = Pixels(20);
 pub const HALF: Pixels = Pixels(10);
 /// Half a column.
 pub const MIDDLE: Pixels = Pixels(8);
-/// The room above a thread's lanes, which marks who takes a step.
+/// The room above a thread's lanes, which marks the thread that takes a step.
 pub const GAP: Pixels = Pixels(10);
 
 pub const TITLE: Pixels = Pixels(26);

@@ -17,7 +17,7 @@ const NARROWEST: Pixels = Pixels(420);
 /// The room of a line that says what isn't shown.
 const NOTE: Pixels = Pixels(16);
 
-/// How things look. Colours differ in lightness too, for readers who don't tell colours apart.
+/// How things look. Colours differ in lightness too, for readers that don't tell colours apart.
 const STYLE: &str = "<style>
 text{font:10px Helvetica,Arial,'DejaVu Sans',sans-serif;fill:#000}
 .title{font-size:13px;font-weight:bold}

@@ -5,7 +5,7 @@ use crate::texts::put_text;
 use std::io;
 use std::io::Write;
 
-/// How high the bar is that marks who is inside a section.
+/// How high the bar is that marks a thread inside a section.
 const BAR: Pixels = Pixels(3);
 
 /// Where a rectangle stands, and how large it is.

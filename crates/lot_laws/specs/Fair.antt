@@ -54,7 +54,7 @@ GivesUpFairly w t l x =
     IsToGiveAt (call_at w t) l x × (x ≢ Shared) × Owns (lock_state w l) t x
     × (has_readers (rules_in w l).sort ≡ true)
 
--- from s to s2 it owns still; or all whom it has taken have what they waited for; or it had taken
+-- from s to s2 it owns still; or all that it has taken have what they waited for; or it had taken
 -- nobody, and the word told of nobody; or they would pass the limit, and it is to wake them
 abbrev pub FairReleaseComesTo : Rules → (s s2 : LockState) → (word t : ℕ) → Want → Type 0
 FairReleaseComesTo r s s2 word t x =

@@ -30,7 +30,7 @@ step_of_turn t x = record { thread = t; turn = x }
 abbrev call_turn : ℕ → MutexCall → Step
 call_turn t c = step_of_turn t (Begin (call.Mutex 0 c))
 
--- and goes on
+-- The turn by which a thread goes on.
 abbrev go_turn : ℕ → Step
 go_turn t = step_of_turn t Go
 

@@ -48,7 +48,7 @@ LetsOthersIn w t l =
     ⊎ ((has_readers (sort_at w l) ≡ true)
     × (IsDowngrade (call_at w t).purpose l ⊎ HasGivenUp w t l))
 
--- the line that it lets in: who shares a lock looks for the writer aside, everybody else to the
+-- the line that it lets in: a thread that shares a lock looks for the writer aside, everybody else to the
 -- main line
 abbrev pub line_let_in : Sort → Option Purpose → Line
 line_let_in sort (Some (Releases l Shared fair)) = if has_readers sort then Second else Main

@@ -51,7 +51,8 @@ IsCoded w l =
 abbrev pub IsAboutToMark : State → ℕ → ℕ → Type 0
 IsAboutToMark w t l = (role_on (place_at w t) l).sets ≡ true
 
--- and it is inside the section, or, at a `Once`, owes those waiters their wake
+-- A thread that is about to set a parked bit: it is inside the section, or, at a `Once`, owes those waiters
+-- their wake.
 abbrev pub IsToMark : State → ℕ → ℕ → Type 0
 IsToMark w t l = IsAboutToMark w t l
     × (IsInside w t l Main ⊎ ((sort_at w l ≡ Once) × Owes w t l Main))
@@ -71,7 +72,7 @@ GoesToWake w t l m =
     ⊎ (WakesAside (call_at w t).purpose l m
     ⊎ WaitHasReleased (call_at w t).purpose (call_at w t).released l m))
 
--- it owes a wake on the main line, and its call wakes whom it takes; or it was woken, is about to
+-- it owes a wake on the main line, and its call wakes the threads that it takes; or it was woken, is about to
 -- try again, and wants what passes the turn on (of a mutex anything, of a reader-writer lock more
 -- than to share)
 abbrev pub IsDebtorOf : State → ℕ → ℕ → Line → Type 0
@@ -100,7 +101,7 @@ pub record NobodyForgottenIn (w : State) : Type 0 where
   pub main : (t l : ℕ) → WaitsFor w t l → IsOpenNow (rules_in w l) (lock_state w l)
       → WasNeverFull w l
       → IsLookedAfterIn w l Main
-  -- and so is a writer aside of whom nobody shares any more
+  -- A writer aside is looked after once nobody shares the lock.
   pub second : (l : ℕ) → (lock_state w l).aside ≢ None → readers (lock_state w l) ≡ 0
       → IsLookedAfterIn w l Second
 
@@ -117,7 +118,7 @@ abbrev pub IsAsleepNowhere : State → ℕ → Type 0
 IsAsleepNowhere w t = (act_of (place_at w t) ≡ Sleep) × ((l : ℕ) → standing t (lock_state w l) ≡ 0)
 
 -- it has what it waited for, and the thread inside the section has it in its hand, and wakes all
--- whom it has there as it leaves
+-- that it has there as it leaves
 pub record IsHandedOverIn (w : State) (t : ℕ) : Type 0 where
   pub lock : ℕ
   pub by : ℕ
@@ -140,7 +141,7 @@ pub record ShowsItsWaiters (w : State) (l : ℕ) : Type 0 where
   pub one : (t m : ℕ) → (lock_state w l).shown ≡ Some m → WaitsFor w t l
       → (timed : Bool) × ((call_at w t).purpose ≡ Some (Waits l m timed))
 
--- by whom a thread was taken
+-- the thread by which a thread was taken
 abbrev pub holder : Option Taken → Option ℕ
 holder None = None
 holder (Some h) = Some h.by
@@ -180,19 +181,19 @@ pub record IsKept (w : State) : Type 0 where
   -- owners exclude each other, and a thread stands at most once in the queue of a lock, aside of it
   -- or taken from it
   pub state : AreLockStates (locks_of w)
-  -- and at one lock at most
+  -- A thread stands at one lock at most.
   pub one_place : (t l k : ℕ) → 1 ≤ standing t (lock_state w l) → 1 ≤ standing t (lock_state w k)
       → l ≡ k
   -- a thread that is taken is in the hand of one that is inside a section of the lock
   pub in_hand : (u l : ℕ) (h : Taken) → (lock_state w l).taken u ≡ Some h
       → (m : Line) × IsInside w h.by l m
-  -- and by its place in that hand; one that stands in a line is in nobody's, so that no other
-  -- thread's step wakes it
+  -- A taken waiter is held by its place in its taker's hand. One that stands in a line is in nobody's, so
+  -- that no other thread's step wakes it.
   pub held : (t l : ℕ) → 1 ≤ standing t (lock_state w l)
       → taker (place_at w t) ≡ holder ((lock_state w l).taken t)
   -- one that stands there, or is taken, is in a call that waits for the lock
   pub waiting : (t l : ℕ) → 1 ≤ standing t (lock_state w l) → MayWait (call_at w t).purpose l
-  -- and each call is for rights that its lock knows
+  -- Each call is for rights that its lock knows.
   pub known : (t : ℕ) → KnowsRights (sort_at w) (call_at w t).purpose
   pub coded : (l : ℕ) → IsCoded w l
   pub limited : (l : ℕ) → has_readers (sort_at w l) ≡ true
@@ -211,7 +212,7 @@ pub record IsKept (w : State) : Type 0 where
   pub inside_owes : (t l : ℕ) (m : Line) → IsInside w t l m → Owes w t l m
   pub going_owes : (t l : ℕ) (m : Line) → GoesToWake w t l m
       → Owes w t l m ⊎ IsWait (call_at w t).purpose
-  -- and only a lock that is shared has a second line
+  -- Only a lock that is shared has a second line.
   pub second_line : (t l : ℕ) → Owes w t l Second → has_readers (sort_at w l) ≡ true
   -- a thread that is shown to try a lock again was woken on it, and has got neither the lock nor a place in a
   -- queue since
@@ -221,12 +222,12 @@ pub record IsKept (w : State) : Type 0 where
       → (l : ℕ) × LeadsToSleep (sort_at w l) l (act_of (place_at w t))
   -- a thread that is inside a section goes on freely: it is awake, and enters no other
   pub inside_goes : (t l : ℕ) (m : Line) → IsInside w t l m → GoesFreely ((locks_of w).stances t)
-  -- so does a try, wherever it is
+  -- a try does so too, wherever it is
   pub tries : (t : ℕ) → IsTry (call_at w t).purpose → GoesFreely ((locks_of w).stances t)
   -- a sleeper that stands nowhere was handed the lock that it waited for, by a thread that is inside the
   -- section and wakes it
   pub handing : (t : ℕ) → IsAsleepNowhere w t → IsHandedOverIn w t
-  -- so each sleeper stands somewhere, or was handed its lock
+  -- each sleeper stands somewhere, or was handed its lock
   pub sleeping : (t : ℕ) → act_of (place_at w t) ≡ Sleep
       → ((l : ℕ) × (1 ≤ standing t (lock_state w l))) ⊎ IsHandedOverIn w t
   -- a waiter implies the parked bit while nobody is inside the section: else the thread inside has
@@ -234,14 +235,14 @@ pub record IsKept (w : State) : Type 0 where
   -- cleared the bit owes it its wake
   pub parked : (t l : ℕ) → WaitsFor w t l
       → (has_parked_bit w l ≡ true) ⊎ ((u : ℕ) × IsToMark w u l)
-  -- and a writer aside implies its own
+  -- A writer aside implies its own parked bit.
   pub aside_parked : (l : ℕ) → (lock_state w l).aside ≢ None → has_aside_bit w l ≡ true
   -- while nobody is inside its section, a condition variable shows a mutex exactly while somebody
   -- waits, and all wait with that one
   pub shown : (l : ℕ) → sort_at w l ≡ locks.Condvar → section_at w (key_of l Main) ≡ None
       → ShowsItsWaiters w l
-  -- and at any time it shows the mutex with which all wait; it shows none where nobody waits, or
-  -- while a notification of all is inside that is about to move them
+  -- At any time a condition variable shows the mutex with which all wait. It shows none where nobody waits,
+  -- or while a notification of all is inside that is about to move them.
   pub shows : (l : ℕ) → sort_at w l ≡ locks.Condvar → ShowsWaiters (locks_of w) l
   -- a wait that sleeps has released its mutex
   pub let_go : (t : ℕ) → LetsGo (locks_of w) t

@@ -18,7 +18,7 @@ use Rattle.spec_locks.specs.Locks as locks
 
 -- ---------------------------------------------------------------- one lock
 
--- by whom the thread at a place was taken from the queue of a lock
+-- the thread by which the one at a place was taken from the queue of a lock
 abbrev pub taken_at : Place → ℕ → Option Taken
 taken_at p l =
     if is_lock l (beside_of p) && not (calls p l)
@@ -68,7 +68,7 @@ abbrev pub call_on : Option ℕ → Profile → (ℕ → Rights) → CallState
 call_on None row rights = no_call
 call_on (Some l) row rights = call_by l row rights
 
--- and of a call of two locks, by its place at both
+-- The state of a call of two locks, by its place at both.
 abbrev pub call_on_both : Option ℕ → Option ℕ → Profile → Profile → (ℕ → Rights) → CallState
 call_on_both None lock row beside rights = call_on lock row rights
 call_on_both (Some m) None row beside rights = no_call

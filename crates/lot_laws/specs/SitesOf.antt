@@ -72,7 +72,7 @@ pub record AreSites (w : State) : Type 0 where
   -- as many readers as the limit lets in, or one more
   pub limits : (l : ℕ) → has_readers (rules_in w l).sort ≡ true
       → LimitHasRoom (length w.places) (rules_in w l) × HasLimit (rules_in w l) (lock_state w l)
-  -- while somebody waits for a permit, those who hold one and those who look after the line are no
+  -- while somebody waits for a permit, those that hold one and those that look after the line are no
   -- fewer than the permits, which a word can count
   pub permits : (l : ℕ) → (rules_in w l).sort ≡ SemaphoreSort
       → HasPermits (rules_in w l) (site_of w l) × ((rules_in w l).limit ≤ 2 ^ 62)
@@ -98,7 +98,7 @@ Sections at section = (t l : ℕ) (m : Line) → (at t l).inside ≡ Some m
 abbrev pub Lines : (ℕ → ℕ → Location) → (ℕ → List Waiter) → Type 0
 Lines at queue = (t l : ℕ) (m : Line) → times t (queue (key_of l m)) ≡ stood_in (at t l).stands m
 
--- each who stands in the line does so under its key, and wants what its place says
+-- each that stands in the line does so under its key, and wants what its place says
 abbrev pub AreWaiting : (ℕ → ℕ → Location) → ℕ → Line → List Waiter → Type 0
 AreWaiting at l m [] = Unit {0}
 AreWaiting at l m (x ∷ q) =
@@ -112,7 +112,7 @@ pub record HandsBy (one : ℕ → Type 0) (at : ℕ → ℕ → Location) : Type
   -- a thread with somebody in hand, by its place, has one
   pub carried : (t l : ℕ) (b : Bool) → (at t l).carries ≡ Some b
       → (u : ℕ) × ((at u l).hand ≡ hand t b)
-  -- and there no second, where it takes one at a time
+  -- A lock that takes one at a time has no second thread in hand.
   pub alone : (t l u v : ℕ) (b c : Bool) → one l → (at u l).hand ≡ hand t b
       → (at v l).hand ≡ hand t c → v ≡ u
   -- a thread in the hand of another is so by that one's place
@@ -179,14 +179,14 @@ pub record IsInductive (w : State) : Type 0 where
 
 -- ---------------------------------------------------------------- the threads that it hands its lock
 
--- as many want to share, and who wants more wants this; that is one thread at most
+-- as many want to share, and a thread that wants more wants this; that is one thread at most
 pub record IsCountOfHand (w : State) (t : ℕ) (k : Counted) : Type 0 where
   pub number : sharers_in_hand t w.places ≡ k.sharers
   pub more : want_of_successor (successor_from t 0 w.places) ≡ k.successor
   pub one : (u v : ℕ) (x y : Want) → wants_more_in_hand t (held (place_at w u)) ≡ Some x
       → wants_more_in_hand t (held (place_at w v)) ≡ Some y → u ≡ v
 
--- a call that is to hand its lock over has counted those whom it has in hand
+-- a call that is to hand its lock over has counted those that it has in hand
 abbrev pub AreCounted : State → Type 0
 AreCounted w =
     (t l : ℕ) (a : Admission) (c : RwLockCallPlace) (k : Counted) → place_at w t ≡ OfRwLock l a c
@@ -204,8 +204,8 @@ abbrev pub inside_as : Option ℕ → (ℕ → Option CondvarStage) → Option I
 inside_as None stage = None
 inside_as (Some t) stage = Some (record { thread = t; stage = stage_or (stage t) })
 
--- a condition variable of the world: the mutex that it shows, its waiters, who is inside, and which
--- mutex each wait names
+-- a condition variable of the world: the mutex that it shows, its waiters, the thread inside, and which mutex
+-- each wait names
 abbrev pub condvar_of : State → ℕ → CondvarSite
 condvar_of w l = record {
   shown = (lock_state w l).shown;
@@ -263,7 +263,7 @@ pub record SiteFollows (w v : State) (l : ℕ) (ds : List Act) : Type 0 where
   pub limit : has_readers (rules_in w l).sort ≡ true → HasLimit (rules_in w l) (lock_state v l)
   pub by : (rules_in w l).sort ≡ SemaphoreSort → AllBy (length w.places) ds
 
--- and each thread stands where its place says
+-- A step that goes by its acts leaves each thread where its place says.
 pub record Goes (w v : State) (l : ℕ) (ds : List Act) : Type 0 where
   pub follows : SiteFollows w v l ds
   pub stands : Stands v

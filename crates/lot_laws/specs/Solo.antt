@@ -159,7 +159,7 @@ ConvertsAlone s t y how o s2 = DowngradesAlone t y o s2
 abbrev pub successor : Bool → List Queued → Option ℕ
 successor fair q = if fair then first_thread q else None
 
--- a release ends without its right, and who shares has one right less
+-- a release ends without its right, and a thread that shares has one right less
 abbrev pub ReleasesAlone : LocksState → ℕ → ℕ → Want → Bool → Outcome → LocksState → Type 0
 ReleasesAlone w t l Exclusive fair o v =
     (o ≡ outcome.TheVariants.End answer.TheVariants.Ok) × (Owns (v.locks l) t Exclusive → ⊥)
@@ -176,8 +176,8 @@ BumpsAlone t l (x ∷ q) o s =
     (o ≡ outcome.TheVariants.Sleep) × (s.exclusive ≡ Some x.thread)
     × (s.queue ≡ q ++ (record { thread = t; want = Exclusive }) ∷ [])
 
--- to whom a bump of a lock that is shared gives way: who shares it, to a pending writer, on a
--- recursive lock only as the last; and any other owner to whoever stands in the queue
+-- to which a bump of a lock that is shared gives way: a thread that shares it, to a pending writer, on a
+-- recursive lock only as the last; and any other owner to each thread that stands in the queue
 abbrev pub BumpGivesWay : Rules → LockState → Want → Type 0
 BumpGivesWay r s Shared = (s.pending ≢ None) × (r.sort ≡ Recursive → count s ≡ 1)
 BumpGivesWay r s x = s.queue ≢ []
@@ -231,7 +231,7 @@ pub record CondvarWaitsAlone (w : LocksState) (t l m : ℕ) (o : Outcome) (v : L
   pub own : (ShowsOther (w.locks l) m → ⊥)
       → SleepsLast (w.locks l) t Wait o (v.locks l) × ((v.locks m).exclusive ≡ None)
 
--- and a notification: it moves the first, or all
+-- A notification alone moves the first, or all.
 abbrev pub NotifiesAlone : Bool → List Queued → Outcome → List Queued → Type 0
 NotifiesAlone false [] o q2 = o ≡ outcome.TheVariants.End answer.TheVariants.No
 NotifiesAlone false (x ∷ q) o q2 = (o ≡ outcome.TheVariants.End answer.TheVariants.Yes) × (q2 ≡ q)

@@ -70,7 +70,7 @@ pub record IsWorldStep (w : State) (s : Step) (o : Outcome) (v : State) : Type 0
   pub tries : s.turn ≡ turn.TheVariants.Go → TriesAtOnce w s.thread o
   -- its thread begins and ends to owe a wake by what it sees and where it is
   pub owing : OwesSince w s.thread o v
-  -- a fair release gives to those whom it has taken in one step: of a mutex to the first waiter, of
+  -- a fair release gives to those that it has taken in one step: of a mutex to the first waiter, of
   -- a lock that is shared to all of them, where the limit allows
   pub fair : IsFair w v
   -- words are coded, and nobody is forgotten

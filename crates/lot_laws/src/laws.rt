@@ -8,7 +8,7 @@ pub fn a_fair_unlock_hands_over()
     ensures { FairUnlockHandsOver }
 {}
 
-/// A waiter of a mutex that nobody owns has somebody who owes its wake or tries again.
+/// A waiter of a mutex that nobody owns has somebody that owes its wake or tries again.
 pub fn no_waiter_is_forgotten()
     ensures { NoWaiterIsForgotten }
 {}

@@ -229,6 +229,6 @@ runs_one (Once l (GiveUp again give_up.Remove)) h = absurd cc
 runs_one (Once l (GiveUp again give_up.Clear)) h = absurd cc
 runs_one (Once l (GiveUp again give_up.Leave)) h = absurd cc
 
--- and its word is swapped next, whoever is inside
+-- A thread that closes its run swaps the word next, whatever thread is inside.
 pub closes_freely : (w v : State) (t : ℕ) (succeeded : Bool) → runs_closure (act_of (place_at w t)) ≡ true → can_do v (act_of (closed_place w t succeeded)) ≡ true
 closes_freely w v t succeeded runs = ap (λ p. can_do v (act_of (next_place p (Closed succeeded)))) (runs_one (place_at w t) runs).is

@@ -30,7 +30,7 @@ drop_on zero k ps = let same : k ≡ zero + k = omega arith in ap (λ m. drop m 
 drop_on (suc n) k [] = drop-nil k ∙ sym (drop-nil (suc n + k))
 drop_on (suc n) k (p ∷ ps) = let same : suc (n + k) ≡ suc n + k = omega arith in drop_on n k ps ∙ ap (λ m. drop m (p ∷ ps)) same
 
--- those who are skipped have no debt, so the list is that from behind them
+-- those that are skipped have no debt, so the list is that from behind them
 pub skips_debtors : (places : List Place) (debt : Debt) (l from to : ℕ) → from ≤ to → Skips places l from to → debtors debt l from (drop from places) ≡ debtors debt l to (drop to places)
 skips_debtors places debt l from to le none =
     let k = to - from in
@@ -39,7 +39,7 @@ skips_debtors places debt l from to le none =
     ∙ ap (λ ps. debtors debt l (from + k) ps) (drop_on from k places)
     ∙ ap (λ m. debtors debt l m (drop m places)) there
 
--- the one who has the debt comes first, and then those from the next one on
+-- the one that has the debt comes first, and then those from the next one on
 pub debtor_there : (places : List Place) (debt : Debt) (l t next : ℕ) → t < length places → has_debt (place_of_thread places t) debt l ≡ true → t < next → Skips places l (t + 1) next → debtors debt l t (drop t places) ≡ (debt, t) ∷ debtors debt l next (drop next places)
 debtor_there places debt l t next there has later none =
     ap (λ ps. debtors debt l t ps) (drop_more places t Idle there)
@@ -50,7 +50,7 @@ debtor_past places debt l t next there none later skips =
     ap (λ ps. debtors debt l t ps) (drop_more places t Idle there)
     ∙ rw none (skips_debtors places debt l (t + 1) next (omega (arith, later)) skips)
 
--- all who have debts stand from the first one on
+-- all that have debts stand from the first one on
 pub debts_from : (places : List Place) (l first : ℕ) → Skips places l 0 first → debtors Owes l first (drop first places) ++ debtors Retries l first (drop first places) ≡ debtors Owes l 0 places ++ debtors Retries l 0 places
 debts_from places l first none =
     ap (λ owing. owing ++ debtors Retries l first (drop first places)) (sym (skips_debtors places Owes l 0 first (omega arith) none))
@@ -100,7 +100,7 @@ module _ (links : List Link) (first : List ℕ) (places : List Place) (t : ℕ) 
     linked = f.linked;
   }
 
-  -- or has them on a lock for which no chain begins
+  -- A tag past the locks covers nothing, since no chain begins there.
   pub links_past : (own : ℕ) → 256 ≤ own → TagCovers (On own) (place_of_thread places t) → AreLinkedFrom links first places t
   links_past own past tells = record {
     sizes = f.sizes;

@@ -181,7 +181,7 @@ line_picked_other start false k key xs ne = (pickers_pick Normal start key xs).e
 pub line_then_picked : (key : ℕ) (start : Option Want) (recursive : Bool) (xs ys : List Waiter) → lines ys ≡ lines (without_lock_picked start recursive key xs) → line key ys ≡ without_lock_picked start recursive key (line key xs)
 line_then_picked key start recursive xs ys e = line_in key (without_lock_picked start recursive key xs) ys e ∙ line_picked (lock_picker start recursive) key xs
 
--- tells what the taking of those who are picked does to the lines
+-- tells what the taking of those that are picked does to the lines
 pub lines_picked : (n key : ℕ) (start : Option Want) (recursive : Bool) (xs ys : List Waiter) → key < n → lines ys ≡ lines (without_lock_picked start recursive key xs)
     → lines_from 0 n ys ≡ slice_set (lines_from 0 n xs) key (without_lock_picked start recursive key (line key xs))
 lines_picked n key start recursive xs ys h e =
@@ -231,7 +231,7 @@ line_left from to how xs ys ne e = line_in from (requeued how from to xs) ys e �
 
 -- ---------------------------------------------------------------- a line that is listed
 
--- there is room for each who isn't listed yet
+-- there is room for each that isn't listed yet
 pub room_for : (xs ys : List ℕ) (x : Waiter) (rest q all : List Waiter) → xs ++ threads_of q ≡ ys ++ threads_of all → q ≡ x ∷ rest → length xs < length ys + length all
 room_for xs ys x rest q all e f =
     let both : length (xs ++ threads_of q) ≡ length (ys ++ threads_of all) = ap length e in

@@ -346,7 +346,7 @@ module _ (w : State) (t : ℕ) (p : Place) (a : Act) where
   performed_shaped s lt writes = shaped done (performed_lined w t p a (lined w s) lt) (λ u. suits_then (place_at done u) (performed_suits s u))
       (λ l of. shows_then (word_at done l) (performed_shown w t p a s.shown writes l of))
 
--- so who was there is there behind it
+-- a thread that was there is there after it
 pub acted_there : (w v : State) (t u : ℕ) (p : Place) (act : Act) (b : Bool) → v ≡ (if b then state_after_act w u p act else w) → t < length w.places → t < length v.places
 acted_there w v t u p act b e lt = rw e (either b)
   where
@@ -472,7 +472,7 @@ begun_shaped w t c s can = put_shaped w t (first_place (kind_at w (lock_in c)) c
 pub looking_shaped : (w : State) (t : ℕ) (q : Place) → IsWellFormed w → looking (place_at w t) ≡ Some q → IsWellFormed (put w t q)
 looking_shaped w t q s is = let k = look (place_at w t) q is in put_shaped w t q s (k.fits (length w.locks) (s.places t), k.kind (kind_at w) (s.kinds t))
 
--- and loads the word of a lock that is there
+-- A thread that looks loads the word of a lock that is there.
 pub looks_fit : (w : State) (t : ℕ) (q : Place) → IsWellFormed w → t < length w.places → looking (place_at w t) ≡ Some q → ActFits (put w t q) (act_of (place_at (put w t q) t))
 looks_fit w t q s lt is = let k = look (place_at w t) q is in
     subst (λ p. ActFits (put w t q) (act_of p)) (sym (get_or-set_same w.places t q Idle lt)) (subst (ActFits (put w t q)) (sym k.loads) (k.there (length w.locks) (s.places t)))
@@ -500,7 +500,7 @@ looks_go w t q lt is = ap (λ p. can_do (put w t q) (act_of p)) (get_or-set_same
 pub spun : (w v : State) (t : ℕ) (q : Place) → t < length w.places → looking (place_at w t) ≡ Some q → v ≡ (if can_go (put w t q) t then state_after_go (put w t q) t else put w t q) → v ≡ (if can_spin w t then state_after_spin w t else w)
 spun w v t q lt is e = e ∙ ap (λ b. if b then state_after_go (put w t q) t else put w t q) (looks_go w t q lt is) ∙ sym (ap (λ o. if is_some o then state_after_look w t o else w) is)
 
--- and is told so, of a state that is the same
+-- A thread that looks once more is told so, in the state that it found.
 pub spun_told : {v w : State} → v ≡ w → (t : ℕ) (q : Place) (told : Outcome) → t < length v.places → looking (place_at v t) ≡ Some q → told ≡ (if can_go (put v t q) t then go_outcome (put v t q) t else outcome.TheVariants.NotNow) → told ≡ (if can_spin w t then spin_outcome w t else outcome.TheVariants.NotNow)
 spun_told {v} same t q told lt is e = subst (λ (w : State). told ≡ (if can_spin w t then spin_outcome w t else outcome.TheVariants.NotNow)) same
     (e ∙ ap (λ b. if b then go_outcome (put v t q) t else outcome.TheVariants.NotNow) (looks_go v t q lt is) ∙ sym (ap (λ o. if is_some o then look_outcome v t o else outcome.TheVariants.NotNow) is))
@@ -563,7 +563,7 @@ lated_shaped w t s = by_place (place_at w t) refl
 closing_can : (w : State) (t : ℕ) (succeeded : Bool) → runs_closure (act_of (place_at w t)) ≡ true → can_close w t succeeded ≡ true
 closing_can w t succeeded runs = rw (runs, closes_freely w w t succeeded runs) refl
 
--- and from there it goes on
+-- A thread whose closure has ended goes on from there.
 goes_closed : (w : State) (t : ℕ) (succeeded : Bool) (q : Place) → t < length w.places → runs_closure (act_of (place_at w t)) ≡ true → q ≡ closed_place w t succeeded
     → can_go (put w t q) t ≡ true
 goes_closed w t succeeded q lt runs is =

@@ -12,7 +12,7 @@ pub record StandOnce (w : State) : Type 0 where
   pub nowhere_else : (t key other : ℕ) → 1 ≤ times t (queue_at w key) → other ≢ key
       → times t (queue_at w other) ≡ 0
 
--- those who stand in a line stand there once, and in none of these
+-- those that stand in a line stand there once, and in none of these
 abbrev pub StandApart : List Waiter → List (List Waiter) → Type 0
 StandApart line queues = (t : ℕ) → (times t line ≤ 1)
     × (1 ≤ times t line → All (λ queue. times t queue ≡ 0) queues)
@@ -21,8 +21,8 @@ StandApart line queues = (t : ℕ) → (times t line ≤ 1)
 abbrev pub HasRows : State → Type 0
 HasRows w = (l : ℕ) → length (shares_at w l) ≡ length w.places
 
--- a machine in the state w can be led to the state v without memory: both are as large, and in v
--- each line has waiters of its own key, who are there and stand there once
+-- a machine in the state w can be led to the state v without memory: both are as large, and in v each line
+-- has waiters of its own key, which are there and stand there once
 pub record CanRestore (w v : State) : Type 0 where
   pub threads : length v.places ≡ length w.places
   pub locks : length v.locks ≡ length w.locks

@@ -211,7 +211,7 @@ places_told reply [] ps = ps
 places_told reply (u ∷ us) ps =
     places_told reply us (slice_set ps u (next_place (slice_index_or ps u Idle) reply))
 
--- by whom a thread at a place was taken, and what it wants
+-- the thread by which the one at a place was taken, and what it wants
 abbrev pub held_by : Option ℕ → Option Want → Option Taken
 held_by (Some t) (Some x) = Some (record { by = t; want = x })
 held_by t x = None
@@ -224,7 +224,7 @@ abbrev pub shares_in_hand : ℕ → Option Taken → Bool
 shares_in_hand t None = false
 shares_in_hand t (Some h) = (h.by == t) && wants_shared h.want
 
--- how many t has in hand who want to share
+-- how many t has in hand that want to share
 abbrev pub sharers_in_hand : ℕ → List Place → ℕ
 sharers_in_hand t ps = length (filter (λ (p : Place). shares_in_hand t (held p)) ps)
 
@@ -238,7 +238,7 @@ abbrev pub successor_or : ℕ → Option Want → Option Successor → Option Su
 successor_or u None later = later
 successor_or u (Some x) later = Some (record { thread = u; want = x })
 
--- the first whom t has in hand and who wants more than to share, where the first place is that of u
+-- the first that t has in hand and that wants more than to share, where the first place is that of u
 abbrev pub successor_from : ℕ → ℕ → List Place → Option Successor
 successor_from t u [] = None
 successor_from t u (p ∷ ps) =
@@ -248,8 +248,8 @@ abbrev pub want_of_successor : Option Successor → Option Want
 want_of_successor None = None
 want_of_successor (Some s) = Some s.want
 
--- each whom t has in hand and who wants to share has one right more; a number wraps at 64 bits, as
--- a word does
+-- each that t has in hand and that wants to share has one right more; a number wraps at 64 bits, as a word
+-- does
 abbrev pub with_share : Bool → ℕ → ℕ
 with_share true n = (n + 1) % 2 ^ 64
 with_share false n = n
@@ -279,16 +279,16 @@ owners_of_successor readers (Some s) owners = elim s.want [
 abbrev pub shares_handed_over : State → ℕ → ℕ → List ℕ
 shares_handed_over w t l = shares_given t w.places (shares_at w l)
 
--- and whether nobody does
+-- Nobody shares the lock after the step.
 abbrev pub unshared_then : State → ℕ → ℕ → Bool
 unshared_then w t l = sum (shares_handed_over w t l) == 0
 
--- and who else owns it, beside those who keep it
+-- The owners after a hand-over, beside those that keep the lock.
 abbrev pub owners_handed_over : State → ℕ → ℕ → Owners → Owners
 owners_handed_over w t l keeps =
     owners_of_successor (sum (shares_handed_over w t l)) (successor_from t 0 w.places) keeps
 
--- the operation with which t hands the lock over: all whom it has in hand own by what they want
+-- the operation with which t hands the lock over: all that it has in hand own by what they want
 abbrev pub state_after_hand_over : State → ℕ → Place → ℕ → Op → State
 state_after_hand_over w t p l op =
     let keeps = owners_after p t (word_at w l) (owners_at w l) in
@@ -403,7 +403,7 @@ reply_to_take w t key (whom.TheVariants.Picked start recursive) =
     (length (without_lock_picked start recursive key (queue_at w key)) == 0)
 reply_to_take w t key whom.TheVariants.All = Took (not (length (queue_at w key) == 0)) true
 
--- and what the thread is told
+-- What an act tells its thread.
 abbrev pub reply_to : State → ℕ → Act → Reply
 reply_to w t (Word l op) = Value (word_at w l)
 reply_to w t (HandOver l op) = Value (word_at w l)

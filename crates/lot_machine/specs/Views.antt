@@ -32,7 +32,7 @@ abbrev pub sharers_listed : ℕ → List ℕ → List (Owner × ℕ)
 sharers_listed t [] = []
 sharers_listed t (n ∷ ns) = replicate n (Shared, t) ++ sharers_listed (t + 1) ns
 
--- the owners, then those who share
+-- the owners, then those that share
 abbrev pub owners_of : State → ℕ → List (Owner × ℕ)
 owners_of w l = owners_listed (owners_at w l) ++ sharers_listed 0 (shares_at w l)
 
@@ -40,7 +40,7 @@ owners_of w l = owners_listed (owners_at w l) ++ sharers_listed 0 (shares_at w l
 abbrev pub StandUnder : ℕ → List Waiter → Type 0
 StandUnder key waiters = All (λ (x : Waiter). x.key ≡ key) waiters
 
--- the main queue from its front, then who waits aside
+-- the main queue from its front, then the waiter aside
 abbrev pub queue_of : State → ℕ → List Waiter
 queue_of w l = queue_at w (2 * l) ++ queue_at w (2 * l + 1)
 

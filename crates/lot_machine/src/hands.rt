@@ -83,7 +83,7 @@ pub(crate) fn shares_in_hand(thread: usize, place: &Place) -> bool
     place.taker() == Some(thread) && place.wants() == Some(Want::Shared)
 }
 
-/// How many a thread has in hand who want to share.
+/// How many a thread has in hand that want to share.
 pub(crate) fn sharers(thread: usize, places: &[Place]) -> usize
     ensures { result ≡ sharers_in_hand thread places.now }
 {
@@ -104,7 +104,7 @@ pub(crate) fn wants_more_in_hand(thread: usize, place: &Place) -> Option<Want>
     }
 }
 
-/// The first whom a thread has in hand and who wants more than to share.
+/// The first that a thread has in hand and that wants more than to share.
 pub(crate) fn find_successor(places: &[Place], thread: usize) -> Option<Successor>
     ensures { result ≡ successor_from thread 0 places.now }
 {

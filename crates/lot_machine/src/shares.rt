@@ -1,4 +1,4 @@
-//! The shared rights of threads, and the owners to whom a lock is handed over.
+//! The shared rights of threads, and the owners to which a lock is handed over.
 ghost use Rattle.std.specs.Prelude.{ℕ, ◌≡◌, ◌==◌, IfOk, map, sum, slice_set, slice_index_or, replicate};
 ghost use Rattle.lot_machine.specs.Machine.{shares_given, with_share, held, shares_in_hand, owners_of_successor};
 
@@ -38,7 +38,7 @@ pub(crate) fn nobody_shares(shares: &[usize]) -> bool
     true
 }
 
-/// Each whom a thread has in hand and who wants to share has one right more.
+/// Each that a thread has in hand and that wants to share has one right more.
 pub(crate) fn give_shares(shares: &mut [usize], places: &[Place], thread: usize)
     ensures { shares.new ≡ shares_given thread places.now shares.old }
 {
@@ -58,7 +58,7 @@ pub(crate) fn with_share(given: bool, number: usize) -> usize
     }
 }
 
-/// The one of those in a hand that wants more than to share owns, beside those who keep the lock.
+/// The one of those in a hand that wants more than to share owns, beside those that keep the lock.
 pub(crate) fn owners_of_successor(
     unshared: bool,
     successor: Option<Successor>,
@@ -115,7 +115,7 @@ pub(crate) fn unshared_locks(
     Ok(shares)
 }
 
-/// The same numbers of rights.
+/// Copies a row of shares: each thread has as many rights as in the other.
 pub(crate) fn copied_shares(
     alloc: Global,
     shares: &[Vec<usize>],

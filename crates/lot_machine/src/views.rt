@@ -7,7 +7,7 @@ use core_base::{Queues, Waiter, main_key, second_key};
 use lot_steps::{Owner, Owners, Pending, Phase};
 use std::marker::Model;
 
-/// The owners of a lock, each with its sort, then those who share it by their numbers, once for
+/// The owners of a lock, each with its sort, then those that share it by their numbers, once for
 /// each right.
 #[derive(Drop)]
 pub struct OwnersOf<'a> {
@@ -101,7 +101,7 @@ impl Iterator for OwnersOf<'_> {
     }
 }
 
-/// The waiters of a lock: its main queue from the front, then who waits aside.
+/// The waiters of a lock: its main queue from the front, then the waiter aside.
 #[derive(Drop)]
 pub struct QueueOf<'a, Q: Queues> {
     queues: &'a Q,

@@ -107,8 +107,8 @@ done_by w t (actions.TheVariants.Do call) = did w t call
 abbrev pub acted : List (List ℕ) → State → ℕ → Action → ReplayStage × List ℕ
 acted names w t action = (running names (done_by w t action).0, turn_line t (done_by w t action).1)
 
--- and after a `drain`: its schedule is written and its steps are taken, or the world isn't one that
--- may be drained
+-- What a `drain` leads to: its schedule is written and its steps are taken, or the world isn't one that may
+-- be drained.
 abbrev pub drained : List (List ℕ) → State → ReplayStage × List ℕ
 drained names w =
     if is_drainable w

@@ -20,7 +20,7 @@ pub enum Action {
 }
 
 impl<Q: Queues + Drop> Session<Q> {
-    /// The same turn, of locks by their numbers.
+    /// Finds the action of a turn whose locks are named, by their numbers.
     pub(crate) fn action_of(&self, turn: NamedTurn) -> Option<Action>
         ensures { result ≡ action_of self.now.names (session_world self.now) turn }
     {

@@ -50,7 +50,7 @@ fn show_lock<Q: Queues + Drop, W: Write>(
     page.put(writer, b"\n");
 }
 
-/// Prints who owns a lock, each with a letter for its sort.
+/// Prints the owners of a lock, each with a letter for its sort.
 fn print_owners<W: Write>(page: &mut Page, writer: &mut W, owners: OwnersOf<'_>)
     ensures { Puts (W.contents writer.old) (W.contents writer.new) page.old page.new
         (owners_text owners.entry) }
@@ -64,8 +64,8 @@ fn print_owners<W: Write>(page: &mut Page, writer: &mut W, owners: OwnersOf<'_>)
     }
 }
 
-/// Prints who waits for a lock: its main queue, each with a letter for what it wants, and who waits
-/// aside.
+/// Prints the waiters of a lock: its main queue, each with a letter for what it wants, and the
+/// waiter aside.
 fn print_waiters<Q: Queues + Drop, W: Write>(
     page: &mut Page,
     writer: &mut W,
@@ -94,7 +94,7 @@ fn print_waiters<Q: Queues + Drop, W: Write>(
     }
 }
 
-/// Prints who owes a wake on a lock, and who tries it again.
+/// Prints the threads that owe a wake on a lock, and those that try it again.
 fn print_debtors<W: Write>(page: &mut Page, writer: &mut W, debts: Debts<'_>)
     ensures { (owing retrying : List (Debt × ℕ)) → debts.entry ≡ owing ++ retrying
         → All (λ d. d.0 ≡ Debt.Owes) owing → All (λ d. d.0 ≡ Debt.Retries) retrying

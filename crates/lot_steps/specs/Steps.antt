@@ -96,7 +96,7 @@ beside_of (Once lock at) = None
 beside_of (Condvar lock at) = mutex_beside at
 beside_of (Semaphore lock at) = None
 
--- and what a place says of its thread there
+-- What a place says of its thread at the second lock.
 abbrev pub profile_beside : Place → Profile
 profile_beside Idle = blank_row
 profile_beside (Mutex lock at) = blank_row
@@ -182,7 +182,7 @@ abbrev pub semaphore_does : ℕ → Next SemaphorePlace → Act
 semaphore_does lock (At at) = semaphore_act lock at
 semaphore_does lock (End answer) = act.TheVariants.End answer
 
--- and what it does then
+-- What a thread does at the place to which its reply leads.
 abbrev pub next_act : Place → Reply → Act
 next_act Idle reply = act.TheVariants.Rest
 next_act (Mutex lock at) reply = mutex_does lock (mutex_next at reply)

@@ -17,7 +17,7 @@ placed p xs k e = grind (arith, nat_tests)
 bytes_eq-refl : (x : List ℕ) → bytes_eq x x ≡ true
 bytes_eq-refl x = (bytes_eq-Decides x x).1 refl
 
--- and where it isn't, no place is its
+-- Where the name isn't there, no place is its.
 unplaced : (p : List ℕ → Bool) (xs : List (List ℕ)) → position p xs ≡ None → length xs ≤ position_or_len p xs
 unplaced p xs e = grind (arith, nat_tests)
 
@@ -35,7 +35,7 @@ within_all : (p : List ℕ → Bool) (xs : List (List ℕ)) → position_or_len 
 within_all p [] = omega arith
 within_all p (x ∷ xs) = grind (arith, within_all p xs)
 
--- and the new one
+-- The new name has the last place.
 last_of : (p : List ℕ → Bool) (names : List (List ℕ)) (name : List ℕ) → p name ≡ true → position p names ≡ None → position_or_len p (names ++ name ∷ []) ≡ length names
 last_of p names name is e = grind (arith, nat_tests, position_or_len_push p names name, unplaced p names e, within_all p names)
 

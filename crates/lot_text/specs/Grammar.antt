@@ -99,7 +99,7 @@ fair_call_of word =
     else (if bytes_eq word (codes "bump_exclusive") then Some (Bump Exclusive)
     else None)))))
 
--- and one that gives its right up, or turns it into another
+-- The call of a word that gives its right up, or turns it into another.
 abbrev pub other_call_of : List ℕ → Option RwLockCall
 other_call_of word =
     if bytes_eq word (codes "unlock_shared") then Some (Release Shared)
@@ -130,7 +130,7 @@ semaphore_call_of word =
     else (if bytes_eq word (codes "release") then Some semaphore.TheVariants.Release
     else None)))
 
--- one that notifies who waits on a condition variable
+-- one that notifies the waiters of a condition variable
 abbrev pub notification_of : List ℕ → Option NamedCall
 notification_of word =
     if bytes_eq word (codes "notify_one") then Some (call.TheVariants.Notify false)

@@ -24,7 +24,7 @@ pub enum Command {
     Turn { thread: usize, turn: NamedTurn },
     /// Each lock shows its state.
     Show,
-    /// All end their calls, and whoever owns the lock gives it up.
+    /// All end their calls, and each thread that owns the lock gives it up.
     Drain,
 }
 
@@ -440,7 +440,7 @@ fn semaphore_call(word: &[u8]) -> Option<SemaphoreCall>
     }
 }
 
-/// The call that a word names, which notifies who waits on a condition variable.
+/// The call that a word names, which notifies the waiters of a condition variable.
 fn notification(word: &[u8]) -> Option<NamedCall>
     ensures { result ≡ notification_of word.now }
 {

@@ -19,7 +19,7 @@ spare_sum [] q h lt e = absurd (omega arith)
 spare_sum (x ∷ xs) zero h lt e = let all : sum (x ∷ xs) ≡ x + sum xs = sum_cons x xs in let first : x ≡ 0 = e in let rest : sum xs ≤ length xs = few_sum xs (λ t. h (suc t)) in omega arith
 spare_sum (x ∷ xs) (suc q) h lt e = let all : sum (x ∷ xs) ≡ x + sum xs = sum_cons x xs in let first : x ≤ 1 = h 0 in let rest : sum xs + 1 ≤ length xs = spare_sum xs q (λ t. h (suc t)) (omega arith) e in omega arith
 
--- the upgradable owner is counted with those who share
+-- the upgradable owner is counted with those that share
 counted_too : (s : LockState) (q : ℕ) → OneEach s → (o : Option ℕ) → s.upgradable ≡ o → q < length s.shared → counting_rights s q ≡ 0
     → count s + 1 ≤ length s.shared
 counted_too s q each None e lt none = grind (arith, spare_sum s.shared q (λ t. let h = each.one t in omega arith) lt (omega arith))

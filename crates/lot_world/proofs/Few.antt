@@ -1,4 +1,4 @@
--- Each thread of one lock has one right at most, whoever goes on.
+-- Each thread of one lock has one right at most, whatever thread goes on.
 use Rattle.std.proofs.Common.{ℕ, Bool, true, false, Option, Some, None, if◌then◌else◌, ◌==◌, ◌≡◌, ◌≢◌, ◌+◌, ◌≤◌, inl, inr, refl, sym, ◌∙◌, ap, subst, arith}
 use Rattle.std.proofs.lemmas.Bool.{cases_eq}
 use Rattle.std.proofs.lemmas.Bool.Decides.{nat_tests}
@@ -100,7 +100,7 @@ put_same f l x = ap (λ b. if b then x else f l) (let e : (l == l) ≡ true = gr
 pub put_other : {A : Type 0} (f : ℕ → A) (l : ℕ) (x : A) (k : ℕ) → k ≢ l → putting f l x k ≡ f k
 put_other f l x k ne = ap (λ b. if b then x else f k) (let e : (k == l) ≡ false = grind (arith, nat_tests) in e)
 
--- a case of another thread leaves those who are in no hand
+-- a case of another thread leaves those that are in no hand
 pub case_leaves : (w : LocksState) (l t u : ℕ) → AreLockStates w → u ≢ t → (w.locks l).taken u ≡ None → (case : LockCase)
     → Needs (rules_at w l) case (w.locks l) t
     → rights_of (after_case (rules_at w l) case (w.locks l) t) u ≡ rights_of (w.locks l) u

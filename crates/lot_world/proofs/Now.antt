@@ -53,7 +53,7 @@ keeps_all r (a ∷ ds) s k =
 
 -- ---------------------------------------------------------------- the one case
 
--- a case that changes who counts leaves nobody in an empty queue
+-- a case that changes which threads count leaves nobody in an empty queue
 abbrev Stays : Rules → LockState → LockState → Type 0
 Stays r s v = (v.queue ≡ []) ⊎ (is_full r v ≡ is_full r s)
 

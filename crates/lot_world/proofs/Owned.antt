@@ -204,7 +204,7 @@ queued_lock rights l entry.LockTimed retries lock.Remove s few = few
 queued_lock rights l entry.Bump retries lock.Remove s few = given_up Exclusive 0 rights few
 queued_lock rights l e retries to s few = absurd cc
 
--- only who enters stands there
+-- only a thread that enters stands there
 module _ (rights : ℕ → Rights) (l : ℕ) (a : Admission) where
   queued_plain : (q : RwLockPurpose) (b : Bool) (to : RwLockAt) → StandsAt q b to → stands_at to ≡ Some Main
       → BeganWithFew 0 (RwLock l a (Plain (record { purpose = q; retries = b; at = to }))) rights → rights 0 ≡ no_rights

@@ -169,7 +169,7 @@ module _ (k : Kind) (w : State) (p : Place) (v : ℕ) (f : Passes k w p v) where
       lines Main = ap (λ o. queue_at (state_after_taking left 0 o) 0) nobody ∙ get_or-set_same w.queues 0 _ [] line_there ∙ ap (drop 1) empty
       lines Second = ap (λ o. queue_at (state_after_taking left 0 o) 1) nobody ∙ get_or-set_other w.queues 0 1 _ [] (λ h. omega arith) ∙ second_empty
 
-  -- nobody whom the lock would let in
+  -- nobody that the lock would let in
   module _ (nobody_held : held p ≡ None) where
     none_held : (u : ℕ) → held (place_at w u) ≡ None
     none_held zero = ap held f.alone.place ∙ nobody_held

@@ -119,7 +119,7 @@ module _ (w : State) (draining : IsDraining w) (quiet : IsQuiet w) where
     | inr h ↦ let row = sleepers_stand (place_at w t) h.stands h.asleep in let g : ◌≡◌ {A = Option Bool} None (Some b) = sym row.carries ∙ sym (ap (λ x. x.carries) (location_here t h)) ∙ e in cc
   ]
 
-  -- so who sleeps stands in a line
+  -- a thread that sleeps stands in a line
   in_line : (t : ℕ) → Sleeps t → ((profile (place_at w t)).stands ≡ Some Main) ⊎ ((profile (place_at w t)).stands ≡ Some Second)
   in_line t h = elim (sleepers_stand (place_at w t) h.stands h.asleep).somewhere [
     | inl main ↦ inl main

@@ -284,7 +284,7 @@ module _ (w0 : State) (t : ℕ) where
     own = λ u ne e. others_own v t b.ordered_now u ne (b.idle u ne ∙ e) ∙ b.own u ne e;
   }
 
-  -- and where the thread only waits, they stand where they stood
+  -- The state after a turn in which the thread only waits: all others stand where they stood.
   pub record Leaves (v : State) : Type 0 where
     pub ordered_now : IsOrdered v
     pub waiting : waits_or_idle (place_at v t) ≡ true

@@ -1,4 +1,5 @@
--- Calls that only wait tell nobody anything and go on to wait; whatever befalls a thread changes nothing of that; who sleeps only waits.
+-- Calls that only wait tell nobody anything and go on to wait; whatever befalls a thread changes nothing of
+-- that; a thread that sleeps only waits.
 use Rattle.std.proofs.Common.{ℕ, Bool, true, false, Option, Some, None, if◌then◌else◌, ◌==◌, not, ◌≡◌, ◌≢◌, refl, sym, ◌∙◌, ap}
 use Rattle.spec_locks.specs.Codes.{count_in, has_aside}
 use Rattle.core_base.specs.declared.keys.Line.{Line}
@@ -202,7 +203,7 @@ module _ (a : Admission) (q : RwLockPurpose) (b : Bool) (was : RwLockAt)
   entering_waits (at.Aside to) r w h = aside_waits to r w h
   entering_waits to r w h = absurd cc
 
--- an upgrade waits as who enters does, and lets nobody in as it gives its lesser right up
+-- an upgrade waits as a thread that enters does, and lets nobody in as it gives its lesser right up
 module _ (a : Admission) (how : Patience) (b : Bool) (was : RwLockAt) where
   abbrev upgrades : RwLockPurpose
   upgrades = purpose.Upgrade how

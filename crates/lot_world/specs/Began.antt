@@ -19,7 +19,7 @@ IsJust (Some (Pends falls_back)) r = r ≡ record no_rights { pending = 1 }
 IsJust (Some Runs) r = Unit {0}
 IsJust (Some Ran) r = Unit {0}
 
--- so its call began with what it needs and no more
+-- its call began with what it needs and no more
 abbrev pub PlacesBegan : Type 0
 PlacesBegan =
     (p : Place) (rights : ℕ → Rights) → MayStandAt p → called_lock p ≡ Some 0 → IsFew (rights 0)

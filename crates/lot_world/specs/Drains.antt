@@ -18,10 +18,10 @@ pub record IsDrainable (w : State) : Type 0 where
   pub unfilled : filled_at w 0 ≡ false
   pub few : (t : ℕ) → IsFew (rights_of (lock_state w 0) t)
   pub none_before : (t : ℕ) → HasNoneBefore (call_at w t)
-  -- The rest is so in every world that was reached: there is a thread, and whoever owns is one,
+  -- The rest is so in every world that was reached: there is a thread, and each thread that owns is one,
   pub some : 1 ≤ length w.places
   pub past : (t : ℕ) → length w.places ≤ t → rights_of (lock_state w 0) t ≡ no_rights
-  -- and only a thread that waits for a right is pending.
+  -- Only a thread that waits for a right is pending.
   pub unpending : (t : ℕ) → PendsInCall (call_at w t).purpose (rights_of (lock_state w 0) t)
 
 -- nobody is in a call or queued, no owner is left, and the word is 0

@@ -13,7 +13,7 @@ number r = r.exclusive + r.pending + r.upgradable + r.shared
 abbrev pub IsFew : Rights → Type 0
 IsFew r = number r ≤ 1
 
--- and that one isn't pending, as only a call is
+-- A thread with one right that isn't pending, as only one in a call is.
 abbrev pub IsPlain : Rights → Type 0
 IsPlain r = number r + r.pending ≤ 1
 
@@ -69,7 +69,7 @@ abbrev pub AllHaveFew : LocksState → ℕ → Type 0
 AllHaveFew w l =
     (t : ℕ) → HasFew (w.calls t).purpose ((w.calls t).former l) (rights_in w t l)
 
--- all calls are of one lock, and who stands there is in one
+-- all calls are of one lock, and a thread that stands there is in one
 pub record IsOfOneLock (w : LocksState) (l : ℕ) : Type 0 where
   pub calls : (t : ℕ) (p : Purpose) → (w.calls t).purpose ≡ Some p → lock_for p ≡ l
   pub standing : (t : ℕ) → 1 ≤ standing t (w.locks l) → (w.calls t).purpose ≢ None
@@ -81,7 +81,7 @@ FewGoOn =
     → GoesOn w t o v
     → AllHaveFew v l
 
--- and so does one that begins to give its right up
+-- A call that begins to give its right up.
 abbrev pub IsRelease : Option Purpose → ℕ → Type 0
 IsRelease (Some (Releases k x fair)) l = k ≡ l
 IsRelease None l = ⊥

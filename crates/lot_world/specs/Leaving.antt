@@ -1,4 +1,4 @@
--- Out of the section of the second queue: whoever is inside is out behind three steps at most.
+-- Out of the section of the second queue: the thread inside is out after three steps at most.
 use Rattle.std.specs.Prelude.{ℕ, Some, true, ◌≡◌, ◌<◌, ◌≤◌}
 use Rattle.spec_locks.specs.Sites.{Second}
 use Rattle.lot_steps.specs.declared.places.Place.{Place}

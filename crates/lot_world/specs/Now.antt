@@ -49,12 +49,12 @@ StepKeepsNow =
     → (is_full r s.lock ≡ true → s.lock.queue ≡ [])
     → IsSite r (as_now r (after_acts r ds s))
 
--- so it does over each step of the machine while a lock is drained
+-- it does so over each step of the machine while a lock is drained
 abbrev pub DrainingGoesOn : Type 0
 DrainingGoesOn =
     (w : State) (t : ℕ) → IsDraining w → IsStrict w → IsDraining (after w (go_of t))
 
--- and as a release begins
+-- A world that drains does so as a release begins.
 abbrev pub DrainingBegins : Type 0
 DrainingBegins =
     (w : State) (t : ℕ) (c : Call) (x : Want) (fair : Bool) → IsDraining w → IsStrict w
@@ -62,7 +62,7 @@ DrainingBegins =
     → purpose_at (locks_of w) c ≡ Some (Releases 0 x fair)
     → IsDraining (after w (begin_of t c)) × IsStrict (after w (begin_of t c))
 
--- and so it is behind each turn of a drain
+-- A world that drains does so after each turn.
 abbrev pub TurnsKeepDraining : Type 0
 TurnsKeepDraining =
     (w : State) (t : ℕ) → IsDraining w → IsStrict w

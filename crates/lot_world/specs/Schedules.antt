@@ -55,7 +55,7 @@ abbrev pub where_inside : Option ℕ → Progress → (ℕ → Progress) → Pro
 where_inside None d go = d
 where_inside (Some t) d go = go t
 
--- at most n steps of whoever is inside the section of the second queue
+-- at most n steps of the thread inside the section of the second queue
 unfoldable pub out_of_second : ℕ → Progress → Progress
 out_of_second zero d = d
 out_of_second (suc n) d = where_inside (section_at d.state 1) d

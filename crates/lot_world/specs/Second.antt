@@ -1,4 +1,4 @@
--- Out of the section of the second queue: whoever is inside is out behind three steps at most.
+-- Out of the section of the second queue: the thread inside is out after three steps at most.
 use Rattle.std.specs.Prelude.{ℕ}
 use Rattle.core_base.specs.declared.keys.Line.TheVariants.{Main, Second}
 use Rattle.steps_rwlock.specs.declared.park.ParkAt.{ParkAt}

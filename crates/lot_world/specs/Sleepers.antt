@@ -29,7 +29,7 @@ SleepersOwnNothing =
     → (profile p).stands ≡ Some Main → act_of p ≡ act.Sleep → BeganWithFew l p rights
     → rights l ≡ no_rights
 
--- and who stands aside nothing but that it is pending
+-- The rights of a thread aside: nothing but that it is pending.
 abbrev pub without_pending : Rights → Rights
 without_pending r = record r { pending = 0 }
 

@@ -53,7 +53,7 @@ EachTurnFalls =
     → IsOrdered (after_alone w t)
     × GoesAlone (length w.places) t (weight w) (weight (after_alone w t)) (awake w) (awake (after_alone w t))
 
--- and nobody is inside behind it
+-- Nobody is inside the section after a turn.
 abbrev pub EachTurnLeaves : Type 0
 EachTurnLeaves =
     (w : State) (t : ℕ) → IsOrdered w → NobodyInside w → awake w t ≡ true

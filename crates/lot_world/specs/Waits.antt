@@ -29,7 +29,7 @@ waits_mutex mutex.UnlockFair = false
 waits_mutex mutex.Bump = false
 waits_mutex (mutex.HandOff bumps at) = false
 
--- a pending writer whose time was up is to wake those whom it has kept out
+-- a pending writer whose time was up is to wake those that it has kept out
 abbrev pub waits_aside : ParkAt → Bool
 waits_aside parking.Check = true
 waits_aside (parking.Leave parked) = true

@@ -79,7 +79,7 @@ pub fn releases_keep_draining()
     ensures { ReleasesKeepDraining }
 {}
 
-/// Shows that whoever is inside a section leaves it before the turns.
+/// Shows that each thread that is inside a section leaves it before the turns.
 pub fn entry_leaves()
     ensures { EntryLeaves }
 {}

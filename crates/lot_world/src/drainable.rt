@@ -47,7 +47,7 @@ fn has_owners(kind: Kind) -> bool
     }
 }
 
-/// Whether whoever owns a lock is one of so many threads.
+/// Whether each thread that owns a lock is one of so many threads.
 fn are_below(owners: Owners, threads: usize) -> bool
     ensures { result ≡ are_below owners threads }
 {

@@ -14,7 +14,7 @@ use std::marker::Model;
 /// After how many steps alone a thread is stopped.
 const SOLO_STEPS: usize = 64;
 
-/// In how many steps whoever is inside the section of the second queue leaves it.
+/// In how many steps the thread inside the section of the second queue leaves it.
 const LEAVING_STEPS: usize = 3;
 
 /// The lock that is drained.

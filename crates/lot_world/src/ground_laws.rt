@@ -5,7 +5,7 @@ ghost use Rattle.lot_world.specs.Pending.{UnpendingGoOn};
 ghost use Rattle.lot_world.specs.Potential.{EachTurnLowers, TurnsAreFew};
 
 /// Shows that a lock has nobody in any line where all its threads rest and nobody owns it, but for
-/// a pending writer beside whom somebody stands aside.
+/// a pending writer beside which somebody stands aside.
 pub fn resting_is_empty()
     ensures { RestingIsEmpty }
 {}
@@ -31,7 +31,7 @@ pub fn turns_are_few()
     ensures { TurnsAreFew }
 {}
 
-/// Shows that each thread of one lock has one right at most, whoever goes on.
+/// Shows that each thread of one lock has one right at most, whatever thread goes on.
 pub fn few_go_on()
     ensures { FewGoOn }
 {}
@@ -41,7 +41,7 @@ pub fn few_begin()
     ensures { FewBegin }
 {}
 
-/// Shows that a pending thread is in a call that waits for a right, whoever goes on.
+/// Shows that a pending thread is in a call that waits for a right, whatever thread goes on.
 pub fn unpending_go_on()
     ensures { UnpendingGoOn }
 {}

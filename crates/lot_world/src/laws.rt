@@ -8,8 +8,8 @@ pub fn schedules_drain()
     ensures { SchedulesDrain }
 {}
 
-/// Shows that whoever owns the lock of a world that was reached is a thread that is there, and that a
-/// thread is pending only in a call that waits for a right.
+/// Shows that each thread that owns the lock of a world that was reached is a thread that is there,
+/// and that a thread is pending only in a call that waits for a right.
 pub fn reached_have_owners()
     ensures { ReachedHaveOwners }
 {}

@@ -92,9 +92,9 @@ impl<Q: Queues + Drop> World<Q> {
         // waiter of a condition variable is left behind.
         ensures stays { StateHolds (locks_of self.new) (filled_at self.new) }
 
-        // An answer is true, a thread that may go on does, and who is in no call owns what it
-        // owned. No other thread wakes or falls asleep by itself, and queues are first in, first
-        // out.
+        // An answer is true, a thread that may go on does, and a thread that is in no call owns
+        // what it owned. No other thread wakes or falls asleep by itself, and queues are first in,
+        // first out.
         ensures holds { StepHolds (locks_of self.old) step result (locks_of self.new) }
 
         // One step of the headline: nobody is forgotten before it, nor behind it.
@@ -112,13 +112,13 @@ impl<Q: Queues + Drop> World<Q> {
         ensures touches { TouchesOnlyByGoing self.old step.turn self.new }
 
         // A fair release lets its mutex go only where nobody waits, and else the first waiter owns
-        // it in its place; of a lock that is shared all whom it has taken have what they waited for
+        // it in its place; of a lock that is shared all that it has taken have what they waited for
         // in that one step, or are woken where they would pass the limit.
         ensures fair { IsFair self.old self.new }
 
-        // Words are coded, counts keep to the limit, and whoever waits for a lock whose way nobody
-        // bars, a requeued waiter too, has a thread that owes its wake or tries again. Outside its
-        // section a condition variable shows a mutex exactly while somebody waits.
+        // Words are coded, counts keep to the limit, and each thread that waits for a lock whose
+        // way nobody bars, a requeued waiter too, has a thread that owes its wake or tries again.
+        // Outside its section a condition variable shows a mutex exactly while somebody waits.
         ensures kept { IsKept self.new }
 
         // A try to lock a mutex, or to write, ends in one step, also while others are inside
@@ -165,20 +165,20 @@ impl<Q: Queues + Drop> World<Q> {
         // A call under way ends or sleeps, where nobody else is inside the section that it enters.
         ensures rests { IsUnderWay self.old thread → IsUnobstructed self.old thread → Rests result }
 
-        // And from its beginning: it enters where it may, else sleeps as the last of the queue, or
-        // aside where it waits for readers; a try ends; a release ends without its right, and a
+        // From its beginning a call enters where it may. Else it sleeps as the last of the queue,
+        // or aside where it waits for readers. A try ends; a release ends without its right, and a
         // downgrade with the lesser one.
         ensures ends { (call : Call)
             → place_at self.old thread ≡ first_place (kind_at self.old (lock_in call)) call
             → IsUnobstructed self.old thread
             → EndsAlone self.old thread (purpose_at (locks_of self.old) call) result self.new }
 
-        // A call under way ends, sleeps or is barred, whoever else is inside sections. It is barred
-        // where its next act enters a section that another thread is inside.
+        // A call under way ends, sleeps or is barred, whatever other threads are inside sections.
+        // It is barred where its next act enters a section that another thread is inside.
         ensures rests_or_barred { IsUnderWay self.old thread
             → Rests result ⊎ IsBarred self.new thread }
 
-        // And from its beginning it ends as above, or is barred. A fair release of a mutex, a bump
+        // From its beginning a call ends as above, or is barred. A fair release of a mutex, a bump
         // of a right that isn't shared and a notification read a queue: they need that nobody else
         // is inside its section.
         ensures ends_or_barred { (call : Call)
@@ -187,7 +187,7 @@ impl<Q: Queues + Drop> World<Q> {
             → EndsAlone self.old thread (purpose_at (locks_of self.old) call) result self.new
             ⊎ IsBarred self.new thread }
 
-        // A try ends as above whoever is inside a section, since it enters none.
+        // A try ends as above, whatever thread is inside a section, since it enters none.
         ensures tries { (call : Call)
             → place_at self.old thread ≡ first_place (kind_at self.old (lock_in call)) call
             → OnlyTries (purpose_at (locks_of self.old) call)
@@ -236,7 +236,8 @@ impl<Q: Queues + Drop> World<Q> {
             → OnOk result (Tells outcomes.old.items outcomes.new.items
             (MayTell kinds threads steps.now)) }
 
-        // And from any state on, so that one run may follow another.
+        // From any state on the run behaves as the abstract locks do, and one run may follow
+        // another.
         ensures behaves { OnOk result (Tells outcomes.old.items outcomes.new.items
             (λ told. Behaves (filled_at self.old) (locks_of self.old) steps.now told
             (locks_of self.new))) }
@@ -252,7 +253,7 @@ impl<Q: Queues + Drop> World<Q> {
         ensures run { OnOk result (Tells outcomes.old.items outcomes.new.items
             (λ told. IsWorldRun self.old steps.now told self.new)) }
 
-        // The same of the steps that were taken, where memory for an outcome was refused.
+        // Where memory for an outcome was refused, the steps that were taken are such a run.
         ensures stopped_refines { IfErr result
             (λ stopped. Tells outcomes.old.items outcomes.new.items
             (λ told. IsRun (locks_of self.old) (take stopped.taken steps.now) told

@@ -15,7 +15,7 @@ const PLACES: u64 = 16;
 enum Meeting {
     // Nothing is left to meet for.
     Over,
-    // It was the last who came.
+    // It was the last that came.
     Full,
     // It waits until more than so many operations are done.
     Waits { round: u64 },
@@ -174,7 +174,7 @@ fn wait_while<'d, R: Wait, F: FnMut(&mut Tally) -> bool + Drop>(
     }
 }
 
-// Waits until all of so many have come, of whom the last notifies the others.
+// Waits until all of so many have come. The last notifies the others.
 fn meet<R: Wait>(rt: &R, desk: &Desk, token: &mut Token, threads: u64) -> bool
     requires { IsTokenOf (lot_of_condvar desk.now.filled) token.old }
     ensures { IsTokenOf (lot_of_condvar desk.now.filled) token.new }

@@ -50,7 +50,7 @@ pub(crate) struct LeastLock {
 impl LeastLock {
     ghost use Rattle.lotbench.specs.Seats.{IsSeatOfLeast};
 
-    /// A lock over the first word of a new table, and who steps on it.
+    /// A lock over the first word of a new table, and a thread that steps on it.
     pub(crate) fn new(alloc: Global) -> Result<(LeastLock, Seat<(), ()>), AllocError>
         ensures { IfOk result (λ made. IsSeatOfLeast made.0 made.1) }
     {
@@ -130,7 +130,7 @@ impl LeastLock {
         last == 1
     }
 
-    // Whether the word is 0, for who has no seat.
+    // Whether the word is 0, for a thread that has no seat.
     pub(crate) fn is_free(&self) -> bool {
         self.words.shared.peek(self.at) == 0
     }

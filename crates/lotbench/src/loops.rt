@@ -41,7 +41,7 @@ fn take<R: Wait>(rt: &R, lock: &LeastLock, seat: &mut Seat<(), ()>)
     }
 }
 
-// And given up.
+// Gives the lock up.
 #[inline]
 fn give<R: Wait>(rt: &R, lock: &LeastLock, seat: &mut Seat<(), ()>)
     requires { IsSeatOfLeast lock.now seat.old }
@@ -62,7 +62,7 @@ fn enter_behind<R: Wait>(rt: &R, lock: &LeastLock, seat: &mut Seat<(), ()>) -> S
     lock.split(seat)
 }
 
-// As a lock is taken by who owns it apart from its thread.
+// As a lock is taken by a thread that owns it apart from its thread.
 #[inline]
 fn enter<R: Wait>(rt: &R, lock: &LeastLock, seat: &mut Seat<(), ()>) -> Seat<(), ()>
     requires { IsSeatOfLeast lock.now seat.old }
@@ -74,7 +74,7 @@ fn enter<R: Wait>(rt: &R, lock: &LeastLock, seat: &mut Seat<(), ()>) -> Seat<(),
     }
 }
 
-// And given up.
+// Gives the lock up.
 #[inline]
 fn leave<R: Wait>(rt: &R, lock: &LeastLock, seat: &mut Seat<(), ()>, owner: Seat<(), ()>)
     requires { IsSeatOfLeast lock.now seat.old × IsSeatOfLeast lock.now owner × (owner.me.1 ≡ []) }
@@ -117,7 +117,7 @@ pub(crate) fn look_often<R: Wait>(rt: &R, lock: &LeastLock, seat: &mut Seat<(), 
     }
 }
 
-/// Takes the lock and gives it up, with nothing that says who owns it.
+/// Takes the lock and gives it up, with nothing that says which thread owns it.
 #[inline(never)]
 pub(crate) fn take_often<R: Wait>(rt: &R, lock: &LeastLock, seat: &mut Seat<(), ()>, times: u64)
     requires { IsSeatOfLeast lock.now seat.old }
@@ -128,7 +128,7 @@ pub(crate) fn take_often<R: Wait>(rt: &R, lock: &LeastLock, seat: &mut Seat<(), 
     }
 }
 
-/// The same, and what the guard has apart from its thread is split off and joined.
+/// Steps, splits off what the guard has apart from its thread, and joins it.
 #[inline(never)]
 pub(crate) fn hold_often<R: Wait>(rt: &R, lock: &LeastLock, seat: &mut Seat<(), ()>, times: u64)
     requires { IsSeatOfLeast lock.now seat.old }
@@ -139,7 +139,7 @@ pub(crate) fn hold_often<R: Wait>(rt: &R, lock: &LeastLock, seat: &mut Seat<(), 
     }
 }
 
-/// The same, and each step asks whether a section is told.
+/// Steps, and asks each time whether a section is told.
 #[inline(never)]
 pub(crate) fn hold_told<R: Wait>(
     rt: &R,

@@ -52,13 +52,13 @@ pub enum Mode {
     MutexTry,
     /// The lock of a value of a fair mutex, to which 1 is added, and its unlock.
     Fair,
-    /// The same of one mutex of 64 after the other, at each thread's own stride.
+    /// One mutex of 64 after the other, at each thread's own stride.
     Many,
-    /// The same of 64 fair mutexes.
+    /// One fair mutex of 64 after the other, at each thread's own stride.
     ManyFair,
     /// The lock of a reentrant mutex, and its unlock.
     Remutex,
-    /// The same twice, one inside the other.
+    /// A reentrant mutex locked twice, one lock inside the other.
     Remutex2,
     /// A shared lock and its release, of a raw reader-writer lock.
     RawRead,
@@ -72,9 +72,9 @@ pub enum Mode {
     RwMix,
     /// The value of a recursive lock is read.
     ReadRecursive,
-    /// The value is read by who may write it later.
+    /// The value is read by a thread that may write it later.
     Upgradable,
-    /// The same, and the right is upgraded and 1 added.
+    /// An upgradable reader that upgrades and adds 1.
     Upgrade,
     /// 1 is added, and the right is downgraded.
     Downgrade,
@@ -82,15 +82,15 @@ pub enum Mode {
     Once,
     /// The permit of a semaphore that has one is acquired, and released.
     Semaphore,
-    /// The same of a semaphore that has two.
+    /// A semaphore of two permits.
     Semaphore2,
     /// A notification where nobody waits.
     Notify,
-    /// All threads meet: the last who comes notifies those who wait.
+    /// All threads meet: the last that comes notifies those that wait.
     NotifyAll,
     /// Threads take turns: each waits for its own, and notifies the next.
     PingPong,
-    /// The same by pairs of threads, each pair by a mutex and a condition variable of its own.
+    /// Turns of pairs of threads, each pair by a mutex and a condition variable of its own.
     ManyTurns,
     /// An item goes through a bounded queue, from a half of the threads to the others.
     Queue,
@@ -166,7 +166,7 @@ impl Mode {
     }
 }
 
-/// So many operations of a mode, done by so many threads together.
+/// A number of operations of a mode, which a number of threads do together.
 #[derive(Clone, Copy)]
 pub struct Plan {
     pub mode: Mode,

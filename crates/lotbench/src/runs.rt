@@ -41,7 +41,7 @@ pub struct Figures {
     pub answer: u64,
     /// How often the thread took the lock that took it least.
     pub low: u64,
-    /// And the one that took it most.
+    /// The count of the thread that took it most.
     pub high: u64,
 }
 
@@ -97,7 +97,7 @@ fn bench_of(
     })
 }
 
-// The same by the thread of a ticket, which it gives back.
+// Benches by the thread of a ticket, which it gives back.
 fn bench_by(
     alloc: Global,
     lot: &Arc<ParkingLot>,
@@ -121,7 +121,7 @@ fn one_of(lot: &ParkingLot, tickets: &mut Vec<Ticket>) -> Option<Ticket>
     tickets.pop()
 }
 
-// Locks of a lot, who made them, and the tickets of so many other threads.
+// Locks of a lot, the thread that made them, and the tickets of so many other threads.
 fn bench_for(alloc: Global, plan: Plan) -> Result<(Bench, Ticket, Vec<Ticket>), Fault>
     ensures { IfOk result
         (λ made. IsTicketOf (lot_of made.0.mutexes.value.raw) made.1

@@ -13,9 +13,9 @@ pub enum Loop {
     Look,
     /// Takes the lock and gives it up, with nothing that says which thread owns it.
     Take,
-    /// The same, and what the guard has apart from its thread is split off and joined.
+    /// Steps, splits off what the guard has apart from its thread, and joins it.
     Hold,
-    /// The same, and each step asks whether a section is told.
+    /// Steps, and asks each time whether a section is told.
     HoldTold,
 }
 

@@ -39,7 +39,7 @@ pub type MutexGuard<'a, T> = lock_api::MutexGuard<'a, RawMutex, T>;
 /// Guards the part of a [`Mutex`]'s value that a projection finds.
 pub type MappedMutexGuard<'a, T, P> = lock_api::MappedMutexGuard<'a, RawMutex, T, P>;
 
-/// A mutex of a lot, with its value, whose guard hands it to the first who waits.
+/// A mutex of a lot, with its value, whose guard hands it to the first that waits.
 pub type FairMutex<T> = lock_api::Mutex<RawFairMutex, T>;
 
 /// The guard of a [`FairMutex`].
@@ -63,7 +63,7 @@ pub type MappedReentrantMutexGuard<'a, T, P> = lock_api::MappedReentrantMutexGua
     P,
 >;
 
-/// Where who has the guard of a [`Mutex`] gives it up and waits to be notified.
+/// Where a thread that has the guard of a [`Mutex`] gives it up and waits to be notified.
 ///
 /// Nobody wakes by itself. `notify_one` tells whether anybody waited, and `notify_all` how many
 /// did.
@@ -77,17 +77,17 @@ pub type Monitor<T, const N: usize> = lock_monitor::Monitor<RawCondvar, T, N>;
 /// readers out.
 pub type RwLock<T> = lock_api_rw::RwLock<RawRwLock<false>, T>;
 
-/// The guard of who reads.
+/// The guard of a thread that reads.
 pub type RwLockReadGuard<'a, T> = lock_api_rw::RwLockReadGuard<'a, RawRwLock<false>, T>;
 
-/// The guard of who reads, and may write later.
+/// The guard of a thread that reads, and may write later.
 pub type RwLockUpgradableReadGuard<'a, T> = lock_api_rw::RwLockUpgradableReadGuard<
     'a,
     RawRwLock<false>,
     T,
 >;
 
-/// The guard of who writes.
+/// The guard of a thread that writes.
 pub type RwLockWriteGuard<'a, T> = lock_api_rw::RwLockWriteGuard<'a, RawRwLock<false>, T>;
 
 /// Guards the part of an [`RwLock`]'s value that a projection finds, to read it.
@@ -106,20 +106,20 @@ pub type MappedRwLockWriteGuard<'a, T, P> = lock_api_rw::MappedRwLockWriteGuard<
     P,
 >;
 
-/// The same, of a value whose readers may read again beside a writer that waits for them.
+/// A reader-writer lock whose readers may read again while a writer waits for them.
 pub type RecursiveRwLock<T> = lock_api_rw::RwLock<RawRwLockRecursive, T>;
 
-/// The guard of who reads.
+/// The guard of a thread that reads.
 pub type RecursiveRwLockReadGuard<'a, T> = lock_api_rw::RwLockReadGuard<'a, RawRwLockRecursive, T>;
 
-/// The guard of who reads, and may write later.
+/// The guard of a thread that reads, and may write later.
 pub type RecursiveRwLockUpgradableReadGuard<'a, T> = lock_api_rw::RwLockUpgradableReadGuard<
     'a,
     RawRwLockRecursive,
     T,
 >;
 
-/// The guard of who writes.
+/// The guard of a thread that writes.
 pub type RecursiveRwLockWriteGuard<'a, T> = lock_api_rw::RwLockWriteGuard<
     'a,
     RawRwLockRecursive,

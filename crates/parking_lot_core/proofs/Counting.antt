@@ -42,7 +42,7 @@ module _ (m n said next : ℕ) (behind : n ≡ m + 1) (other : said ≢ next) wh
     pub says_next : has (x next) u.owns ≡ true
     says_next = subst (λ (y : View). has (x next) y.owns ≡ true) (sym said_behind) (has_first (x next) v.owns)
 
-    -- and without that it owns what it did
+    -- A thread without the share that it splits off owns what it did.
     pub splits_next : left_over (x next) u ≡ stepping v (word_index n Count) (Store next) said
     splits_next = ap (λ (y : View). left_over (x next) y) said_behind
         ∙ ap (λ os. view (one_more_step v (word_index n Count) (Store next) said) os v.drawn v.saw) (without_first (x next) v.owns)

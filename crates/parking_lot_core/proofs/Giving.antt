@@ -57,7 +57,7 @@ module _ (word : Word) (left : ℕ) (wants asked : List Want) (same : asked ≡ 
   pub has_next : HasEach word left (drop k wants) v.owns → has (named_by word (owner_given_at word left asked k)) v.owns ≡ true
   has_next h = (subst (λ (l : List Want). HasEach word left l v.owns) next h).0
 
-  -- and without it, those behind it
+  -- A thread that gives a right keeps those after it.
   pub has_rest : (new : View) → new ≡ left_over (named_by word (owner_given_at word left asked k)) v → HasEach word left (drop k wants) v.owns → HasEach word left (drop (k + 1) wants) new.owns
   has_rest new e h = subst (λ (w : View). HasEach word left (drop (k + 1) wants) w.owns) (sym e) (subst (λ (l : List Want). HasEach word left l v.owns) next h).1
 

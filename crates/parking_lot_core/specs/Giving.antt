@@ -1,4 +1,4 @@
--- The rights that are given to those whom a section took.
+-- The rights that are given to those that a section took.
 use Rattle.std.specs.Prelude.{ℕ, List, slice_index_or}
 use Rattle.core_base.specs.declared.wants.Want.{Want}
 use Rattle.core_base.specs.declared.wants.Want.TheVariants as wants

@@ -28,7 +28,7 @@ taken_in section = (mutex_guard_value section.first).taken.items
 abbrev pub wants_in : Section → List Want
 wants_in section = (mutex_guard_value section.first).wants.items
 
--- those of whom it took that have no right yet
+-- the threads that it took and that have no right yet
 abbrev pub rightless_in : Section → List ℕ
 rightless_in section = (mutex_guard_value section.first).rightless.items
 
@@ -40,12 +40,12 @@ moved_in section = section.moved
 abbrev pub StaysIn : Section → Section → Type 0
 StaysIn old new = (new.lot.now ≡ old.lot.now) × (new.keys ≡ old.keys) × (new.thread ≡ old.thread)
 
--- and has done no more to whom it took or moved
+-- A section has done no more to the threads that it took or moved.
 abbrev pub TookAs : Section → Section → Type 0
 TookAs old new = (new.did ≡ old.did) × (taken_in new ≡ taken_in old) × (wants_in new ≡ wants_in old)
     × (moved_in new ≡ moved_in old)
 
--- the note that is right for those whom it took: a hand-off where each was given a right, and a
+-- the note that is right for those that it took: a hand-off where each was given a right, and a
 -- normal one where nobody was
 abbrev pub MayNote : Note → List ℕ → List ℕ → Type 0
 MayNote Normal taken rightless = rightless ≡ taken

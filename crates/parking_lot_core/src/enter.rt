@@ -1,10 +1,10 @@
 //! How threads enter sections.
 //!
-//! A section has the lock of its key's bucket, or those of two buckets. A thread that is inside one and
-//! enters another of the same bucket waits for itself.
+//! A section has the lock of its key's bucket, or those of two buckets. A thread that is inside one
+//! and enters another of the same bucket waits for itself.
 //!
-//! No two threads wait for one another here: the lock of a bucket is taken before that of a record, and
-//! that of a lower bucket before that of a higher one.
+//! No two threads wait for one another here: the lock of a bucket is taken before that of a record,
+//! and that of a lower bucket before that of a higher one.
 ghost use Rattle.std.specs.Prelude.{ℕ, ◌≡◌, ◌⊎◌, ◌<◌, None, length};
 ghost use Rattle.std.specs.Sync.Mutex.{mutex_guard_value};
 ghost use Rattle.core_base.specs.Lines.{line};

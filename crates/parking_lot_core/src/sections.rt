@@ -124,7 +124,7 @@ impl<'a> Section<'a> {
         }
     }
 
-    // Notes the key of whoever stands under it.
+    // Notes the key of each thread that stands under it.
     fn note_line(&self, key: Key) {
         if let Some(other) = &self.other {
             other.note_line(&self.lot.stands, key);
@@ -197,8 +197,8 @@ impl<'a> Section<'a> {
         self.first.take_all(key);
     }
 
-    /// Takes who is picked of the main queue of a reader-writer lock. The thread keeps a right of
-    /// its own, or none.
+    /// Takes the waiters that are picked of the main queue of a reader-writer lock. The thread
+    /// keeps a right of its own, or none.
     pub fn take_picked(&mut self, key: Key, start: Option<Want>, recursive: bool)
         requires key { IsKeyOf self.old.keys key }
         requires first_take { self.old.did ≡ Nothing }
@@ -221,9 +221,9 @@ impl<'a> Section<'a> {
         self.first.take_picked(key, start, recursive);
     }
 
-    /// Moves waiters from under one of its keys behind the last under the other. Those who are
-    /// moved want to own alone from then on. It answers who was taken, if any, and how many were
-    /// moved.
+    /// Moves waiters from under one of its keys behind the last under the other. Those that are
+    /// moved want to own alone from then on. It answers the thread that was taken, if any, and how
+    /// many were moved.
     pub fn requeue(&mut self, from: Key, to: Key, op: Requeue) -> (Option<usize>, usize)
         requires keys { IsKeyOf self.old.keys from × IsKeyOf self.old.keys to × (from ≢ to) }
         requires first_take { self.old.did ≡ Nothing }
@@ -281,7 +281,7 @@ impl<'a> Section<'a> {
         self.first.wants()
     }
 
-    /// Those of whom it took that have no right yet, in order.
+    /// The threads that it took and that have no right yet, in order.
     pub fn rightless(&self) -> &[usize]
         ensures { result.now ≡ rightless_in self.now }
     {
@@ -308,7 +308,7 @@ impl<'a> Section<'a> {
         self.lay(rt, thread, right);
     }
 
-    /// Gives a right to the first who has none yet. It answers whom.
+    /// Gives a right to the first that has none yet. It answers which.
     pub fn give_next<R: Wait>(&mut self, rt: &R, right: Right) -> usize
         requires some { 0 < length (rightless_in self.old) }
         requires right { IsRightOf self.old.lot.now.words right }
@@ -334,7 +334,7 @@ impl<'a> Section<'a> {
         self.first.note_right(thread);
     }
 
-    /// Gives the thread at a place among those whom the section took its right to a lock, by what
+    /// Gives the thread at a place among those that the section took its right to a lock, by what
     /// it wants and by the value at which the word of the lock is left. The right is split off the
     /// token.
     pub fn give_wanted<R: Wait>(
@@ -365,7 +365,7 @@ impl<'a> Section<'a> {
         self.lay(rt, thread, right);
     }
 
-    /// Gives each whom the section took its right to a lock, by what it wants and by the value at
+    /// Gives each that the section took its right to a lock, by what it wants and by the value at
     /// which the word of the lock is left. The rights are split off the token.
     pub fn give_each<R: Wait>(&mut self, rt: &R, token: &mut Token, word: Word, left: u64)
         requires own { IsTokenOf self.old.lot.now token.old × IsWordOf self.old.lot.now.words word }

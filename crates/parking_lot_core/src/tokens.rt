@@ -143,8 +143,8 @@ impl Token {
         }
     }
 
-    // The same of who only looks: no locked instruction waits for the write, and it takes less time
-    // than the question.
+    // Asks by a load alone: no locked instruction waits for the write, and it takes less time than
+    // the question.
     #[inline]
     pub(crate) fn forget_at_once(&mut self)
         ensures same { (self.new.seat ≡ self.old.seat) × (self.new.number ≡ self.old.number) }

@@ -47,8 +47,8 @@ impl ParkingLot {
         self.word_again(token, word, op)
     }
 
-    /// The same of who has stepped on a word since it left its last section, so that there is none to
-    /// forget.
+    /// Steps as a thread that has stepped on a word since it left its last section, so that there
+    /// is none to forget.
     #[inline]
     pub fn word_again(&self, token: &mut Token, word: Word, op: Op) -> u64
         requires own { IsTokenOf self.now token.old × IsWordOf self.now.words word }
@@ -68,8 +68,8 @@ impl ParkingLot {
         self.words.step(&mut token.seat, word, op)
     }
 
-    /// One load of a word, as a step: what `word` does with `Op::Load`, for who does no more than
-    /// look.
+    /// One load of a word, as a step: what `word` does with `Op::Load`, for a thread that does no
+    /// more than look.
     #[inline]
     pub fn load(&self, token: &mut Token, word: Word) -> u64
         requires own { IsTokenOf self.now token.old × IsWordOf self.now.words word }
@@ -187,7 +187,7 @@ impl ParkingLot {
 
     /// The word of a semaphore, by one load, as a step. The permits that are free by it, with those
     /// that the token's view names, are no more than those with which it was drawn, which are known
-    /// to who drew it.
+    /// to the thread that drew it.
     #[inline]
     pub fn look_free(&self, token: &mut Token, semaphore: Word) -> u64
         requires { IsTokenOf self.now token.old × IsWordOf self.now.words semaphore
@@ -270,7 +270,7 @@ impl ParkingLot {
         self.split_owner(token, word, Owner::of_want(want))
     }
 
-    /// The same, by how the word is owned: its owner may be pending.
+    /// Splits a right off by how the word is owned: its owner may be pending.
     #[inline]
     pub fn split_owner(&self, token: &mut Token, word: Word, owner: Owner) -> Right
         requires own { IsTokenOf self.now token.old × IsWordOf self.now.words word }
@@ -328,7 +328,7 @@ impl ParkingLot {
         }
     }
 
-    /// The same where others may wait. It answers what the step saw, and writes nothing to a mutex
+    /// Locks where others may wait. It answers what the step saw, and writes nothing to a mutex
     /// that it sees locked.
     #[inline]
     pub fn try_enter_open(&self, token: &mut Token, word: Word) -> (u64, Option<(OpenHeld, Permit)>)
@@ -373,7 +373,7 @@ impl ParkingLot {
         }
     }
 
-    /// The same where nobody waits. Where somebody does, the thread owns the mutex, and its permit
+    /// Unlocks where nobody waits. Where somebody does, the thread owns the mutex, and its permit
     /// is out with the thread still.
     #[inline]
     pub fn leave_open_alone(

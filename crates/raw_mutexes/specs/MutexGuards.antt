@@ -1,4 +1,4 @@
--- Guards of mutexes: the right of who owns one alone, and the permit of its value.
+-- Guards of mutexes: the right of a thread that owns one alone, and the permit of its value.
 use Rattle.std.specs.Prelude.{◌≡◌}
 use Rattle.std.proofs.Props.{props}
 use Rattle.std.proofs.Common.{◌∙◌}
@@ -12,7 +12,7 @@ use Rattle.parking_lot_core.specs.Tokens.{view_of}
 use Rattle.parking_lot_core.specs.declared.lot.ParkingLot.{ParkingLot}
 use Rattle.parking_lot_core.specs.declared.tokens.Token.{Token}
 
--- a guard of a mutex: the right of who owns it alone, and the permit of its value
+-- a guard of a mutex: the right of a thread that owns it alone, and the permit of its value
 abbrev pub IsGuardOf : ParkingLot → Word → RawGuard → Type 0
 IsGuardOf lot word guard =
     IsOpenOf lot.words word guard.opened × (guard.permit.id ≡ permit_of lot.words word)

@@ -90,7 +90,7 @@ impl RawMutex {
         }
     }
 
-    // The same of a thread that has seen itself named. One more than its number is `thread`.
+    // Counts one more for a thread that has seen itself named. `thread` is its number plus one.
     #[inline]
     fn count_seen<R: Wait>(
         &self,

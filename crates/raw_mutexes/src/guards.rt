@@ -9,7 +9,7 @@ pub struct RawGuard {
     pub(crate) permit: Permit,
 }
 
-/// The same without the permit.
+/// A guard without the permit.
 pub struct OpenGuard {
     pub(crate) opened: OpenHeld,
 }

@@ -54,7 +54,7 @@ fn ended(answer: Answer, guard: RawGuard) -> Result<(RawGuard, bool), (Fault, Ra
     }
 }
 
-// The limit of who waits for so long, from now on.
+// The limit of a thread that waits for so long, from now on.
 fn limit_in<C: Clock>(clock: &C, timeout: Duration) -> Option<(&C, u64)>
     ensures { IsUp C.tells result → HasElapsed (C.tells clock.now) (as_nanos timeout) }
 {

@@ -18,7 +18,7 @@ use std::marker::Model;
 use std::sync::{Arc, Wait};
 use std::time::Duration;
 
-/// A mutex of a lot whose `unlock` hands it to the first who waits.
+/// A mutex of a lot whose `unlock` hands it to the first that waits.
 #[derive(Drop)]
 pub struct RawFairMutex {
     raw: RawMutex,

@@ -54,7 +54,7 @@ impl RawMutex {
         main_key(self.word.number())
     }
 
-    // The guard of who has waited for the mutex, and owns it.
+    // The guard of a thread that has waited for the mutex, and owns it.
     pub(crate) fn split(&self, lot: &ParkingLot, token: &mut Token) -> RawGuard
         requires lot { lot.now ≡ lot_of self.now }
         requires own { IsTokenOf (lot_of self.now) token.old }
@@ -362,7 +362,8 @@ impl lock_raw::RawMutex for RawMutex {
         self.wake_first(rt, token);
     }
 
-    // A step of who owns the mutex twice would find a word that says so, and there is none.
+    // A step of a thread that owns the mutex twice would find a word that says so, and there is
+    // none.
     fn has_two_guards(&self, token: &mut Token, one: RawGuard, other: RawGuard) -> ! {
         let lot: &ParkingLot = &self.lot;
         self.join(lot, token, one);

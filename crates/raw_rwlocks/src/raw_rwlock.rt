@@ -22,11 +22,11 @@ use spec_locks::{Access, Downgrade, Patience};
 use std::sync::{Arc, Wait};
 use steps_base::bits::{count_in, has_writer};
 
-// So many may share a lock for which nothing else is chosen.
+// The number of threads that may share a lock for which nothing else is chosen.
 const MOST_READERS: u64 = 1152921504606846974;
 
-/// A reader-writer lock of a lot. Where it is recursive, who reads may read again beside a writer
-/// that waits for the last readers.
+/// A reader-writer lock of a lot. Where it is recursive, a thread that reads may read again beside
+/// a writer that waits for the last readers.
 #[derive(Drop)]
 pub struct RawRwLock<const RECURSIVE: bool> {
     pub(crate) lock: LotRwLock,

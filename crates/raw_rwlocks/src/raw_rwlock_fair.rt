@@ -1,4 +1,4 @@
-//! The reader-writer lock, handed over to those who wait.
+//! The reader-writer lock, handed over to those that wait.
 ghost use Rattle.std.specs.Prelude.{◌≡◌, ◌<◌, ◌-◌, ◌^◌};
 ghost use Rattle.std.specs.Arc.{arc_value};
 ghost use Rattle.core_words.specs.Lots.{IsWordOf};

@@ -12,7 +12,7 @@ pub struct RawUpgradableGuard {
     pub(crate) right: Held,
 }
 
-/// The right of who owns the lock alone.
+/// The right of a thread that owns the lock alone.
 pub struct RawExclusiveGuard {
     pub(crate) right: Held,
 }

@@ -248,7 +248,7 @@ impl LotRwLock {
     ///
     /// # Errors
     ///
-    /// `ReadersFull`, where who would read finds as many readers as there may be.
+    /// `ReadersFull`, where a thread that would read finds as many readers as there may be.
     #[inline(always)]
     pub(crate) fn enter<R: Wait, C: Clock>(
         &self,
@@ -360,7 +360,7 @@ impl LotRwLock {
         }
     }
 
-    /// Gives a right up, and wakes whom that lets in.
+    /// Gives a right up, and wakes the threads that this lets in.
     #[inline(always)]
     pub(crate) fn release<R: Wait>(&self, rt: &R, token: &mut Token, access: Access, right: Held)
         requires token { IsTokenOf (lot_in self.now) token.old }
@@ -378,7 +378,7 @@ impl LotRwLock {
         }
     }
 
-    /// Gives the exclusive right up, and hands the lock to those who wait.
+    /// Gives the exclusive right up, and hands the lock to those that wait.
     #[inline(always)]
     pub(crate) fn release_exclusive_fair<R: Wait>(&self, rt: &R, token: &mut Token, right: Held)
         requires token { IsTokenOf (lot_in self.now) token.old }
@@ -396,7 +396,7 @@ impl LotRwLock {
         release_exclusive(rt, lot, token, &self.word, &self.settings.admission);
     }
 
-    /// Gives the upgradable right up, and hands the lock to those who wait.
+    /// Gives the upgradable right up, and hands the lock to those that wait.
     pub(crate) fn release_upgradable_fair<R: Wait>(&self, rt: &R, token: &mut Token, right: Held)
         requires token { IsTokenOf (lot_in self.now) token.old }
         requires right { IsRwLockRight (lot_in self.now) (word_in self.now)
@@ -450,7 +450,7 @@ impl LotRwLock {
         }
     }
 
-    /// Turns a right into a lesser one, and wakes whom that lets in.
+    /// Turns a right into a lesser one, and wakes the threads that this lets in.
     #[inline(always)]
     pub(crate) fn downgrade<R: Wait>(
         &self,
@@ -546,7 +546,7 @@ impl LotRwLock {
         self.lot.word(token, self.word, Op::Load)
     }
 
-    // A step of who had both rights would find a word that says so, and there is none.
+    // A step of a thread that had both rights would find a word that says so, and there is none.
     pub(crate) fn has_both(
         &self,
         token: &mut Token,

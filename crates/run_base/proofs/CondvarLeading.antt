@@ -124,7 +124,7 @@ module _ (up : Type 0) (c m : ℕ) (kinds : ℕ → WordKind) (at : ℕ → ℕ)
   may_here : (op : Op) (owns : List Ownership) → MayStep kind.Condvar (condvar_at c) op owns → MayStep (kinds c) (at c) op owns
   may_here op owns may = subst (λ (k : WordKind). MayStep k (at c) op owns) (sym words.1) (subst (λ (n : ℕ). MayStep kind.Condvar n op owns) (sym words.2) may)
 
-  -- and on that of the mutex
+  -- A step on the mutex's word may be taken.
   may_there : (op : Op) (owns : List Ownership) → MayStep kind.Mutex (mutex_at m) op owns → MayStep (kinds m) (at m) op owns
   may_there op owns may = subst (λ (k : WordKind). MayStep k (at m) op owns) (sym words.3) (subst (λ (n : ℕ). MayStep kind.Mutex n op owns) (sym words.4) may)
 

@@ -143,7 +143,7 @@ once_runs l n purpose (Run forced (run.Take succeeded)) e = let aim : of_run l s
 once_runs l n purpose (Run forced (run.Leave succeeded any)) e = let aim : of_run l succeeded ≡ of_mutex n purpose = e in cc
 once_runs l n purpose (GiveUp retries at) e = let aim : of_once l WaitTimed ≡ of_mutex n purpose = e in cc
 
--- and of a condition variable neither
+-- A condition variable's call rests nowhere else.
 condvar_pauses : (l n : ℕ) (purpose : MutexPurpose) (at : CondvarPlace) → call_purpose (Condvar l at) ≡ of_mutex n purpose → ⊥
 condvar_pauses l n purpose (waiting.Wait m timed at) e = let aim : of_wait l m timed ≡ of_mutex n purpose = e in cc
 condvar_pauses l n purpose (waiting.Look all) e = let aim : without_purpose ≡ of_mutex n purpose = e in cc

@@ -72,7 +72,7 @@ module _ (a : Admission) (how : Patience) (v : ℕ) where
       by_tests false true f = absurd cc
       by_tests false false f = absurd cc
 
-  -- a try is refused where the lock is blocked, and whoever counts where it is full
+  -- a try is refused where the lock is blocked, and each thread that counts where it is full
   pub refuses : (x : Want) (answer : Answer) → decision a x how v ≡ decisions.Refuse answer → ((answer ≡ No) × (how ≡ Try)) ⊎ ((answer ≡ ReadersFull) × (is_counted x ≡ true))
   refuses x answer e = by_tests (is_blocked a.recursive x v) (is_counted x) (nat_le a.limit (count_in v)) e
     where

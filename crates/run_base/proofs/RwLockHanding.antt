@@ -173,7 +173,7 @@ module _ (up : Type 0) (l : ℕ) (a : Admission) (base : List Ownership) (room :
       by_access access.Exclusive h took = took
       by_access access.Shared h took = absurd h
 
-  -- those whom it took own what they wanted, and it owns its right no longer
+  -- those that it took own what they wanted, and it owns its right no longer
   handed_over : (x : Access) (k : Taken) (given : Bool) → IsHandingPlace x (handing.Leave (any_taken k) given) → (waiters : List Waiter) → AreTaken (wants_of waiters) k → IsBeside l base new.owns → HasPicked l a waiters (still_rightless given waiters) new.inside → Reach x (At (HandOver x bumps (handing.Leave (any_taken k) given)))
   handed_over x k given h waiters taken beside picked = goes x (handing.Leave (any_taken k) given) h (beside, (waiters, (λ none. none_waits waiters (nobody_taken (wants_of waiters) k taken none)), picked))
 

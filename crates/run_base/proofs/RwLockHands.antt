@@ -1,5 +1,6 @@
--- An owner that leaves the word of all whom it took of a reader-writer lock's queue has the right that each of them wants behind that step, so that it can
--- hand it on: an owner alone stores that word, and an upgradable one exchanges it for the word that it saw.
+-- An owner that leaves the word of all that it took of a reader-writer lock's queue has the right that each
+-- of them wants behind that step, so that it can hand it on: an owner alone stores that word, and an
+-- upgradable one exchanges it for the word that it saw.
 use Rattle.std.proofs.lemmas.Bool.{eqb-true}
 use Rattle.std.proofs.lemmas.Bool.Decides.{nat_tests}
 use Rattle.std.proofs.Common.{length, nat_le, not, ◌||◌, ◌==◌, ◌≡◌, ◌≢◌, ℕ, zero, suc, ◌+◌, ◌-◌, ◌*◌, ◌/◌, ◌%◌, ◌^◌, ◌<◌, ◌≤◌, List, [], ◌∷◌, ◌++◌, map, Bool, true, false, Option, Some, None, cond, eqb, ◌∙◌, sym, refl, ap, subst, arith, eq-eqb, ne_eqb}
@@ -96,7 +97,7 @@ module _ (at : ℕ) where
   one_more m o more (x ∷ ws) rest one given there_is = hands_there m x ws o (shared (sharers_in ws) rest) (without (owning at o) rest) (shared (sharers_in ws) (without (owning at o) rest))
       (given x refl) (has_behind o more (sharers_in ws) rest there_is) (goes_behind o more (sharers_in ws) rest) (all_share m ws (without (owning at o) rest) (omega arith))
 
-  -- or stands before those who share
+  -- A greater right stands before the shared ones.
   passes : (o : Owner) → IsMore o → (rest : List Ownership) → has (owning at Shared) (owning at o ∷ owning at Shared ∷ rest) ≡ true
   passes Exclusive more rest = rw (eq-eqb at at refl) refl
   passes Pending more rest = rw (eq-eqb at at refl) refl
@@ -167,7 +168,7 @@ more_left m = either (eqb (m / 16) 0)
 of_successor : (P : Want → Type 0) (ws : List Want) (y x : Want) → successor_in ws ≡ Some y → successor_in ws ≡ Some x → P y → P x
 of_successor P ws y x is e h = let same : ◌≡◌ {A = Option Want} (Some y) (Some x) = sym is ∙ e in let f : y ≡ x = cc in subst P f h
 
--- nobody who shares succeeds
+-- nobody that shares succeeds
 no_sharer : (ws : List Want) → successor_in ws ≡ Some wants.Shared → ⊥
 no_sharer [] e = cc
 no_sharer (wants.Shared ∷ ws) e = no_sharer ws e
@@ -227,7 +228,7 @@ module _ (at seen m : ℕ) (owns : List Ownership) (code : CodesWith RwLock at s
     to_upgradable_by_store one is word = by_stored (map (owning at) (Upgradable ∷ so_many_shared (sharers_in ws)) ++ stored_rest) (stored (Upgradable ∷ so_many_shared (sharers_in ws)) (λ z. omega arith) (upgradable_stands (m / 4) m (sharers_in ws) (Store m) word))
         (upgradable_first at m ws stored_rest one is)
 
-    -- a writer owns alone where nobody shares, and else waits for those who do
+    -- a writer owns alone where nobody shares, and else waits for those that do
     to_writer_by_store : (y : Want) → IsWriter y → more_in ws ≡ 1 → successor_in ws ≡ Some y → m / 4 ≡ 4 * sharers_in ws + 2 → StoreHand
     to_writer_by_store y w one is word = dite (ℕ_discrete (sharers_in ws) 0)
         (λ none. by_stored owns (keeps_all at seen owns code (Store m) (let same : m / 4 ≡ seen / 4 = (let z = found in omega arith) in same) refl)
@@ -301,7 +302,7 @@ module _ (at seen m : ℕ) (owns : List Ownership) (code : CodesWith RwLock at s
 
 -- ---------------------------------------------------------------- words
 
--- the word of so many, and of who wants more
+-- the word of so many, and of a thread that wants more
 abbrev pub word_of : ℕ → Option Want → Bool → ℕ
 word_of n successor none_left = parked_as none_left (tokens (record { sharers = n; successor = successor; none_left = none_left }))
 
@@ -366,9 +367,9 @@ module _ (seen : ℕ) (own : IsUpgradableWord seen) where
     pub upgradable_behind : (none_left : Bool) → seen / 16 - 1 + (n + 1) ≤ limit → QuartersFrom seen (word_behind seen n (Some wants.Upgradable) none_left) (4 * n + 5)
     upgradable_behind none_left h = stands 20 (4 * n + 5) (plus (without_right access.Upgradable seen) (plus ((n * 16) % 2 ^ 64) 20)) none_left (summed 20 (omega arith) (omega arith) (omega arith)) (let small = own.0 in omega arith) (omega arith) refl
 
--- ---------------------------------------------------------------- those whom it took
+-- ---------------------------------------------------------------- those that it took
 
--- so of whoever a place says that it took
+-- each thread that a place says it took
 by_taken : (P : Taken → Type 0) (ws : List Want) (k : Taken) → AreTaken ws k → P (record { sharers = sharers_in ws; successor = successor_in ws; none_left = k.none_left }) → P k
 by_taken P ws k taken h = subst P (λ i. record { sharers = sym taken.sharers i; successor = sym taken.successor i; none_left = k.none_left }) h
 

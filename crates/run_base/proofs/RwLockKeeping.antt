@@ -25,7 +25,7 @@ missed_same from to seen other = rw (ne_eqb seen from other) refl
 pub missed_looks : (from to seen : ℕ) → seen ≢ from → is_look (Exchange from to) seen ≡ true
 missed_looks from to seen other = rw (ne_eqb seen from other) refl
 
--- and one that sets a parked bit is none
+-- A step that sets a parked bit leaves the owners.
 pub marked_same : (from by : ℕ) → from % 4 + by < 4 → apply (Exchange from (from + by)) from / 4 ≡ from / 4
 marked_same from by small = rw (eq-eqb from from refl) (omega (arith, small))
 

@@ -249,7 +249,7 @@ module _ (up : Type 0) (l : ℕ) (a : Admission) (base : List Ownership) (q : Rw
     misses seen to other f ne b = let op = Exchange seen to in let stands = decides_again seen other f.stands.place in
         looked_comes (at.Decide seen) other (small (Exchange seen to) other b) stands (look_claimed (Exchange seen to) other stands b (keeping.missed_same seen to other ne) f.owns) (inside_now (Exchange seen to) other b ∙ f.within) (last_now (Exchange seen to) other b) (decided_for a q other) refl
 
-    -- or it took what it saw
+    -- An exchange that takes found what it saw.
     came : (seen : ℕ) → Fits (at.Decide seen) → decided_for a q seen ≡ decisions.Take → Step (Exchange seen (word_taken q seen)) seen → Reach (came_in (of (at.Decide seen)))
     came seen f e b = by_purpose q refl f.stands.place f.owns e b
       where
@@ -605,7 +605,7 @@ module _ (up : Type 0) (l : ℕ) (a : Admission) (base : List Ownership) (q : Rw
 
     -- ---------------------------------------------------------------- giving up, and waking others
 
-    -- after a roll-back the right that it falls back to is kept, and those who wait are woken
+    -- after a roll-back the right that it falls back to is kept, and those that wait are woken
     wakes_behind : (seen : ℕ) (c : Option Claim) → Fits at.RollBack → kept_claim (start_of q) ≡ c → OwnsBeside l c base new.owns → new.inside ≡ None → (has_parked seen ≡ false → Answers up l base a q No new) → Reach (if has_parked seen then stays (of at.RollBack) (wakes Main) else End No)
     wakes_behind seen c f claims owns none over = either (has_parked seen) refl
       where
@@ -674,7 +674,7 @@ module _ (up : Type 0) (l : ℕ) (a : Admission) (base : List Ownership) (q : Rw
         either true = carries_on m (waking.Clear any) refl refl refl (still_late (at.Wake m waking.Take) (at.Wake m (waking.Clear any)) refl late) owns within
         either false = carries_on m (waking.Leave any) refl refl refl (still_late (at.Wake m waking.Take) (at.Wake m (waking.Leave any)) refl late) owns within
 
-    -- the section that is left is one where it took those whom it wakes
+    -- the section that is left is one where it took those that it wakes
     took_woken : (m : Line) (any : Bool) → woken_line q ≡ m → IsWithin l a q (Some m) true st.inside → IsLeft st.inside new.last → TookWoken l a q new.last
     took_woken m any is within left = subst (λ (k : Line). HasDone (key_of l k) (did_wake l a q k) new.last) (sym is) (has_done _ _ _ within.1 left)
 

@@ -155,7 +155,7 @@ module _ (permits l : ℕ) (base : List Ownership) (st : Stage) where
     stays : (inside : Option SectionView) (s : Stage) → new ≡ s → s.owns ≡ st.owns → s.inside ≡ st.inside → (st.owns ≡ base) × (st.inside ≡ inside) → (new.owns ≡ base) × (new.inside ≡ inside)
     stays inside s e o i f = (owns_of s e ∙ o ∙ f.0, inside_of s e ∙ i ∙ f.1)
 
-    -- and after one that took a permit
+    -- A thread has one permit more after a step that took one.
     takes : (from : ℕ) → 2 ≤ from → Outside base st → new ≡ stepped (kinds.TheVariants.Semaphore permits) (semaphore_at l) (Exchange from (from - 2)) from st → Outside (permit l ∷ base) new
     takes from some f x = (owns_of _ x ∙ (semaphore_trades permits (semaphore_at l) st.owns).takes from some ∙ ap (λ (rest : List Ownership). permit l ∷ rest) f.0, inside_of _ x ∙ f.1)
 

@@ -123,7 +123,7 @@ has_keys (Once l place) kinds at w = w.0
 has_keys (Condvar l place) kinds at w = w.0
 has_keys (Semaphore l place) kinds at w = w.0
 
--- and no call shows another mutex then
+-- No call shows another mutex after its step.
 pub shows_keys : (p : Place) (reply : Reply) (kinds : ℕ → WordKind) (at : ℕ → ℕ) → AreWordsFor p kinds at → ShowsKeys p reply
 shows_keys Idle reply kinds at w = tt
 shows_keys (Mutex l place) reply kinds at w = tt

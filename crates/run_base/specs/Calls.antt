@@ -48,7 +48,7 @@ purpose_in call.UnlockFair = to_hand_over
 purpose_in call.Bump = to_enter entry.TheVariants.Bump
 purpose_in _ = to_release
 
--- it goes on behind the value that its first operation saw; who is to hand the mutex over owns it
+-- it goes on behind the value that its first operation saw; a thread that is to hand the mutex over owns it
 abbrev pub IsUnfinished : ℕ → MutexCall → ℕ → List Ownership → Type 0
 IsUnfinished n call.Lock seen owns = 0 < seen
 IsUnfinished n call.LockTimed seen owns = 0 < seen
@@ -89,7 +89,7 @@ abbrev pub HasWalkedMutex : ℕ → MutexCall → Answer → Token → Token →
 HasWalkedMutex n c answer old new =
     Walks (at_mutex n) (beginning n c) (view_of old).steps (view_of new).steps answer
 
--- and so they do with the first, which was taken before and saw this
+-- The steps of a call that follow the first, which was taken before and saw this.
 abbrev pub WalksBehind : ℕ → MutexCall → ℕ → Token → Token → Answer → Type 0
 WalksBehind n c seen old new answer = (before : List WordStep)
     → (view_of old).steps ≡ before ++ step (mutex_at n) (first_op c) seen

@@ -116,7 +116,7 @@ module _ (up : Type 0) where
       FitsUnlock m (apart m base) (unlock.Leave any) st
   FitsMutexRelease m base s at st = ⊥
 
-  -- and one that locks it again
+  -- A stage fits a wait that locks its mutex again.
   abbrev pub FitsRelock : ℕ → List Ownership → MutexPlace → Stage → Type 0
   FitsRelock m base (Lock entry.Lock retries at) st = FitsLock up m entry.Lock (apart m base) at st
   FitsRelock m base at st = ⊥

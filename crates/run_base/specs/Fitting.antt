@@ -59,7 +59,7 @@ pub data CallPurpose : Type 0 where
   of_run : ℕ → Bool → CallPurpose
   -- to wait, with this mutex, up to a deadline or without one
   of_wait : ℕ → ℕ → Bool → CallPurpose
-  -- to notify the first or all who wait with this mutex
+  -- to notify the first or all that wait with this mutex
   of_notify : ℕ → ℕ → Bool → CallPurpose
   of_semaphore : ℕ → semaphore.SemaphorePurpose → CallPurpose
 
@@ -156,7 +156,7 @@ AreWordsFor (Condvar l place) kinds at =
 AreWordsFor (Semaphore l place) kinds at = HasKeys (Semaphore l place)
     × ((permits : ℕ) × (kinds ≡ semaphores permits)) × (at ≡ at_semaphore l)
 
--- and behind its closure they are so still
+-- After its closure a call is about the words that it was about.
 abbrev pub AreWordsAfter : Stop → (ℕ → WordKind) → (ℕ → ℕ) → Type 0
 AreWordsAfter (Ended answer) kinds at = Unit {0}
 AreWordsAfter (Paused place state) kinds at = AreWordsFor place kinds at

@@ -60,12 +60,12 @@ Outside owns st = (st.owns ≡ owns) × (st.inside ≡ None)
 abbrev pub Within : ℕ → List Ownership → Stage → Type 0
 Within n owns st = (st.owns ≡ owns) × (st.inside ≡ entered_now (One (2 * n)))
 
--- or has taken the first of the queue, if any; these have no right yet
+-- A stage that has taken the first of the queue, if any. A taken waiter has no right yet.
 abbrev pub Took : ℕ → Option Waiter → List ℕ → List Ownership → Stage → Type 0
 Took n first rightless owns st = (st.owns ≡ owns)
     × (st.inside ≡ Some (having_taken (One (2 * n)) (TakeFirst (2 * n)) (listed first) rightless))
 
--- or has taken some thread, or none; that one has no right yet
+-- A stage that has taken some thread, or none. A taken waiter has no right yet.
 abbrev pub HasTook : ℕ → Bool → List Ownership → Stage → Type 0
 HasTook n any owns st = (first : Option Waiter) × (any ≡ is_there first)
     × Took n first (threads_of (listed first)) owns st

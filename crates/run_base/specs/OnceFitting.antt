@@ -36,7 +36,7 @@ OwnsKnowing l base owns = (times : ℕ) × (owns ≡ knowing l times base)
 abbrev pub KnowsIt : ℕ → List Ownership → List Ownership → Type 0
 KnowsIt l base owns = (times : ℕ) × (owns ≡ knowing l (suc times) base)
 
--- and so does who ran it well
+-- A thread that ran a `Once` well owns what it did before.
 abbrev pub OwnsBehind : ℕ → Bool → List Ownership → List Ownership → Type 0
 OwnsBehind l true base owns = KnowsIt l base owns
 OwnsBehind l false base owns = OwnsKnowing l base owns
@@ -107,7 +107,7 @@ abbrev pub IsLookOver : Type 0 → ℕ → OnceCall → List Ownership → Answe
 IsLookOver up l c base answer st =
     (st.inside ≡ None) × LooksAnswer up l c base answer st.owns st.last
 
--- and of a run that saw waiters
+-- A run is over that saw waiters.
 abbrev pub IsRunOver : ℕ → Bool → List Ownership → Answer → Stage → Type 0
 IsRunOver l succeeded base answer st = (st.inside ≡ None) × (answer ≡ ended succeeded)
     × OwnsBehind l succeeded base st.owns × WokeAll l st.last

@@ -160,7 +160,7 @@ abbrev pub WalksAfterReply : (ℕ → ℕ) → Place → Reply → List WordStep
 WalksAfterReply at p reply old new answer = ((new ≡ old) × (next_act p reply ≡ act.TheVariants.End answer))
     ⊎ Walks at (next_place p reply) old new answer
 
--- and so do the steps of a run, which ends the call or comes to its closure
+-- The steps of a run end the call, or come to its closure.
 abbrev pub RunsTo : (ℕ → ℕ) → Place → List WordStep → List WordStep → Stop → Type 0
 RunsTo at p old new (Ended answer) = Walks at p old new answer
 RunsTo at p old new (Paused place state) =

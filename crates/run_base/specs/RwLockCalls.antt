@@ -82,7 +82,7 @@ abbrev pub HasWalkedRwLock : ℕ → Admission → RwLockPurpose → Answer → 
 HasWalkedRwLock l a c answer old new =
     Walks (at_rwlock l) (rwlock_begin l a c) (view_of old).steps (view_of new).steps answer
 
--- where its first step did not end it, a release or a downgrade took those whom it wakes, and else
+-- where its first step did not end it, a release or a downgrade took those that it wakes, and else
 -- there was no further step
 abbrev pub TookUnlessEnded : ℕ → Admission → RwLockPurpose → Next RwLockPlace → List WordStep
     → Option SectionRecord → Type 0
@@ -95,7 +95,7 @@ Wakes l a c old new last = (seen : ℕ) × (more : List WordStep)
     × (new ≡ (old ++ step (rwlock_at l) (first_op c) seen) ++ more)
     × TookUnlessEnded l a c (rwlock_next a (rwlock_first c) (Value seen)) more last
 
--- so it is of calls that wake others
+-- calls that wake others are so too
 abbrev pub WakesBy : ℕ → Admission → RwLockPurpose → Token → Token → Type 0
 WakesBy l a (purpose.Release x) old new =
     Wakes l a (purpose.Release x) (view_of old).steps (view_of new).steps (last_of new)
@@ -134,7 +134,7 @@ StaysSettled-on first next last a b = (
       b.1 (subst WaitsForNobody (sym same) settled) ∙ same,
 )
 
--- nobody owns a lock so beside who owns it so
+-- nobody owns a lock so beside a thread that owns it so
 abbrev pub Exclude : Owner → Owner → Type 0
 Exclude owners.Exclusive owners.Exclusive = Unit {0}
 Exclude owners.Exclusive owners.Shared = Unit {0}

@@ -74,7 +74,7 @@ abbrev pub AwaitsNoReaders : ℕ → List Ownership → Type 0
 AwaitsNoReaders l owns = (has (owning (rwlock_at l) owners.Pending) owns ≡ false)
     × (has (owning (rwlock_at l) owners.Upgrading) owns ≡ false)
 
--- these are the same; who comes to a lock for whose last readers it waits already may find none
+-- these are the same; a thread that comes to a lock for whose last readers it waits already may find none
 -- left
 abbrev pub IsBeside : ℕ → List Ownership → List Ownership → Type 0
 IsBeside l base owns = AwaitsNoReaders l base → owns ≡ base
@@ -121,12 +121,12 @@ abbrev pub HasGivenWay : RwLockAt → Type 0
 HasGivenWay at.GiveWay = ⊥
 HasGivenWay to = Unit {0}
 
--- the queue of those whom a call wakes
+-- the queue of those that a call wakes
 abbrev pub woken_line : RwLockPurpose → Line
 woken_line (purpose.Release access.Shared) = Second
 woken_line q = Main
 
--- the section that was left last is one where the call took those whom it wakes
+-- the section that was left last is one where the call took those that it wakes
 abbrev pub TookWoken : ℕ → Admission → RwLockPurpose → Option SectionRecord → Type 0
 TookWoken l a q last = HasDone (key_of l (woken_line q)) (did_wake l a q (woken_line q)) last
 
@@ -173,7 +173,7 @@ FellBack l q Try steps = Unit {0}
 FellBack l q Patient steps = ⊥
 
 -- a call that gave up left no section, where its last step saw nobody to wake, or one in which it
--- took those whom it had kept out. One that enters may also have left the main queue, and done
+-- took those that it had kept out. One that enters may also have left the main queue, and done
 -- nothing else there
 abbrev pub LeftBy : ℕ → Admission → RwLockPurpose → Option SectionRecord → List WordStep → Type 0
 LeftBy l a (purpose.Enter x how) last steps =
@@ -203,7 +203,7 @@ pub record AreTaken (ws : List Want) (k : Taken) : Type 0 where
   pub one : more_in ws ≤ 1
   pub few : length ws < 2 ^ 60
 
--- in the main section, where it has taken these, of whom these have no right yet
+-- in the main section, where it has taken these, some of which have no right yet
 abbrev pub HasPicked : ℕ → Admission → List Waiter → List ℕ → Option SectionView → Type 0
 HasPicked l a waiters rightless inside =
     inside ≡ Some (having_taken (One (2 * l))
@@ -214,7 +214,7 @@ HasPickedThese l a k inside =
     (waiters : List Waiter) × AreTaken (wants_of waiters) k
     × HasPicked l a waiters (threads_of waiters) inside
 
--- those whom it took have their rights where it handed the lock over, and nobody is there where it
+-- those that it took have their rights where it handed the lock over, and nobody is there where it
 -- took nobody
 abbrev pub still_rightless : Bool → List Waiter → List ℕ
 still_rightless true waiters = []
@@ -258,7 +258,7 @@ abbrev pub SawNobody : ℕ → List WordStep → Type 0
 SawNobody l steps = (before : List WordStep) × (op : Op) × (seen : ℕ) × (has_parked seen ≡ false)
     × (steps ≡ before ++ step (rwlock_at l) op seen)
 
--- how who releases fairly left: it took those to whom it handed the lock, or an upgradable owner
+-- how a thread that releases fairly left: it took those to which it handed the lock, or an upgradable owner
 -- freed a word that told of nobody
 abbrev pub GaveFairly : ℕ → Admission → Access → Option SectionRecord → List WordStep → Type 0
 GaveFairly l a access.Upgradable last steps =

@@ -46,7 +46,7 @@ use Rattle.run_base.specs.Paths.{step}
 use Rattle.run_base.specs.Takes.{more_in, sharers_in, successor_in}
 use Rattle.run_base.specs.declared.sleepers.Sleeper.{Sleeper}
 
--- a section that a thread is inside: what it did there, whom it took, what each of them wants,
+-- a section that a thread is inside: what it did there, the threads that it took, what each of them wants,
 -- which of them have no right yet, and how many it moved to another queue
 pub record SectionView : Type 0 where
   pub keys : Keys
@@ -119,7 +119,7 @@ abbrev pub listed : Option Waiter → List Waiter
 listed None = []
 listed (Some waiter) = waiter ∷ []
 
--- a section of these keys, in which these were taken, of whom these have no right yet
+-- a section of these keys, in which these were taken, of which these have no right yet
 abbrev pub having_taken : Keys → Did → List Waiter → List ℕ → SectionView
 having_taken keys did waiters rightless =
     record {
@@ -136,12 +136,12 @@ abbrev pub took_as : Did → List Waiter → Option SectionView → Option Secti
 took_as did waiters None = None
 took_as did waiters (Some inside) = Some (having_taken inside.keys did waiters (threads_of waiters))
 
--- and so many were moved
+-- The section's view once a number of waiters was moved.
 abbrev pub with_moved : ℕ → Option SectionView → Option SectionView
 with_moved number None = None
 with_moved number (Some inside) = Some (record inside { moved = number })
 
--- each of those who were taken was given a right
+-- each of those that were taken was given a right
 abbrev pub all_given : Option SectionView → Option SectionView
 all_given None = None
 all_given (Some inside) = Some (record inside { rightless = [] })
@@ -164,7 +164,7 @@ abbrev pub IsFresh : Option SectionView → Type 0
 IsFresh None = ⊥
 IsFresh (Some inside) = inside.did ≡ Nothing
 
--- inside one where nobody who was taken has a right yet
+-- inside one where nobody that was taken has a right yet
 abbrev pub IsUngiven : Option SectionView → Type 0
 IsUngiven None = ⊥
 IsUngiven (Some inside) = inside.rightless ≡ inside.taken
@@ -231,7 +231,7 @@ HasLeft key did number last = last ≡ Some (record { key = key; did = did; numb
 abbrev pub HasDone : ℕ → Did → Option SectionRecord → Type 0
 HasDone key did last = (number : ℕ) × HasLeft key did number last
 
--- it is that of a lock's main queue, where nobody was taken or moved: who gives up leaves the queue
+-- it is that of a lock's main queue, where nobody was taken or moved: a thread that gives up leaves the queue
 -- there
 abbrev pub TookNobodyAt : ℕ → Option SectionRecord → Type 0
 TookNobodyAt lock last = HasLeft (key_of lock Main) Nothing 0 last
@@ -283,7 +283,7 @@ Awoke up kind at sleeper st (MovedTo to) new = AwokeLate to sleeper st (MovedTo 
     × (sleeper.late ≢ None)
 Awoke up kind at sleeper st _ new = ⊥
 
--- after a step on a word, which found the code of owners among whom these are
+-- after a step on a word, which found the code of owners among which these are
 abbrev pub Stepped : WordKind → ℕ → Op → ℕ → Stage → Stage → Type 0
 Stepped kind at op seen st new = CodesWith kind at seen st.owns × (new ≡ stepped kind at op seen st)
 

@@ -38,7 +38,7 @@ abbrev pub MayAct : Type 0 → ParkingLot → Words → Act → Token → Option
 MayAct up lot words a token section =
     (p : Place) × IsAtPlace up lot words p token section × (act_of p ≡ a)
 
--- and at each such place the act brought this reply
+-- An act at a place brought this reply.
 abbrev pub HasActed : Type 0 → ParkingLot → Words → Act → Reply → Token → Option Section → Token
     → Option Section → Type 0
 HasActed up lot words a reply old section new now = (p : Place) → IsAtPlace up lot words p old section

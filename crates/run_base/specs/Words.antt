@@ -11,7 +11,7 @@ use Rattle.run_base.specs.declared.words.Words.{Words}
 abbrev pub single_word : Word → Words
 single_word word = record { one = word; other = None }
 
--- and of one that steps on two
+-- The words of a call that steps on two.
 abbrev pub word_pair : Word → Word → Words
 word_pair word other = record { one = word; other = Some other }
 

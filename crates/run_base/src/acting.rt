@@ -87,7 +87,7 @@ pub(crate) fn stand(
     }
 }
 
-// One step on the word, with which the lock goes to those who were taken. The right that each of
+// One step on the word, with which the lock goes to those that were taken. The right that each of
 // them wants is laid in its record. Where an exchange finds another value nothing is handed over.
 fn hand_over<R: Wait>(
     rt: &R,

@@ -32,7 +32,7 @@ const MOST_LOADS: u32 = 5;
 // How often the pause before a load doubles.
 const DOUBLINGS: u32 = 3;
 
-/// The clock of who waits without a limit.
+/// The clock of a thread that waits without a limit.
 pub struct NoClock;
 
 impl Clock for NoClock {
@@ -45,10 +45,10 @@ impl Clock for NoClock {
     fn pause(&self, _left: u64) {}
 }
 
-/// The deadline of who waits without a limit.
+/// The deadline of a thread that waits without a limit.
 pub const NO_LIMIT: Option<(&'static NoClock, u64)> = None;
 
-/// The same where it is asked for by reference.
+/// No limit, by reference.
 pub const FOR_EVER: &Option<(&'static NoClock, u64)> = &None;
 
 /// The stop of a call's run: at the call's end, or at its closure.
@@ -93,9 +93,9 @@ pub fn step(lot: &ParkingLot, token: &mut Token, word: Word, op: Op) -> u64
     lot.word(token, word, op)
 }
 
-// Each load takes the word's cache line from its owner, whom that slows. So a thread pauses before
-// it loads, the longer the more often it has loaded: the owner meanwhile takes many turns as if it
-// were alone.
+// Each load takes the word's cache line from its owner, and slows it. A thread therefore pauses
+// before it loads, the longer the more often it has loaded: the owner meanwhile takes many turns as
+// if it were alone.
 fn pause_before(loads: u32) {
     pause(SHORT_PAUSE << loads.min(DOUBLINGS));
 }
@@ -205,7 +205,7 @@ pub fn run_from<'a, R: Wait, C: Clock>(
     unreachable!()
 }
 
-/// The same of a thread that is outside all sections.
+/// Runs a call of a thread that is outside all sections.
 #[cold]
 #[inline(never)]
 pub fn run<R: Wait, C: Clock>(

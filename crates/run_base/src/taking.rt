@@ -101,7 +101,7 @@ pub(crate) fn take_picked(
     }
 }
 
-/// How many of those whom it took want to share, and what the first of them wants that wants more.
+/// How many of those that it took want to share, and what the first of them wants that wants more.
 pub(crate) fn tell_wants(section: &Option<Section>) -> (usize, Option<Want>)
     ensures sharers { result.0 ≡ sharers_in (wants_taken section.now) }
     ensures successor { result.1 ≡ successor_in (wants_taken section.now) }
@@ -109,7 +109,7 @@ pub(crate) fn tell_wants(section: &Option<Section>) -> (usize, Option<Want>)
 {
     match section {
         Some(inside) => {
-            // So many fit into a list.
+            // The count fits, since no more threads are taken than a list holds.
             let _taken = inside.taken();
             (sharers(inside.wants()), successor(inside.wants()))
         }

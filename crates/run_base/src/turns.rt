@@ -118,7 +118,7 @@ pub fn turn_requeue<C: Clock>(
     requeue(lot, section, from, to, how)
 }
 
-/// A turn that leaves the section of these keys, and wakes those whom the thread took there.
+/// A turn that leaves the section of these keys, and wakes those that the thread took there.
 #[inline]
 pub fn turn_leave<R: Wait, C: Clock>(
     rt: &R,

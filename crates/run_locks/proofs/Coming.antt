@@ -45,12 +45,12 @@ module _ {up : Type 0} {lot : ParkingLot} {words : Words} {p : Place} {old : Tok
     ends = λ answer last rest. came.ends answer last (turn_then up lot words q reply mid new there now turned r leads.0 leads.1 answer last rest);
   }
 
-  -- and so does an act that was done
+  -- An act that was done comes to its next place.
   pub comes : {a : Act} (reply : Reply) (new : Token) (now : Option Section) → HasActed up lot words a reply mid there new now → act_of q ≡ a
       → (r : Place) → (next_place q reply ≡ r) × (answer_of (next_act q reply) ≡ None) → HasCome up lot words p old section r new now
   comes reply new now done is = turns_to reply new now (done q came.at is)
 
-  -- or it ends the call
+  -- An act that was done ends the call, or goes on.
   pub over : {a : Act} (reply : Reply) (new : Token) (now : Option Section) → HasActed up lot words a reply mid there new now → act_of q ≡ a
       → (answer : Answer) → answer_of (next_act q reply) ≡ Some answer → HasEnded up lot words p answer old section new
   over reply new now done is answer some = came.ends answer new (turn_ends up lot words q reply mid new there now (done q came.at is) answer some)

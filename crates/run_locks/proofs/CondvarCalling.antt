@@ -62,7 +62,7 @@ wait_never_pauses up base c m timed (Condvar l (Wait m2 timed2 w)) state st s = 
 wait_never_pauses up base c m timed (Condvar l (Look all)) state st s = s.0
 wait_never_pauses up base c m timed (Condvar l (Notify all m2 at)) state st s = let aim : of_notify l m2 all ≡ of_wait c m timed = s.1 in cc
 
--- and no notification
+-- No notification runs a closure.
 notify_no_closure : (c m : ℕ) (state : OnceState) (all : Bool) (n : NotifyAt) → notify_act all c m n ≡ act.TheVariants.Closure state → ⊥
 notify_no_closure c m state true (notify.Move locked) is = cc
 notify_no_closure c m state false (notify.Move true) is = cc

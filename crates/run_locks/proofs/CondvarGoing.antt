@@ -66,7 +66,7 @@ module _ (c m : ℕ) where
       by_owner true one = rw (e, one) refl
       by_owner false one = rw (e, one) refl
 
-  -- and takes it where it finds the word as it saw it
+  -- A wait takes its mutex where it finds the word as it saw it.
   pub takes_free : (timed : Bool) (seen found : ℕ) → is_locked seen ≡ false → found ≡ seen → answer_of (next_act (wait_at c m timed (locks_at (lock.Decide seen))) (Value found)) ≡ Some (waited timed false)
   takes_free timed seen found free e = let unowned : is_locked found ≡ false = subst (λ (k : ℕ). is_locked k ≡ false) (sym e) free in rw (eq-eqb found seen e, unowned) refl
 
@@ -107,7 +107,7 @@ module _ (c m : ℕ) where
   pub released_on : (timed : Bool) (seen : ℕ) → is_parked seen ≡ false → (next_place (wait_at c m timed (releases_at unlock.Subtract)) (Value seen) ≡ wait_at c m timed (wait.Asleep Listed)) × (answer_of (next_act (wait_at c m timed (releases_at unlock.Subtract)) (Value seen)) ≡ None)
   released_on timed seen e = (rw e refl, rw e refl)
 
-  -- and a wait by the mutex that is shown
+  -- A wait goes on by the mutex that is shown.
   pub shows_on : (timed : Bool) (seen : ℕ) (b : Bool) → ((seen == 0) || is_shown seen m) ≡ b → (next_place (wait_at c m timed wait.Show) (Value seen) ≡ wait_at c m timed (if b then wait.Stand else wait.Refuse)) × (answer_of (next_act (wait_at c m timed wait.Show) (Value seen)) ≡ None)
   shows_on timed seen true e = (rw e refl, rw e refl)
   shows_on timed seen false e = (rw e refl, rw e refl)
@@ -127,7 +127,7 @@ module _ (c m : ℕ) where
   looks_on true seen is e = absurd cc
   looks_on false seen is e = again_on false seen true e
 
-  -- and goes on by the owner that it sees
+  -- A notification goes on by the owner that it sees.
   pub marks_on : (all : Bool) (seen : ℕ) (b : Bool) → is_locked seen ≡ b → (next_place (notify_at c m all notify.Mark) (Value seen) ≡ notify_at c m all (if b then notify.Set seen else notify.Move false)) × (answer_of (next_act (notify_at c m all notify.Mark) (Value seen)) ≡ None)
   marks_on true seen true e = (rw e refl, rw e refl)
   marks_on true seen false e = (rw e refl, rw e refl)
@@ -154,7 +154,7 @@ module _ (c m : ℕ) where
   one_moved number true = refl
   one_moved number false = refl
 
-  -- and behind the move of all by how many were moved
+  -- A notification of all goes on by how many it has moved.
   pub rest_moved : (number : ℕ) (none_left b : Bool) → nat_lt 1 number ≡ b → (next_place (notify_at c m true (notify.Move false)) (Requeued number none_left) ≡ notify_at c m true (if b then notify.MarkMoved number else notify.Leave true number)) × (answer_of (next_act (notify_at c m true (notify.Move false)) (Requeued number none_left)) ≡ None)
   rest_moved number none_left true e = (rw e refl, rw e refl)
   rest_moved number none_left false e = (rw e refl, rw e refl)

@@ -44,7 +44,7 @@ module _ (n : ℕ) (all : Bool) (seen : ℕ) (answer : Answer) (old mid : List W
       ap (λ (b : Bool). condvar_goes n (if b then Over (notified all 0) else At (Notify all (seen - 1) notify.Enter))) some
       ∙ ap (λ k. Condvar n (Notify all k notify.Enter)) back
 
-  -- or that a mutex is shown
+  -- A notification that did nothing saw that no mutex is shown.
   pub some_wait : (m : ℕ) → m ≢ n → seen ≡ m + 1 → (new : List WordStep) → HasNotified n m all answer mid new → NotifiesBy n all answer old new
   some_wait m ne shown new behind = (
     m,

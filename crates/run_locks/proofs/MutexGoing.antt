@@ -11,7 +11,7 @@ module _ (m : ℕ) (any : Bool) where
   taken_here true = refl
   taken_here false = refl
 
-  -- and it ends no call
+  -- A take ends no call.
   pub taken_goes_on : (none_left : Bool) → answer_of (next_act (unlocks_at m unlock.Take) (Took any none_left)) ≡ None
   taken_goes_on true = refl
   taken_goes_on false = refl

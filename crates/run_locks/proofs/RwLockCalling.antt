@@ -106,7 +106,7 @@ over_call up l base a (purpose.Downgrade d) answer st h = (h.1.0, h.1.1)
 over_call up l base a (purpose.Enter x how) answer st h = h.1
 over_call up l base a (purpose.Upgrade how) answer st h = h.1
 
--- a release or a downgrade that its first step ended woke nobody, and another took those whom it wakes
+-- a release or a downgrade that its first step ended woke nobody, and another took those that it wakes
 pub wakes_at_once : (l : ℕ) (a : Admission) (c : RwLockPurpose) (seen : ℕ) (answer : Answer) (old new : Token) → (view_of new).steps ≡ (view_of old).steps ++ step (rwlock_at l) (first_op c) seen → last_of new ≡ None → rwlock_next a (rwlock_first c) (Value seen) ≡ End answer → WakesBy l a c old new
 wakes_at_once l a c seen answer old new saw last ends = by_call c saw ends
   where

@@ -106,7 +106,7 @@ module _ (l : ℕ) (a : Admission) (base : List Ownership) (st new : Stage) (see
       owns : new.owns ≡ without (owning (rwlock_at l) owners.Exclusive) st.owns
       owns = ap (λ (s : Stage). s.owns) s.1 ∙ subst (λ (n : ℕ). CodesWith kinds.RwLock (rwlock_at l) n st.owns → owns_after_step kinds.RwLock (rwlock_at l) (Exchange 8 0) n st.owns ≡ without (owning (rwlock_at l) owners.Exclusive) st.owns) (sym same) at_8 s.0
 
-  -- or it goes to hand the lock over
+  -- A fair release that saw waiters goes to hand the lock over.
   pub goes_to_hand : seen ≢ 8 → Fits ⊥ base (RwLock l a (HandOver access.Exclusive false handing.Enter)) new
   goes_to_hand other = (
     tt,

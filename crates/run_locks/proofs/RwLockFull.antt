@@ -54,7 +54,7 @@ use Rattle.run_locks.specs.RwLockRefusals.{SawReadersFull}
 
 -- ---------------------------------------------------------------- words
 
--- a parked bit that is set in a word without it keeps out whom the word kept out
+-- a parked bit that is set in a word without it keeps out the threads that the word kept out
 module _ (v : ℕ) (unset : has_parked v ≡ false) where
   even : v % 2 ≡ 0
   even = grind (arith, nat_tests)
@@ -98,7 +98,7 @@ waits_still Timed v w e = by_bit (has_parked w)
     by_bit true = tt
     by_bit false = tt
 
--- so who decides to set it is not refused once it is set
+-- a thread that decides to set it is not refused once it is set
 marks_on : (a : Admission) (x : Want) (how : Patience) (was : ℕ) → decision a x how was ≡ decisions.Mark → IsNoRefusal (decision a x how (plus was 1))
 marks_on a x how was e = by_tests (is_blocked a.recursive x was) (is_counted x && nat_le a.limit (count_in was)) refl e
   where
@@ -534,6 +534,6 @@ module _ (x : Access) (how : Patience) (a : Admission) where
   begins access.Upgradable l = (refl, (refl, tt))
   begins access.Exclusive l = (refl, (refl, tt))
 
--- so it is of a whole call that found the lock full
+-- a whole call that found the lock full is refused so too
 pub sees_full : (x : Access) (how : Patience) (l : ℕ) (a : Admission) (old new : Token) → HasWalkedRwLock l a (purpose.Enter x how) ReadersFull old new → SawReadersFull l a x old new
 sees_full x how l a old new w = walked_full a x how (IsCall a (purpose.Enter x how)) (call_keeps a (purpose.Enter x how), call_going a (purpose.Enter x how), looks_on x how a) l (rwlock_begin l a (purpose.Enter x how)) old new (begins x how a x l) w

@@ -59,7 +59,7 @@ module _ (word : Word) (is : word.kind ≡ kinds.RwLock) (a : Admission) (c : Rw
     pub word_takes_on : (up : Type 0) (base : List Ownership) → Fits up base came (stage_of old None) → Reached up base here (Value found) (stage_of new None)
     word_takes_on up base fits = takes_on word.number a c seen takes up base (stage_of old None) (fits_here up base old fits) found (stage_of new None) stepped_so
 
-    -- and where it finds what was expected, the call is over
+    -- A call is over where its exchange finds what was expected.
     pub path_taken : found ≡ seen → Walks (at_rwlock word.number) came (view_of old).steps (view_of new).steps (entered (patience_of c))
     path_taken e = subst (λ (p : Place). Walks (at_rwlock word.number) p (view_of old).steps (view_of new).steps (entered (patience_of c))) (sym same)
         (ends_at_once (at_rwlock word.number) here word.number (Exchange seen (word_taken c seen)) found (view_of old).steps (view_of new).steps (entered (patience_of c)) (takes_by word.number a c seen takes) saw (takes_all word.number a c seen takes found e))

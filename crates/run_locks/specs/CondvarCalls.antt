@@ -46,7 +46,7 @@ wait_begin c m timed = Condvar c (Wait m timed wait.Enter)
 abbrev pub HasWaited : ℕ → ℕ → Bool → Answer → List WordStep → List WordStep → Type 0
 HasWaited c m timed answer old new = Walks (at_condvar c m) (wait_begin c m timed) old new answer
 
--- and where a notification goes on that has seen a mutex
+-- The place at which a notification goes on that has seen a mutex.
 abbrev pub notify_slow : ℕ → ℕ → Bool → Place
 notify_slow c m all = Condvar c (Notify all m notify.Enter)
 
@@ -83,7 +83,7 @@ LookedElse c first old new = HasGoneOn old new × ((before : List WordStep) × (
     × TookNobodyAt c (last_of new))
 
 -- a notification whose first look saw this looked again and saw another value, or it left both
--- sections with a record of the move from the condition variable to the mutex that is shown so; who
+-- sections with a record of the move from the condition variable to the mutex that is shown so; a thread that
 -- notifies all tells the record's number, which is 0 where it found none waiting
 abbrev pub TellsMoved : ℕ → Bool → ℕ → Answer → Token → Token → Type 0
 TellsMoved c all first answer old new =
@@ -122,8 +122,8 @@ abbrev pub SawNoneToMove : ℕ → Token → Token → Type 0
 SawNoneToMove c old new = (steps_of new ≡ steps_of old ++ step (condvar_at c) Load 0)
     ⊎ ((first : ℕ) × LookedElse c first (steps_of old ++ step (condvar_at c) Load first) new)
 
--- it moved nobody and saw that there is none to move, or left both queues with so many, who went to
--- the mutex that its first look saw
+-- it moved nobody and saw that there is none to move, or left both queues with so many, which went to the
+-- mutex that its first look saw
 abbrev pub WaitersMoved : ℕ → Bool → ℕ → Token → Token → Type 0
 WaitersMoved c all n old new = ((n ≡ 0) × SawNoneToMove c old new)
     ⊎ ((m : ℕ) × (locked : Bool) × (number : ℕ) × IsNumber all n number

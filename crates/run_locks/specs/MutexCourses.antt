@@ -14,6 +14,6 @@ locked_and_parked = 3
 abbrev pub unlocks_at : ℕ → UnlockAt → Place
 unlocks_at m at = Mutex m (mutex.Unlock at)
 
--- and where behind its take
+-- The place of a release after its take.
 abbrev pub taken_on : Bool → Bool → UnlockAt
 taken_on any none_left = if none_left then unlock.Clear any else unlock.Leave any

@@ -26,7 +26,7 @@ SawReadersFull l a x old new = (before : List WordStep) × (op : Op) × (seen : 
 abbrev pub LeftGivingUp : ℕ → Admission → RwLockPurpose → Token → Type 0
 LeftGivingUp l a q new = LeftBy l a q (last_of new) (view_of new).steps
 
--- so of a call; no other gives up
+-- a call is refused so; no other gives up
 abbrev pub GaveUpCall : ℕ → Admission → RwLockCall → Token → Type 0
 GaveUpCall l a (calls.Enter x how) new = LeftGivingUp l a (purpose.Enter x how) new
 GaveUpCall l a (calls.Upgrade how) new = LeftGivingUp l a (purpose.Upgrade how) new

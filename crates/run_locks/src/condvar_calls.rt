@@ -55,8 +55,8 @@ pub fn wait<R: Wait, C: Clock>(
     wait_through(rt, lot, token, pair_of(condvar, mutex), limit, timed)
 }
 
-// The rest of a notification whose first step saw this mutex: it wakes the first who waits with it,
-// or all, or moves them to its queue.
+// The rest of a notification whose first step saw this mutex: it wakes the first that waits with
+// it, or all, or moves them to its queue.
 #[cold]
 #[inline(never)]
 fn notify_shown<R: Wait>(
@@ -90,7 +90,7 @@ pub fn notify_fast(lot: &ParkingLot, token: &mut Token, condvar: Word) -> u64
     lot.look_shown(token, condvar)
 }
 
-/// The rest of a notification whose first step saw that a mutex is shown. It wakes the first who
+/// The rest of a notification whose first step saw that a mutex is shown. It wakes the first that
 /// waits, or all: those whose mutex somebody owns it moves to the queue of that, but for the first
 /// where nobody owns it. It answers how many it took and moved, of the first whether there was one.
 #[cold]

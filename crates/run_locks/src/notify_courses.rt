@@ -85,7 +85,7 @@ fn clear_and_leave<'a, R: Wait>(
     leave_both(rt, lot, token, pair, section, false, any, 1)
 }
 
-// Takes the first who waits where nobody owns the mutex, and else moves it to the queue of that.
+// Takes the first that waits where nobody owns the mutex, and else moves it to the queue of that.
 fn move_first<'a, R: Wait>(
     rt: &R,
     lot: &'a ParkingLot,
@@ -111,7 +111,7 @@ fn move_first<'a, R: Wait>(
     clear_and_leave(rt, lot, token, pair, section, any, none_left)
 }
 
-// Moves all who wait to the queue of the mutex, but for the first where nobody owns that.
+// Moves all that wait to the queue of the mutex, but for the first where nobody owns that.
 fn move_all<'a, R: Wait>(
     rt: &R,
     lot: &'a ParkingLot,
@@ -143,7 +143,7 @@ fn move_all<'a, R: Wait>(
     leave_both(rt, lot, token, pair, section, true, true, number)
 }
 
-// Moves the first who waits, or all. Whether somebody owns the mutex.
+// Moves the first that waits, or all. Whether somebody owns the mutex.
 fn move_some<'a, R: Wait>(
     rt: &R,
     lot: &'a ParkingLot,

@@ -142,7 +142,7 @@ fn entering(access: Access, patience: Patience) -> &'static RwLockPurpose
     }
 }
 
-// The same purpose, where it lasts.
+// The purpose of a call, where it lasts.
 #[inline(always)]
 fn lasting(purpose: RwLockPurpose) -> &'static RwLockPurpose
     ensures { result.now ≡ purpose }
@@ -162,7 +162,7 @@ fn lasting(purpose: RwLockPurpose) -> &'static RwLockPurpose
     }
 }
 
-// The same by reference: what a cold call is given by value lies in a local of its caller, which
+// Runs a call by reference: what a cold call is given by value lies in a local of its caller, which
 // every call would set to zero.
 #[cold]
 #[inline(never)]
@@ -226,9 +226,9 @@ pub fn call_slow<R: Wait, C: Clock>(
     )
 }
 
-// The same by reference. A thread whose exchange missed met another, and would meet it again at
-// once. So it pauses once, for 0.7 microseconds where a round takes 11 nanoseconds: meanwhile the
-// other thread keeps the word's cache line, and takes many turns as if it were alone.
+// Runs a call by reference, after a pause. A thread whose exchange missed met another, and would
+// meet it again at once. It pauses for 0.7 microseconds where a round takes 11 nanoseconds:
+// meanwhile the other thread keeps the word's cache line, and takes many turns as if it were alone.
 #[cold]
 #[inline(never)]
 fn rest_missed<R: Wait, C: Clock>(
@@ -302,8 +302,8 @@ pub fn missed<R: Wait, C: Clock>(
     )
 }
 
-/// The fast half of a call of who has the right that it needs: a step or two, which are all where it
-/// meets nobody. Else it answers what is left to `behind` or `missed`.
+/// The fast half of a call of a thread that has the right that it needs: a step or two, which are
+/// all where it meets nobody. Else it answers what is left to `behind` or `missed`.
 #[inline(always)]
 pub fn call_fast<C: Clock>(
     lot: &ParkingLot,
@@ -337,8 +337,8 @@ pub fn call_fast<C: Clock>(
     }
 }
 
-/// A whole call of who has the right that it needs. Where it meets nobody it is a step or two, with
-/// no further call.
+/// A whole call of a thread that has the right that it needs. Where it meets nobody it is a step or
+/// two, with no further call.
 #[inline(always)]
 pub fn call<R: Wait, C: Clock>(
     rt: &R,

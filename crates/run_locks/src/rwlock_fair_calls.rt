@@ -33,7 +33,7 @@ const LEAVE_ALONE: Op = Op::Exchange {
     to: 0,
 };
 
-// Where an exclusive owner goes on who may have to hand the lock over.
+// Where an exclusive owner goes on that may have to hand the lock over.
 const HAND_OVER: &RwLockCallPlace = &RwLockCallPlace::HandOver {
     access: Access::Exclusive,
     bumps: false,
@@ -70,7 +70,7 @@ fn rest<R: Wait>(
     run_out(rt, lot, token, *word, NO_LIMIT, start)
 }
 
-/// An exclusive owner gives its right up, and hands the lock over to those who wait. Where nobody
+/// An exclusive owner gives its right up, and hands the lock over to those that wait. Where nobody
 /// does, that is one step.
 #[inline(always)]
 pub fn release_exclusive<R: Wait>(
@@ -97,7 +97,7 @@ pub fn release_exclusive<R: Wait>(
     }
 }
 
-/// An upgradable owner gives its right up, and hands the lock over to those who wait, where there
+/// An upgradable owner gives its right up, and hands the lock over to those that wait, where there
 /// is room for them.
 pub fn release_upgradable<R: Wait>(
     rt: &R,

@@ -1,4 +1,4 @@
-//! The straight course of an unlock that saw a waiter: it takes the first who waits, and wakes it.
+//! The straight course of an unlock that saw a waiter: it takes the first that waits, and wakes it.
 ghost use Rattle.std.specs.Prelude.{◌≡◌, ◌<◌, ◌++◌, None, List};
 ghost use Rattle.core_base.specs.Clocks.{IsUp};
 ghost use Rattle.spec_locks.specs.declared.calls.MutexCall.TheVariants.{Unlock};

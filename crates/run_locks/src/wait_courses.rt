@@ -75,7 +75,7 @@ fn lock_free<'a, R: Wait, C: Clock>(
     rest(rt, lot, token, pair.words, limit, section, next)
 }
 
-// Looks who owns the mutex, whose word was not 0.
+// Looks which thread owns the mutex, whose word was not 0.
 fn lock_seen<'a, R: Wait, C: Clock>(
     rt: &R,
     lot: &'a ParkingLot,
@@ -206,7 +206,7 @@ fn clear_and_sleep<'a, R: Wait, C: Clock>(
     wake_and_sleep(rt, lot, token, pair, limit, section, timed, any)
 }
 
-// Wakes the first who waits for the mutex, which it has released, and sleeps.
+// Wakes the first that waits for the mutex, which it has released, and sleeps.
 fn wake_first_and_sleep<'a, R: Wait, C: Clock>(
     rt: &R,
     lot: &'a ParkingLot,

@@ -146,7 +146,7 @@ module _ (n : ℕ) where
   done_ends (Wait forced) seen e = rw e refl
   done_ends WaitTimed seen e = rw e refl
 
-  -- and by how its aim goes on, it has one
+  -- A call goes on by what its aim says of the word.
   pub on_aim : (up : Type 0) (c : OnceCall) (seen : ℕ) (base : List Ownership) (st : Stage) → answer_of (next_act (once_begin n c) (Value seen)) ≡ None → Reached ⊥ base (once_begin n c) (Value seen) st
       → ReachedBy up base (of_once n c) (next_place (once_begin n c) (Value seen)) None st
   on_aim up c seen base st none reached = by_course (course_of c seen) (subst (λ (o : Option Answer). ReachedBy ⊥ base (of_once n c) (next_place (once_begin n c) (Value seen)) o st) none reached)
@@ -158,7 +158,7 @@ module _ (n : ℕ) where
       by_course Marks h = h
       by_course Parks h = h
 
-  -- and it owns so much where it ends
+  -- A call ends owning what its answer says.
   pub ends_by : (up : Type 0) (c : OnceCall) (seen : ℕ) (base : List Ownership) (st : Stage) (answer : Answer) → answer_of (next_act (once_begin n c) (Value seen)) ≡ Some answer → Reached ⊥ base (once_begin n c) (Value seen) st
       → LooksAnswer up n c base answer st.owns st.last
   ends_by up c seen base st answer some reached = by_answer answer (subst (λ (o : Option Answer). ReachedBy ⊥ base (of_once n c) (next_place (once_begin n c) (Value seen)) o st) some reached).1

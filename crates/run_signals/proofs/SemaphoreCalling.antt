@@ -34,7 +34,7 @@ use Rattle.run_signals.specs.SemaphoreCalls.{IsSemaphore, deciding, semaphore_be
 pub semaphore_at_alone : (w : Word) → IsSemaphore w → at_in (single_word w) ≡ at_semaphore w.number
 semaphore_at_alone w is = ap {B = ℕ → ℕ} (λ (kind : kinds.WordKind) (lock : ℕ). word_index w.number kind) is.1
 
--- and serves its calls
+-- A semaphore's word alone serves its calls.
 pub semaphore_alone : (w : Word) (at : SemaphorePlace) → IsSemaphore w → w.number < 9223372036854775808 → AreWordsFor (Semaphore w.number at) (kind_in (single_word w)) (at_in (single_word w))
 semaphore_alone w at is small = (small, (is.0, ap {B = ℕ → kinds.WordKind} (λ (kind : kinds.WordKind) (lock : ℕ). kind) is.1), semaphore_at_alone w is)
 
@@ -45,7 +45,7 @@ module _ (n permits p : ℕ) (kind : kinds.WordKind) (is : kind ≡ kinds.TheVar
       (subst (λ (o : List Ownership). MayStep (kinds.TheVariants.Semaphore p) (semaphore_at n) (Add (2 * permits)) o) (sym all)
       ((semaphore_steps p (semaphore_at n) (holding (semaphore_at n) permits ++ rest)).fill permits ((semaphore_trades p (semaphore_at n) rest).has_all permits)))
 
-  -- and has none of them then
+  -- A thread that gives all its permits has none of them then.
   pub filled : (seen : ℕ) → CodesWith kind (word_index n kind) seen owns → owns_after_step kind (word_index n kind) (Add (2 * permits)) seen owns ≡ rest
   filled seen code = ap (λ (k : kinds.WordKind). owns_after_step k (word_index n k) (Add (2 * permits)) seen owns) is
       ∙ ap (owns_after_step (kinds.TheVariants.Semaphore p) (semaphore_at n) (Add (2 * permits)) seen) all
@@ -78,7 +78,7 @@ module _ (n : ℕ) (timed : Bool) (seen found : ℕ) (old mid new : List WordSte
       ends = ap (λ (b : Bool). semaphore_does n (in_acquire timed false (if not b then At (acquire.Decide found) else if is_free found then End (acquired timed) else At (acquire.Decide 1)))) (eq-eqb found seen same)
           ∙ ap (λ (b : Bool). semaphore_does n (in_acquire timed false (if b then End (acquired timed) else At (acquire.Decide 1)))) (ap is_free same ∙ free)
 
-  -- or missed it, and the call goes on behind that
+  -- A try whose exchange missed goes on after that.
   pub misses : (rest : List WordStep) (answer : Answer) → is_free seen ≡ true → mid ≡ old ++ step (semaphore_at n) Load seen → new ≡ mid ++ step (semaphore_at n) (Exchange seen (seen - 2)) found → found ≢ seen → Walks (at_semaphore n) (deciding n timed found) new rest answer → Walks (at_semaphore n) (waiting n timed) old rest answer
   misses rest answer free e x ne walks = walks_on (at_semaphore n) (waiting n timed) (deciding n timed found) old new rest answer
       (comes_on (at_semaphore n) (waiting n timed) (deciding n timed seen) (deciding n timed found) old mid new (Value found) (step (semaphore_at n) (Exchange seen (seen - 2)) found) (comes e) x (word (deciding n timed seen) n (Exchange seen (seen - 2)) found (act_there free)) is)
@@ -116,7 +116,7 @@ module _ (n : ℕ) (seen found : ℕ) (old mid new : List WordStep) where
       ends = ap (λ (b : Bool). semaphore_does n (in_try (if b && is_free found then End answers.Yes else looked found))) (ne_eqb found seen ne)
           ∙ ap (λ (b : Bool). semaphore_does n (in_try (if b then At (tries.Decide found) else End answers.No))) full
 
-  -- or found one, and goes on behind that
+  -- A try that found a permit free goes on after that.
   pub tries_on : (rest : List WordStep) (answer : Answer) → is_free seen ≡ true → is_free found ≡ true → mid ≡ old ++ step (semaphore_at n) Load seen → new ≡ mid ++ step (semaphore_at n) (Exchange seen (seen - 2)) found → found ≢ seen → Walks (at_semaphore n) (try_place n found) new rest answer → Walks (at_semaphore n) (semaphore_begin n (calls.Acquire OnlyTry)) old rest answer
   tries_on rest answer free more e x ne walks = walks_on (at_semaphore n) (semaphore_begin n (calls.Acquire OnlyTry)) (try_place n found) old new rest answer
       (comes_on (at_semaphore n) (semaphore_begin n (calls.Acquire OnlyTry)) (try_place n seen) (try_place n found) old mid new (Value found) (step (semaphore_at n) (Exchange seen (seen - 2)) found) (tries_it free e) x (word (try_place n seen) n (Exchange seen (seen - 2)) found (try_there free)) is)
@@ -132,7 +132,7 @@ module _ (n seen : ℕ) (old mid new : List WordStep) where
   releases_at_once none e = ends_at_once (at_semaphore n) (semaphore_begin n calls.Release) n (Add 2) seen old mid answers.Ok refl e
       (ap (λ (b : Bool). semaphore_does n (in_release (if b then At release.Enter else End answers.Ok))) none)
 
-  -- and one that saw that somebody may be
+  -- A release that saw waiters goes on after its addition.
   pub releases_on : (answer : Answer) → has_parked seen ≡ true → mid ≡ old ++ step (semaphore_at n) (Add 2) seen → Walks (at_semaphore n) (waking n) mid new answer → Walks (at_semaphore n) (semaphore_begin n calls.Release) old new answer
   releases_on answer parked e rest = walks_on (at_semaphore n) (semaphore_begin n calls.Release) (waking n) old mid new answer
       (comes_on (at_semaphore n) (semaphore_begin n calls.Release) (semaphore_begin n calls.Release) (waking n) old old mid (Value seen) (step (semaphore_at n) (Add 2) seen) (comes_here (at_semaphore n) (semaphore_begin n calls.Release) old) e (word (semaphore_begin n calls.Release) n (Add 2) seen refl)

@@ -54,7 +54,8 @@ LooksBy n c (Runs state) old new = (forced : Bool) × (poisoned : Bool) × (c �
     × (state ≡ state_before poisoned)
     × StepsLeadTo n (once_begin n c) old new (in_closure n forced poisoned)
 
--- and its thread owns so much then, and has left this section last; `up` says that its time is up
+-- What a thread owns after its look at a `Once`; it has left this section last; `up` says that its time is
+-- up.
 abbrev pub LookOwns : Type 0 → ℕ → OnceCall → Look → List Ownership → List Ownership
     → Option SectionRecord → Type 0
 LookOwns up n c (Ended answer) base owns last = LooksAnswer up n c base answer owns last
@@ -65,7 +66,7 @@ abbrev pub WokeIfMarked : ℕ → Bool → List WordStep → Option SectionRecor
 WokeIfMarked n true more last = WokeAll n last
 WokeIfMarked n false more last = (more ≡ []) × (last ≡ None)
 
--- a run ended by one step, and woke whoever waited then
+-- a run ended by one step, and woke each thread that waited then
 abbrev pub EndedAndWoke : ℕ → Bool → List WordStep → List WordStep → Option SectionRecord → Type 0
 EndedAndWoke n succeeded old new last = (seen : ℕ) × (more : List WordStep)
     × (new ≡ (old ++ step (once_at n) (Swap (word_behind succeeded)) seen) ++ more)

@@ -65,7 +65,7 @@ RanNothing n c answer old new =
     Walks (at_once n) (once_begin n c) (steps_of old) (steps_of new) answer
 
 -- a call ran its closure, which was told this state: its steps lead there, and from there to its
--- end, and whoever waited then was woken
+-- end, and each thread that waited then was woken
 abbrev pub HasRun : ℕ → Bool → Bool → OnceState → Token → Token → Type 0
 HasRun n forced succeeded state old new =
     (poisoned : Bool) × (mid : List WordStep) × (state ≡ state_before poisoned)
@@ -91,7 +91,7 @@ deadline_answer (Ok true) = answers.Yes
 deadline_answer (Ok false) = answers.No
 deadline_answer (Err fault) = answers.Poisoned
 
--- and of one that waits
+-- What a wait for a `Once` answers.
 abbrev pub Waited : ℕ → Token → Token → Result (Unit {0}) Fault → Type 0
 Waited n old new (Ok done) = SawDone n old new × RanNothing n (Wait false) answers.Ok old new
 Waited n old new (Err fault) =

@@ -31,7 +31,7 @@ permits_of semaphore = semaphore.permits
 abbrev pub semaphore_of : Permit → Semaphore
 semaphore_of permit = permit.semaphore.now
 
--- a word was drawn with so many permits, and all of them were given to whoever comes
+-- a word was drawn with so many permits, and all of them were given to each thread that comes
 abbrev pub HasMade : ℕ → Semaphore → Token → Token → Type 0
 HasMade permits semaphore old new = (mid : Token) × (seen : ℕ)
     × Drew (kinds.TheVariants.Semaphore permits) (lot_of semaphore) (word_of semaphore) old mid
@@ -42,8 +42,8 @@ abbrev pub SawFree : ℕ → ℕ → Token → Token → Type 0
 SawFree n free old new = (seen : ℕ) × (free ≡ seen / 2)
     × (steps_of new ≡ steps_of old ++ step (semaphore_at n) Load seen)
 
--- with those that the thread holds itself they are no more than all, which are known to whoever
--- drew the word
+-- with those that the thread holds itself they are no more than all, which are known to the thread that drew
+-- the word
 abbrev pub AreWithin : ℕ → ℕ → Token → Type 0
 AreWithin n free token = (all : ℕ)
     × (free + owned (semaphore_at n) shared (owns_of token) ≤ all) × (all ≤ 2 ^ 62)

@@ -1,5 +1,5 @@
-//! Signals of threads beside locks: `Once`, whose closure runs once, whoever calls first; a cell
-//! whose value is made once; and semaphores.
+//! Signals of threads beside locks: `Once`, whose closure runs once, whichever thread calls first;
+//! a cell whose value is made once; and semaphores.
 #![tactic(auto)]
 
 pub mod once;

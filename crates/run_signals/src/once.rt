@@ -246,7 +246,7 @@ impl Once {
         }
     }
 
-    // The run of who has run the closure ends.
+    // The run of a thread that has run the closure ends.
     fn end_run<R: Wait>(&self, rt: &R, token: &mut Token, forced: bool, succeeded: bool)
         requires token { IsTokenOf (lot_of self.now) token.old }
         requires runs { (base : List Ownership)
@@ -289,7 +289,7 @@ impl Once {
         }
     }
 
-    /// The same, past runs that failed.
+    /// Waits past runs that failed.
     #[inline]
     pub fn wait_force<R: Wait>(&self, rt: &R, token: &mut Token)
         requires { IsTokenOf (lot_of self.now) token.old }
@@ -445,7 +445,7 @@ impl Once {
         }
     }
 
-    /// The same, past runs that failed. The closure is told whether one did.
+    /// Runs the closure past runs that failed. The closure is told whether one did.
     ///
     /// # Errors
     ///

@@ -81,7 +81,7 @@ pub(crate) fn begin_slow<R: Wait, C: Clock>(
     }
 }
 
-// A run that has ended wakes all who wait.
+// A run that has ended wakes all that wait.
 #[cold]
 #[inline(never)]
 fn wake<R: Wait>(
@@ -122,7 +122,7 @@ fn word_behind(succeeded: bool) -> u64
     if succeeded { DONE } else { POISONED }
 }
 
-/// Ends the run of a `Once` whose closure succeeded, or failed, and wakes all who wait.
+/// Ends the run of a `Once` whose closure succeeded, or failed, and wakes all that wait.
 pub(crate) fn close<R: Wait>(
     rt: &R,
     lot: &ParkingLot,

@@ -1,4 +1,4 @@
-//! `OnceCell`: a value that the first who asks for it makes.
+//! `OnceCell`: a value that the first that asks for it makes.
 ghost use Rattle.std.specs.Prelude.{◌≡◌, ◌⊎◌, ◌∷◌, [], Err, IfErr, IfOk, MatchResult};
 ghost use Rattle.std.specs.Arc.{arc_value};
 ghost use Rattle.core_words.specs.Draws.{IsDrawn, IsDrawRefused};
@@ -11,7 +11,7 @@ use std::convert::Infallible;
 use std::marker::Model;
 use std::sync::{Arc, OnceLock, Wait};
 
-/// A value that is made once, by the first who asks for it, and then read by all.
+/// A value that is made once, by the first that asks for it, and then read by all.
 ///
 /// A thread waits while another one makes it. Where making it fails, the next thread that asks
 /// makes it.
@@ -69,7 +69,7 @@ impl<T: Drop> OnceCell<T> {
         self.value.get()
     }
 
-    /// The value, for who has the cell alone.
+    /// The value, for a thread that has the cell alone.
     pub fn get_mut(&mut self) -> Option<&mut T> {
         self.value.get_mut()
     }

@@ -111,7 +111,7 @@ impl Semaphore {
         self.permits
     }
 
-    // The permit of who has acquired one.
+    // The permit of a thread that has acquired one.
     #[inline(always)]
     fn split<'a>(&'a self, token: &mut Token) -> Permit<'a>
         requires token { IsTokenOf (lot_of self.now) token.old }

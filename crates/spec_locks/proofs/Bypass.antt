@@ -1,4 +1,4 @@
--- Who waits for a mutex that is handed over is overtaken by nobody.
+-- A waiter for a mutex that is handed over is overtaken by nobody.
 use Rattle.std.proofs.Common.{ℕ, zero, suc, Bool, true, false, Option, Some, None, if◌then◌else◌, ◌==◌, ◌≡◌, ◌≢◌, ◌≤◌, ◌<◌, ◌+◌, ◌⊎◌, inl, inr, List, [], ◌∷◌, ◌++◌, refl, sym, ◌∙◌, ap, subst, arith}
 use Rattle.std.proofs.lemmas.Bool.{eqb-true, cases_eq}
 use Rattle.std.proofs.lemmas.Bool.Decides.{nat_tests}
@@ -17,12 +17,12 @@ use Rattle.spec_locks.proofs.Runs.{needs_of, step_keeps}
 
 -- ---------------------------------------------------------------- lines
 
--- who joins stands behind
+-- a thread that joins stands behind
 ahead_more : (t : ℕ) (q r : List Queued) → 1 ≤ times t q → ahead t (q ++ r) ≡ ahead t q
 ahead_more t [] r h = absurd (let e : 1 ≤ 0 = h in omega arith)
 ahead_more t (x ∷ q) r h = grind (arith, nat_tests, ahead_more t q r)
 
--- who leaves lets those behind come closer
+-- a thread that leaves lets those behind come closer
 ahead_without : (t u : ℕ) (q : List Queued) → ahead t (locks.without u q) ≤ ahead t q ⊎ (u ≡ t)
 ahead_without t u q = elim (cases_eq u t) [
   | inl e ↦ inr e

@@ -1,4 +1,5 @@
--- What is guaranteed of each state and step follows of the run of the abstract locks, and what follows of the guarantees.
+-- The guarantees of each state and step follow from the run of the abstract locks. Their consequences follow
+-- from them.
 use Rattle.std.proofs.Common.{ℕ, zero, suc, Bool, true, false, Option, Some, None, if◌then◌else◌, ◌==◌, ◌≡◌, ◌≢◌, ◌≤◌, ◌+◌, ◌⊎◌, ◌↔◌, inl, inr, List, [], ◌∷◌, refl, sym, ◌∙◌, ap, subst, arith}
 use Rattle.std.proofs.lemmas.Bool.{cases_lt, eqb-true}
 use Rattle.std.specs.Prelude.{◌<◌}

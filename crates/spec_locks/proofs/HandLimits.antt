@@ -28,7 +28,7 @@ sharing_few t taken i (n ∷ ns) =
     let d = sharing_few t taken (i + 1) ns in
     omega arith
 
--- and one of them has none
+-- A thread that shares takes one share, and the other has none.
 sharing_fewer : (t : ℕ) (taken : ℕ → Option Taken) (i u : ℕ) (ns : List ℕ) → u < length ns → shares_handed t (taken (i + u)) ≡ 0 → sum (sharing_from t taken i ns) + 1 ≤ sum ns + length ns
 sharing_fewer t taken i u [] lt e = absurd (omega arith)
 sharing_fewer t taken i zero (n ∷ ns) lt e =
@@ -68,7 +68,7 @@ writer_counts : (b : Bool) (u : ℕ) (s : LockState) → s.upgradable ≡ None �
 writer_counts true u s none = grind arith
 writer_counts false u s none = grind arith
 
--- and counts as one at most
+-- A successor counts as one at most.
 successor_counts : (successor : Option Queued) (s : LockState) → s.upgradable ≡ None → ((x : Queued) → successor ≡ Some x → x.want ≢ Shared) → count (with_successor successor s) ≤ readers s + 1
 successor_counts None s none more = grind arith
 successor_counts (Some x) s none more = by_want x.want (more x refl)

@@ -10,7 +10,7 @@ use Rattle.spec_locks.specs.Locks.{LockState, sharing_handed, sharing_from, shar
 use Rattle.spec_locks.specs.Sites.{IsOpen, counts, counts_taken}
 use Rattle.spec_locks.proofs.LockKeeps.{times_append, times_filter}
 
--- a thread that isn't among those who are taken stays as it was
+-- a thread that isn't among those that are taken stays as it was
 pub taking_others : (t u : ℕ) (xs : List Queued) (taken : ℕ → Option Taken) → times u xs ≡ 0 → taking t xs taken u ≡ taken u
 taking_others t u [] taken none = refl
 taking_others t u (x ∷ xs) taken none = grind (arith, nat_tests, taking_others t u xs)
@@ -60,7 +60,7 @@ sharer_picked sort start x q shares =
 sharer_unpicked : (sort : Sort) (start : Option Want) (x : Queued) (q : List Queued) → wants_shared x.want ≡ true → unpicked sort start (x ∷ q) ≡ unpicked sort start q
 sharer_unpicked sort start x q shares = grind arith
 
--- and then the first of the others
+-- The first is picked, and then the first of the others.
 pub record IsPickedFirst (sort : Sort) (start : Option Want) (x : Queued) (q : List Queued) : Type 0 where
   pub rest : List Queued
   pub is : picked sort start (x ∷ q) ≡ x ∷ rest
@@ -108,7 +108,7 @@ kept_by t (Some b) a e = grind (arith, nat_tests)
 
 -- ---------------------------------------------------------------- a right is handed on
 
--- a right that is handed on changes no line, and lets whom t has taken go
+-- a right that is handed on changes no line, and lets the threads that t has taken go
 pub record IsHanded (s now : LockState) (t : ℕ) : Type 0 where
   pub queue : now.queue ≡ s.queue
   pub aside : now.aside ≡ s.aside
@@ -161,7 +161,7 @@ shares_on t i n Upgradable successor s more e h = let a = sharing_more t s.taken
 shares_on t i n Shared successor s more e h = absurd (more refl)
 shares_on t i n x successor s more e h = let a = sharing_more t s.taken 0 i s.shared in succeeds_on i n successor _ e (omega arith)
 
--- where somebody passes the turn on, the lock is barred by whoever has succeeded
+-- where somebody passes the turn on, the lock is barred by each thread that has succeeded
 writes_bar : (r : Rules) (b : Bool) (u : ℕ) (now : LockState) → Knows r.sort Exclusive → IsLockState r (if b then with_owner u Exclusive now else pending_for u false now) → IsOpen r.sort (if b then with_owner u Exclusive now else pending_for u false now) → ⊥
 writes_bar r true u now knows c free = grind arith
 writes_bar r false u now knows c free = grind (arith, c.unpending)
@@ -198,7 +198,7 @@ has_exclusive_handed t u right s e = ap (λ (b : Bool). (if b then with_owner u 
 pub pends_handed : (t u : ℕ) (right : Want) (s : LockState) → (readers (sharing_handed t (without_owner t right s)) == 0) ≡ false → (handed t right (Some (record { thread = u; want = Exclusive })) s).pending ≡ Some (record { thread = u; falls_back = false })
 pends_handed t u right s e = ap (λ (b : Bool). (if b then with_owner u Exclusive (sharing_handed t (without_owner t right s)) else pending_for u false (sharing_handed t (without_owner t right s))).pending) e
 
--- each in hand that wants to share does, whoever succeeds
+-- each in hand that wants to share does, whatever thread succeeds
 pub shares_handed_on : (t u : ℕ) (right : Want) (successor : Option Queued) (s : LockState) (a : Taken) → right ≢ Shared → ((successor ≡ None) ⊎ ((x : Queued) × ((successor ≡ Some x) × (x.want ≢ Shared)))) → u < length s.shared
     → s.taken u ≡ Some a → a.by ≡ t → a.want ≡ Shared → 1 ≤ slice_index (handed t right successor s).shared u
 shares_handed_on t u right successor s a more e lt is mine wants = by_right right more

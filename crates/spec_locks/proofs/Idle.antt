@@ -1,4 +1,4 @@
--- Calls go on as they were, and who is in no call owns what it owned.
+-- Calls go on as they were, and a thread that is in no call owns what it owned.
 use Rattle.std.proofs.Common.{ℕ, zero, suc, Bool, true, false, Option, Some, None, if◌then◌else◌, ◌==◌, ◌≡◌, ◌≢◌, ◌≤◌, ◌+◌, inl, inr, List, [], ◌∷◌, refl, sym, ◌∙◌, ap, subst, arith}
 use Rattle.std.proofs.lemmas.Bool.{cases_eq, eqb-true}
 use Rattle.std.proofs.lemmas.Bool.Decides.{nat_tests}
@@ -164,7 +164,7 @@ module _ (w v : LocksState) (s : Step) (o : Outcome) where
       | inr r ↦ subst (λ (k : LocksState). CallGoesOn (w.calls u) (k.calls u)) (sym r.1.1) (call_stays (w.calls u))
     ]
 
--- ---------------------------------------------------------------- who is in no call
+-- ---------------------------------------------------------------- a thread that is in no call
 
 sharing_else : (t : ℕ) (taken : ℕ → Option Taken) (i u : ℕ) (ns : List ℕ) → taken (i + u) ≡ None → slice_index (sharing_from t taken i ns) u ≡ slice_index ns u
 sharing_else t taken i u [] e = grind arith
@@ -254,7 +254,7 @@ event_else w t u (AtLock k case) all other free may l = either (l == k) refl
     either false e = refl
     either true e = case_else (rules_at w k) (w.locks k) t u (all k) other (free k) case (needs_of w t k case (w.calls t).purpose may) ∙ ap (λ j. rights_of (w.locks j) u) (sym (eqb-true l k e))
 
--- who waits is in a call
+-- a thread that waits is in a call
 module _ (w v : LocksState) (t : ℕ) (o : Outcome) (all : AreLockStates w) (waiting : (u l : ℕ) → 1 ≤ standing u (w.locks l) → MayWait (w.calls u).purpose l) (u : ℕ) (idle : (w.calls u).purpose ≡ None) where
   free_at : (l : ℕ) (h : Option Taken) → (w.locks l).taken u ≡ h → (w.locks l).taken u ≡ None
   free_at l None e = e

@@ -44,7 +44,8 @@ pub known_taking : (sort : Sort) (t : ℕ) (xs : List Queued) (taken : ℕ → O
 known_taking sort t [] taken all known = known
 known_taking sort t (x ∷ xs) taken all known = known_taking sort t xs _ all.1 (λ u h e. grind (arith, nat_tests))
 
--- a thread takes the first m of the first n, and of those behind them whoever p picks; the others stay in order
+-- a thread takes the first m of the first n, and of those behind them each thread that p picks; the others
+-- stay in order
 takes : (r : Rules) (s : LockState) (t m n : ℕ) (p : Queued → Bool) → IsLockState r s → IsLockState r (record s { queue = filter (λ x. not (p x)) (drop m (take n s.queue)) ++ drop n s.queue; taken = taking t (take m (take n s.queue) ++ filter p (drop m (take n s.queue))) s.taken })
 takes r s t m n p c =
     let q = take n s.queue in
@@ -54,12 +55,12 @@ takes r s t m n p c =
 
 -- ---------------------------------------------------------------- the hand-over
 
--- where the lock knows no readers, nobody who is taken wants to share
+-- where the lock knows no readers, nobody that is taken wants to share
 pub sharing_same : (r : Rules) (s : LockState) (t i : ℕ) (xs : List ℕ) → IsLockState r s → (Knows r.sort Shared → ⊥) → sharing_from t s.taken i xs ≡ xs
 sharing_same r s t i [] c none = refl
 sharing_same r s t i (x ∷ xs) c none = grind (arith, c.known_taken i, sharing_same r s t (i + 1) xs c none)
 
--- the owner has left, and those whom it has taken and who want to share do so: no writer is there
+-- the owner has left, and those that it has taken and that want to share do so: no writer is there
 shares : (r : Rules) (s : LockState) (t : ℕ) (right : Want) → IsLockState r s → Owns s t right → right ≢ Shared → IsLockState r (sharing_handed t (without_owner t right s)) × NoWriter (without_owner t right s)
 shares r s t right c owns more = grind (arith, nat_tests, sharing_same r s t 0 s.shared c)
 
@@ -112,7 +113,7 @@ once_keeps r (Rest wanted forced) s t c sort n =
     grind (arith, nat_tests, times_append, known_append, sort)
 once_keeps r TakeAll s t c sort n = grind (arith, nat_tests, times_taking, known_taking, sort)
 
--- a shared right more is one more who shares, at most
+-- a shared right more is one more that shares, at most
 more_share : (xs : List ℕ) (t : ℕ) → sum (slice_set xs t (slice_index xs t + 1)) ≤ sum xs + 1
 more_share xs t = elim (cases_lt t (length xs)) [
   | inl lt ↦ let e = sum_by-set (λ (n : ℕ). n) xs t (slice_index xs t + 1) 0 lt in omega arith

@@ -8,7 +8,7 @@ use Rattle.spec_locks.proofs.CondvarKeeps.{all_known, moved_fewer, parts, times_
 use Rattle.spec_locks.proofs.Left.{left_keeps}
 use Rattle.spec_locks.proofs.LockKeeps.{known_append, known_taking, times_append, times_taking}
 
--- more wait, who stood nowhere
+-- more wait, which stood nowhere
 pub joined_keeps : (r : Rules) (owned : Bool) (t : ℕ) (moved : List Queued) (s : LockState) → r.sort ≡ Mutex → IsLockState r s
     → ((u : ℕ) → times u moved ≤ 1) → ((u : ℕ) → 1 ≤ times u moved → standing u s ≡ 0) → IsLockState r (joined_by owned t moved s)
 joined_keeps r owned t moved s mutex c one nowhere = record {

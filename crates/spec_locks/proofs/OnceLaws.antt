@@ -1,4 +1,4 @@
--- Nothing leaves Done, and who waits to run is looked after.
+-- Nothing leaves Done, and a thread that waits to run is looked after.
 use Rattle.std.proofs.Common.{ℕ, Bool, true, false, Option, Some, None, if◌then◌else◌, ◌≡◌, ◌⊎◌, inl, inr, ◌∙◌, refl, sym, subst, arith}
 use Rattle.core_base.specs.declared.wants.Want.{Want}
 use Rattle.core_base.specs.declared.wants.Want.TheVariants.{Exclusive, Upgradable, Shared}

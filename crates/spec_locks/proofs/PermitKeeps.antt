@@ -1,4 +1,4 @@
--- Each deed keeps the count of those who look after a semaphore's line.
+-- Each deed keeps the count of those that look after a semaphore's line.
 use Rattle.std.proofs.Common.{ℕ, Bool, true, false, Option, Some, None, if◌then◌else◌, ◌==◌, ◌≡◌, ◌≢◌, ◌<◌, ◌≤◌, ◌+◌, ◌⊎◌, inl, inr, List, [], ◌∷◌, refl, ap, arith, length-set}
 use Rattle.std.proofs.lemmas.Bool.{cases_eq, cases_lt}
 use Rattle.std.proofs.lemmas.Bool.Decides.{nat_tests}
@@ -172,7 +172,7 @@ module _ (r : Rules) (s : Site) (t : ℕ) (sort : r.sort ≡ Semaphore) (lt : t 
   cases_keep (OfCondvar case) n = absurd (let e = n.0.0 in cc)
   cases_keep (SeeOwner owned) n = absurd (let e = n.0.0 in cc)
 
-  -- t leaves, and whom it has taken tries again: its debt goes to one of them
+  -- t leaves, and the thread that it has taken tries again: its debt goes to that one
   abbrev v : Site
   v = after_deed r Out s t
 

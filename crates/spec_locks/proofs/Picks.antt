@@ -1,4 +1,4 @@
--- The picker of a reader-writer lock's main queue takes those whom the abstract lock says.
+-- The picker of a reader-writer lock's main queue takes those that the abstract lock says.
 use Rattle.std.proofs.Common.{ℕ, true, false, suc, Option, ◌≡◌, ◌≢◌, List, [], ◌∷◌, ◌++◌, refl, arith, take, drop, append-nil, ap, ◌∙◌}
 use Rattle.std.proofs.lemmas.Bool.Decides.{nat_tests}
 use Rattle.std.proofs.Math.Seq.{take-length, drop-length, take-nil, drop-nil}
@@ -23,7 +23,7 @@ ahead_of_more x q more = grind arith
 behind_sharer : (x : Queued) (q : List Queued) → wants_shared x.want ≡ true → ahead_of_unshared (x ∷ q) ≡ suc (ahead_of_unshared q)
 behind_sharer x q shares = grind arith
 
--- where more than a shared right is kept, whoever wants to share is picked
+-- where more than a shared right is kept, each thread that wants to share is picked
 sharers_from : (q : List Queued) → take (ahead_of_unshared q) q ++ sharers (drop (ahead_of_unshared q) q) ≡ sharers q
 sharers_from [] = refl
 sharers_from (x ∷ q) = grind (arith, ahead_of_more x q, behind_sharer x q, sharers_from q)
@@ -63,7 +63,7 @@ writer_picked sort start x q writes normal none = grind arith
 writer_unpicked : (sort : Sort) (start : Option Want) (x : Queued) (q : List Queued) → x.want ≡ Exclusive → is_recursive sort ≡ false → keeps_more start ≡ false → locks.unpicked sort start (x ∷ q) ≡ q
 writer_unpicked sort start x q writes normal none = grind arith
 
--- another who wants more is picked, and then whoever wants to share
+-- another that wants more is picked, and then each thread that wants to share
 other_picked : (sort : Sort) (start : Option Want) (x : Queued) (q : List Queued) → wants_shared x.want ≡ false → (x.want ≡ Exclusive → is_recursive sort ≡ true) → keeps_more start ≡ false → locks.picked sort start (x ∷ q) ≡ x ∷ sharers q
 other_picked sort start x q more passed none = grind (arith, take-length q)
 

@@ -1,4 +1,5 @@
--- Each step keeps the order of each queue: those who stay keep theirs, and who joins stands behind them.
+-- Each step keeps the order of each queue: those that stay keep theirs, and a thread that joins stands behind
+-- them.
 use Rattle.std.proofs.Common.{ℕ, zero, suc, Bool, true, false, Option, Some, None, if◌then◌else◌, ◌==◌, ◌≡◌, ◌≤◌, ◌+◌, inl, inr, List, [], ◌∷◌, ◌++◌, refl, sym, ◌∙◌, ap, subst, arith}
 use Rattle.std.proofs.lemmas.Bool.{eqb-true}
 use Rattle.std.proofs.lemmas.Bool.Decides.{nat_tests}

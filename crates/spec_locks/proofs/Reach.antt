@@ -1,4 +1,4 @@
--- A notification of all reaches whoever stood there as it began.
+-- A notification of all reaches each thread that stood there as it began.
 use Rattle.std.proofs.Common.{ℕ, Bool, true, false, Option, Some, None, if◌then◌else◌, ◌==◌, ◌≡◌, ◌≢◌, ◌≤◌, ◌⊎◌, inl, inr, List, [], ◌∷◌, refl, sym, ◌∙◌, ap, subst, arith}
 use Rattle.std.proofs.lemmas.Bool.{cases_eq}
 use Rattle.spec_locks.specs.declared.calls.Call.{Call}

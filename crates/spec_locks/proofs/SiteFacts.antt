@@ -1,5 +1,5 @@
--- The facts that the deeds of a lock have in common: who shares it, whether it is open, and what a
--- case leaves.
+-- The facts that the deeds of a lock have in common: the threads that share it, whether it is open, and what
+-- a case leaves.
 use Rattle.std.proofs.Common.{ℕ, Bool, true, Option, Some, None, ◌≡◌, ◌≢◌, ◌≤◌, ◌<◌, ◌+◌, inl, inr, List, [], ◌∷◌, ◌++◌, refl, sym, ◌∙◌, arith, get_or-set_same, get_or-set_other}
 use Rattle.std.specs.Prelude.{filter, ◌-◌, ◌||◌, slice_index, slice_set, sum, length}
 use Rattle.std.proofs.lemmas.Bool.{cases_lt}
@@ -35,7 +35,8 @@ fewer_share xs t h = elim (cases_lt t (length xs)) [
   | inr past ↦ let e = get_or_past xs t 0 past in absurd (omega arith)
 ]
 
--- the exclusive, pending and upgradable owners alone decide whether a lock is open, and of a `Once` its phase and who waits to run it
+-- the exclusive, pending and upgradable owners alone decide whether a lock is open, and of a `Once` its phase
+-- and its waiters that want to run it
 pub same_open : (sort : Sort) (a b : LockState) → a.exclusive ≡ b.exclusive → a.pending ≡ b.pending → a.upgradable ≡ b.upgradable → a.phase ≡ b.phase → (has_caller a.queue ≡ true → has_caller b.queue ≡ true) → IsOpen sort a → IsOpen sort b
 same_open Mutex a b e f g p q free = sym e ∙ free
 same_open Normal a b e f g p q free = (sym e ∙ free.0, sym f ∙ free.1, sym g ∙ free.2)
@@ -44,7 +45,7 @@ same_open Semaphore a b e f g p q free = absurd free
 same_open Condvar a b e f g p q free = absurd free
 same_open Once a b e f g p q free = (q free.0, rw (← p) free.1)
 
--- a thread that waits to run a `Once` among those who are left waited before
+-- a thread that waits to run a `Once` among those that are left waited before
 pub callers_filter : (p : Queued → Bool) (xs : List Queued) → has_caller (filter p xs) ≡ true → has_caller xs ≡ true
 callers_filter p [] e = e
 callers_filter p (x ∷ xs) e = grind (arith, callers_filter p xs)

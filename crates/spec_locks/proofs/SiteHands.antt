@@ -1,4 +1,4 @@
--- A thread that hands its right to all whom it has taken keeps what holds of a lock of the lot
+-- A thread that hands its right to all that it has taken keeps what holds of a lock of the lot
 -- between steps.
 use Rattle.std.proofs.Common.{ℕ, true, false, Option, Some, None, ◌≡◌, ◌≢◌, ◌≤◌, ◌+◌, ◌⊎◌, inl, inr, [], refl, ◌∙◌, arith}
 use Rattle.std.proofs.lemmas.Bool.Decides.{nat_tests}
@@ -13,7 +13,7 @@ use Rattle.spec_locks.proofs.Turns.{Local}
 use Rattle.spec_locks.proofs.SiteFacts.{state}
 
 module _ (r : Rules) (s : Site) (t : ℕ) (h : IsSite r s) where
-  -- the owner hands its right to all whom it has taken
+  -- the owner hands its right to all that it has taken
   module _ (x : Want) (successor : Option Queued) (n : Needed r (Case (HandOff x successor)) s t) where
     abbrev handed_lock : LockState
     handed_lock = locks.handed t x successor s.lock

@@ -41,7 +41,7 @@ module _ (r : Rules) (s : Site) (t : ℕ) (h : IsSite r s) where
       known_taken = λ u a e. rw n.0 (known_taking Mutex t gone s.lock.taken known.0 (λ x b f. rw n.0 at (h.state.known_taken x b f)) u a e);
     }
 
-    -- a thread that was in a hand isn't among those who come
+    -- a thread that was in a hand isn't among those that come
     hands_kept : (x u : ℕ) → u ≢ t → counts_taken r.sort u (s.lock.taken x) ≡ true → counts_taken r.sort u (taking t gone s.lock.taken x) ≡ true
     hands_kept x u ne c = by_hand (s.lock.taken x) refl
       where
@@ -117,7 +117,7 @@ module _ (r : Rules) (s : Site) (t : ℕ) (h : IsSite r s) where
     pub bring_keeps : IsSite r (after_deed r (Bring gone moved) s t)
     bring_keeps = turn_keeps r s (after_deed r (Bring gone moved) s t) t (s.role t) _ h refl (put_changed s.role t _) brings_local
 
-  -- those whom a notification moves leave the condition variable, where no way is barred
+  -- those that a notification moves leave the condition variable, where no way is barred
   pub send_keeps : (all : Bool) → Needed r (Send all) s t → IsSite r (after_deed r (Send all) s t)
   send_keeps all n = turn_keeps r s (after_deed r (Send all) s t) t (s.role t) (s.role t) h refl (record { here = refl; other = λ j ne. refl }) (record {
     state = left_keeps r all s.lock h.state;
@@ -165,7 +165,7 @@ module _ (r : Rules) (s : Site) (t : ℕ) (h : IsSite r s) where
   abbrev late_lock : LockState
   late_lock = locks.after_case r Late s.lock t
 
-  -- and who leaves it because its time is up
+  -- A waiter that leaves because its time is up keeps the site.
   pub leave_keeps : Needed r LeaveLine s t → IsSite r (after_deed r LeaveLine s t)
   leave_keeps n = turn_keeps r s (after_deed r LeaveLine s t) t (s.role t) (s.role t) h refl (record { here = refl; other = λ j ne. refl }) (record {
     state = case_keeps r Late s.lock t h.state n.1;

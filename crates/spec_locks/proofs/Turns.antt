@@ -9,12 +9,12 @@ use Rattle.spec_locks.specs.Sites.{Line, Main, Second, Claim, Role, Site, IsSite
 pub record Local (r : Rules) (s v : Site) (t : ℕ) (d d2 : Role) : Type 0 where
   pub state : IsLockState r v.lock
   pub parked : v.lock.queue ≢ [] → (v.parked ≡ true) ⊎ ((d2.sets ≡ true) ⊎ ((s.lock.queue ≢ []) × (s.parked ≡ false) × (d.sets ≡ false)))
-  -- the bit stays where waiters may be brought: to a mutex, by who is inside
+  -- the bit stays where waiters may be brought: to a mutex, by a thread that is inside
   pub bit_stays : s.parked ≡ true → (v.parked ≡ true) ⊎ ((d.inside ≡ Some Main) ⊎ (r.sort ≢ Mutex))
   pub aside_parked : v.lock.aside ≢ None → v.aside_parked ≡ true
   pub full : is_full r v.lock ≡ true → v.filled ≡ true
   pub filled : s.filled ≡ true → v.filled ≡ true
-  -- it goes into a free section, and a line fills up only by who is inside
+  -- it goes into a free section, and a line fills up only by a thread that is inside
   pub inside : (m : Line) → d2.inside ≡ Some m → (d.inside ≡ Some m) ⊎ ((u : ℕ) → (s.role u).inside ≢ Some m)
   pub fills : (m : Line) → IsEmpty s.lock m → IsEmpty v.lock m ⊎ (d.inside ≡ Some m)
   -- its claims of itself are so
@@ -32,7 +32,7 @@ pub record Local (r : Rules) (s v : Site) (t : ℕ) (d d2 : Role) : Type 0 where
   -- a thread that is forgotten by it is another's
   pub main : (v.lock.queue ≢ []) ⊎ (d2.brings ≡ true) → IsOpen r.sort v.lock → v.filled ≡ false
       → IsDebtorRole r.sort d2 ⊎ ((((s.lock.queue ≢ []) ⊎ (d.brings ≡ true)) × IsOpen r.sort s.lock × (IsDebtorRole r.sort d → IsDebtorRole r.sort d2)) ⊎ ((s.lock.queue ≢ []) × (s.parked ≡ false) × (d.sets ≡ false)))
-  -- nor who is to be brought by another, inside the main section
+  -- nor a thread that is to be brought by another, inside the main section
   pub main_brought : s.parked ≡ true → d.inside ≢ Some Main → IsOpen r.sort v.lock → v.filled ≡ false → IsDebtorRole r.sort d2 ⊎ (IsOpen r.sort s.lock × (IsDebtorRole r.sort d → IsDebtorRole r.sort d2))
   pub second : v.lock.aside ≢ None → readers v.lock ≡ 0 → (d2.wakes ≡ Some Second) ⊎ ((s.lock.aside ≢ None) × (readers s.lock ≡ 0) × (d.wakes ≢ Some Second))
 
@@ -113,7 +113,7 @@ module _ (r : Rules) (s v : Site) (t : ℕ) (d d2 : Role) (h : IsSite r s) (is :
     | inr ne ↦ rw (role.other u ne) (h.setting u (rw (role.other u ne) at e))
   ]
 
-  -- where the bit is clear beside a waiter, and t is not the one who sets it, another is
+  -- where the bit is clear beside a waiter, and t is not the one that sets it, another is
   other_sets : s.lock.queue ≢ [] → s.parked ≡ false → d.sets ≡ false → (u : ℕ) × ((v.role u).sets ≡ true)
   other_sets left clear none = elim (h.parked left) [
     | inl k ↦ absurd (let g = k in cc)

@@ -37,7 +37,7 @@ pub record HasOwnersOf (s s2 : LockState) : Type 0 where
 pub data Change (w : LocksState) (t l : ℕ) (s2 : LockState) : Type 0 where
   None_ : s2 ≡ w.locks l → Change w t l s2
   By : (case : LockCase) → MayDo w t l case (w.calls t).purpose → s2 ≡ after_case (rules_at w l) case (w.locks l) t → Change w t l s2
-  -- or a notification moved waiters from it, or to it: its owners stay, and it isn't shared
+  -- A notification moved waiters from the lock, or to it: its owners stay, and it isn't shared.
   Moved : has_readers (rules_at w l).sort ≡ false → HasOwnersOf (w.locks l) s2 → Change w t l s2
 
 module _ (w : LocksState) (t l : ℕ) where

@@ -1,4 +1,4 @@
--- A thread leaves its section, and all whom it has taken try again: what holds between steps holds again.
+-- A thread leaves its section, and all that it has taken try again: what holds between steps holds again.
 use Rattle.std.proofs.Common.{ℕ, Bool, true, false, Option, Some, None, if◌then◌else◌, ◌==◌, ◌≡◌, ◌≢◌, ◌≤◌, ◌+◌, ◌⊎◌, inl, inr, [], refl, sym, ap, ◌∙◌, arith}
 use Rattle.std.proofs.lemmas.Bool.{cases_eq}
 use Rattle.std.proofs.lemmas.Bool.Decides.{nat_tests}
@@ -35,7 +35,7 @@ unwakened t (Some h) d e = either (h.by == t) refl
     either false f = refl
     either true f = absurd (let g : keep_from t (Some h) ≡ None = ap (λ b. if b then None else Some h) f in cc)
 
--- and whoever is let go does
+-- Each waiter that is let go counts.
 wakened_counts : (sort : Sort) (t : ℕ) (o : Option Taken) (d : Role) → counts_taken sort t o ≡ true → counts_some sort (wakened t o d).retries ≡ true
 wakened_counts sort t None d c = absurd cc
 wakened_counts sort t (Some h) d c = grind (arith, nat_tests)

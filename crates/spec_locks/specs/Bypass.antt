@@ -1,4 +1,5 @@
--- How long a thread waits for a mutex that is handed over: who stands k-th owns it after k others at most.
+-- How long a thread waits for a mutex that is handed over: a thread that stands k-th owns it after k others
+-- at most.
 use Rattle.std.specs.Prelude.{ℕ, zero, suc, Option, Some, None, if◌then◌else◌, ◌==◌, ◌+◌, ◌<◌, ◌≤◌, ◌≡◌, ◌≢◌, ◌⊎◌, List, [], ◌∷◌}
 use Rattle.spec_locks.specs.declared.calls.Step.{Step}
 use Rattle.spec_locks.specs.declared.outcomes.Outcome.{Outcome}
@@ -15,7 +16,7 @@ abbrev pub in_hands : ℕ → (ℕ → Option Taken) → ℕ
 in_hands zero taken = 0
 in_hands (suc n) taken = one_if_some (taken n) + in_hands n taken
 
--- those who come before it
+-- those that come before it
 abbrev pub turns : ℕ → ℕ → LockState → ℕ
 turns n t s = ahead t s.queue + in_hands n s.taken
 
@@ -24,8 +25,8 @@ abbrev pub passed : Option ℕ → Option ℕ → ℕ
 passed (Some a) (Some b) = if a == b then 0 else 1
 passed before now = 0
 
--- In a step, somebody waits for a mutex and goes on waiting. The mutex is owned, and isn't let go: who
--- releases it hands it over. And nobody comes into a hand but from its queue.
+-- In a step, somebody waits for a mutex and goes on waiting. The mutex is owned, and isn't let go: a thread
+-- that releases it hands it over. And nobody comes into a hand but from its queue.
 pub record IsHandedOn (w v : LocksState) (n l t : ℕ) : Type 0 where
   pub mutex : (rules_at w l).sort ≡ Mutex
   pub waits : 1 ≤ times t (w.locks l).queue
@@ -37,7 +38,7 @@ pub record IsHandedOn (w v : LocksState) (n l t : ℕ) : Type 0 where
   pub hands : (u : ℕ) → (v.locks l).taken u ≢ None
       → ((w.locks l).taken u ≢ None) ⊎ (1 ≤ times u (w.locks l).queue)
 
--- then each passing of the mutex costs one of those who come before it, and nobody comes before it anew
+-- then each passing of the mutex costs one of those that come before it, and nobody comes before it anew
 abbrev pub NobodyOvertakes : Type 0
 NobodyOvertakes =
     (w v : LocksState) (s : Step) (o : Outcome) (n l t : ℕ) → AreLockStates w → IsStep w s o v

@@ -61,8 +61,7 @@ has_aside v = v / 2 % 2 == 1
 abbrev pub has_parked : ℕ → Bool
 has_parked v = v % 2 == 1
 
--- and in the word of a `Once`: whether it is done, poisoned or run, and whether somebody may stand
--- in the queue
+-- The word of a `Once` says whether it is done, poisoned or run, and whether somebody may stand in the queue.
 abbrev pub is_done : ℕ → Bool
 is_done v = v % 2 == 1
 
@@ -109,7 +108,7 @@ bars recursive x v = has_parked v && is_blocked recursive x v
 abbrev pub leaves_readers : ℕ → Bool
 leaves_readers v = has_aside v && not (count_in v == 0)
 
--- and that only waits for a run: it isn't done, nor poisoned unless that is forced
+-- The word of a `Once` that a call only waits for: it isn't done, nor poisoned unless that is forced.
 abbrev pub leaves_unfinished : Bool → ℕ → Bool
 leaves_unfinished forced v = is_marked v && (not (is_done v) && (forced || not (is_poisoned v)))
 

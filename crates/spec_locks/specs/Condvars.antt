@@ -26,7 +26,7 @@ pub record Inside : Type 0 where
   pub thread : ℕ
   pub stage : CondvarStage
 
--- the mutex shown, the waiters in order, who is inside, and the mutex that a thread's wait names
+-- the mutex shown, the waiters in order, the thread inside, and the mutex that a thread's wait names
 pub record CondvarSite : Type 0 where
   pub shown : Option ℕ
   pub waiters : List Queued

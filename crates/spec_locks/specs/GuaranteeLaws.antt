@@ -1,4 +1,4 @@
--- What follows of the guarantees, each in one sentence.
+-- The consequences of the guarantees, each in one sentence.
 use Rattle.std.specs.Prelude.{ℕ, Bool, true, Some, None, ◌≡◌, ◌≢◌, ◌≤◌, ◌⊎◌, List, [], ◌∷◌}
 use Rattle.spec_locks.specs.declared.calls.Step.{Step}
 use Rattle.spec_locks.specs.declared.kinds.Kind.{Kind}
@@ -37,7 +37,7 @@ QuietWorldsRest = (w : LocksState) (full : ℕ → Bool) → IsSafe w full → I
 
 -- ---------------------------------------------------------------- no lost notification
 
--- all who wait do so with another mutex than the one that it has seen
+-- all that wait do so with another mutex than the one that it has seen
 pub record WaitWithAnother (w v : LocksState) (t c : ℕ) : Type 0 where
   pub mutex : ℕ
   pub shown : (v.locks c).shown ≡ Some mutex
@@ -63,15 +63,15 @@ pub record IsToBeReached (w : LocksState) (c t u : ℕ) : Type 0 where
   pub notifies : (w.calls u).purpose ≡ Some (Notifies c true)
   pub safe : (full : ℕ → Bool) × IsSafe w full
 
--- and so it goes on
+-- A run whose steps each keep this.
 abbrev pub GoesOnSo : ℕ → ℕ → ℕ → LocksState → List Step → List Outcome → LocksState → Type 0
 GoesOnSo c t u w [] [] v = v ≡ w
 GoesOnSo c t u w (s ∷ ss) (o ∷ os) v =
     (x : LocksState) × IsStep w s o x × IsToBeReached x c t u × GoesOnSo c t u x ss os v
 GoesOnSo c t u w ss os v = ⊥
 
--- Who stands in the list as a notification of all begins, and stands there until it has answered, is about to
--- be moved by another. So each other is moved by then, or its time was up.
+-- A waiter that is in the list as a notification of all begins, and is there until it has answered, is about
+-- to be moved by another. Each other waiter is moved by then, or its time was up.
 abbrev pub NotificationsReach : Type 0
 NotificationsReach =
     (c t u : ℕ) (w v z : LocksState) (steps : List Step) (told : List Outcome) (s : Step) (a : Answer)

@@ -30,8 +30,8 @@ abbrev pub IsQuiet : LocksState → Type 0
 IsQuiet w = (t : ℕ) → (w.calls t).purpose ≢ None
     → ((w.stances t).asleep ≡ true) ⊎ ((w.stances t).in_closure ≡ true)
 
--- what those wait for who stand in the main line: that an owner leaves, that a permit is given back,
--- that a run ends (or that one begins, where nobody is there to run it), or a notification
+-- what the waiters in the main line wait for: that an owner leaves, that a permit is given back, that a run
+-- ends (or that one begins, where nobody is there to run it), or a notification
 abbrev pub WaitsForSome : Sort → ℕ → LockState → Type 0
 WaitsForSome Mutex limit s = s.exclusive ≢ None
 WaitsForSome Normal limit s = (s.exclusive ≢ None) ⊎ ((s.pending ≢ None) ⊎ (s.upgradable ≢ None))
@@ -49,7 +49,7 @@ pub record Rests (w : LocksState) (was_full : ℕ → Bool) : Type 0 where
   pub aside : (l : ℕ) → (w.locks l).aside ≢ None → 1 ≤ readers (w.locks l)
   -- nobody is in the hand of another
   pub in_no_hand : (t l : ℕ) → (w.locks l).taken t ≡ None
-  -- and whoever sleeps stands in a queue or aside
+  -- A thread that sleeps stands in a queue or aside.
   pub somewhere : (t : ℕ) → (w.stances t).asleep ≡ true
       → (l : ℕ) × ((1 ≤ times t (w.locks l).queue) ⊎ ((w.locks l).aside ≡ Some t))
 
@@ -59,11 +59,11 @@ pub record StateHolds (w : LocksState) (was_full : ℕ → Bool) : Type 0 where
   pub exclude : AreLockStates w
   -- where no thread has anything to do, nobody waits for a lock that is open
   pub rests : IsQuiet w → Rests w was_full
-  -- and where one has, some thread can go on
+  -- While a thread is awake in a call, some thread can go on.
   pub goes : (t : ℕ) → (w.calls t).purpose ≢ None → IsUp (w.stances t) → (u : ℕ) × MayGo w u
   -- a condition variable shows the mutex with which all wait there
   pub shown : (c : ℕ) → sort_in w c ≡ Condvar → ShowsWaiters w c
-  -- and whoever waits there and sleeps has let its mutex go
+  -- A sleeper that waits for a notification has let its mutex go.
   pub let_go : (t : ℕ) → LetsGo w t
 
 -- ---------------------------------------------------------------- every step
@@ -74,7 +74,7 @@ IsPartOf [] q = Unit {0}
 IsPartOf (x ∷ xs) [] = ⊥
 IsPartOf (x ∷ xs) (y ∷ q) = ((x ≡ y) × IsPartOf xs q) ⊎ IsPartOf (x ∷ xs) q
 
--- those who stay in a line keep their order, and who joins it stands behind them
+-- those that stay in a line keep their order, and a thread that joins it stands behind them
 pub record KeepsOrderOf (before now : List Queued) : Type 0 where
   pub left : List Queued
   pub joined : List Queued
@@ -116,7 +116,7 @@ pub record StepHolds (w : LocksState) (s : Step) (o : Outcome) (v : LocksState) 
       → v.calls s.thread ≡ record (w.calls s.thread) { late = true }
   pub ends : (a : Answer) → o ≡ outcome.TheVariants.End a → v.calls s.thread ≡ no_call
   pub goes_on : (u : ℕ) → (u ≡ s.thread → IsUnderWay s o) → CallGoesOn (w.calls u) (v.calls u)
-  -- who is in no call owns what it owned
+  -- a thread that is in no call owns what it owned
   pub idle : (u : ℕ) → (w.calls u).purpose ≡ None → (l : ℕ) → rights_in v u l ≡ rights_in w u l
   -- no wait wakes by itself: another thread notifies it
   pub notified : NobodyWakesByItself w v

@@ -108,13 +108,13 @@ pub record NobodyForgotten (w : LocksState) (was_full : ℕ → Bool) : Type 0 w
   pub main : (t l : ℕ) → 1 ≤ times t (w.locks l).queue → IsOpenNow (rules_at w l) (w.locks l)
       → (has_readers (sort_in w l) ≡ true → was_full l ≡ false)
       → IsLookedAfter w l Main
-  -- and so is a writer aside when the last reader has gone
+  -- A writer aside is looked after when the last reader has gone.
   pub second : (l : ℕ) → (w.locks l).aside ≢ None → readers (w.locks l) ≡ 0
       → IsLookedAfter w l Second
   -- a thread that was taken is in the hand of one that is inside a section of the lock
   pub in_hand : (t l : ℕ) (h : Taken) → (w.locks l).taken t ≡ Some h
       → (m : Line) × (w.inside (key_of l m) ≡ Some h.by)
-  -- and a thread that sleeps stands in a queue or aside, is in a hand, or was handed its lock
+  -- A thread that sleeps stands in a queue or aside, is in a hand, or was handed its lock.
   pub asleep : (t : ℕ) → (w.stances t).asleep ≡ true
       → ((l : ℕ) × (1 ≤ standing t (w.locks l))) ⊎ IsHandedOver w t
   -- a thread that is inside a section is in a call, and goes on freely
@@ -130,9 +130,9 @@ pub record IsSafe (w : LocksState) (was_full : ℕ → Bool) : Type 0 where
   pub waiters : NobodyForgotten w was_full
   -- a condition variable shows the mutex with which all wait there
   pub shown : (c : ℕ) → sort_in w c ≡ Condvar → ShowsWaiters w c
-  -- who stands in a queue, stands aside or is in a hand is in a call that waits for the lock
+  -- a thread that stands in a queue, stands aside or is in a hand is in a call that waits for the lock
   pub waiting : (t l : ℕ) → 1 ≤ standing t (w.locks l) → MayWait (w.calls t).purpose l
-  -- and whoever waits there and sleeps has let its mutex go
+  -- A sleeper that waits for a notification has let its mutex go.
   pub let_go : (t : ℕ) → LetsGo w t
 
 -- ---------------------------------------------------------------- every list of steps

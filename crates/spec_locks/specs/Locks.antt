@@ -1,4 +1,4 @@
--- The abstract locks: who owns, who waits, and what one thread may do to a lock in one step.
+-- The abstract locks: their owners, their waiters, and what one thread may do to a lock in one step.
 use Rattle.std.specs.Prelude.{ℕ, Bool, true, false, Option, Some, None, if◌then◌else◌, ◌==◌, ◌&&◌, ◌||◌, not, ◌+◌, ◌-◌, ◌<◌, ◌≤◌, ◌≡◌, ◌≢◌, ◌↔◌, List, [], ◌∷◌, ◌++◌, filter, sum, slice_index, slice_set, take, drop, length, replicate, find, is_some, ◌⊎◌}
 use Rattle.std.specs.List.{prefix_len}
 use Rattle.core_base.specs.declared.wants.Want.{Want}
@@ -10,7 +10,7 @@ pub record Queued : Type 0 where
   pub thread : ℕ
   pub want : Want
 
--- by whom a thread was taken from a queue, to be woken or to be handed the lock, and what it wants
+-- the thread by which one was taken from a queue, to be woken or to be handed the lock, and what it wants
 pub record Taken : Type 0 where
   pub by : ℕ
   pub want : Want
@@ -21,11 +21,10 @@ pub record Pending : Type 0 where
   pub thread : ℕ
   pub falls_back : Bool
 
--- The owners: one exclusive, pending and upgradable at most, and each thread's number of shared
--- rights, by the thread's number. The waiters: the main queue from its front, the pending writer
--- that sleeps aside, and who was taken from a queue by whom. A `Once` has a phase in place of
--- owners, and a condition variable shows the mutex with which its waiters wait; those of any other
--- lock stay the first.
+-- The owners: one exclusive, pending and upgradable at most, and each thread's number of shared rights, by
+-- the thread's number. The waiters: the main queue from its front, the pending writer that sleeps aside, and
+-- which thread was taken from a queue by which. A `Once` has a phase in place of owners, and a condition
+-- variable shows the mutex with which its waiters wait; those of any other lock stay the first.
 pub record LockState : Type 0 where
   pub exclusive : Option ℕ
   pub pending : Option Pending
@@ -38,7 +37,7 @@ pub record LockState : Type 0 where
   pub shown : Option ℕ
 
 -- the sorts of lock: one owner; many readers beside each other; the same, where a reader may come
--- back beside a pending writer; a number of permits; a run that completes once; a list of those who
+-- back beside a pending writer; a number of permits; a run that completes once; a list of those that
 -- wait, each with a mutex, to be notified
 pub data Sort : Type 0 where
   Mutex : Sort
@@ -80,7 +79,7 @@ count s = readers s + one_if_some s.upgradable
 abbrev pub putting : {A : Type 0} → (ℕ → A) → ℕ → A → ℕ → A
 putting f t x u = if u == t then x else f u
 
--- those whom t has taken are let go
+-- those that t has taken are let go
 abbrev pub keep_from : ℕ → Option Taken → Option Taken
 keep_from t None = None
 keep_from t (Some h) = if h.by == t then None else Some h
@@ -224,7 +223,7 @@ sharers q = filter (λ (x : Queued). wants_shared x.want) q
 abbrev pub others : List Queued → List Queued
 others q = filter (λ (x : Queued). not (wants_shared x.want)) q
 
--- the first who wants more, and how many stand ahead of it
+-- the first that wants more, and how many stand ahead of it
 abbrev pub first_unshared : List Queued → Option Queued
 first_unshared q = find (λ (x : Queued). not (wants_shared x.want)) q
 
@@ -257,18 +256,18 @@ before_stop sort start q = take (stop_of sort start q) q
 abbrev pub behind_stop : Sort → Option Want → List Queued → List Queued
 behind_stop sort start q = drop (stop_of sort start q) q
 
--- the front, of whom each is picked: all ahead of that first one, and it too unless more than a
--- shared right is kept
+-- the front, each of which is picked: all ahead of that first one, and it too unless more than a shared right
+-- is kept
 abbrev pub front_of : Option Want → List Queued → ℕ
 front_of start q = if keeps_more start then ahead_of_unshared q else 1 + ahead_of_unshared q
 
--- before the stop: those at the front, and behind them whoever wants to share
+-- before the stop: those at the front, and behind them each thread that wants to share
 abbrev pub picked : Sort → Option Want → List Queued → List Queued
 picked sort start q =
     take (front_of start q) (before_stop sort start q)
     ++ sharers (drop (front_of start q) (before_stop sort start q))
 
--- and who is left, in order
+-- The waiters that a picker leaves, in order.
 abbrev pub unpicked : Sort → Option Want → List Queued → List Queued
 unpicked sort start q = others (drop (front_of start q) (before_stop sort start q))
     ++ behind_stop sort start q
@@ -301,13 +300,13 @@ pub data LockCase : Type 0 where
   Park : (want : Want) → LockCase
   -- the pending writer stands aside
   Aside : LockCase
-  -- it takes the first of the queue, or the writer aside, or those who are picked
+  -- it takes the first of the queue, or the writer aside, or those that are picked
   TakeFirst : (first : Queued) → LockCase
   TakeAside : (first : ℕ) → LockCase
   TakePicked : (start : Option Want) → LockCase
-  -- it wakes all whom it has taken, and they try again
+  -- it wakes all that it has taken, and they try again
   Wake : LockCase
-  -- it hands its right to all whom it has taken: it owns no longer, and they own, in one step; the
+  -- it hands its right to all that it has taken: it owns no longer, and they own, in one step; the
   -- successor is the one among them that wants more than to share
   HandOff : (right : Want) → (successor : Option Queued) → LockCase
   -- its time is up, and it leaves the queue
@@ -316,7 +315,7 @@ pub data LockCase : Type 0 where
   Rollback : LockCase
   -- the deeds of a thread at a `Once`
   OfOnce : OnceCase → LockCase
-  -- and to a condition variable
+  -- A case of a condition variable.
   OfCondvar : CondvarCase → LockCase
   -- a notification sees whether somebody owns the mutex that is shown
   SeeOwner : (owned : Bool) → LockCase
@@ -328,7 +327,7 @@ with_owner t Upgradable s = record s { upgradable = Some t }
 with_owner t Shared s = record s { shared = slice_set s.shared t (slice_index s.shared t + 1) }
 with_owner t x s = s
 
--- and with one right less
+-- The lock with one right less.
 abbrev pub without_owner : ℕ → Want → LockState → LockState
 without_owner t Exclusive s = record s { exclusive = None }
 without_owner t Upgradable s = record s { upgradable = None }
@@ -399,7 +398,7 @@ MayConvert Upgradable Shared = Unit {0}
 MayConvert Upgradable Exclusive = Unit {0}
 MayConvert right wanted = ⊥
 
--- the successor is the one whom t has taken and who wants more than to share
+-- the successor is the one that t has taken and that wants more than to share
 abbrev pub IsSuccessor : LockState → ℕ → Option Queued → Type 0
 IsSuccessor s t successor =
     (u : ℕ) (x : Want) → (successor ≡ Some (record { thread = u; want = x }))
@@ -444,7 +443,7 @@ condvar_after (Look seen) s = s
 condvar_after (Show m) s = record s { shown = Some m }
 condvar_after Hide s = record s { shown = None }
 
--- those whom a notification moves, the first or all, leave the list of the condition variable
+-- those that a notification moves, the first or all, leave the list of the condition variable
 abbrev pub left_behind : Bool → LockState → LockState
 left_behind all s = record s { queue = if all then [] else drop 1 s.queue }
 
@@ -476,7 +475,7 @@ Needs r (OfOnce case) s t = (r.sort ≡ Once) × OnceNeeds case s t
 Needs r (OfCondvar case) s t = (r.sort ≡ Condvar) × CondvarNeeds case s
 Needs r (SeeOwner owned) s t = (r.sort ≡ Mutex) × (owned ≡ is_some s.exclusive)
 
--- and where it leads
+-- The lock after a case.
 abbrev pub after_case : Rules → LockCase → LockState → ℕ → LockState
 after_case r (Enter x) s t = with_owner t x s
 after_case r Pend s t = pending_for t false s

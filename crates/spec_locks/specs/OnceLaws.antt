@@ -10,8 +10,8 @@ NothingLeavesDone =
     (r : Rules) (case : LockCase) (s : LockState) (t : ℕ) → Needs r case s t → s.phase ≡ Done
     → (after_case r case s t).phase ≡ Done
 
--- while somebody waits to run it and nobody runs, some thread has seen the waiters and takes them,
--- or lets those go whom it has taken
+-- while somebody waits to run it and nobody runs, some thread has seen the waiters and takes them, or lets go
+-- those that it has taken
 abbrev pub CallersAreLookedAfter : Type 0
 CallersAreLookedAfter =
     (r : Rules) (s : Site) → r.sort ≡ Once → s.filled ≡ false → IsSite r s

@@ -21,7 +21,7 @@ abbrev pub debts : Site → ℕ
 debts s = sum_to (length s.lock.shared) (λ t. debt (s.role t))
 
 pub record HasPermits (r : Rules) (s : Site) : Type 0 where
-  -- while somebody waits, those who hold a permit and those who look after the line are no fewer
+  -- while somebody waits, those that hold a permit and those that look after the line are no fewer
   -- than the permits
   pub enough : s.lock.queue ≢ [] → r.limit ≤ readers s.lock + debts s
   -- nobody brings waiters from elsewhere
@@ -35,7 +35,7 @@ EachDeedKeepsPermits =
     → IsSite r s
     → HasPermits r s → Needed r deed s t → HasPermits r (after_deed r deed s t)
 
--- so whoever waits while a permit is free is looked after
+-- each thread that waits while a permit is free is looked after
 abbrev pub PermitsAreLookedAfter : Type 0
 PermitsAreLookedAfter = (r : Rules) (s : Site) → HasPermits r s → s.lock.queue ≢ []
     → readers s.lock < r.limit

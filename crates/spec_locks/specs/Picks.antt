@@ -1,4 +1,4 @@
--- The picker of a reader-writer lock's main queue picks whom the abstract lock says.
+-- The picker of a reader-writer lock's main queue picks the threads that the abstract lock says.
 use Rattle.std.specs.Prelude.{ℕ, Option, ◌≡◌, ◌≢◌, List, map}
 use Rattle.core_base.specs.declared.wants.Waiter.{Waiter}
 use Rattle.core_base.specs.declared.wants.Want.{Want}
@@ -17,13 +17,13 @@ queue_under key waiters = map queued_of (line key waiters)
 -- the waiters that a thread picks of the line of a key, by the right that it keeps, if any
 pub record PicksAsTheLockSays (sort : Sort) (start : Option Want) (key : ℕ)
     (waiters : List Waiter) : Type 0 where
-  -- it takes just those whom the lock says, in order
+  -- it takes just those that the lock says, in order
   pub taken : map queued_of (lock_picked start (is_recursive sort) (line key waiters))
       ≡ picked sort start (queue_under key waiters)
   -- it leaves just the others, in order
   pub left : queue_under key (without_lock_picked start (is_recursive sort) key waiters)
       ≡ unpicked sort start (queue_under key waiters)
-  -- and every other line stays as it was
+  -- Every other line stays as it was.
   pub elsewhere : (k : ℕ) → k ≢ key
       → line k (without_lock_picked start (is_recursive sort) key waiters) ≡ line k waiters
 

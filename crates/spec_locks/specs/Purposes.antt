@@ -138,13 +138,13 @@ pub data Recall : Type 0 where
   Blank : Recall
   -- a notification has seen this mutex shown
   Saw : (mutex : ℕ) → Recall
-  -- and inside both sections, whether somebody owns it
+  -- A notification saw, inside both sections, whether somebody owns the mutex.
   SawOwner : (mutex : ℕ) → (owned : Bool) → Recall
   -- it has taken and moved so many
   HasMoved : (mutex number : ℕ) → Recall
   -- a wait was moved to its mutex: to its queue, or into a hand
   WasMoved : Recall
-  -- and was woken since, or handed its mutex, or left that queue
+  -- A waiter was notified, and was woken since, or handed its mutex, or left that queue.
   WasNotified : Recall
 
 -- the lock of which a call is
@@ -262,8 +262,8 @@ abbrev pub ReleasesOnce : Bool → LockCase → Type 0
 ReleasesOnce released (Leave y) = (y ≡ Exclusive) × (released ≡ false)
 ReleasesOnce released case = ReleasesBy Exclusive false case
 
--- and has it again by that release alone; it gives up in the queue of the mutex too, where it was
--- moved there
+-- A wait has its mutex again by that release alone. It gives up in the queue of the mutex too, where it was
+-- moved there.
 abbrev pub WaitsBeside : Bool → Option ℕ → Bool → Recall → LockCase → Type 0
 WaitsBeside timed gave_up released recalls Late = (timed ≡ true) × (recalls ≡ WasMoved)
 WaitsBeside timed gave_up released recalls case =

@@ -98,7 +98,7 @@ AreLockStates w = (l : ℕ) → IsLockState (rules_at w l) (w.locks l)
 abbrev pub no_call : CallState
 no_call = new_call None (λ l. no_rights)
 
--- and it is awake
+-- The stance of a thread in no call: it is awake.
 abbrev pub no_stance : Status
 no_stance = record { asleep = false; in_closure = false; enters = None; may_spin = false }
 
@@ -118,7 +118,7 @@ pub data Event : Type 0 where
   AtLock : (lock : ℕ) → LockCase → Event
   Moves : (condvar mutex : ℕ) → (all owned : Bool) → (number : ℕ) → Event
 
--- those whom it moves stand behind the last who waits for the mutex; of a free one the first of
+-- those that it moves stand behind the last that waits for the mutex; of a free one the first of
 -- them is in its hand
 abbrev pub joined_by : Bool → ℕ → List Queued → LockState → LockState
 joined_by owned t moved s =
@@ -174,8 +174,8 @@ is_among u q = nat_le 1 (times u q)
 abbrev pub if_moved : ℕ → List Queued → CallState → CallState
 if_moved u moved c = if is_among u moved then record c { recalls = WasMoved } else c
 
--- and any other thread: whoever is woken tries the lock again, and who was handed it doesn't; who
--- was notified knows it
+-- The call of a thread after an event: one that is woken tries the lock again, and one that was handed it
+-- doesn't. A waiter that was notified knows it.
 abbrev pub woken : LocksState → ℕ → Event → ℕ → CallState → CallState
 woken w t (AtLock l Wake) u c =
     if is_taken_by t ((w.locks l).taken u)
@@ -234,7 +234,7 @@ MayHappen w t (Moves c m all owned number) = MayMove w t c m all owned number
 abbrev pub one_more_at : ℕ → Want → (ℕ → Rights) → ℕ → Rights
 one_more_at l x rights = putting rights l (with_right x (rights l))
 
--- and one right less
+-- The rights with one less at a lock.
 abbrev pub one_less_at : ℕ → Want → (ℕ → Rights) → ℕ → Rights
 one_less_at l x rights = putting rights l (without_right x (rights l))
 
@@ -242,15 +242,15 @@ one_less_at l x rights = putting rights l (without_right x (rights l))
 abbrev pub Keeps : LocksState → ℕ → CallState → Type 0
 Keeps w t c = (k : ℕ) → rights_in w t k ≡ c.former k
 
--- and one right more: it was got in this call
+-- The thread has one right more, which it got in this call.
 abbrev pub Gains : LocksState → ℕ → CallState → ℕ → Want → Type 0
 Gains w t c l x = (k : ℕ) → rights_in w t k ≡ one_more_at l x c.former k
 
--- and one right less
+-- The thread has one right less.
 abbrev pub Loses : LocksState → ℕ → CallState → ℕ → Want → Type 0
 Loses w t c l x = (k : ℕ) → one_more_at l x (rights_in w t) k ≡ c.former k
 
--- and one right in place of another
+-- The thread has one right in place of another.
 abbrev pub Replaces : LocksState → ℕ → CallState → ℕ → Want → Want → Type 0
 Replaces w t c l x y = (k : ℕ) → one_more_at l x (rights_in w t) k ≡ one_more_at l y c.former k
 
@@ -289,7 +289,7 @@ BumpsAnswer w t c l x answer.TheVariants.Ok = Owns (w.locks l) t x × Keeps w t 
 BumpsAnswer w t c l x answer.TheVariants.ReadersFull = IsFull w l x × Loses w t c l x
 BumpsAnswer w t c l x a = ⊥
 
--- a `Once` is done, or poisoned for who isn't forced; or the thread's own run failed
+-- a `Once` is done, or poisoned for a thread that isn't forced; or the thread's own run failed
 abbrev pub CallsOnceAnswer : LocksState → ℕ → CallState → ℕ → Bool → Answer → Type 0
 CallsOnceAnswer w t c l forced answer.TheVariants.Ok = ((w.locks l).phase ≡ Done) × Keeps w t c
 CallsOnceAnswer w t c l forced answer.TheVariants.Poisoned =
@@ -383,7 +383,7 @@ Begins w event o = Unit {0}
 
 -- ---------------------------------------------------------------- steps
 
--- the thread has the right that its call needs: who waits owns a mutex that condition variables
+-- the thread has the right that its call needs: a thread that waits owns a mutex that condition variables
 -- work with
 abbrev pub HasRight : LocksState → ℕ → Option Purpose → Type 0
 HasRight w t None = ⊥
@@ -516,7 +516,7 @@ abbrev pub is_closure : Outcome → Bool
 is_closure (outcome.TheVariants.Closure state) = true
 is_closure o = false
 
--- threads and locks stay as many, locks of their kinds, and sections are those of who is inside
+-- threads and locks stay as many, locks of their kinds, and sections are those of the threads inside
 pub record KeepsOrder (w : LocksState) (t : ℕ) (o : Outcome) (v : LocksState) : Type 0 where
   pub threads : v.threads ≡ w.threads
   pub size : v.size ≡ w.size
@@ -525,7 +525,7 @@ pub record KeepsOrder (w : LocksState) (t : ℕ) (o : Outcome) (v : LocksState) 
   -- the thread is told that it sleeps exactly where it does
   pub told : o ≢ outcome.TheVariants.NotNow → (o ≡ outcome.TheVariants.Sleep)
       ↔ ((v.stances t).asleep ≡ true)
-  -- and to run its closure exactly where it does
+  -- A closure is told exactly to a thread that runs it.
   pub runs : o ≢ outcome.TheVariants.NotNow → is_closure o ≡ (v.stances t).in_closure
 
 -- ---------------------------------------------------------------- the other threads
@@ -544,7 +544,7 @@ LetsGo w t =
     (l m : ℕ) (timed : Bool) → (w.calls t).purpose ≡ Some (Waits l m timed)
     → (w.stances t).asleep ≡ true → (w.calls t).released ≡ true
 
--- a thread inside the section notifies all, and so is about to move whoever is there
+-- a thread inside the section notifies all, and so is about to move each thread that is there
 pub record IsBeingEmptied (w : LocksState) (c : ℕ) : Type 0 where
   pub thread : ℕ
   pub inside : w.inside (key_of c Main) ≡ Some thread
@@ -554,7 +554,7 @@ pub record IsBeingEmptied (w : LocksState) (c : ℕ) : Type 0 where
 pub record ShowsWaiters (w : LocksState) (c : ℕ) : Type 0 where
   pub one : (t m : ℕ) → (w.locks c).shown ≡ Some m → 1 ≤ times t (w.locks c).queue
       → (timed : Bool) × ((w.calls t).purpose ≡ Some (Waits c m timed))
-  -- and where it shows none, nobody waits, but while a notification is about to move all
+  -- Where no mutex is shown, nobody waits, but while a notification is about to move all.
   pub none : (w.locks c).shown ≡ None → ((w.locks c).queue ≡ []) ⊎ IsBeingEmptied w c
   -- it shows none where nobody waits, unless a thread is inside its section
   pub left : w.inside (key_of c Main) ≡ None → (w.locks c).queue ≡ [] → (w.locks c).shown ≡ None
@@ -566,7 +566,7 @@ pub record LeavesOthers (w : LocksState) (t : ℕ) (v : LocksState) : Type 0 whe
       ⊎ (((w.stances u).asleep ≡ true) × MayWake w t u)
   -- nobody sleeps with a mutex that it is to release
   pub lets_go : LetsGo v t
-  -- and no waiter of a condition variable is left behind
+  -- No waiter of a condition variable is left behind.
   pub shown : (c : ℕ) → (rules_at v c).sort ≡ Condvar → ShowsWaiters v c
 
 abbrev pub IsStep : LocksState → Step → Outcome → LocksState → Type 0

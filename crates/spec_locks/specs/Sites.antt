@@ -24,7 +24,7 @@ pub record Role : Type 0 where
   pub inside : Option Line
   -- the line whose waiters it has seen, since it gave way, and hasn't taken yet
   pub wakes : Option Line
-  -- it has taken in this section whom it was to take
+  -- it has taken in this section the threads that it was to take
   pub carries : Bool
   -- it has taken them, none of its own rights bars the way, and it is to let them go
   pub covers : Bool
@@ -74,7 +74,7 @@ opening_site threads =
 
 -- ---------------------------------------------------------------- words
 
--- nobody bars the way of whoever stands in the main line
+-- nobody bars the way of the waiters in the main line
 abbrev pub IsOpen : Sort → LockState → Type 0
 IsOpen Mutex s = s.exclusive ≡ None
 IsOpen Semaphore s = ⊥
@@ -151,7 +151,7 @@ pub record IsSite (r : Rules) (s : Site) : Type 0 where
   -- nobody is inside a section beside another
   pub alone : (t u : ℕ) (m : Line) → (s.role t).inside ≡ Some m → (s.role u).inside ≡ Some m
       → t ≡ u
-  -- a waiter implies its bit, or somebody who is yet to set it, or to take the waiters
+  -- a waiter implies its bit, or somebody that is yet to set it, or to take the waiters
   pub parked : s.lock.queue ≢ [] → (s.parked ≡ true) ⊎ ((t : ℕ) × ((s.role t).sets ≡ true))
   pub aside_parked : s.lock.aside ≢ None → s.aside_parked ≡ true
   -- a thread that has seen nobody is inside that section, and nobody has come
@@ -172,7 +172,7 @@ pub record IsSite (r : Rules) (s : Site) : Type 0 where
   pub unwoken : (t : ℕ) → 1 ≤ standing t s.lock → (s.role t).retries ≡ None
   -- once full, noted
   pub full : is_full r s.lock ≡ true → s.filled ≡ true
-  -- nobody is forgotten, nor who is to be brought
+  -- nobody is forgotten, nor a thread that is to be brought
   pub main : (s.lock.queue ≢ []) ⊎ ((t : ℕ) × ((s.role t).brings ≡ true)) → IsOpen r.sort s.lock
       → s.filled ≡ false
       → (t : ℕ) × IsDebtorRole r.sort (s.role t)
@@ -186,7 +186,7 @@ pub data Deed : Type 0 where
   Begin : Option Claim → Deed
   -- a call ends
   End : Deed
-  -- into a section, and out of it, where all whom it has taken are woken
+  -- into a section, and out of it, where all that it has taken are woken
   In : Line → Deed
   Out : Deed
   -- sets a parked bit, or clears one
@@ -198,7 +198,7 @@ pub data Deed : Type 0 where
   MarkOwned : Deed
   -- it brings waiters of a condition variable: it takes some, and the others stand behind the last
   Bring : (taken moved : List Queued) → Deed
-  -- and sets the bit for those whom it has brought to one that nobody owned
+  -- The deed sets the bit for waiters that were brought to a mutex that nobody owned.
   MarkBrought : Deed
   -- the condition variable, which the first of its waiters leaves for the mutex, or all do
   Send : (all : Bool) → Deed
@@ -242,7 +242,7 @@ fallen (Some p) = if p.falls_back then Some (Has Upgradable) else None
 abbrev pub upgraded : LockState → Option Claim
 upgraded now = if readers now == 0 then None else Some (Pends true)
 
--- the last reader sees the writer aside; who gives a permit back sees the line
+-- the last reader sees the writer aside; a thread that gives a permit back sees the line
 abbrev pub shares_less : Sort → Site → Role → Role
 shares_less Semaphore s d = record d { wakes = seen_main s.parked; claims = None }
 shares_less sort s d = record d

@@ -79,7 +79,7 @@ pub fn limit_kept()
 {}
 
 /// Proves that a thread that wakes others takes of a reader-writer lock's main queue just those
-/// whom the abstract lock says. It leaves just the others, both in order.
+/// that the abstract lock says. It leaves just the others, both in order.
 pub fn pickers_pick_as_the_locks_say()
     ensures { PickersPickAsTheLocksSay }
 {}
@@ -159,8 +159,8 @@ pub fn no_notification_is_lost()
     ensures { NoNotificationIsLost }
 {}
 
-/// Proves that each queue is first in, first out: those who stay keep their order, and who joins
-/// stands behind them.
+/// Proves that each queue is first in, first out: those that stay keep their order, and a thread
+/// that joins stands behind them.
 pub fn queues_keep_order()
     ensures { OfEachStep QueuesKeepOrder }
 {}
@@ -181,8 +181,8 @@ pub fn bypass_is_bounded()
     ensures { BypassIsBounded }
 {}
 
-/// Proves that a notification of all reaches whoever stood there as it began: by its answer they are
-/// moved, or another notification of all is about to move them.
+/// Proves that a notification of all reaches each thread that stood there as it began: by its
+/// answer they are moved, or another notification of all is about to move them.
 pub fn notifications_reach()
     ensures { NotificationsReach }
 {}

@@ -19,7 +19,7 @@ impl OnceState {
         matches!(self, OnceState::Done)
     }
 
-    /// The same.
+    /// Whether the `Once` is done.
     pub fn done(self) -> bool
         ensures { result ≡ is_completed self }
     {
@@ -33,7 +33,7 @@ impl OnceState {
         matches!(self, OnceState::Poisoned)
     }
 
-    /// The same.
+    /// Whether the `Once` is poisoned.
     pub fn poisoned(self) -> bool
         ensures { result ≡ is_poisoned self }
     {

@@ -28,7 +28,7 @@ abbrev pub is_there : Option Want → Bool
 is_there None = false
 is_there (Some x) = true
 
--- whether anybody was picked: some who share, or the one who wants more
+-- whether anybody was picked: some that share, or the one that wants more
 abbrev pub any_picked : ℕ → Option Want → Bool
 any_picked sharers successor = not (sharers == 0) || is_there successor
 

@@ -26,8 +26,8 @@ call_by l row rights = record {
   recalls = row.recalls;
 }
 
--- and of a call of two locks, by its row at the second: what it tries again, and what it owned as
--- it began
+-- The state of a call of two locks, by its row at the second: what it tries again, and what it owned as it
+-- began.
 abbrev pub call_of_two : ℕ → ℕ → Profile → Profile → (ℕ → Rights) → CallState
 call_of_two l m row beside rights = record (call_by l row rights) {
   former = beside.former m rights;

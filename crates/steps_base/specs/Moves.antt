@@ -29,7 +29,7 @@ abbrev pub row_of : Next Profile → Profile
 row_of (At row) = row
 row_of (Ends answer) = blank_row
 
--- a thread at a place: its row, where each reply leads it, and what it does then, where whomever it
+-- a thread at a place: its row, where each reply leads it, and what it does then, where each thread that it
 -- takes is no part of the place
 pub record Move : Type 0 where
   pub row : Profile
@@ -94,7 +94,7 @@ abbrev pub parks_in : Line → Want → Deed
 parks_in Main x = Case (Park x)
 parks_in Second x = Case Aside
 
--- it takes whomever there is of the second line
+-- it takes the waiter of the second line, if any
 abbrev pub takes_aside : Option ℕ → Deed
 takes_aside None = FindNobody Second
 takes_aside (Some u) = Case (TakeAside u)
@@ -127,7 +127,7 @@ pub record Parks (x : Move) (hears : Hears) (m : Line) (check : Check) (want : W
   pub may : (r : Rules) (s : Site) (t : ℕ) (b : Bool) → b ≡ holds check (code r s)
       → standing t s.lock ≡ 0 → hears r s t None (Parked b)
 
--- it takes those of the main line whom the lock lets in beside what it keeps
+-- it takes the waiters of the main line that the lock lets in beside what it keeps
 pub record Picks (x : Move) (hears : Hears) (start : Option Want) : Type 0 where
   pub was : location_of x ≡ inside_of Main
   pub deeds : (n : ℕ) (y : Option Want) (none_left : Bool)
@@ -158,7 +158,7 @@ pub record LeavesLine (x : Move) (hears : Hears) (m : Line) : Type 0 where
   pub may : (r : Rules) (s : Site) (t : ℕ) (none_left : Bool) → StandsAlone s t m none_left
       → hears r s t None (Removed none_left)
 
--- it goes out of the section of a line, and wakes whom it has in hand, if anybody
+-- it goes out of the section of a line, and wakes the threads that it has in hand, if anybody
 pub record GoesOut (x : Move) (hears : Hears) (m : Line) (wakes : Wakes) : Type 0 where
   pub any : Bool
   pub notes : wakes ≡ wakes_taken any Normal
@@ -186,7 +186,7 @@ heir_of whom x = None
 abbrev pub bit_left : Bool → Deed
 bit_left none_left = if none_left then Clear Main else Mark Main
 
--- it hands a right of its own over to all whom it has in hand, where its operation takes effect
+-- it hands a right of its own over to all that it has in hand, where its operation takes effect
 pub record HandsOver (x : Move) (op : Op) : Type 0 where
   pub right : Want
   -- the want of the one among them that wants more than to share
@@ -212,7 +212,7 @@ pub record TellsHanded (x : Move) (hears : Hears) (wakes : Wakes) : Type 0 where
   pub goes : location_then x Done ≡ nowhere
   pub may : (r : Rules) (s : Site) (t : ℕ) → s.lock.taken t ≡ None → hears r s t None Done
 
--- and who was told so ends its call
+-- A thread that was told so ends its call.
 pub record Accepts (x : Move) (hears : Hears) : Type 0 where
   pub was : location_of x ≡ nowhere
   pub deeds : x.deeds None Done ≡ End ∷ []
@@ -225,7 +225,7 @@ pub record IsGiven (x : Move) (u : ℕ) (want : Want) (alone : Bool) : Type 0 wh
   pub claims : (x.next (HandedBy u alone)).role
       ≡ record x.row.role { claims = Some (claim_handed alone want) }
 
--- and is told so when that thread leaves the section
+-- A thread was given the lock, and is told so when the giver leaves the section.
 pub record WasGiven (x : Move) (u : ℕ) : Type 0 where
   pub was : location_of x ≡ record nowhere { hand = hand u true }
   pub goes : location_then x (Woken HandOffNote) ≡ nowhere

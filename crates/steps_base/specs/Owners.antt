@@ -45,7 +45,7 @@ phase_seen phases.Poisoned = onces.Poisoned
 phase_seen (phases.InProgress t) = onces.InProgress t
 phase_seen phases.Done = onces.Done
 
--- by its owners, the waiters of its two lines, and those who are in somebody's hand
+-- by its owners, the waiters of its two lines, and those that are in somebody's hand
 abbrev pub lock_seen : List ℕ → Owners → List Waiter → List Waiter → (ℕ → Option Taken) → LockState
 lock_seen shared o main second taken = record {
   exclusive = o.exclusive;

@@ -87,7 +87,7 @@ blank_row = record {
 abbrev pub bringing_nobody : Profile → Profile
 bringing_nobody row = record row { role = record row.role { brings = false; sets = false } }
 
--- by whom it was taken from a queue of the lock, where it was not handed the lock since
+-- the thread by which it was taken from a queue of the lock, where it was not handed the lock since
 abbrev pub taken_from : Option Hand → Option Want → Bool → Option Taken
 taken_from (Some (Of u false)) (Some x) here =
     if here then Some (record { by = u; want = x }) else None

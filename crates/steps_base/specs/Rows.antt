@@ -50,7 +50,7 @@ is_acting Rest = false
 is_acting (End answer) = false
 is_acting a = true
 
--- by whom it was taken from a queue of its lock
+-- the thread by which it was taken from a queue of its lock
 abbrev pub taken_in_row : Profile → Option Taken
 taken_in_row row = taken_from row.hand row.wants true
 
@@ -122,9 +122,9 @@ pub record RowPromises (sort : Sort) (l : ℕ) (row : Profile) (a : Act) : Type 
   pub acts : is_acting a ≡ true
   -- a waiter is in a call that may wait
   pub waits : IsWaiting row → MayWait (Some (row.purpose l)) l
-  -- and it is for rights that the lock knows
+  -- A call is for rights that its lock knows.
   pub known : (sorts : ℕ → Sort) → sorts l ≡ sort → KnowsRights sorts (Some (row.purpose l))
-  -- in the second line stands only who is pending
+  -- in the second line stands only a thread that is pending
   pub aside : row.stands ≡ Some Second → (b : Bool) × (row.role.claims ≡ Some (Pends b))
   pub owing : RowOwes sort l row a
   pub debtor : (m : Line) → IsDebtorIn sort row.role m → (row.role.claims ≡ Some (Has Exclusive) → ⊥)

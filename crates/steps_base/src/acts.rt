@@ -35,7 +35,7 @@ pub enum Whom {
 #[derive(Clone, Copy, PartialEq, Eq)]
 pub enum Wakes {
     Nobody,
-    /// All whom it has taken in them.
+    /// All that it has taken in them.
     All(Note),
 }
 
@@ -49,7 +49,7 @@ pub enum Act {
         lock: usize,
         op: Op,
     },
-    /// One operation on the word of a lock, which hands the lock to those whom the thread has
+    /// One operation on the word of a lock, which hands the lock to those that the thread has
     /// taken.
     HandOver {
         lock: usize,
@@ -112,8 +112,8 @@ pub enum Reply {
         any: bool,
         none_left: bool,
     },
-    /// How many of those who were picked want to share, what the one of them wants that wants more,
-    /// and whether none is left in the queue.
+    /// How many of those that were picked want to share, what the one of them wants that wants
+    /// more, and whether none is left in the queue.
     Picked {
         sharers: usize,
         successor: Option<Want>,
@@ -156,7 +156,7 @@ pub enum Next<P> {
 }
 
 impl Wakes {
-    /// Wakes those who were taken, if any was.
+    /// Wakes those that were taken, if any was.
     pub fn taken(any: bool, note: Note) -> Wakes
         ensures { result ≡ wakes_taken any note }
     {

@@ -57,8 +57,8 @@ pub fn has_parked(word: u64) -> bool
     word % 2 == 1
 }
 
-/// Whether the owners of a reader-writer lock keep out who wants this. A recursive lock lets
-/// readers in beside readers.
+/// Whether the owners of a reader-writer lock keep out a thread that wants this. A recursive lock
+/// lets readers in beside readers.
 #[inline(always)]
 pub fn is_blocked(recursive: bool, want: Want, word: u64) -> bool
     ensures { result ≡ codes.is_blocked recursive want word }

@@ -60,7 +60,7 @@ impl Owners {
         shown: None,
     };
 
-    /// The same owners but for the exclusive one.
+    /// Returns the owners with another exclusive one.
     pub fn with_exclusive(self, thread: Option<usize>) -> Owners
         ensures { result ≡ record self { exclusive = thread } }
     {
@@ -70,14 +70,14 @@ impl Owners {
         }
     }
 
-    /// The same owners but for the pending one.
+    /// Returns the owners with another pending one.
     pub fn with_pending(self, pending: Option<Pending>) -> Owners
         ensures { result ≡ record self { pending = pending } }
     {
         Owners { pending, ..self }
     }
 
-    /// The same owners but for the upgradable one.
+    /// Returns the owners with another upgradable one.
     pub fn with_upgradable(self, thread: Option<usize>) -> Owners
         ensures { result ≡ record self { upgradable = thread } }
     {
@@ -87,14 +87,14 @@ impl Owners {
         }
     }
 
-    /// The same owners but for the phase.
+    /// Returns the owners with another phase.
     pub fn with_phase(self, phase: Phase) -> Owners
         ensures { result ≡ record self { phase = phase } }
     {
         Owners { phase, ..self }
     }
 
-    /// The same owners but for the mutex that is shown.
+    /// Returns the owners with another mutex that is shown.
     pub fn with_shown(self, shown: Option<usize>) -> Owners
         ensures { result ≡ record self { shown = shown } }
     {

@@ -257,7 +257,7 @@ module _ (c m : ℕ) (q : List Queued) where
   abbrev Stays : Bool → NotifyAt → Reply → Type 0
   Stays all at told = StaysThere (notifying all at) told × StaysPutBeside (move_beside q (notifying all at)) told
 
-  -- inside both sections, with those whom it has taken, if any, in hand
+  -- inside both sections, with those that it has taken, if any, in hand
   abbrev both_with : Bool → Location
   both_with any = record (inside_of Main) { carries = in_hand any false }
 

@@ -53,7 +53,7 @@ module _ (t m : ℕ) (s s2 : LockState) (rights : ℕ → Rights) (is : rights m
   pub lost : with_right Exclusive (rights_of s2 t) ≡ rights_of s t → one_more_at m Exclusive (rights_where m s2 t rights) ≡ rights
   lost e = λ i k. agree rights m (one_more_at m Exclusive (rights_where m s2 t rights)) rights _ _ (changed rights m (with_right Exclusive) (rights_where m s2 t rights) _ (λ k. refl)) (unchanged rights m (rights_of s t) is) e k i
 
-  -- or has got it
+  -- A wait that has its mutex again has got it.
   pub gained : rights_of s2 t ≡ with_right Exclusive (rights_of s t) → (k : ℕ) → rights_where m s2 t rights k ≡ one_more_at m Exclusive rights k
   gained e = agree rights m (rights_where m s2 t rights) _ _ _ (λ k. refl) (changed rights m (with_right Exclusive) rights _ (unchanged rights m (rights_of s t) is)) e
 
@@ -104,7 +104,7 @@ module _ (v : CondvarSite) (limit : ℕ) (s : Site) (t c m : ℕ) (timed : Bool)
   subtracts (stands.Handed by) seen shown own without b = absurd cc
   subtracts (stands.Noted note.HandOff) seen shown own without b = absurd cc
 
-  -- it leaves its section, and wakes whom it has taken, if anybody
+  -- it leaves its section, and wakes the threads that it has taken, if anybody
   wakes : (st : Stands) (any : Bool) (shown : Option ℕ) (s2 : LockState) → rights_of s2 t ≡ rights_of s.lock t
       → CallOfTwoFollows c m (releasing st (unlock.Leave any)) Done (or_else (event_of m (in_hand any false) (Out ∷ [])) Nothing) shown s.lock s2 t (At (place (behind_release st)))
   wakes stands.Listed true shown s2 stay = keeps c m t _ _ Done (AtLock m Wake) shown s.lock s2 (inr (refl, inl (inl refl)), tt) stay (λ rights. refl)

@@ -140,8 +140,8 @@ abbrev pub IsUnnoted : Stands → Type 0
 IsUnnoted (stands.Noted by) = ⊥
 IsUnnoted s = Unit {0}
 
--- only a timed wait is ever late, and who was handed its mutex has released it; a notification
--- hides what it shows only to move all, and sets the bit of a mutex that it saw locked; who is to
+-- only a timed wait is ever late, and a thread that was handed its mutex has released it; a notification
+-- hides what it shows only to move all, and sets the bit of a mutex that it saw locked; a thread that is to
 -- wake somebody has moved some: the first alone where it isn't to move all
 abbrev pub IsReached : CondvarPlace → Type 0
 IsReached (Wait m timed (wait.Release s at)) =
@@ -185,7 +185,7 @@ WaitsTell =
     s.lock (after_all r (waiter_deeds at whom told) s t).lock t
     (condvar_next (Wait m timed at) told)
 
--- and of a notification, once it has seen a mutex
+-- A notification that has seen a mutex answers truly.
 abbrev pub NotifiesTell : Type 0
 NotifiesTell =
     (v : CondvarSite) (r : Rules) (s : Site) (t c m : ℕ) (all : Bool) (at : NotifyAt) (told : Reply)
@@ -198,7 +198,7 @@ NotifiesTell =
     s.lock (after_all r (beside_deeds all v.waiters at told) s t).lock t
     (condvar_next (Notify all m at) told)
 
--- and its first, before which it knows no mutex: any serves
+-- A notification's first look, before which it knows no mutex, answers truly: any serves.
 abbrev pub LooksTell : Type 0
 LooksTell =
     (v : CondvarSite) (s : LockState) (t c : ℕ) (all : Bool)

@@ -163,7 +163,7 @@ CondvarStepsCode =
     → apply f (word_showing c.shown)
     ≡ word_showing (after_condvar_deeds (condvar_deeds p (Value (word_showing c.shown))) c t).shown
 
--- and shows what is shown then
+-- A step leaves the mutex that its deeds show.
 abbrev pub CondvarOwnersFollow : Type 0
 CondvarOwnersFollow =
     (c : CondvarSite) (t k : ℕ) (p : CondvarPlace) (f : Op) (o : Owners)

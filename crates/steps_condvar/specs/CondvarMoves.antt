@@ -55,7 +55,7 @@ there p = location_by (condvar_profile p)
 abbrev pub there_then : CondvarPlace → Reply → Location
 there_then p told = location_by (row_there (condvar_next p told))
 
--- at the mutex beside it; of these waiters it moves some, and whomever it takes there is no part of
+-- at the mutex beside it; of these waiters it moves some, and each thread that it takes there is no part of
 -- the place
 abbrev pub deeds_beside : List Queued → CondvarPlace → Option ℕ → Reply → List Deed
 deeds_beside q (Wait m timed at) whom told = waiter_deeds at whom told
@@ -154,7 +154,7 @@ pub record TakesBeside (x : Move) (hears : Hears) : Type 0 where
       → TakesFirst s whom any none_left
       → HasTakenNobody s.lock t → hears r s t whom (Took any none_left)
 
--- it goes out of the section, and wakes whom it has in hand, if anybody
+-- it goes out of the section, and wakes the threads that it has in hand, if anybody
 pub record GoesOutBeside (x : Move) (wakes : Wakes) : Type 0 where
   pub any : Bool
   pub notes : wakes ≡ wakes_taken any Normal

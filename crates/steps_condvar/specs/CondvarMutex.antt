@@ -70,7 +70,7 @@ NotifiersFollow =
     → s.role t ≡ (notify_row all m at).role → MayHearBeside r s c t m all at told
     → FollowsBeside r s c t m all at told
 
--- and its steps on the word of the mutex leave the word of the mutex behind the deeds
+-- A notification's steps on the word of the mutex leave the word of the mutex after the deeds.
 abbrev pub NotifiersCode : Type 0
 NotifiersCode =
     (r : Rules) (s : Site) (c : CondvarSite) (t k m : ℕ) (all : Bool) (at : NotifyAt) (f : Op)

@@ -309,7 +309,7 @@ owned_before (Wait m timed at) l rights =
     before_release l (is_none (wait_row m at).role.claims) rights
 owned_before p l rights = rights
 
--- whether it has anybody in hand, who waits for the mutex
+-- whether it has anybody in hand, a thread that waits for the mutex
 abbrev pub wait_carries : WaitAt → Option Bool
 wait_carries (wait.Release s at) = (mutex_profile at).carries
 wait_carries (wait.Lock timed_out at) = (mutex_profile at).carries
@@ -344,7 +344,7 @@ condvar_profile p = record profiles.blank_row {
   released = condvar_released p;
 }
 
--- and at the mutex beside it
+-- What a place says at the mutex beside its condition variable.
 abbrev pub mutex_side : CondvarPlace → Profile
 mutex_side p = record profiles.blank_row {
   role = (condvar_row p).role;

@@ -11,12 +11,12 @@ pub fn condvar_steps_follow()
     ensures { CondvarStepsFollow }
 {}
 
-/// And each step on the word leaves the word of the condition variable behind its deeds.
+/// Each step on the word leaves the word of the condition variable after its deeds.
 pub fn condvar_steps_code()
     ensures { CondvarStepsCode }
 {}
 
-/// And shows the mutex that is shown then.
+/// Each step shows the mutex that is shown after its deeds.
 pub fn condvar_owners_follow()
     ensures { CondvarOwnersFollow }
 {}
@@ -33,7 +33,8 @@ pub fn notifiers_follow()
     ensures { NotifiersFollow }
 {}
 
-/// And each of its steps on the word of the mutex leaves the word of the mutex behind its deeds.
+/// Each step of a notification on the word of the mutex leaves the word of the mutex after its
+/// deeds.
 pub fn notifiers_code()
     ensures { NotifiersCode }
 {}
@@ -44,8 +45,8 @@ pub fn waiters_follow()
     ensures { WaitersFollow }
 {}
 
-/// And each of its steps on the word of the mutex leaves the word of the mutex behind its deeds,
-/// and the owner.
+/// Each step of a wait on the word of the mutex leaves the word of the mutex after its deeds, and
+/// the owner.
 pub fn waiters_code()
     ensures { WaitersCode }
 {}
@@ -74,7 +75,7 @@ pub fn notifies_tell()
     ensures { NotifiesTell }
 {}
 
-/// And so does its first look.
+/// A notification's first look answers truly.
 pub fn looks_tell()
     ensures { LooksTell }
 {}
@@ -90,17 +91,17 @@ pub fn waits_move()
     ensures { WaitsMove }
 {}
 
-/// And so does each of a notification.
+/// Each step of a notification moves its thread as its act says.
 pub fn notifies_move()
     ensures { NotifiesMove }
 {}
 
-/// And its first look.
+/// A notification's first look moves its thread as its act says.
 pub fn looks_move()
     ensures { LooksMove }
 {}
 
-/// And so does what befalls a waiter.
+/// Each act that befalls a waiter moves it as that act says.
 pub fn waiters_move()
     ensures { WaitersMove }
 {}

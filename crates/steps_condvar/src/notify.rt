@@ -1,4 +1,4 @@
-//! How a thread notifies whoever waits on a condition variable: the first, or all. It has seen that
+//! How a thread notifies the waiters of a condition variable: the first, or all. It has seen that
 //! a mutex is shown.
 //!
 //! | place | does | then |

@@ -230,7 +230,7 @@ module _ (limit l t : ℕ) (s : LockState) where
   takes_one (Some u) any true = keeps (Unlock unlock.Take) (Unlock (unlock.Clear any)) (take_deeds (Some u)) tt ((refl, tt), tt) refl (λ rights. refl) (inl refl)
   takes_one (Some u) any false = keeps (Unlock unlock.Take) (Unlock (unlock.Leave any)) (take_deeds (Some u)) tt ((refl, tt), tt) refl (λ rights. refl) (inl refl)
 
-  -- it wakes whom it has taken
+  -- it wakes the threads that it has taken
   pub wakes_taken : (any : Bool) → Tells (Unlock (unlock.Leave any)) (Out ∷ []) (next.End answer.Ok)
   wakes_taken true = record { follows = record { one = tt; may = ((refl, inl refl), tt); comes = λ v rights ruled now is has k. ap (λ f. one_more_at l Exclusive f k) (λ i x. stays v rights _ now is has refl x i) }; rests = tt }
   wakes_taken false = record { follows = record { one = tt; may = tt; comes = λ v rights ruled now is has k. ap (λ f. one_more_at l Exclusive f k) (λ i x. stays v rights _ now is has refl x i) }; rests = tt }

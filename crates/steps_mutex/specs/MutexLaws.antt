@@ -57,7 +57,7 @@ pub record TakesFirst (s : Site) (whom : Option ℕ) (any none_left : Bool) : Ty
   pub some : any ≡ not (is_none whom)
   pub left : none_left ≡ is_empty (drop 1 s.lock.queue)
 
--- to whom a hand-off gives the mutex, if to anybody
+-- the thread to which a hand-off gives the mutex, if any
 abbrev pub heir : Option ℕ → Option Queued
 heir None = None
 heir (Some u) = Some (queued u)
@@ -126,7 +126,7 @@ abbrev pub LeavesWord : Rules → Site → ℕ → MutexPlace → Option ℕ →
 LeavesWord r s t p whom op =
     apply op (code r s) ≡ code r (after_all r (mutex_deeds p whom (Value (code r s))) s t)
 
--- so of one that hands nothing over, and the owner is the mutex's too
+-- a step that hands nothing over does so, and leaves the owner of the mutex too
 pub record LeavesMutex (r : Rules) (s : Site) (t : ℕ) (p : MutexPlace) (whom : Option ℕ) (op : Op)
     (o : Owners) : Type 0 where
   pub word : LeavesWord r s t p whom op
@@ -140,7 +140,7 @@ MutexStepsCode =
     → o.exclusive ≡ s.lock.exclusive
     → LeavesMutex r s t p whom op o
 
--- and of one that hands the mutex over: the heir owns it
+-- A step that hands the mutex over makes the heir its owner.
 pub record HandsOverToHeir (r : Rules) (s : Site) (t : ℕ) (p : MutexPlace) (whom : Option ℕ) (op : Op)
     : Type 0 where
   pub word : LeavesWord r s t p whom op

@@ -122,7 +122,7 @@ pub(super) fn next_lock(entry: Entry, at: LockAt, reply: Reply) -> Next<LockAt>
             Next::At(LockAt::Load)
         },
         (LockAt::Asleep, Reply::TakenBy(by)) => Next::At(LockAt::Taken { by }),
-        // A running thread sees its wake note alone, and not who took it.
+        // A running thread sees its wake note alone, and not which thread took it.
         (LockAt::Asleep, Reply::Woken(Note::Normal)) => Next::At(LockAt::Load),
         (LockAt::Asleep, Reply::Woken(Note::HandOff)) => Next::At(LockAt::Accept),
         (LockAt::Taken { .. }, Reply::Woken(Note::Normal)) => Next::At(LockAt::Load),

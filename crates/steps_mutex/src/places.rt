@@ -171,7 +171,7 @@ impl MutexPlace {
     }
 
     /// Returns the owners of the mutex after the thread's operation on the word, which saw this
-    /// value. A thread to whom it hands the mutex is not among them yet.
+    /// value. A thread to which it hands the mutex is not among them yet.
     pub fn owners_after(self, thread: usize, seen: u64, owners: Owners) -> Owners
         ensures { result ≡ mutex_owners self thread seen owners }
     {

@@ -154,7 +154,7 @@ module _ (r : Rules) (s : Site) (t l : ℕ) (a : r.sort ≡ Once) where
       same n = grind (arith, nat_tests)
   won c f Parks is = absurd cc
 
-  -- and one that it lost
+  -- An exchange that missed leaves the word.
   lost : (expected : ℕ) (f : Op) (k : Course) → (v == expected) ≡ false → course_act l expected k ≡ act.Word l f → apply f v ≡ v
   lost expected f (Ends answer) other is = let e : op.Load ≡ f = cc in rw (← e) refl
   lost expected f Runs other is = let e : op.Exchange expected (started expected) ≡ f = cc in rw (← e) (ap (λ b. if b then started expected else v) other)

@@ -34,7 +34,7 @@ OnceStepsTell =
     → once_act l p ≡ act.Word l op
     → CallFollowsBy r s t l p (reply.Value (code r s))
 
--- and each into the section, in it, and out of it, but for the step by which it is late
+-- Each step into the section, in it, and out of it answers truly, but for the step by which a thread is late.
 abbrev pub OnceSectionsTell : Type 0
 OnceSectionsTell =
     (r : Rules) (s : Site) (t l : ℕ) (p : OncePlace) (told : Reply) → IsAt r s t p

@@ -114,7 +114,7 @@ OnceStepsCode =
     → once_act l p ≡ act.Word l op
     → apply op (code r s) ≡ code r (after_all r (once_deeds p (reply.Value (code r s))) s t)
 
--- and so is how far it has come
+-- A step leaves the phase of the `Once` as its deeds say.
 abbrev pub OnceOwnersFollow : Type 0
 OnceOwnersFollow =
     (r : Rules) (s : Site) (t l : ℕ) (p : OncePlace) (op : Op) (shared : List ℕ) (o : Owners)

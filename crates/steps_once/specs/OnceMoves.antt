@@ -21,7 +21,7 @@ use Rattle.steps_once.specs.OnceProfiles.{once_late_line, once_profile}
 use Rattle.steps_once.specs.OnceDeeds.{MayHear, once_deeds}
 use Rattle.steps_once.specs.OnceCalls.{next_row}
 
--- a thread at a place; whomever it takes is no part of the place
+-- a thread at a place; each thread that it takes is no part of the place
 abbrev pub once_move : OncePlace → Move
 once_move p = record {
   row = once_profile p;
@@ -45,7 +45,7 @@ pub record RestsBehind (x : Move) (hears : Hears) (check : Check) (want : Want) 
   pub may : (r : Rules) (s : Site) (t : ℕ) (b : Bool) → b ≡ holds check (code r s)
       → standing t s.lock ≡ 0 → hears r s t None (Parked b)
 
--- it takes all who wait
+-- it takes all that wait
 pub record TakesAll (x : Move) (hears : Hears) : Type 0 where
   pub was : location_of x ≡ inside_of Main
   pub deeds : (any none_left : Bool)

@@ -68,7 +68,7 @@ running_role = record idle { claims = Some Runs }
 abbrev pub ran : Bool → Option Claim
 ran succeeded = if succeeded then Some Ran else None
 
--- it has cleared the bit beside waiters, whom it takes
+-- it has cleared the bit beside waiters, that it takes
 abbrev pub taking_role : Bool → Role
 taking_role succeeded = record idle { wakes = Some Main; sets = true; claims = ran succeeded }
 

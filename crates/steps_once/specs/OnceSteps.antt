@@ -87,7 +87,7 @@ abbrev pub is_mark : Course → Bool
 is_mark Marks = true
 is_mark course = false
 
--- the word of a run that begins, beside those who wait, and the word that says that somebody waits
+-- the word of a run that begins, beside those that wait, and the word that says that somebody waits
 abbrev pub started : ℕ → ℕ
 started v = v / 8 * 8 + 4
 

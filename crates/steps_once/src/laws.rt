@@ -10,12 +10,12 @@ pub fn once_steps_follow()
     ensures { OnceStepsFollow }
 {}
 
-/// And the word that it leaves is the word of the `Once` behind its deeds.
+/// Each step on the word leaves the word of the `Once` after its deeds.
 pub fn once_steps_code()
     ensures { OnceStepsCode }
 {}
 
-/// And so is how far the `Once` has come.
+/// Each step leaves the phase of the `Once` as its deeds say.
 pub fn once_owners_follow()
     ensures { OnceOwnersFollow }
 {}
@@ -31,7 +31,7 @@ pub fn once_steps_tell()
     ensures { OnceStepsTell }
 {}
 
-/// And so does each step into the section, in it, and out of it.
+/// Each step into the section, in it, and out of it answers truly.
 pub fn once_sections_tell()
     ensures { OnceSectionsTell }
 {}
@@ -47,7 +47,7 @@ pub fn once_acts_move()
     ensures { OnceActsMove }
 {}
 
-/// And so does what befalls it asleep.
+/// Each act that befalls a sleeper moves it as that act says.
 pub fn once_sleepers_move()
     ensures { OnceSleepersMove }
 {}

@@ -106,7 +106,7 @@ pub(super) fn course_of(call: OnceCall, seen: u64) -> Course
     }
 }
 
-/// The word of a run that begins: whoever waits does so still.
+/// The word of a run that begins: each thread that waits does so still.
 fn started(seen: u64) -> u64
     ensures { result ≡ started seen }
 {
@@ -172,7 +172,7 @@ pub(super) fn next_look(call: OnceCall, at: LookAt, reply: Reply) -> Next<LookAt
             Next::At(LookAt::Load)
         },
         (LookAt::Asleep, Reply::TakenBy(by)) => Next::At(LookAt::Taken { by }),
-        // A running thread sees its wake note alone, and not who took it.
+        // A running thread sees its wake note alone, and not which thread took it.
         (LookAt::Asleep, Reply::Woken(Note::Normal)) => Next::At(LookAt::Load),
         (LookAt::Taken { .. }, Reply::Woken(Note::Normal)) => Next::At(LookAt::Load),
         (at, _) => Next::At(at),

@@ -1,4 +1,4 @@
-//! How a thread runs the closure of a `Once`, and wakes whoever waits for the end of its run.
+//! How a thread runs the closure of a `Once`, and wakes all that wait for the end of its run.
 //!
 //! | place | does | then |
 //! |---|---|---|

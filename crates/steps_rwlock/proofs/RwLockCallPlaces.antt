@@ -247,7 +247,7 @@ module _ (a : Admission) where
   timed_stands again (at.Wake Second to) told fits may = absurd fits
   timed_stands again to told fits may = absurd fits
 
-  -- and one that tries
+  -- A try to upgrade stands where it looks up.
   looks_up : (again : Bool) (to : RwLockAt) (seen : ℕ) (b : Bool) → StandsNext (looked_by (of (purpose.Upgrade Try) again to) seen (if b then decisions.Take else decisions.Refuse No))
   looks_up again to seen true = tt
   looks_up again to seen false = tt
@@ -397,7 +397,7 @@ module _ (a : Admission) (l : ℕ) where
   wakes_up q again (at.Aside to) u h = absurd cc
   wakes_up q again to u h = absurd cc
 
-  -- and whose time is up is late
+  -- A call whose time is up is late.
   is_late_then : (q : RwLockPurpose) (again : Bool) (to : RwLockAt) → StandsAt q again to → late_line_at (patience_of q) to ≢ None → CallBecomes a l (of a q again to) reply.Late (λ c. record c { late = true })
   is_late_then (purpose.Enter x how) again (at.Park parking.Asleep) fits may = becomes (of a (purpose.Enter x how) again (at.Park parking.Asleep)) (of a (purpose.Enter x how) again (at.Park parking.Remove)) reply.Late late_then refl (λ rights. refl)
   is_late_then (purpose.Enter x how) again (at.Aside parking.Asleep) fits may = becomes (of a (purpose.Enter x how) again (at.Aside parking.Asleep)) (of a (purpose.Enter x how) again (at.Aside parking.Remove)) reply.Late late_then refl (λ rights. refl)

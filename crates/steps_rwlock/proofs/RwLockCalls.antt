@@ -100,7 +100,7 @@ module _ (r : Rules) (a : Admission) (s : Site) (t l : ℕ) (op : Op) (admits : 
     refused : (w : LocksState) (c : CallState) → how ≡ Try → MayRefuse r s.lock (wanted x) → locks_rules w l ≡ r → w.locks l ≡ s.lock → ((k : ℕ) → rights_in w t k ≡ c.former k) → EntersAnswer w t c l (wanted x) how No
     refused w c try why ruled now has = subst (λ y. EntersAnswer w t c l (wanted x) y No) (sym try) (subst (λ z. MayRefuse z (w.locks l) (wanted x)) (sym ruled) (subst (λ z. MayRefuse r z (wanted x)) (sym now) why), has)
 
-    -- or the lock is full
+    -- A try is blocked where the lock is full.
     full : (w : LocksState) (c : CallState) → (is_counted (wanted x) && nat_le a.limit (count_in v)) ≡ true → is_blocked a.recursive (wanted x) v ≡ false → locks_rules w l ≡ r → w.locks l ≡ s.lock → ((k : ℕ) → rights_in w t k ≡ c.former k)
         → (y : Patience) → EntersAnswer w t c l (wanted x) y ReadersFull
     full w c e free ruled now has = by_patience

@@ -102,7 +102,7 @@ module _ (r : Rules) (s : Site) (t : ℕ) (rw_sort : has_readers r.sort ≡ true
   rolls true e n = let f = behind_case Rollback n.0 (λ g. g) in let k : rolled s.lock.pending Rollback ≡ 0 = rw e refl in omega arith
   rolls false e n = let f = behind_case_end Rollback n.0 (λ g. g) in let k : rolled s.lock.pending Rollback ≡ 0 = rw e refl in omega arith
 
-  -- and one that falls back to the upgradable right
+  -- A pending writer falls back to the upgradable right.
   falls : (b : Bool) → s.lock.pending ≡ Some (record { thread = t; falls_back = true }) → AllNeeded r (does_and_wakes b (Case Rollback)) s t → behind (does_and_wakes b (Case Rollback)) ≡ code r s + 12
   falls true e n = let f = behind_case Rollback n.0 (λ g. g) in let k : rolled s.lock.pending Rollback ≡ 20 = rw e refl in omega arith
   falls false e n = let f = behind_case_end Rollback n.0 (λ g. g) in let k : rolled s.lock.pending Rollback ≡ 20 = rw e refl in omega arith

@@ -79,7 +79,8 @@ module _ (r : Rules) (s : Site) (t : ℕ) (rw_sort : has_readers r.sort ≡ true
       let own : s.lock.pending ≡ Some (record { thread = t; falls_back = b }) = h.held t (Pends b) (grind arith) in
       let alone = nobody_aside b own nowhere in record { needed = grind (arith, nat_tests, tells.count); role = grind (arith, nat_tests) }
 
-  -- the last reader of a pending writer's lock is to wake it, and any other release whoever stands in the main line
+  -- the last reader of a pending writer's lock is to wake it, and any other release each thread that stands
+  -- in the main line
   gives_shared : (a c : Bool) → s.role t ≡ at_rest None (Some (Has Shared)) → Owns s.lock t Shared → s.aside_parked ≡ a → (count s.lock == 1) ≡ c
       → Follows r s t (does_and_wakes (a && c) (Case (Leave Shared))) (if a && c then record idle { wakes = Some Second } else idle)
   gives_shared true true is own ea ec = record { needed = grind (arith, nat_tests); role = grind (arith, nat_tests) }

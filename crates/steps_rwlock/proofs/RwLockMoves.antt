@@ -417,7 +417,7 @@ module _ (l : ℕ) (a : Admission) where
       rest true = refl
       rest false = missed_rest q again (patience_of q)
 
-  -- only who enters or upgrades waits
+  -- only a thread that enters or upgrades waits
   parks_only : (q : RwLockPurpose) (again : Bool) (to : ParkAt) → StandsAt q again (at.Park to) → MovesAt (of q again (at.Park to))
   parks_only (purpose.Enter x how) again to fits = parks_move (purpose.Enter x how) again refl to
   parks_only (purpose.Upgrade how) again to fits = parks_move (purpose.Upgrade how) again refl to
@@ -554,7 +554,7 @@ module _ (a : Admission) where
     asides_aside writes parking.Remove e = (writes, (falls_back q, refl))
     asides_aside writes to e = absurd cc
 
-  -- only who is to write waits aside
+  -- only a thread that is to write waits aside
   asides_write : (x : Access) (how : Patience) (again : Bool) (to : ParkAt) → StandsAt (purpose.Enter x how) again (at.Aside to) → wants_for (purpose.Enter x how) ≡ Some Exclusive
   asides_write access.Exclusive how again to fits = refl
   asides_write access.Shared how again to fits = absurd fits

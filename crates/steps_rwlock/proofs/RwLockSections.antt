@@ -40,7 +40,7 @@ module _ (r : Rules) (s : Site) (t : ℕ) (rw_sort : has_readers r.sort ≡ true
   goes_in : (m : Line) (d : Role) → IsSectionFree s m → s.role t ≡ d → d.empty ≡ None → d.inside ≡ None → Follows r s t (In m ∷ []) (record d { inside = Some m })
   goes_in m d free is found out = record { needed = ((free, ap (λ (x : Role). x.inside) is ∙ out, ap (λ (x : Role). x.empty) is ∙ found), tt); role = put_same s.role t _ ∙ ap (λ (x : Role). record x { inside = Some m }) is }
 
-  -- and out of one
+  -- A thread goes out of a section.
   goes_out : (d : Role) → s.lock.taken t ≡ None → s.role t ≡ d → d.inside ≢ None → d.wakes ≡ None → d.sets ≡ false → Follows r s t (Out ∷ []) (leaves d)
   goes_out d free is inside owes unset = record {
     needed = (((λ e. inside (sym (ap (λ (x : Role). x.inside) is) ∙ e)), ap (λ (x : Role). x.wakes) is ∙ owes, ap (λ (x : Role). x.sets) is ∙ unset), tt);
@@ -62,7 +62,7 @@ module _ (r : Rules) (s : Site) (t : ℕ) (rw_sort : has_readers r.sort ≡ true
   gives_up_aside : (b : Bool) → s.role t ≡ within Second None (Some (Pends b)) → s.lock.aside ≡ Some t → Follows r s t (Case Late ∷ []) (finding Second (Some (Pends b)))
   gives_up_aside b is stands = record { needed = grind (arith, nat_tests); role = grind (arith, nat_tests) }
 
-  -- it takes whom it is to wake
+  -- it takes the threads that it is to wake
   nobody_taken : (s.role t).carries ≡ false → HasTakenNobody s.lock t
   nobody_taken none u x e = let g = h.carried u _ e in cc
 

@@ -1,4 +1,5 @@
--- A call of a reader-writer lock goes on where it may stand: a try isn't woken, and nobody comes to decide who has to be refused.
+-- A call of a reader-writer lock goes on where it may stand: a try isn't woken, and no thread that has to be
+-- refused comes to decide.
 use Rattle.std.proofs.Common.{length, ℕ, Bool, true, false, if◌then◌else◌, ◌==◌, ◌&&◌, not, ◌≡◌, ◌+◌, ◌/◌, ◌%◌, ◌^◌, ◌<◌, refl, sym, ap, ◌∙◌, subst, arith, nat_le, ◌||◌}
 use Rattle.std.proofs.lemmas.Bool.{eqb-true}
 use Rattle.std.proofs.lemmas.Bool.Decides.{nat_tests}
@@ -40,7 +41,7 @@ use Rattle.steps_rwlock.proofs.RwLockCallPlaces.{StandsNext, stands_on}
 
 -- ---------------------------------------------------------------- words
 
--- a parked bit that is set in an even word keeps out whom it kept out
+-- a parked bit that is set in an even word keeps out the threads that it kept out
 blocked_same : (b : Bool) (x : Want) (v : ℕ) → v < 2 ^ 64 → has_parked v ≡ false → is_blocked b x (plus v 1) ≡ is_blocked b x v
 blocked_same b x v few even = ap (is_blocked b x) (fits_even v few even) ∙ by_want x
   where
@@ -63,7 +64,7 @@ blocked_same b x v few even = ap (is_blocked b x) (fits_even v few even) ∙ by_
     by_want want.Wait = λ i. writer i || upgradable i
     by_want want.CallOnce = λ i. writer i || upgradable i
 
--- so who decides to set it, decides to park then
+-- a thread that decides to set it, decides to park then
 module _ (a : Admission) where
   marks_by : (how : Patience) (word : ℕ) (b c : Bool) → (if b then decision_blocked how word else if c then decisions.Refuse ReadersFull else decisions.Take) ≡ decisions.Mark → (b ≡ true) × WaitsIfBlocked how
   marks_by Patient word true c e = (refl, tt)
@@ -92,7 +93,7 @@ module _ (a : Admission) where
       by_how Timed w = ap park_or_mark odd
       by_how Try w = absurd w
 
-  -- and it never refuses, whatever its call is for
+  -- A call that decides to park never refuses, whatever it is for.
   pub decides_to_park : (q : RwLockPurpose) (word : ℕ) → word < 2 ^ 64 → decided_for a q word ≡ decisions.Mark → decided_for a q (plus word 1) ≡ decisions.Park
   decides_to_park (purpose.Enter x how) word few e = marked_parks (wanted x) how word few e
   decides_to_park (purpose.Release x) word few e = marked_parks (wanted x) Patient word few e
@@ -322,6 +323,6 @@ place_fits (purpose.Downgrade d) again (at.Wake Main to) fits = tt
 place_fits (purpose.Downgrade d) again to fits = fits
 place_fits (purpose.Upgrade how) again to fits = upgrade_fits how again to fits
 
--- so it is there, by what the lock is and what the thread does
+-- the bit is there, by what the lock is and what the thread does
 pub is_at : (r : Rules) (a : Admission) (s : Site) (t : ℕ) (p : RwLockPlace) → Admits r a → IsSite r s → s.role t ≡ rwlock_role p → MayStand a p → t < length s.lock.shared → IsAt r a s t p
 is_at r a s t p admits site role stands there = record { there = there; admits = admits; site = site; role = role; fresh = stands.fresh; place = place_fits p.purpose p.retries p.at stands.place }

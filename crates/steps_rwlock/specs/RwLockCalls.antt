@@ -50,7 +50,7 @@ ParksBy how parking.Clear = HasDeadline how
 ParksBy how parking.GiveUp = HasDeadline how
 ParksBy how to = WaitsIfBlocked how
 
--- a writer's try looks once; only a writer is pending, and only who has a deadline gives up
+-- a writer's try looks once; only a writer is pending, and only a thread that has a deadline gives up
 abbrev pub WritesAt : Patience → RwLockAt → Type 0
 WritesAt how at.First = Unit {0}
 WritesAt how (at.Park to) = ParksBy how to
@@ -85,7 +85,7 @@ UpgradesAt how again at.RollBack = HasDeadline how
 UpgradesAt how again (at.Wake Main to) = HasDeadline how
 UpgradesAt how again to = ⊥
 
--- the last reader wakes the writer aside, and whoever had more the main line
+-- the last reader wakes the writer aside, and each thread that had more the main line
 abbrev pub ReleasesAt : Access → RwLockAt → Type 0
 ReleasesAt x at.GiveWay = Unit {0}
 ReleasesAt access.Shared (at.Wake Second to) = Unit {0}
@@ -122,8 +122,8 @@ abbrev pub MayStandNext : Admission → Next RwLockPlace → Type 0
 MayStandNext a (next.At p) = MayStand a p
 MayStandNext a (next.End answer) = Unit {0}
 
--- nobody enters the section of a queue but who decided to wait, nobody is told that its time is up
--- but who has a deadline, and a word has 64 bits
+-- nobody enters the section of a queue but a thread that decided to wait, nobody is told that its time is up
+-- but a thread that has a deadline, and a word has 64 bits
 abbrev pub MayBeTold : Admission → RwLockPlace → RwLockAt → Reply → Type 0
 MayBeTold a p (at.Decide seen) reply.Done = decided a p seen ≡ decisions.Park
 MayBeTold a p to (reply.Value seen) = seen < 2 ^ 64
@@ -167,7 +167,7 @@ RwLockStepsTell =
     → standing t s.lock ≡ 0 → rwlock_act l a p ≡ act.Word l op
     → CallFollowsBy r a s t l p None (reply.Value (code r s))
 
--- and each into a section, in it, and out of it
+-- Each step into a section, in it, and out of it answers truly.
 abbrev pub RwLockSectionsTell : Type 0
 RwLockSectionsTell =
     (r : Rules) (a : Admission) (s : Site) (t l : ℕ) (p : RwLockPlace) (whom : Option ℕ)

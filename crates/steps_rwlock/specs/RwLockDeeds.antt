@@ -254,7 +254,7 @@ AtTry at.Load = Unit {0}
 AtTry (at.Decide seen) = Unit {0}
 AtTry to = ⊥
 
--- and another gives its right up, and is pending
+-- The place of another call that gives its right up, and is pending.
 abbrev pub AtPending : RwLockAt → Type 0
 AtPending at.GiveWay = Unit {0}
 AtPending at.Look = Unit {0}
@@ -269,8 +269,8 @@ abbrev pub AtUpgrade : Patience → RwLockAt → Type 0
 AtUpgrade Try to = AtTry to
 AtUpgrade how to = AtPending to
 
--- only a writer tries a word that is 0, only who wants to write is pending, and who gives a right
--- up only wakes others then
+-- only a writer tries a word that is 0, only a thread that wants to write is pending, and a thread that gives
+-- a right up only wakes others then
 abbrev pub AtFits : RwLockPurpose → RwLockAt → Type 0
 AtFits (purpose.Enter x how) at.First = x ≡ access.Exclusive
 AtFits (purpose.Enter x how) at.GiveWay = ⊥
@@ -309,7 +309,7 @@ RwLockStepsFollow =
     → standing t s.lock ≡ 0 → rwlock_act l a p ≡ act.Word l op
     → FollowsBy r a s t p None (reply.Value (code r s))
 
--- and the word that it leaves is the word of the lock behind its deeds
+-- Each step leaves the word of the lock after its deeds.
 abbrev pub RwLockStepsCode : Type 0
 RwLockStepsCode =
     (r : Rules) (a : Admission) (s : Site) (t l : ℕ) (p : RwLockPlace) (op : Op) → IsAt r a s t p

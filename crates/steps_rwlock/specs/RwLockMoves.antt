@@ -26,7 +26,7 @@ RwLockActsMove =
     (l : ℕ) (a : Admission) (p : RwLockPlace) → MayStand a p
     → MovesByAct l a.recursive (rwlock_move a p) (rwlock_hears a p) (rwlock_act l a p)
 
--- and what befalls it asleep
+-- Each act that befalls a sleeper moves it as that act says.
 abbrev pub RwLockSleepersMove : Type 0
 RwLockSleepersMove = (a : Admission) (p : RwLockPlace) → MayStand a p → RowWaits (rwlock_move a p)
 

@@ -61,7 +61,7 @@ token want.TheVariants.Shared = 16
 token want.TheVariants.Upgradable = 20
 token x = 8
 
--- whether who has the right is counted with the readers
+-- whether a thread that has the right is counted with the readers
 abbrev pub is_counted : Want → Bool
 is_counted want.TheVariants.Exclusive = false
 is_counted x = true
@@ -167,7 +167,7 @@ give_op (purpose.Downgrade downgrade.ToUpgradable) = op.TheVariants.Add 12
 give_op (purpose.Downgrade downgrade.UpgradableToShared) = op.TheVariants.Sub 4
 give_op (purpose.Upgrade how) = op.TheVariants.Sub 12
 
--- and how a pending writer falls back: an upgrade has the upgradable right again
+-- How a pending writer falls back: an upgrade has the upgradable right again.
 abbrev pub rollback_op : RwLockPurpose → Op
 rollback_op (purpose.Upgrade how) = op.TheVariants.Add 12
 rollback_op q = op.TheVariants.Sub 8

@@ -10,12 +10,12 @@ pub fn rwlock_steps_follow()
     ensures { RwLockStepsFollow }
 {}
 
-/// And the word that it leaves is the word of the lock behind its deeds.
+/// Each step on the word leaves the word of the lock after its deeds.
 pub fn rwlock_steps_code()
     ensures { RwLockStepsCode }
 {}
 
-/// And the owners that it leaves are those of the lock behind its deeds.
+/// Each step leaves the owners of the lock after its deeds.
 pub fn rwlock_owners_follow()
     ensures { RwLockOwnersFollow }
 {}
@@ -32,7 +32,7 @@ pub fn rwlock_steps_tell()
     ensures { RwLockStepsTell }
 {}
 
-/// And so does each step into a section, in it, and out of it.
+/// Each step into a section, in it, and out of it answers truly.
 pub fn rwlock_sections_tell()
     ensures { RwLockSectionsTell }
 {}
@@ -65,7 +65,7 @@ pub fn rwlock_sleepers_move()
     ensures { RwLockSleepersMove }
 {}
 
-/// And whose time is up goes into the section of its line.
+/// A thread whose time is up goes into the section of its line.
 pub fn rwlock_late_moves()
     ensures { RwLockLateMove }
 {}

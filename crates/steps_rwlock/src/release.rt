@@ -1,4 +1,4 @@
-//! How a thread gives a right up or turns it into another, and wakes whom that lets in.
+//! How a thread gives a right up or turns it into another, and wakes the threads that this lets in.
 //!
 //! | place | does | then |
 //! |---|---|---|
@@ -6,7 +6,7 @@
 //! | `Wake`, `Enter` | enters the section of the queue | `Take` |
 //! | `Take` | takes the picked of the main queue, or the writer aside | `Clear` where nobody is left there, and of the second queue always, else `Leave` |
 //! | `Clear` | clears the parked bit of the queue | `Leave` |
-//! | `Leave` | leaves the section and wakes whom it has taken | ends |
+//! | `Leave` | leaves the section and wakes the threads that it has taken | ends |
 //!
 //! The last reader wakes the writer aside, where one may stand there; every other release, and
 //! every downgrade, those in the main queue.

@@ -132,7 +132,7 @@ module _ (x y : Move) (hears : Hears) (alike : IsAs x y) where
     may = g.may;
   }
 
-  -- and a call that hands nothing over moves as one that may
+  -- A call that hands nothing over moves as one that may.
   moves_as : (l : ℕ) (recursive : Bool) (act : Act) → MovesByAct l recursive y hears act → CallMoves l recursive x hears act
   moves_as l b (act.Word k op) g = (g.0, stays_as g.1)
   moves_as l b (act.Enter keys) g = (g.0, g.1, goes_in_as g.0 Done tt g.2)

@@ -90,7 +90,7 @@ lifts l x (AtLock k (OfCondvar case)) c = lifts_condvar case
 lifts l x (AtLock k case) c = refl
 lifts l x (Moves v m all owned number) c = refl
 
--- and its answer
+-- A bump's answer is true.
 answers : (v : LocksState) (t l : ℕ) (x : Want) (c : CallState) (a : Answer) → EntersAnswer v t c l x Patient a → BumpsAnswer v t (lifted l x c) l x a
 answers v t l x c Ok h = h
 answers v t l x c ReadersFull h = (h.0, one_more_of l x _ _ h.1)

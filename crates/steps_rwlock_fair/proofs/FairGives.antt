@@ -1,4 +1,4 @@
--- A fair release gives the lock to all whom it has taken, in one step.
+-- A fair release gives the lock to all that it has taken, in one step.
 use Rattle.std.specs.Prelude.{slice_index}
 use Rattle.std.proofs.lemmas.Bool.{eqb-true}
 use Rattle.std.proofs.lemmas.Bool.Decides.{nat_tests}

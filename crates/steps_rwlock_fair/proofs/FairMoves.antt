@@ -1,4 +1,4 @@
--- A hand-over takes the thread that hands over, and those who are handed the lock, where the act says.
+-- A hand-over takes the thread that hands over, and those that are handed the lock, where the act says.
 use Rattle.std.proofs.lemmas.Bool.{eqb-true}
 use Rattle.std.proofs.Common.{ℕ, Bool, true, false, Option, Some, None, if◌then◌else◌, ◌≡◌, refl, ap, subst, ◌∙◌}
 use Rattle.core_base.specs.declared.ops.Op.{Op}

@@ -89,7 +89,7 @@ module _ (r : Rules) (a : Admission) (s : Site) (t : ℕ) (admits : Admits r a) 
   goes_in : (x : Want) → IsSectionFree s Main → s.role t ≡ at_rest None (Some (Has x)) → Follows r s t (In Main ∷ []) (within Main None (Some (Has x)))
   goes_in x free is = record { needed = ((free, ap (λ (d : Role). d.inside) is, ap (λ (d : Role). d.empty) is), tt); role = put_same s.role t _ ∙ ap (λ (d : Role). record d { inside = Some Main }) is }
 
-  -- and out of one
+  -- A thread goes out of a section.
   goes_out : (d : Role) → s.lock.taken t ≡ None → s.role t ≡ d → d.inside ≢ None → d.wakes ≡ None → d.sets ≡ false → leaves d ≡ idle → Follows r s t (Out ∷ []) idle
   goes_out d free is inside owes unset gone = record {
     needed = (((λ e. inside (sym (ap (λ (x : Role). x.inside) is) ∙ e)), ap (λ (x : Role). x.wakes) is ∙ owes, ap (λ (x : Role). x.sets) is ∙ unset), tt);
@@ -99,7 +99,7 @@ module _ (r : Rules) (a : Admission) (s : Site) (t : ℕ) (admits : Admits r a) 
   nobody_taken : (s.role t).carries ≡ false → HasTakenNobody s.lock t
   nobody_taken none u x e = let g = h.carried u _ e in cc
 
-  -- an owner takes whom the lock lets in once it has gone
+  -- an owner takes the threads that the lock lets in once it has gone
   takes : (x : Want) (n : ℕ) (y : Option Want) (b : Bool) → b ≡ is_empty (unpicked r.sort None s.lock.queue) → s.role t ≡ within Main None (Some (Has x)) → Knows r.sort Upgradable
       → Follows r s t (Case (TakePicked None) ∷ []) (holding_role x (record { sharers = n; successor = y; none_left = b }))
   takes x n y true e is knows = let free = nobody_taken (ap (λ (d : Role). d.carries) is) in record { needed = grind (arith, nat_tests); role = grind (arith, nat_tests) }

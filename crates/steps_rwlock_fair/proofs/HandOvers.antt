@@ -60,7 +60,7 @@ module _ (base : LockState) (free : HasNoWriter base) where
   writes_counts u true = rw free.upgradable (omega arith)
   writes_counts u false = rw free.upgradable (omega arith)
 
-  -- and counts where it is upgradable
+  -- A successor counts where it is upgradable.
   pub counts : (y : Option Want) (w : Option ℕ) → WantsMore y → IsNamed y w → count (with_successor (heir_of w y) base) ≡ readers base + (if is_upgradable y then 1 else 0)
   counts None None more named = rw free.upgradable refl
   counts None (Some u) more named = absurd named
@@ -89,7 +89,7 @@ module _ (r : Rules) (s : Site) (t : ℕ) (h : IsSite r s) where
   pub exclusive_gone : (s.role t).claims ≡ Some (Has Exclusive) → HasNoWriter (sharing_handed t (without_owner t Exclusive s.lock)) × (readers s.lock ≡ 0)
   exclusive_gone claims = let alone = h.state.exclusive_alone t (h.held t (Has Exclusive) claims) in (record { exclusive = refl; pending = alone.0; upgradable = alone.1 }, alone.2)
 
-  -- and an upgradable one none but those who share
+  -- An upgradable owner's hand-over leaves no owners but those that share.
   pub upgradable_gone : (s.role t).claims ≡ Some (Has Upgradable) → HasNoWriter (sharing_handed t (without_owner t Upgradable s.lock)) × (count s.lock ≡ readers s.lock + 1) × (rw_code s ≡ 16 * readers s.lock + 20 + (2 * bit s.aside_parked + bit s.parked))
   upgradable_gone claims = (record { exclusive = no_writer s.lock.exclusive refl; pending = no_pending s.lock.pending refl; upgradable = refl }, rw own refl, rw (no_writer s.lock.exclusive refl, no_pending s.lock.pending refl, own) (omega arith))
     where

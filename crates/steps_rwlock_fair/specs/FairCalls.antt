@@ -39,7 +39,7 @@ IsOfBump (purpose.Release access.Shared) retries = retries ≡ false
 IsOfBump q retries = ⊥
 
 -- an exclusive owner tries the word that tells of nobody else, and hands over whatever it takes; an
--- upgradable one looks; who sees nobody wait enters no section
+-- upgradable one looks; a thread that sees nobody wait enters no section
 abbrev pub HandsOverAt : Access → HandOverAt → Type 0
 HandsOverAt access.Shared to = ⊥
 HandsOverAt access.Exclusive (handing.Free seen) = seen ≡ 8

@@ -25,7 +25,7 @@ use Rattle.steps_rwlock_fair.specs.FairSteps.{has_room, gives_way}
 
 -- ---------------------------------------------------------------- the acts of a thread, by its place
 
--- inside, an owner still, with those in hand whom the lock lets in once it has gone
+-- inside, an owner still, with those in hand the threads that the lock lets in once it has gone
 abbrev pub holding_role : Want → Taken → Role
 holding_role x k = record idle {
   inside = Some Main;

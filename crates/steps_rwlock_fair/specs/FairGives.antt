@@ -1,4 +1,4 @@
--- A fair release, or a bump, of more than a shared right gives all whom it takes what they waited
+-- A fair release, or a bump, of more than a shared right gives all that it takes what they waited
 -- for, in one step. Where the limit would be passed, it gives it to none of them.
 use Rattle.std.specs.Prelude.{ℕ, Bool, true, false, Option, Some, None, ◌≡◌, ◌≢◌, ◌<◌, ◌≤◌, ◌+◌, ◌⊎◌, [], length, slice_index}
 use Rattle.core_base.specs.declared.ops.Op.{Op}
@@ -34,17 +34,17 @@ HasGot s s2 u Exclusive =
 HasGot s s2 u Wait = ⊥
 HasGot s s2 u CallOnce = ⊥
 
--- from s to s2 everybody whom it had taken gets what it waited for; it had taken somebody, or
+-- from s to s2 everybody that it had taken gets what it waited for; it had taken somebody, or
 -- nobody waits
 pub record GivesToAll (s s2 : LockState) (t : ℕ) : Type 0 where
   pub all : (u : ℕ) (x : Want) → IsTaken s t u x → u < length s.shared → HasGot s s2 u x
   pub some : ((u : ℕ) × ((x : Want) × IsTaken s t u x)) ⊎ (s.queue ≡ [])
 
--- it lets the lock go: it had taken nobody, and the word tells of nobody who waits
+-- it lets the lock go: it had taken nobody, and the word tells of nobody that waits
 abbrev pub LetsGo : LockState → ℕ → ℕ → Type 0
 LetsGo s word t = HasTakenNobody s t × (has_parked word ≡ false)
 
--- those whom it has taken of an upgradable right would pass the limit: they stay in its hand, and
+-- those that it has taken of an upgradable right would pass the limit: they stay in its hand, and
 -- it wakes them
 abbrev pub WakesThem : Rules → LockState → LockState → ℕ → Want → Type 0
 WakesThem r s s2 t x =
@@ -52,8 +52,7 @@ WakesThem r s s2 t x =
     × ((successor : Option Queued)
     × (IsSuccessor s t successor × (r.limit < count (handed t Upgradable successor s))))
 
--- a step of an owner on the word; who is the one that wants more, if anybody, is no part of its
--- place
+-- a step of an owner on the word; which thread is the one that wants more, if any, is no part of its place
 abbrev pub FairReleasesGive : Type 0
 FairReleasesGive =
     (r : Rules) (a : Admission) (s : Site) (t l : ℕ) (c : RwLockCallPlace) (op : Op)

@@ -56,7 +56,7 @@ FairStepsFollow =
     → standing t s.lock ≡ 0 → call_act l a c ≡ act.Word l op
     → FollowsInCall r a s t c None (reply.Value (code r s))
 
--- and the word that it leaves is the word of the lock behind its deeds
+-- Each step leaves the word of the lock after its deeds.
 abbrev pub FairStepsCode : Type 0
 FairStepsCode =
     (r : Rules) (a : Admission) (s : Site) (t l : ℕ) (c : RwLockCallPlace) (op : Op)
@@ -67,7 +67,7 @@ FairStepsCode =
 
 -- ---------------------------------------------------------------- the step that hands over
 
--- the thread is there, and has in hand whom its place says
+-- the thread is there, and has in hand the threads that its place says
 pub record StandsToHandOver (r : Rules) (a : Admission) (s : Site) (t : ℕ) (c : RwLockCallPlace)
     (whom : Option ℕ) : Type 0 where
   pub call : IsInCall r a s t c
@@ -93,7 +93,7 @@ HandOversCode =
     → code r s < 2 ^ 64 → a.limit < 2 ^ 60 - 1 → HasLimit r s.lock
     → apply op (code r s) ≡ code r (behind_call r a s t c whom (reply.Value (code r s)))
 
--- and so is the limit
+-- A hand-over keeps the limit.
 abbrev pub HandOversKeepLimit : Type 0
 HandOversKeepLimit =
     (r : Rules) (a : Admission) (s : Site) (t l : ℕ) (c : RwLockCallPlace) (op : Op)
@@ -113,7 +113,7 @@ FairSectionsFollow =
     (told : Reply)
     → IsInCall r a s t c → CallMayHear r a s t c whom told → FollowsInCall r a s t c whom told
 
--- ---------------------------------------------------------------- whoever was handed the lock
+-- ---------------------------------------------------------------- each thread that was handed the lock
 
 -- where the lock was handed over, each in hand has what its place says from then on
 abbrev pub HandOversGive : Type 0
@@ -176,7 +176,7 @@ HandOversTell =
     (whom : Option ℕ) → StandsToHandOver r a s t c whom
     → call_act l a c ≡ act.HandOver l op → CallTells r a s t l c whom (reply.Value (code r s))
 
--- and each into a section, in it, and out of it
+-- Each step into a section, in it, and out of it answers truly.
 abbrev pub FairSectionsTell : Type 0
 FairSectionsTell =
     (r : Rules) (a : Admission) (s : Site) (t l : ℕ) (c : RwLockCallPlace) (whom : Option ℕ)
@@ -243,8 +243,8 @@ FairOwnersFollow =
     (call_owners a c t (code r s) o) main second taken
     ≡ (behind_call r a s t c None (reply.Value (code r s))).lock
 
--- and one that gives a right up by a hand-over leaves those of the lock without it, before the
--- others have theirs
+-- A thread that gives a right up by a hand-over leaves the owners of the lock without it, before the others
+-- have theirs.
 abbrev pub GiversKeep : Type 0
 GiversKeep =
     (a : Admission) (x : Access) (b : Bool) (to : HandOverAt) (t seen : ℕ) (shared : List ℕ)

@@ -1,5 +1,5 @@
--- Where each step of a fair release and of a bump takes its thread in the machine, and where those
--- go who are handed the lock.
+-- Where each step of a fair release and of a bump takes its thread in the machine, and where those go that
+-- are handed the lock.
 use Rattle.std.specs.Prelude.{ℕ, Bool, true, false, Some, None, ◌≡◌, ◌⊎◌}
 use Rattle.core_base.specs.declared.keys.Keys.TheVariants.{One}
 use Rattle.core_base.specs.declared.keys.Line.{Line}
@@ -55,7 +55,7 @@ HandedMove = (a : Admission) (c : RwLockCallPlace) → CallStands a c → IsMove
 abbrev pub call_hears : Admission → RwLockCallPlace → Hears
 call_hears a c r s t whom told = CallMayHear r a s t c whom told
 
--- by its act, as in any call; or it hands a right over, tells so to those who have it, or ends a
+-- by its act, as in any call; or it hands a right over, tells so to those that have it, or ends a
 -- call that was handed it
 abbrev pub CallMoves : ℕ → Bool → Move → Hears → Act → Type 0
 CallMoves l recursive x hears (act.HandOver k op) = (k ≡ l) × Hands x op

@@ -57,7 +57,7 @@ abbrev pub carries_taken : Option Taken → Option Bool
 carries_taken None = None
 carries_taken (Some k) = in_hand (any_taken k) false
 
--- and whether it has handed it over
+-- Whether a thread has handed the lock over.
 abbrev pub carries_handing : HandOverAt → Option Bool
 carries_handing (handing.Leave any handed) = in_hand any handed
 carries_handing to = carries_taken (in_hand_at to)

@@ -1,4 +1,4 @@
--- The steps of fair releases and bumps, and of those to whom they hand the lock: what a thread does
+-- The steps of fair releases and bumps, and of those to which they hand the lock: what a thread does
 -- at each place, and where each reply leads it.
 use Rattle.std.specs.Prelude.{ℕ, Bool, true, false, Option, Some, None, if◌then◌else◌, ◌==◌, ◌&&◌, ◌||◌, not, ◌+◌, ◌-◌, ◌*◌, ◌%◌, ◌^◌, nat_le}
 use Rattle.core_base.specs.declared.keys.Keys.TheVariants.{One}
@@ -170,7 +170,7 @@ glances a x reply = At (Glance x)
 
 -- ---------------------------------------------------------------- a thread that was handed the lock
 
--- a writer beside readers is pending, and whoever else was handed the lock has its right
+-- a writer beside readers is pending, and each thread that else was handed the lock has its right
 abbrev pub handed_woken : Access → Patience → Bool → Bool → RwLockCallPlace
 handed_woken access.Exclusive how b alone =
     if alone then Handed access.Exclusive how b handed.Accept

@@ -5,11 +5,11 @@
 //! | `Load` (upgradable) | loads | `Enter` where somebody may wait, else `Free` |
 //! | `Free(v)` | exchanges `v` for `v` without its right | released; else `Enter`, or an upgradable owner looks at the value seen |
 //! | `Enter` | enters the section of the main queue | `Take` |
-//! | `Take` | takes those whom the lock lets in once the owner has gone | `Store`, or `Look` of an upgradable owner |
-//! | `Store` (exclusive) | stores the word: all whom it has taken own | `Leave` |
+//! | `Take` | takes those that the lock lets in once the owner has gone | `Store`, or `Look` of an upgradable owner |
+//! | `Store` (exclusive) | stores the word: all that it has taken own | `Leave` |
 //! | `Look` (upgradable) | loads | `Exchange` |
-//! | `Exchange` (upgradable) | exchanges the word seen for one in which all whom it has taken own; where there is no room for them, it only releases | `Leave`, or `Exchange` again |
-//! | `Leave` | leaves the section, and wakes whom it has taken: where it handed nothing over, they try again | ends, or enters again as it bumps |
+//! | `Exchange` (upgradable) | exchanges the word seen for one in which all that it has taken own; where there is no room for them, it only releases | `Leave`, or `Exchange` again |
+//! | `Leave` | leaves the section, and wakes the threads that it has taken: where it handed nothing over, they try again | ends, or enters again as it bumps |
 ghost use Rattle.std.specs.Prelude.{◌≡◌, ◌<◌, ◌^◌};
 ghost use Rattle.steps_rwlock_fair.specs.FairSteps.{token_of, tokens, any_taken, has_room, parked_as, word_without, with_taken, looked, freed_next, took, exchange_act, hand_over_act, hand_over_next, released, lets_right_go};
 ghost use Rattle.steps_rwlock_fair.specs.FairProfiles.{owes_handing};
@@ -38,7 +38,7 @@ pub struct Taken {
 #[derive(Clone, Copy, PartialEq, Eq)]
 pub enum HandOverAt {
     Load,
-    /// The word that it saw last tells of nobody who waits.
+    /// The word that it saw last tells of nobody that waits.
     Free(u64),
     Enter,
     /// Inside the section.

@@ -9,23 +9,23 @@ pub fn fair_steps_follow()
     ensures { FairStepsFollow }
 {}
 
-/// And the word that it leaves is the word of the lock behind its deeds.
+/// Each step on the word leaves the word of the lock after its deeds.
 pub fn fair_steps_code()
     ensures { FairStepsCode }
 {}
 
-/// The step that hands the lock over to all whom the thread has in hand may do to the lock what its
+/// The step that hands the lock over to all that the thread has in hand may do to the lock what its
 /// deeds say.
 pub fn hand_overs_follow()
     ensures { HandOversFollow }
 {}
 
-/// And the word that it leaves is the word of the lock behind it.
+/// Each hand-over leaves the word of the lock after it.
 pub fn hand_overs_code()
     ensures { HandOversCode }
 {}
 
-/// And the limit of the lock holds behind it.
+/// Each hand-over keeps the limit of the lock.
 pub fn hand_overs_keep_limit()
     ensures { HandOversKeepLimit }
 {}
@@ -57,12 +57,12 @@ pub fn hand_overs_tell()
     ensures { HandOversTell }
 {}
 
-/// And so does each other step on the word, and its answer is true.
+/// Each other step on the word goes on with its call, and its answer is true.
 pub fn fair_steps_tell()
     ensures { FairStepsTell }
 {}
 
-/// And each step into a section, in it, and out of it.
+/// Each step into a section, in it, and out of it answers truly.
 pub fn fair_sections_tell()
     ensures { FairSectionsTell }
 {}
@@ -79,7 +79,7 @@ pub fn fair_looks_stand()
     ensures { FairLooksStand }
 {}
 
-/// The step that hands the lock over does so as its act says: all whom the thread has in hand are
+/// The step that hands the lock over does so as its act says: all that the thread has in hand are
 /// handed it.
 pub fn hand_overs_move()
     ensures { HandOversMove }
@@ -97,7 +97,7 @@ pub fn fair_sleepers_move()
     ensures { FairSleepersMove }
 {}
 
-/// And whose time is up goes into the section of its line.
+/// A thread whose time is up goes into the section of its line.
 pub fn fair_late_moves()
     ensures { FairLateMove }
 {}
@@ -119,7 +119,7 @@ pub fn givers_keep()
     ensures { GiversKeep }
 {}
 
-/// A fair release, or a bump, of more than a shared right gives the lock to all whom it has taken
+/// A fair release, or a bump, of more than a shared right gives the lock to all that it has taken
 /// in one step, or lets it go where nobody waits; where the limit would be passed they stay in its
 /// hand, to be woken.
 pub fn fair_releases_give()

@@ -1,4 +1,4 @@
-//! The steps of fair releases and of bumps of a reader-writer lock, and of those to whom they hand
+//! The steps of fair releases and of bumps of a reader-writer lock, and of those to which they hand
 //! the lock.
 #![tactic(auto)]
 

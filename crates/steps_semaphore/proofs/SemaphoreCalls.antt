@@ -172,7 +172,7 @@ module _ (limit l t : ℕ) (s : LockState) where
   takes_one (Some u) any true = keeps (Release release.Take) (Release (release.Clear any)) (take_deeds (Some u)) tt ((refl, tt), tt) refl (λ rights. refl)
   takes_one (Some u) any false = keeps (Release release.Take) (Release (release.Leave any)) (take_deeds (Some u)) tt ((refl, tt), tt) refl (λ rights. refl)
 
-  -- it wakes whom it has taken
+  -- it wakes the threads that it has taken
   pub wakes_taken : (any : Bool) → Tells (Release (release.Leave any)) (Out ∷ []) (next.End answer.Ok)
   wakes_taken true = record { one = tt; may = ((refl, inl refl), tt); comes = λ v rights ruled now is has k. ap (λ f. one_more_at l Shared f k) (λ i x. stays v rights (after_case r locks.Wake s t) is has refl x i) }
   wakes_taken false = record { one = tt; may = tt; comes = λ v rights ruled now is has k. ap (λ f. one_more_at l Shared f k) (λ i x. stays v rights s is has refl x i) }

@@ -81,7 +81,7 @@ module _ (permits : ℕ) (s : Site) (t : ℕ) (lt : t < length s.lock.shared) (h
     few = deed_few d n;
   }
 
-  -- and the number of threads stays
+  -- A case leaves the number of threads that share.
   case_sharers : (c : LockCase) → Needed r (Case c) s t → length (after_deed r (Case c) s t).lock.shared ≡ length s.lock.shared
   case_sharers (Enter Shared) n = length-set s.lock.shared t _
   case_sharers (Leave Shared) n = length-set s.lock.shared t _

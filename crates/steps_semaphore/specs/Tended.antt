@@ -1,4 +1,4 @@
--- A semaphore between two steps: its holders, its word, and whoever waits for a permit.
+-- A semaphore between two steps: its holders, its word, and its waiters.
 use Rattle.std.specs.Prelude.{ℕ, Option, ◌+◌, ◌*◌, ◌/◌, ◌^◌, ◌<◌, ◌≤◌, ◌≡◌, ◌≢◌, [], length}
 use Rattle.core_base.specs.declared.wants.Want.TheVariants.{Shared}
 use Rattle.steps_base.specs.declared.acts.Reply.{Reply}
@@ -17,7 +17,7 @@ semaphore permits = record { sort = Semaphore; limit = permits }
 
 pub record IsTended (permits : ℕ) (s : Site) : Type 0 where
   pub site : IsSite (semaphore permits) s
-  -- while somebody waits, those who hold a permit and those who look after the line are no fewer
+  -- while somebody waits, those that hold a permit and those that look after the line are no fewer
   -- than the permits
   pub looked_after : HasPermits (semaphore permits) s
   -- no more hold a permit than there are permits
@@ -50,7 +50,7 @@ pub record TellsPermitsTrue (permits : ℕ) (s : Site) : Type 0 where
   pub parked : has_parked (code (semaphore permits) s) ≡ s.parked
   pub free : 1 ≤ code (semaphore permits) s / 2 → MayEnter (semaphore permits) s.lock Shared
   pub blocked : code (semaphore permits) s / 2 ≡ 0 → IsBlocked (semaphore permits) s.lock Shared
-  -- and no word passes its range
+  -- No word passes its range.
   pub small : permits ≤ 2 ^ 62 → code (semaphore permits) s < 2 ^ 64
 
 abbrev pub SemaphoreWordsTellTrue : Type 0

@@ -74,7 +74,7 @@ pub(super) fn next_acquire(timed: bool, at: AcquireAt, reply: Reply) -> Next<Acq
             Next::At(AcquireAt::Load)
         },
         (AcquireAt::Asleep, Reply::TakenBy(by)) => Next::At(AcquireAt::Taken { by }),
-        // A running thread sees its wake note alone, and not who took it.
+        // A running thread sees its wake note alone, and not which thread took it.
         (AcquireAt::Asleep, Reply::Woken(Note::Normal)) => Next::At(AcquireAt::Load),
         (AcquireAt::Taken { .. }, Reply::Woken(Note::Normal)) => Next::At(AcquireAt::Load),
         (AcquireAt::Asleep, Reply::Late) => Next::At(AcquireAt::Remove),

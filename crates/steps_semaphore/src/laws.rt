@@ -8,7 +8,7 @@ pub fn semaphore_steps_follow()
     ensures { SemaphoreStepsFollow }
 {}
 
-/// And it leaves the word and the permits of the semaphore behind its deeds.
+/// Each step leaves the word and the permits of the semaphore after its deeds.
 pub fn semaphore_steps_code()
     ensures { SemaphoreStepsCode }
 {}
@@ -24,8 +24,8 @@ pub fn semaphore_rows_keep()
     ensures { SemaphoreRowsKeep }
 {}
 
-/// Each step keeps what holds of a semaphore between steps: who holds a permit and who looks after
-/// the queue are no fewer than the permits while somebody waits.
+/// Each step keeps what holds of a semaphore between steps: the threads that hold a permit and
+/// those that look after the queue are no fewer than the permits while somebody waits.
 pub fn semaphore_steps_keep_tended()
     ensures { StepsKeepTended }
 {}

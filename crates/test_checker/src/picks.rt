@@ -11,15 +11,15 @@ struct Picks {
     is_recursive: bool,
     /// Whether the waking thread keeps more than a shared right.
     keeps_more: bool,
-    /// Whether somebody who wants more than to share stood ahead.
+    /// Whether somebody that wants more than to share stood ahead.
     met_another: bool,
     has_stopped: bool,
 }
 
 impl Picks {
-    /// Whether the next waiter is let in: who wants to share is, up to the stop; of the others the
-    /// first is, where nothing more is kept. Where that one is a writer of a lock that isn't recursive,
-    /// the stop stands behind it.
+    /// Whether the next waiter is let in: a thread that wants to share is, up to the stop; of the
+    /// others the first is, where nothing more is kept. Where that one is a writer of a lock that
+    /// isn't recursive, the stop stands behind it.
     fn takes(&mut self, want: Want) -> bool {
         if self.has_stopped {
             return false;
@@ -50,8 +50,8 @@ fn is_taken(new: &SeenLock, thread: usize, mover: usize, after: &Seen) -> bool {
     !new.queues(thread) && after.taker(thread) == Some(mover)
 }
 
-/// Where a thread takes anybody of a reader-writer lock's queue, it takes all those whom it lets in, and
-/// nobody else.
+/// Where a thread takes anybody of a reader-writer lock's queue, it takes all those that it lets
+/// in, and nobody else.
 pub fn check_picks(before: &Seen, mover: usize, call: Call, after: &Seen) -> Result<(), Violation> {
     let Call::RwLock { lock, call } = call else {
         return Ok(());

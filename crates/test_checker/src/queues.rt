@@ -1,4 +1,4 @@
-//! First in, first out: who joins a queue, who leaves it, and in which order.
+//! First in, first out: which threads join a queue, which leave it, and in which order.
 
 use crate::seen::{Seen, SeenLock, SeenWaiter, Standing};
 use crate::violations::Violation;

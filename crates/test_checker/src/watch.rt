@@ -74,7 +74,8 @@ impl Watch {
         }
     }
 
-    /// Counts whom the mover takes or moves from a condition variable: each of them is notified.
+    /// Counts the threads that the mover takes or moves from a condition variable: each of them is
+    /// notified.
     fn note_moves(&mut self, before: &Seen, mover: usize, after: &Seen) {
         for (old, new) in before.locks.iter().zip(after.locks.iter()) {
             if old.kind != Kind::Condvar {

@@ -155,7 +155,7 @@ enum Task {
     TakeThree,
 }
 
-// Does it. It gives the first who was taken, if any.
+// Does it. It gives the first that was taken, if any.
 fn perform(section: &mut Section, key: Key, thread: usize, task: Task) -> Option<usize>
     requires section { IsKeyOf section.old.keys key × IsUntouched section.old }
     requires thread { thread < section.old.lot.now.records.count }
@@ -179,7 +179,7 @@ fn perform(section: &mut Section, key: Key, thread: usize, task: Task) -> Option
     }
 }
 
-// Does it, and wakes who was taken.
+// Does it, and wakes the thread that was taken.
 fn in_section<R: Wait>(
     rt: &R,
     lot: &ParkingLot,

@@ -24,7 +24,7 @@ fn check_eq<T: PartialEq + Debug + Drop>(rt: &impl Abort, found: T, wanted: T) {
     assert_eq!(rt; found, wanted);
 }
 
-/// The same of what is true.
+/// Checks what is true.
 fn check(rt: &impl Abort, truth: bool) {
     assert!(rt; truth);
 }

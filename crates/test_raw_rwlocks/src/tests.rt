@@ -46,7 +46,7 @@ fn goes<const RECURSIVE: bool, R: Wait>(
     }
 }
 
-// The same of who has the upgradable right.
+// Goes on with the upgradable right.
 fn goes_upgradable<const RECURSIVE: bool, R: Wait>(
     rt: &R,
     lock: &RawRwLock<RECURSIVE>,
@@ -68,7 +68,7 @@ fn goes_upgradable<const RECURSIVE: bool, R: Wait>(
     }
 }
 
-// The same of a writer.
+// Goes on as a writer.
 fn goes_writing<const RECURSIVE: bool, R: Wait>(
     rt: &R,
     lock: &RawRwLock<RECURSIVE>,
@@ -171,7 +171,7 @@ fn sees_readers<const RECURSIVE: bool, R: Wait>(
     beside == READ && look(rt, lock, token) == FREE
 }
 
-// The same of who has the upgradable right, and becomes a reader.
+// Sees upgradable owners, and becomes a reader.
 fn sees_upgradables<const RECURSIVE: bool, R: Wait>(
     rt: &R,
     lock: &RawRwLock<RECURSIVE>,
@@ -190,7 +190,7 @@ fn sees_upgradables<const RECURSIVE: bool, R: Wait>(
     beside == UPGRADABLE && turned == READ
 }
 
-// The same of a writer, which becomes a reader.
+// Sees writers, and becomes a reader.
 fn sees_writers<const RECURSIVE: bool, R: Wait>(
     rt: &R,
     lock: &RawRwLock<RECURSIVE>,
@@ -207,7 +207,7 @@ fn sees_writers<const RECURSIVE: bool, R: Wait>(
     beside == WRITTEN && turned == READ
 }
 
-// The same of a writer that has the upgradable right then, and is a writer again.
+// Sees a writer that has the upgradable right then, and is a writer again.
 fn sees_turns<const RECURSIVE: bool, R: Wait>(
     rt: &R,
     lock: &RawRwLock<RECURSIVE>,
@@ -283,7 +283,7 @@ fn tries_to_upgrade<const RECURSIVE: bool, R: Wait>(
     beside == (false, UPGRADABLE) && try_to_upgrade(rt, lock, token) == (true, WRITTEN)
 }
 
-// Whether all rights of a lock keep out whom they are to.
+// Whether all rights of a lock keep out the threads that they are to.
 fn sees_all<const RECURSIVE: bool>(rt: &impl Wait, alloc: Global) -> Result<bool, Fault> {
     let (lock, mut token) = lock_alone::<RECURSIVE>(alloc, 10)?;
     let held = sees_readers(rt, &lock, &mut token)

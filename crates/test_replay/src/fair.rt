@@ -36,7 +36,7 @@ r 48 own=1s,1s,1s retry=2
 ",
         status: 0,
     },
-    // A fair release of the upgradable right hands it over, and leaves who is behind.
+    // A fair release of the upgradable right hands it over, and leaves a thread that is behind.
     Schedule {
         name: "a fair release of the upgradable right",
         lines: b"threads 3
@@ -92,7 +92,7 @@ r 26 own=0p,1s aside=0
 ",
         status: 0,
     },
-    // A fair release hands over to all whom it picks at once: a writer beside readers is pending.
+    // A fair release hands over to all that it picks at once: a writer beside readers is pending.
     Schedule {
         name: "a fair release hands over to all at once",
         lines: b"threads 4
@@ -249,8 +249,8 @@ r 48 own=1s,1s,1s
 ",
         status: 0,
     },
-    // A thread to whom a hand-over has given its right owns though it sleeps, and the one who hands over owes
-    // the wake.
+    // A thread to which a hand-over has given its right owns though it sleeps, and the one that
+    // hands over owes the wake.
     Schedule {
         name: "an owner by hand-over sleeps on",
         lines: b"threads 3

@@ -147,8 +147,8 @@ o 0
 ",
         status: 0,
     },
-    // A thread that gives up leaves the bit to those who stand in the queue still. No thread is late
-    // that sleeps without a deadline, or is awake.
+    // A thread that gives up leaves the bit to those that stand in the queue still. No thread is
+    // late that sleeps without a deadline, or is awake.
     Schedule {
         name: "a waiter gives up and leaves the bit to the others",
         lines: b"threads 3

@@ -26,8 +26,8 @@ lock c condvar
 ",
         status: 0,
     },
-    // Calls that are not begun: of a lock of another kind, with a fair mutex, and by who does not
-    // own the mutex.
+    // Calls that are not begun: of a lock of another kind, with a fair mutex, and by a thread that
+    // does not own the mutex.
     Schedule {
         name: "calls that are not begun",
         lines: b"threads 2

@@ -78,7 +78,7 @@ r 32 own=0s,2s
 ",
         status: 0,
     },
-    // A release wakes a reader and who wants more, and leaves the reader behind them.
+    // A release wakes a reader and a thread that wants more, and leaves the reader behind them.
     Schedule {
         name: "a release wakes a reader and an upgrader",
         lines: b"threads 4

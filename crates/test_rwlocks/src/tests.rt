@@ -177,7 +177,7 @@ fn write<'l, const RECURSIVE: bool, R: Wait>(
     lock.write(rt, token)
 }
 
-// What a guard shows. Each kind is dear to prove, and is asked here alone.
+// Returns the value that a guard shows. Each kind is dear to prove, and is asked here alone.
 fn read_value<const RECURSIVE: bool>(guard: &Reader<'_, RECURSIVE>) -> u64 {
     **guard
 }

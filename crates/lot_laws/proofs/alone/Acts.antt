@@ -45,7 +45,8 @@ use Rattle.lot_steps.specs.Steps.{owners_after}
 
 -- ---------------------------------------------------------------- acts
 
--- where a thread stands in a call of a lock, the lock's word and owner, who is inside its section, and its queue
+-- where a thread stands in a call of a lock, the lock's word and owner, the thread inside its section, and
+-- its queue
 pub record Facing (w : State) (t l : ℕ) (p : Place) (v : ℕ) (o : Option ℕ) (s : Option ℕ) (q : List Waiter) : Type 0 where
   pub shape : IsWellFormed w
   pub steady : IsInductive w

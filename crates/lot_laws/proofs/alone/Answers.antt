@@ -72,7 +72,7 @@ former_stays (AtLock l (HandOff x h)) c = refl
 former_stays (AtLock l (OfOnce case)) c = once_keeps_former case l c
 former_stays (AtLock l case) c = refl
 
--- and so does a wake of its own
+-- A wake of its own leaves the purpose of a call.
 pub woken_purpose : (w : LocksState) (t : ℕ) (e : Event) (c : CallState) → (woken w t e t c).purpose ≡ c.purpose
 woken_purpose w t (AtLock l Wake) c = either (is_taken_by t ((w.locks l).taken t))
   where

@@ -69,7 +69,7 @@ moves k w t h free e = elim (subst (λ o. ComesTo t (alone_after o w (after w (g
   | inr barred ↦ free barred
 ]
 
--- and then it is the same what was told it before
+-- From there on it does not matter what the thread was told before.
 solo_from : (n : ℕ) (w : State) (t : ℕ) (last last2 : Outcome) → step_outcome w (go_of t) ≢ outcome.NotNow → 1 ≤ n
     → solo n w t last ≡ solo n w t last2
 unfolding solo

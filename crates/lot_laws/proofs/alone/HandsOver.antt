@@ -1,4 +1,5 @@
--- A fair release, a bump, or who was handed the lock, whose thread steps alone: from each place it ends, or begins to enter again.
+-- A fair release, a bump, or a call that was handed the lock, whose thread steps alone: from each place it
+-- ends, or begins to enter again.
 use Rattle.std.proofs.Common.{ℕ, suc, Bool, true, false, None, if◌then◌else◌, ◌==◌, ◌&&◌, ◌≡◌, ◌+◌, ◌*◌, ◌≤◌, List, ◌∷◌, replicate, inl, inr, refl, sym, ◌∙◌, ap, subst, arith}
 use Rattle.core_base.specs.declared.keys.Line.{Line}
 use Rattle.core_base.specs.declared.keys.Line.TheVariants.{Main, Second}
@@ -323,7 +324,7 @@ module _ (t l : ℕ) (a : Admission) where
       either true v2 c = goes true access.Shared 15 v2 w q (leaving (at.Wake Second waking.Enter)) outcome.Step shares refl c (λ s g. wakes_enter v2 _ q s g)
       either false v2 c = leads_more 12 16 w t (Ends true access.Shared w) (omega arith) (released_rests access.Shared true v2 w q shares c)
 
-  -- ---------------------------------------------------------------- a bump that looks, and who was handed the lock
+  -- -------------------------------------------- a bump that looks, and a thread that was handed the lock
 
   pub glance_rests : (x : Access) (v : ℕ) (w : State) (q : Line → List Waiter) → Shares w → Alone w (Glance x) v q
       → Leads 18 w t (Ends (gives_way a x v) x w)

@@ -404,7 +404,7 @@ module _ (t l : ℕ) where
       → Leads k w t (FairEnds bumps t l o q) → Leads 12 w t (λ c y. Rests y)
   fair_rests k bumps o q w le h = leads_more k 12 w t (λ c y. Rests y) le (leads_so k w t (FairEnds bumps t l o q) (λ c y. Rests y) (fair_so bumps o q) h)
 
-  -- from its beginning, whoever is inside its section
+  -- from its beginning, whatever thread is inside its section
   pub unlock_fair_rests : (q : List Waiter) (v : ℕ) (o s : Option ℕ) (w : State) → Facing w t l (Mutex l UnlockFair) v o s q
       → Leads 12 w t (λ c y. Rests y)
   unlock_fair_rests q v o s w f = either (v == 1) (word_faces w t l UnlockFair v o s q f (op.TheVariants.Exchange 1 0) refl)

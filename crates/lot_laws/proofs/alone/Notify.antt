@@ -29,7 +29,7 @@ use Rattle.lot_laws.proofs.condvar.OwnStand.{notifier_still}
 use Rattle.lot_laws.proofs.machine.Parts.{same}
 use Rattle.lot_laws.proofs.alone.Leads.{leads_barred, Leads, leads_more, leads_so}
 
--- how many it moves of those who wait, and who is left
+-- how many it moves of those that wait, and the waiters that are left
 abbrev pub moved_number : Bool → List Queued → ℕ
 moved_number all q = if all then length q else 1
 
@@ -91,7 +91,7 @@ module _ (t l m : ℕ) (keeps : Keeps t) where
     one_behind any true h = inr (refl, clears (after w (go_of t)) false any q left h)
     one_behind any false h = inr (refl, leads_more 1 2 (after w (go_of t)) t (Ends false 1 q) (omega arith) (leaves (after w (go_of t)) false any 1 q left h))
 
-  -- or all are
+  -- A notification of all moves each waiter.
   module _ (w : State) (locked : Bool) (number : ℕ) (q : List Queued) (g : Alone w true (notify.Move locked))
       (left : (lock_state (after w (go_of t)) l).queue ≡ q) where
     all_behind : (some : Bool)
@@ -177,7 +177,7 @@ module _ (t l m : ℕ) (keeps : Keeps t) where
         either true f h = inr (refl, hides (after w (go_of t)) left h)
         either false f h = inr (refl, leads_more 5 6 (after w (go_of t)) t Moves (omega arith) (begins_marking (after w (go_of t)) left h))
 
-    -- or does not
+    -- A notification whose exchange finds another mutex misses.
     misses : (w : State) → is_shown (word_at w l) m ≡ false → (lock_state w l).queue ≡ q → Alone w all notify.Again
         → Leads 2 w t (Ends all 0 q)
     misses w shown e g = goes w all notify.Again g (Ends all 0 q) 1 refl (rw shown (λ h. inr (refl, leaves (after w (go_of t)) all false 0 q left h)))
@@ -190,7 +190,7 @@ module _ (t l m : ℕ) (keeps : Keeps t) where
     abbrev BothFree : Type 0
     BothFree = can_do w (notify_act all l m notify.Enter) ≡ true
 
-    -- and finds the condition variable as it was
+    -- A notification that misses finds the condition variable as it was.
     same_word : BothFree → word_at (after w (go_of t)) l ≡ word_at w l
     same_word can = so_then t l m keeps w (Notify all m notify.Enter) g can (λ s. word_at s l) (λ x. refl)
 

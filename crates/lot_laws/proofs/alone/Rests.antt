@@ -358,7 +358,7 @@ module _ (w : State) (t : ℕ) (shape : IsWellFormed w) (steady : IsInductive w)
       (solo 64 w t outcome.TheVariants.NotNow).state
   ends_alone c is way = unless_barred way (ends_or_barred c is (reads_its_own w t c is way))
 
-  -- a try ends so whoever is inside a section
+  -- a try ends so, whatever thread is inside a section
   pub tries_alone : (c : Call) → place_at w t ≡ first_place (kind_at w (lock_in c)) c → OnlyTries (purpose_at (locks_of w) c)
       → EndsAlone w t (purpose_at (locks_of w) c) (solo 64 w t outcome.TheVariants.NotNow).outcome
       (solo 64 w t outcome.TheVariants.NotNow).state

@@ -101,7 +101,7 @@ module _ (t l : ℕ) (a : Admission) where
 
   -- ---------------------------------------------------------------- waiters
 
-  -- the decision of who waits, by the parked bit that it saw
+  -- the decision of a thread that waits, by the parked bit that it saw
   abbrev waiting : Bool → Decision
   waiting parked = if parked then decisions.Park else decisions.Mark
 

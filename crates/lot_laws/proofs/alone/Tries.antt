@@ -1,4 +1,4 @@
--- A call that only tries enters no section, so whoever is inside one doesn't bar it.
+-- A call that only tries enters no section, so a thread that is inside one doesn't bar it.
 use Rattle.std.proofs.Common.{ℕ, zero, suc, Bool, true, false, Some, None, ◌≢◌, ◌⊎◌, inl, inr, if◌then◌else◌, ◌≡◌, refl, sym, ◌∙◌, ap, subst}
 use Rattle.spec_locks.specs.declared.calls.Access.TheVariants as access
 use Rattle.spec_locks.specs.declared.calls.Call.{Call}

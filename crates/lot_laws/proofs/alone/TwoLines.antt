@@ -39,7 +39,7 @@ use Rattle.lot_laws.proofs.condvar.StepsKeep.{after_condvars}
 use Rattle.lot_laws.proofs.hands.CountsKept.{counted_after}
 use Rattle.lot_laws.proofs.sites.TurnsKept.{after_steady}
 
--- how a thread stands that steps alone: its place at the lock, the word, and who waits there
+-- how a thread stands that steps alone: its place at the lock, the word, and the waiters there
 pub record StepsAlone (w : State) (t l : ℕ) (p : Place) (v : ℕ) (q : Line → List Waiter) : Type 0 where
   pub shape : IsWellFormed w
   pub steady : IsInductive w
@@ -132,7 +132,7 @@ module _ (w : State) (t l : ℕ) (p : Place) (v : ℕ) (q : Line → List Waiter
       → Comes w t l (next_place p Done) (outcome_of (next_act p Done)) v q
   enter_comes m is free = comes (state_with_sections w (One (key_of l m)) (Some t)) Done v q (rw (is, free) refl) (ap (state_after_act w t p) is) (ap (reply_to w t) is) f.word f.queue
 
-  -- and out of it, with whomever it has in hand
+  -- A thread that leaves the section wakes each thread that it has in hand.
   pub leave_comes : (m : Line) (wakes : Wakes) → act_of p ≡ act.Leave (One (key_of l m)) wakes
       → Comes w t l (next_place p Done) (outcome_of (next_act p Done)) v q
   leave_comes m wakes is = by_wakes wakes is

@@ -68,7 +68,7 @@ module _ (t l m : ℕ) (keeps : Keeps t) (timed : Bool) where
     goes_there P k can left = leads_behind t l m keeps w (Wait m timed (releasing s at)) g can P k (Wait m timed (releasing in_release.0 at)) in_release.1 (left in_release.0)
 
   module _ (w : State) (at : WaitAt) (g : Alone w at) where
-    -- and elsewhere where it stood
+    -- Elsewhere the thread stands where it stood.
     abbrev pub Left : (State → Outcome → Type 0) → ℕ → Reply → Type 0
     Left P k r = Behind t l m keeps w (Wait m timed at) g P k (condvar_next (Wait m timed at) r)
 

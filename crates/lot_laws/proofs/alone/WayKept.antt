@@ -236,7 +236,7 @@ module _ (w : State) (t : ℕ) (world : IsWorld w) (way : IsUnobstructed w t) wh
           before k (inr (inl beside)) = gone_names.0 k (inr (sym (ap beside_of stands) ∙ beside))
           before k (inr (inr shown)) = absurd (gone_names.1 (subst IsLook stands (looks_to_come (after w (go_of t)) (place_at (after w (go_of t)) t) k shown)))
 
-  -- and nobody bars it
+  -- No other thread bars it.
   unbarred_now : IsBarred w t → ⊥
   unbarred_now b = let own = enters_own w t world b in b.another (way b.lock b.other b.line (may own.0) own.1 b.inside)
     where

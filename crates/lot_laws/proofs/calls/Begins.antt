@@ -1,4 +1,4 @@
--- How calls begin: who may begin one can, and its call is then the one that it has begun.
+-- How calls begin: a thread that may begin one can, and its call is then the one that it has begun.
 use Rattle.std.proofs.Common.{ℕ, Bool, true, false, Some, None, ◌&&◌, ◌==◌, not, ◌≡◌, ◌<◌, ◌≤◌, length, refl, sym, ◌∙◌, subst, nat_lt, arith}
 use Rattle.spec_locks.specs.Purposes.{rules_of}
 use Rattle.spec_locks.specs.Locks as locks

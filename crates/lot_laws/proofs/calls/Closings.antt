@@ -38,7 +38,7 @@ module _ (w : State) (t : ℕ) (there : t < length w.places) (succeeded : Bool) 
       (let it = like w t there succeeded one in λ i. held_by (hand_owner (or_else (it.row_beside i).hand (it.row i).hand)) (or_else (it.row_beside i).wants (it.row i).wants))
       (λ l. ap (λ p. counted_on p l) is_behind)
 
-  -- the word is swapped next, whoever is inside
+  -- the word is swapped next, whatever thread is inside
   pub closing_may : can_go closing t ≡ true
   closing_may = rw (closing_here w t there succeeded one, is_behind) refl
 

@@ -13,7 +13,7 @@ pub use Rattle.lot_machine.proofs.Closures.{RunsOne, runs_one, call_runs_none, c
 pub closes_one : (w : State) (t : ℕ) (succeeded : Bool) → can_close w t succeeded ≡ true → RunsOne (place_at w t)
 closes_one w t succeeded can = runs_one (place_at w t) (both (runs_closure (act_of (place_at w t))) (can_do w (act_of (closed_place w t succeeded))) can).0
 
--- and is told so
+-- A thread is told of a closure exactly where its act runs one.
 pub closure_told : (y : Act) → is_closure (outcome_of y) ≡ runs_closure y
 closure_told (act.TheVariants.Closure state) = refl
 closure_told act.TheVariants.Sleep = refl

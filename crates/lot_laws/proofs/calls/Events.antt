@@ -88,7 +88,7 @@ happens_at w v t l None before after kinds here other needs =
 happens_at w v t l (Some case) before after kinds here other needs =
     record { led = λ k. put_is (lock_state w) l _ k (lock_state v k) (λ e. rw e here) (λ ne. other k ne); needs = needs; kinds = kinds; before = before; after = after }
 
--- or waiters move from one to another
+-- An event moves waiters from one lock to another.
 pub happens_moving : (w v : State) (t c m : ℕ) (all owned : Bool) (number : ℕ) → IsInductive w → IsInductive v
     → ((k : ℕ) → kind_at v k ≡ kind_at w k)
     → c ≢ m → lock_state v c ≡ left_behind all (lock_state w c)
@@ -143,7 +143,7 @@ happens w v t l hand ds claims steady goes begin one free = happens_at w v t l (
     (λ k ne. ap (λ (s : Site). s.lock) (goes.follows.others k ne).0)
     (deeds_need (rules_in w l) t l hand ds (site_of w l) (needed_then (rules_in w l) t ds claims (site_of w l) goes.follows.needed) one)
 
--- or of which waiters of one go to the other
+-- An event says which waiters of one lock go to the other.
 pub happens_sending : (w v : State) (t c m : ℕ) (all owned : Bool) (number : ℕ) (ds : ℕ → List Act) → IsInductive w → IsInductive v
     → FollowAll w v ds → c ≢ m
     → ds c ≡ acts t (Send all ∷ [])
@@ -178,7 +178,7 @@ LeadsTo v t l (next.End a) o = (place_at v t ≡ Idle) × (o ≡ outcome.TheVari
 abbrev pub OthersFollow : State → State → ℕ → Event → Type 0
 OthersFollow w v t e = (u : ℕ) → u ≢ t → call_state (place_at v u) (rights v u) ≡ woken (locks_of w) t e u (call_state (place_at w u) (rights w u))
 
--- and so whatever they own
+-- All other locks keep their owners and queues.
 abbrev pub Others : State → State → ℕ → Event → Type 0
 Others w v t e = (u : ℕ) → u ≢ t → (r : ℕ → Rights) → call_state (place_at v u) r ≡ woken (locks_of w) t e u (call_state (place_at w u) r)
 
@@ -252,7 +252,7 @@ never_starts (Awaits k f timed) g r q l forced h m = h
 never_starts (Waits k n timed) g r q l forced h m = elim m [ inl there ↦ there.1 | inr beside ↦ elim beside.1 [ inl a ↦ a | inr b ↦ b.1 ] ]
 never_starts (Notifies k all) g r q l forced h m = elim m [ inl there ↦ there.1 | inr beside ↦ beside ]
 
--- and is told of no closure
+-- A call that begins is told of no closure.
 pub begins_nothing : (w : LocksState) (l : ℕ) (row : Profile) (c : Option LockCase) (o : Outcome) → RunsNothing (row.purpose l)
     → MayCome l row (event_by l c) → is_closure o ≡ false → Begins w (event_by l c) o
 begins_nothing w l row None o runs may told = by_outcome o told

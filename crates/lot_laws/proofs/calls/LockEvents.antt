@@ -39,7 +39,7 @@ use Rattle.lot_laws.proofs.calls.Events.{put_is, rights, rights_led, led_here, l
 
 -- ---------------------------------------------------------------- the waiters that a thread has in hand
 
--- this befalls whom t has in hand at the lock, and nobody else
+-- this befalls the threads that t has in hand at the lock, and nobody else
 abbrev pub Befalls : State → State → ℕ → ℕ → Reply → Type 0
 Befalls w v t l reply = (u : ℕ) → u ≢ t → place_at v u ≡ (if is_taken_by t (taken_at (place_at w u) l) then next_place (place_at w u) reply else place_at w u)
 
@@ -82,7 +82,7 @@ taken_hand p t l single h = by_row (profile p).hand (profile p).wants (calls p l
     by_row (Some (Of u false)) (Some x) true g = (ap (λ y. hand y false) (eqb-true u t g), refl)
     by_row (Some (Of u false)) (Some x) false g = absurd cc
 
--- a thread that is woken tries the lock again, by what its place says of whom it is in the hand
+-- a thread that is woken tries the lock again, by what its place says of the hand that it is in
 again_by : (l : ℕ) (p : Place) (t : ℕ) (k : ℕ) → IsSingle p → is_taken_by t (taken_at p l) ≡ true → calls p l ≡ (k == l) → TriesAgain k p
     → (r : ℕ → Rights) → call_state (next_place p (Woken Normal)) r ≡ record (call_state p r) { retries = Some l }
 again_by l p t k single h own again r = let held = taken_hand p t l single h in let here : k ≡ l = eqb-true k l (sym own ∙ held.1) in

@@ -175,7 +175,7 @@ module _ (w : State) (t : ℕ) (there : t < length w.places) (q : Place) (it : I
   pub alike_calls : (u : ℕ) → (locks_of moved).calls u ≡ (locks_of w).calls u
   alike_calls u = let b = beside_same u in λ i. call_on_both (b.0 i) (lock_same u i) (row_same u i) (b.1 i) (rights_same u i)
 
-  -- so the abstract locks see nothing of it, but for how the thread stands
+  -- the abstract locks see nothing of it, but for how the thread stands
   sees : ◌≡◌ {A = LocksState} (record (locks_of w) { stances = λ u. stance_of (place_at moved u) }) (locks_of moved)
   sees = λ i. record {
     threads = sym (length-set w.places t q) i;

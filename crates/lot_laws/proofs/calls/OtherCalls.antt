@@ -116,7 +116,7 @@ lonely_stay w t p (act.Requeue from to how) h = absurd h
 lonely_stay w t p (act.HandOver l op) h = absurd h
 lonely_stay w t p a h = refl
 
--- ---------------------------------------------------------------- whoever is taken of a line
+-- ---------------------------------------------------------------- each thread that is taken of a line
 
 -- goes on in its call as it was; one that waits to be notified would know that it was moved
 taken_goes_on : (w : State) (p : Place) (t l : ℕ) (m : Line) → FitsItsLock w p → ((rules_in w l).sort ≢ locks.Condvar)
@@ -191,7 +191,7 @@ module _ (w : State) (t : ℕ) (p2 : Place) where
       })
       by_whom whom.All = took (state_after_take w t (key_of l m) whom.All) (queue_at w (key_of l m)) refl (record { times = λ u. omega arith })
 
-  -- so they are behind any case that wakes nobody and hands nothing over
+  -- the calls of others stay as they are after a case that wakes nobody and hands nothing over
   pub calm : (v : State) (l : ℕ) (c : Option LockCase) → IsCalm c → Stay v → Others w v t (event_by l c)
   calm v l None h stay = stay
   calm v l (Some case) h stay = by_case case h
@@ -203,7 +203,7 @@ module _ (w : State) (t : ℕ) (p2 : Place) where
 
 -- ---------------------------------------------------------------- those in its hand are told
 
--- so it is taken there by the one in whose hand it is
+-- it is taken there by the one in whose hand it is
 pub taken_by_hand : (w : State) (p : Place) (t l : ℕ) → FitsItsLock w p → hand_at p l ≡ hand t false
     → is_taken_by t (taken_at p l) ≡ true
 taken_by_hand w (Condvar k at) t l calls h = waiter_taken_by k at t l h
@@ -311,7 +311,7 @@ module _ (w : State) (t l : ℕ) (steady : IsInductive w) (is_of : IsOf l (place
       either true e = handed_goes w (place_at w u) t l (steady.stands.calls u) (in_hand_here true carries u e) r
       either false e = refl
 
-  -- so the calls of the others are what its case makes of them
+  -- the calls of the others are what its case makes of them
   pub wakes_own : ((rules_in w l).sort ≢ locks.Condvar) → (p : Place) (a : Act) → TakesHere l a → (c : Option LockCase)
       → WakesOwn (carried_at (place_at w t) l) a c → Others w (put (state_after_act w t p a) t p2) t (event_by l c)
   wakes_own plain p (act.Leave keys (wakes.All x)) here c (inl h) = subst (λ y. Others w (put (state_after_telling (state_with_sections w keys None) t (Woken x)) t p2) t (event_by l y)) (sym h.1.1)

@@ -24,7 +24,7 @@ module _ (w : State) (t : ℕ) (p : Place) (is : place_at w t ≡ p) (single : I
   pub stays_there : place_at (state_after_act w t p (act_of p)) t ≡ p
   stays_there = acted_keeps (λ q. q ≡ p) w t t p (act_of p) (λ loud r b q e. ap (λ x. next_place x r) e ∙ deaf p single loud r b) is
 
-  -- and goes on from there
+  -- A thread goes on from the place that its reply leads to.
   pub goes_from_there : state_after_going w t p
       ≡ put (state_after_act w t p (act_of p)) t (next_place p (reply_to w t (act_of p)))
   goes_from_there = ap (λ q. put (state_after_act w t p (act_of p)) t (next_place q (reply_to w t (act_of p)))) stays_there

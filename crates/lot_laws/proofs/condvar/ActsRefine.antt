@@ -236,7 +236,7 @@ module _ (w : State) (t l : ℕ) (shape : IsWellFormed w) (steady : IsInductive 
             (wait_step w waited t l shape steady (condvars l sort_w) there (sized waits is m refl).0 (two_at l m on_l on_m) goes_waiting m timed p is refl can (two_else l m apart_w on_l on_m) (two_there l m apart_w on_l on_m) (two_beside l m apart_w on_l on_m)
             goes_there_waiting unwoken others_waiting)
 
-      -- or from where its own act has left it
+      -- A thread goes on from where its own act has left it.
       waits_told : (q q2 : WaitAt) → condvar_next waits heard ≡ At (Wait m timed q)
           → next_place stood heard ≡ Condvar l (Wait m timed q2)
           → going_outcome w t (Condvar l waits) ≡ outcome_of (wait_act l m q2) → IsSettled q2 → (makes : CallState → CallState)
@@ -498,7 +498,7 @@ module _ (w : State) (t l : ℕ) (shape : IsWellFormed w) (steady : IsInductive 
   condvar_on (Wait m timed (wait.Release s a)) is can = absurd (fits (Wait m timed (wait.Release s a)) is m refl).reached.0
   condvar_on (Wait m timed p) is can = calm_on m timed p is can refl
 
-  -- and every lock is a site again
+  -- Every lock is a site again after an act on a condition variable.
   pub condvar_steady : (at : CondvarPlace) → place_at w t ≡ Condvar l at → can_do w (condvar_act l at) ≡ true
       → IsInductive (state_after_going w t (Condvar l at))
   condvar_steady (Look all) is can = goes_all_steady w _ _ steady (looks_goes all is).follows (looks_goes all is).stands

@@ -99,7 +99,7 @@ module _ (w : State) (t l : ℕ) where
       purpose : purpose_of (kind_at w l) (begun c) ≡ Some (condvar_purpose l c)
       purpose = condvar_purpose_is (kind_at w l) l c (calls_condvar (kind_at w l) l c rest.0)
 
-  -- and where it may it can
+  -- A call may begin where its thread is idle.
   pub condvar_may : (c : CondvarCall) → is_idle (place_at w t) ≡ true → MayBegin (locks_of w) t (begun c)
       → can_begin w t (begun c) ≡ true
   condvar_may c idle may = by_kind (kind_at w l) refl may.right

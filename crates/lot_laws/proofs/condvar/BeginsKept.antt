@@ -138,7 +138,7 @@ module _ (w : State) (t l m : ℕ) (steady : IsInductive w) (there : t < length 
         (acts t (In Main ∷ []))
     listed_late line free = enters_there w t l m (Wait m true (wait.Asleep stands.Listed)) steady there apart sort is refl Late refl fits same_beside line free refl refl
 
-  -- or that of its mutex, to which it was moved
+  -- A waiter that is late leaves the queue of its mutex, to which it was moved.
   module _ (is : place_at w t ≡ Condvar l (Wait m true (wait.Asleep stands.Moved)))
       (fits : FitsItsLock w (Condvar l (Wait m true wait.RemoveMoved))) where
     abbrev before : CondvarPlace

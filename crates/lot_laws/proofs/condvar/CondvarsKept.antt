@@ -66,7 +66,7 @@ module _ (w : State) (steady : IsInductive w) (t : ℕ) where
       by_place (Condvar l (Look all)) is = ap (λ q. of_purpose (call_state q (rights w t)).purpose) is
       by_place (Condvar l (Notify all m at)) is = ap (λ q. of_purpose (call_state q (rights w t)).purpose) is
 
-  -- and for rights that it knows
+  -- Each call is for rights that its lock knows.
   pub knows : KnowsRights (λ l. (rules_in w l).sort) (call_at w t).purpose
   knows = by_place (place_at w t) refl
     where
@@ -227,7 +227,7 @@ module _ (w : State) (s : Step) (shape : IsWellFormed w) (steady : IsInductive w
       by_outcome (outcome.TheVariants.End a) e = inr (sym (call_lock v steady_then t) ∙ ap (λ (c : CallState). of_purpose c.purpose) e)
       by_outcome o e = same_purpose (ap (λ (c : CallState). c.purpose) e ∙ woken_purpose (locks_of w) t g.event (going_on g.event (call_at w t)) ∙ purpose_stays g.event (call_at w t))
 
-  -- or begun
+  -- A call stays at its condition variable, or begins.
   pub moved_on : StaysOf ⊎ (called_lock (place_at w t) ≡ None)
   moved_on = elim step.1 [
     | inl now ↦ by_turn s.turn now.0 now.1
@@ -274,7 +274,7 @@ module _ (w : State) (s : Step) (shape : IsWellFormed w) (steady : IsInductive w
         → (stage_of (place_at v u) k ≡ stage_of (place_at w u) k) × (names_of (place_at v u) k ≡ names_of (place_at w u) k)
     says_kept u ne = (others_keep_it (λ p. stage_of p k) (stage_unmoved k) w s u ne, others_keep_it (λ p. names_of p k) (names_unmoved k) w s u ne)
 
-    -- so a condition variable is as it was, where the thread is in no call of it before or behind the step
+    -- a condition variable is as it was, where the thread is in no call of it before or behind the step
     pub condvar_kept : called_lock (place_at v t) ≢ Some k → condvar_of v k ≡ condvar_of w k
     condvar_kept other_then = same_condvar w v k lock_kept (by_change (step.0.sections (key_of k Main))) says
       where

@@ -75,7 +75,7 @@ module _ (t : ℕ) where
       let b = deeds_others ds (condvar_leads d c t) n.1 i ne in
       (λ e. b.0 (a.0 e), λ e. a.1 (b.1 e))
 
-  -- and waits with the mutex that it named
+  -- Each waiter waits with the mutex that it named.
   deed_names : (d : CondvarDeed) (c : CondvarSite) (u : ℕ) → u ≢ t → (condvar_leads d c t).waits_with u ≡ c.waits_with u
   deed_names (BeginsWait m) c u ne = put_other c.waits_with t (Some m) u ne
   deed_names EndsWait c u ne = put_other c.waits_with t None u ne
@@ -85,7 +85,7 @@ module _ (t : ℕ) where
   deeds_names [] c u ne = refl
   deeds_names (d ∷ ds) c u ne = deeds_names ds (condvar_leads d c t) u ne ∙ deed_names d c u ne
 
-  -- so where it isn't inside itself, the same thread is, if any
+  -- where it isn't inside itself, the same thread is, if any
   same_inside : (x y z : Option Inside) → SameOthers x y → SameOthers x z → IsInsideNot y t → IsInsideNot z t → y ≡ z
   same_inside x None None a b n k = refl
   same_inside x None (Some j) a b n k = absurd (let none : None ≡ Some j = (a j k).0 ((b j k).1 refl) in cc)
@@ -185,6 +185,6 @@ module _ (w v : State) (t l : ℕ) (at : CondvarPlace) (told : Reply) (stands : 
   pub condvar_led : (lock_state v l).shown ≡ led.shown → (lock_state v l).queue ≡ led.waiters → condvar_of v l ≡ led
   condvar_led shown waiters = λ i. record { shown = shown i; waiters = waiters i; inside = inside_led i; waits_with = λ u. names_led u i }
 
-  -- and what holds of it holds again
+  -- After a deed the condition variable is well formed again.
   pub condvar_stays : (lock_state v l).shown ≡ led.shown → (lock_state v l).queue ≡ led.waiters → IsCondvar (condvar_of v l)
   condvar_stays shown waiters = subst IsCondvar (sym (condvar_led shown waiters)) (deeds_keep (condvar_deeds at told) (condvar_of w l) t condvar follows.needed)

@@ -90,7 +90,7 @@ module _ (w : State) (l m : ℕ) (apart : m ≢ l) (timed : Bool) where
         p : WaitAt
         p = wait.Asleep stands.Listed
 
-    -- or releasing the mutex still
+    -- A waiter whose mutex is not yet released fits its condition variable.
     releaser : (at : UnlockAt) → FitsCondvar w l (waits (wait.Release stands.Listed (mutex.Unlock at)))
         → WaitsAcross w t l m (Condvar l (waits (wait.Release stands.Listed (mutex.Unlock at))))
     releaser at fits = record {
@@ -134,7 +134,7 @@ module _ (w : State) (t l m : ℕ) (steady : IsInductive w) (apart : m ≢ l) (s
     not_inside timed p at within = let a : section_at w (key_of l Main) ≡ Some u = (steady.stands.sections u l Main).0 (ap (λ q. (location_at q l).inside) at ∙ ap (λ (y : Location). y.inside) (location_there l m apart (At (Wait m timed p)) refl) ∙ within) in
         let b : Some u ≡ Some t = sym a ∙ held in let c : u ≡ t = cc in let d : Condvar l (Wait m timed p) ≡ Condvar l this = sym at ∙ ap (place_at w) c ∙ is in cc
 
-    -- so it sleeps, or releases its mutex still
+    -- it sleeps, or releases its mutex still
     module _ (P : Place → Type 0)
         (sleeps : (timed : Bool) → FitsCondvar w l (Wait m timed (wait.Asleep stands.Listed)) → P (Condvar l (Wait m timed (wait.Asleep stands.Listed))))
         (releases : (timed : Bool) (at : UnlockAt) → FitsCondvar w l (Wait m timed (wait.Release stands.Listed (mutex.Unlock at))) → P (Condvar l (Wait m timed (wait.Release stands.Listed (mutex.Unlock at))))) where

@@ -103,7 +103,7 @@ module _ (w : State) (t c m : ℕ) (apart : m ≢ c) (steady : IsInductive w) (p
       either false e = refl
       either true e = absurd (let a = counts u in let b = member_times u gone h in let d = member_times u moved e in let f = at_most u in omega arith)
 
-  -- by who is looked at
+  -- by the thread that is looked at
   pub by_thread : (P : ℕ → Place → Type 0) → P t p2
       → ((u : ℕ) → u ≢ t → member u gone ≡ true → P u (next_place (place_at w u) (TakenBy t)))
       → ((u : ℕ) → u ≢ t → member u gone ≡ false → member u moved ≡ true → P u (next_place (place_at w u) (MovedTo (key_of m Main))))

@@ -131,7 +131,7 @@ module _ (w v : State) (t c m : ℕ) (apart : m ≢ c) (steady : IsInductive w) 
           (λ u nu g h. (waiter_of u (inr h)).moved.did_m ∙ sym (put_other (λ u. role_on (place_at w u) m) t _ u nu))
           (λ u nu g h. sym (put_other (λ u. role_on (place_at w u) m) t _ u nu))
 
-      -- and the mutex
+      -- The mutex gets the moved waiters behind its last.
       brought : seen_in (rules_in w m) m (record (parts_at w m) { main = queue_at w (key_of m Main) ++ moved_under (key_of m Main) moved }) behind ≡ after_acts (rules_in w m) (acts t brings) site_m
       brought = λ i. record site_m {
         lock = record site_m.lock {

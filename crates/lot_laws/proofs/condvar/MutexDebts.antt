@@ -137,7 +137,7 @@ module _ (c m : ℕ) where
   wait_looks timed (wait.Lock late at) reached d free = absurd reached.1
   wait_looks timed at reached d free = absurd (idle_owes sorts.Mutex Main d)
 
-  -- a notification that has taken one whom it wakes
+  -- a notification that has taken one that it wakes
   notify_looks : (all : Bool) (at : NotifyAt) → IsDebtorHere (Notify all m at) → LooksBeside c (Notify all m at) m
   notify_looks all (notify.Clear any) d = record { debt = inl (refl, λ sort gave_up. refl); awake = λ h. cc; stands = inl (notifier_nowhere c all m (notify.Clear any)) }
   notify_looks all (notify.MarkMoved number) d = record { debt = inl (refl, λ sort gave_up. refl); awake = λ h. cc; stands = inl (notifier_nowhere c all m (notify.MarkMoved number)) }

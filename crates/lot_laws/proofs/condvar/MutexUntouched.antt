@@ -147,7 +147,7 @@ module _ (w : State) (t l m : ℕ) (at : CondvarPlace) (steady : IsInductive w) 
     enters_there line free out goes = acting.enter_goes w t l steady is_there r refl p2 alike fits Main line free (ap (λ (y : Location). y.inside) was ∙ out) (in_steps free out goes)
         (then_is ∙ goes ∙ sym (ap (λ (y : Location). record y { inside = Some Main }) was))
 
-    -- and out of it, where it has nobody in hand there
+    -- A thread leaves the section of a mutex where it has nobody in hand there.
     pub leaves_there : (line : key_of l Main < length w.sections) → (there at).inside ≡ Some Main → there_then at told ≡ record (there at) { inside = None }
         → Goes w (put (state_with_sections w (One (key_of l Main)) None) t p2) l (acts t (Out ∷ []))
     leaves_there line within goes = acting.leave_goes w t l steady is_there r refl p2 alike fits Main line (ap (λ (y : Location). y.inside) was ∙ within) (Out ∷ []) (λ h. tt) (out_steps within goes)

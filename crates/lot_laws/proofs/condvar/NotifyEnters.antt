@@ -136,7 +136,7 @@ module _ (w : State) (t l m : ℕ) (all : Bool) (steady : IsInductive w) (is_the
 
   -- ---------------------------------------------------------------- and out of them
 
-  -- it is inside the section of the mutex, whomever it has moved
+  -- it is inside the section of the mutex, whatever waiters it has moved
   pub inside_leave : (any : Bool) (number : ℕ) → (notify_row all m (notify.Leave any number)).role.inside ≡ Some Main
   inside_leave any number = by_number (number == 0)
     where

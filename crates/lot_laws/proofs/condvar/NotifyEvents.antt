@@ -204,7 +204,7 @@ not_among u all q none = let few = moved_fewer all u q in grind (arith, nat_test
 
 module _ (w : State) (t l m : ℕ) (all : Bool) (p : NotifyAt) (steady : IsInductive w) (condvar_holds : IsCondvar (condvar_of w l))
     (aside : WaitsAside (condvar_of w l) (site_of w m) m) (is : place_at w t ≡ Condvar l (Notify all m p)) where
-  -- it moves waiters of this mutex, who stand nowhere there
+  -- it moves waiters of this mutex, which stand nowhere there
   may_move : (owned : Bool) → p ≡ notify.Move owned → (n : ℕ) → n ≢ 0 → n ≡ length (moved_of all (lock_state w l).queue)
       → MayMove (locks_of w) t l m all owned n
   may_move owned e n some number = record {

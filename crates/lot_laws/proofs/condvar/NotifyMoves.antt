@@ -174,7 +174,7 @@ module _ (w : State) (t l m : ℕ) (all locked : Bool) (steady : IsInductive w) 
       taken_there l m apart (condvar_next this told) beside ∙ sym (ap (λ q. taken_at q l) is ∙ taken_there l m apart (At this) refl),
     )
 
-    -- and it is in nobody's hand
+    -- A waiter that is moved is in nobody's hand.
     same_m : taken_at p2 m ≡ taken_at (place_at w t) m
     same_m = taken_beside l m apart (condvar_next this told) beside ∙ ap (λ h. taken_from h (row_beside (condvar_next this told)).wants true) (ap (λ (y : Location). y.hand) x.carries) ∙ sym (ap (λ q. taken_at q m) is ∙ taken_beside l m apart (At this) refl)
 
@@ -200,7 +200,7 @@ module _ (w : State) (t l m : ℕ) (all locked : Bool) (steady : IsInductive w) 
         by_next (At at) = refl
         by_next (Over answer) = refl
 
-    -- by whom it takes, whom it moves, and who is left
+    -- by the threads that it takes, that it moves, and that are left
     module _ (gone moved left : List Waiter) (counts : (u : ℕ) → times u gone + times u moved + times u left ≡ times u line)
         (lefts : AreWaiting (locations_of (place_at w)) l Main left)
         (one_gone : (u v : ℕ) → member u gone ≡ true → member v gone ≡ true → u ≡ v)
@@ -218,7 +218,7 @@ module _ (w : State) (t l m : ℕ) (all locked : Bool) (steady : IsInductive w) 
       abbrev behind : ℕ → Place
       behind = places_across w t l m apart steady p2 gone moved left counts lefts across one_gone out bare now_l (in_hand (not locked) false) now_m alike_t fits
 
-      -- the others' calls say so: who is taken or moved knows it
+      -- the others' calls say so: a thread that is taken or moved knows it
       knows : ((u : ℕ) → locks.times u (moved_of all (map queued_of line)) ≡ times u gone + times u moved) → (u : ℕ) → u ≢ t
           → (r : ℕ → Rights)
           → call_state (behind u) r ≡ if_moved u (moved_of all (map queued_of line)) (call_state (place_at w u) r)
@@ -286,7 +286,7 @@ module _ (w : State) (t l m : ℕ) (all locked : Bool) (steady : IsInductive w) 
       at_most u = let a : times u gone + times u moved + times u (left_in_line how line) ≡ times u line = all_counted how line u in let b : times u line ≡ stood_in (location_at (place_at w u) l).stands Main = steady.stands.lines u l Main in
           let c : stood_in (location_at (place_at w u) l).stands Main ≤ 1 = at_most_one (location_at (place_at w u) l).stands Main in omega arith
 
-      -- first those are told whom it takes
+      -- first the threads that it takes are told
       abbrev taken_places : List Place
       taken_places = places_told (TakenBy t) (threads_of gone) w.places
 

@@ -1,5 +1,5 @@
--- By each act of a notification the calls of the other threads become what its event makes of them: whoever is moved or taken knows it, and whoever is
--- woken tries the mutex again.
+-- By each act of a notification the calls of the other threads become what its event makes of them: each
+-- thread that is moved or taken knows it, and each thread that is woken tries the mutex again.
 use Rattle.std.proofs.Common.{ℕ, Bool, true, false, None, if◌then◌else◌, ◌==◌, ◌≡◌, ◌≢◌, ◌*◌, ◌<◌, length, refl, sym, ◌∙◌, ap, subst, inl, inr}
 use Rattle.std.proofs.lemmas.Bool.{cases_eq}
 use Rattle.core_base.specs.declared.keys.Keys.TheVariants.{Two}
@@ -82,7 +82,7 @@ module _ (w v : State) (t l m : ℕ) (all owned : Bool) (number : ℕ) (h : Happ
       ∙ put_rights (putting (lock_state w) l (locks.left_behind all (lock_state w l))) m _ u (sym (put_rights (lock_state w) l (locks.left_behind all (lock_state w l)) u (left_rights u) m)) k
       ∙ put_rights (lock_state w) l (locks.left_behind all (lock_state w l)) u (left_rights u) k
 
-  -- so the others follow where whoever is moved or taken knows it
+  -- the others follow where each thread that is moved or taken knows it
   moves_follow : ((u : ℕ) → u ≢ t → (r : ℕ → Rights) → call_state (place_at v u) r ≡ if_moved u (moved_of all (lock_state w l).queue) (call_state (place_at w u) r))
       → OthersFollow w v t (Moves l m all owned number)
   moves_follow knows u ne = ap (call_state (place_at v u)) (λ i k. moved_rights u k i) ∙ knows u ne (rights w u)

@@ -1,4 +1,5 @@
--- A notification goes out of both its sections and wakes whom it took: both locks are sites again.
+-- A notification goes out of both its sections and wakes the threads that it took: both locks are sites
+-- again.
 use Rattle.std.proofs.Common.{ℕ, Bool, true, false, Option, Some, None, if◌then◌else◌, ◌==◌, ◌≡◌, ◌≢◌, ◌<◌, [], ◌∷◌, length, map, get_or, replicate, refl, sym, ◌∙◌, ap, subst, inl, inr, length-set}
 use Rattle.std.proofs.lemmas.Bool.{cases_eq}
 use Rattle.std.proofs.lemmas.List.{length-map}
@@ -174,7 +175,7 @@ module _ (w : State) (t l m : ℕ) (all : Bool) (steady : IsInductive w) (is_the
 
   -- ---------------------------------------------------------------- how the threads stand then
 
-  -- but for whom it has in hand
+  -- but for the threads that it has in hand
   abbrev outside : ℕ → ℕ → Location
   outside u k = if u == t then record (location_at (place_at w u) k) { inside = None } else location_at (place_at w u) k
 

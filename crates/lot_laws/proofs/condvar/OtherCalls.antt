@@ -114,7 +114,7 @@ module _ (w : State) (t m : ℕ) (steady : IsInductive w) (carries : CarriesAt m
       same_test true e = e ∙ sym (taken_by_hand w (place_at w u) t m (steady.stands.calls u) (in_hand u e))
       same_test false e = e ∙ sym (unless_held w steady t m u (λ h. let f : is_thread t (taker (place_at w u)) ≡ true = held_tells (place_at w u) t m false h in cc))
 
-  -- and their calls say so
+  -- Calls of other threads say what their places say.
   pub wake_follows : (b : State) → b.places ≡ w.places
       → Happens w (put (state_after_telling b t (Woken Normal)) t p2) t (AtLock m locks.Wake)
       → OthersFollow w (put (state_after_telling b t (Woken Normal)) t p2) t (AtLock m locks.Wake)
@@ -199,7 +199,7 @@ module _ (w : State) (t l m : ℕ) (timed : Bool) (steady : IsInductive w) (plai
   relock_quiet late again (lock.Handed by) of can = absurd cc
   relock_quiet late again at of can = absurd of
 
-  -- but where it wakes whom it took
+  -- but where it wakes the threads that it took
   abbrev pub IsWaking : WaitAt → Type 0
   IsWaking (wait.Release s (mutex.Unlock (unlock.Leave true))) = Unit {0}
   IsWaking p = ⊥
@@ -238,7 +238,7 @@ module _ (w : State) (t l m : ℕ) (timed : Bool) (steady : IsInductive w) (plai
     abbrev behind : WaitAt → Place → State
     behind p p2 = put (state_after_act w t (Condvar l (waits p)) (wait_act l m p)) t p2
 
-    -- it wakes whom it took
+    -- it wakes the threads that it took
     wakes : (s : Stands) → place_at w t ≡ Condvar l (waits (wait.Release s (mutex.Unlock (unlock.Leave true)))) → (p2 : Place)
         → Happens w (behind (wait.Release s (mutex.Unlock (unlock.Leave true))) p2) t (AtLock m locks.Wake)
         → OthersFollow w (behind (wait.Release s (mutex.Unlock (unlock.Leave true))) p2) t (AtLock m locks.Wake)

@@ -145,7 +145,7 @@ module _ (w : State) (t k : ℕ) where
   enters_seeing (Wait n timed (wait.Release s at)) q reached still l m e = release_enters n timed s still.0 at reached l m (subst (λ x. EntersNext (next_of (Wait n timed (wait.Release s at)) x) l m) still.1 e)
   enters_seeing (Wait n timed at) q reached still l m e = absurd (calm_stays n timed at refl l m (subst (λ x. EntersNext (next_of (Wait n timed at) x) l m) still e))
 
-  -- and from there it does
+  -- A place that stays on its way enters the section next.
   sees_entering : (at q : CondvarPlace) → IsStill at q → (l : ℕ) (m : Line) → SeesAt w at l m → EntersNext (next_of at q) l m
   sees_entering (Wait n timed (wait.Release s (mutex.Unlock unlock.Subtract))) q still l m sees = subst (λ x. EntersNext (next_of (Wait n timed (wait.Release s (mutex.Unlock unlock.Subtract))) x) l m) (sym still.1)
       (subst (λ b. EntersAt (Wait n timed (released still.0 (in_unlock (if b then At unlock.Enter else Over answer.Ok)))) l m) (sym sees.2) (ap Some sees.0, sees.1, tt))
@@ -237,7 +237,7 @@ module _ (w : State) (t k : ℕ) (at : CondvarPlace) (steady : IsInductive w) (i
             )
         by_place p e sees = absurd sees
 
-    -- and what its call sees, it sees there
+    -- A call sees waiters exactly where its place does.
     seen_by : (o : Outcome) → SeesBy w t l m o v (call_state (Condvar k at) (rights w t)) → SeesAt w at l m
     seen_by o sees = by_place at refl sees
       where

@@ -156,7 +156,7 @@ module _ (k : ℕ) where
       by_lock true = ap (λ h. taken_from h (mutex_side at).wants true) hand
       by_lock false = refl
 
-  -- so does who notifies
+  -- a thread that notifies does so too
   pub notifier_nowhere : (all : Bool) (m : ℕ) (at : NotifyAt) (l : ℕ) → StandsAt (Condvar k (Notify all m at)) l → ⊥
   notifier_nowhere all m at l = neither_nowhere (Notify all m at) l (unlisted all m at) (notifier_stands all m at).0 (notifier_stands all m at).1
 
@@ -177,7 +177,7 @@ two_purpose k (Wait m timed at) r = refl
 two_purpose k (Notify all m at) r = refl
 two_purpose k (Look all) r = refl
 
--- and its call is for rights that both locks know
+-- A call of two locks is for rights that both know.
 pub two_know : (w : State) (k : ℕ) (at : CondvarPlace) → FitsItsLock w (Condvar k at)
     → KnowsRights (sort_at w) (Some (condvar_place_purpose at k))
 two_know w k (Wait m timed at) fits = (fits.sort, ap (λ (r : Rules). r.sort) (plain_rules (kind_at w m) (fits.mutex m refl)))

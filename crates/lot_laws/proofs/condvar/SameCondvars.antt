@@ -1,4 +1,5 @@
--- A condition variable is as it was where what it shows, who waits, who is inside and what places say of it is.
+-- A condition variable is as it was where these are: what it shows, its waiters, the thread inside, and what
+-- places say of it.
 use Rattle.std.proofs.Common.{ℕ, Bool, true, false, Option, Some, None, if◌then◌else◌, ◌==◌, ◌≡◌, ◌<◌, length, get_or-set_other, get_or-set_same, inl, inr, refl, sym, ◌∙◌, ap, subst}
 use Rattle.std.proofs.lemmas.Bool.{cases_eq}
 use Rattle.steps_semaphore.specs.declared.places.SemaphorePlace.{SemaphorePlace}
@@ -27,7 +28,7 @@ use Rattle.lot_laws.proofs.calls.Closings.{closing, is_behind}
 use Rattle.lot_laws.proofs.calls.Closures.{RunsOne}
 use Rattle.lot_laws.proofs.condvar.Rows.{names_of, row_says, stage_of}
 
--- it leaves what is shown, and who waits
+-- it leaves what is shown, and the waiters
 abbrev pub Kept : LockState → LockState → Type 0
 Kept s s2 = (s2.shown ≡ s.shown) × (s2.queue ≡ s.queue)
 
@@ -107,7 +108,7 @@ pub looking_condvars : (w : State) (t : ℕ) (q : Place) → t < length w.places
     → AreCondvars (put w t q)
 looking_condvars w t q there is condvars = put_condvars w t q there (looks_alike (place_at w t) q is) condvars
 
--- or behind its closure
+-- A thread whose closure has ended leaves each condition variable as it was.
 pub closing_condvars : (w : State) (t : ℕ) (there : t < length w.places) (succeeded : Bool) (one : RunsOne (place_at w t))
     → AreCondvars w → AreCondvars (closing w t there succeeded one)
 closing_condvars w t there succeeded one condvars = put_condvars w t (closed_place w t succeeded) there (λ k. (

@@ -178,7 +178,7 @@ module _ (w : State) (t c : ℕ) (at : CondvarPlace) (steady : IsInductive w) (i
     stood_out k Main ne = steady.stands.lines t k Main ∙ ap (λ p. stood_in (location_at p k).stands Main) is ∙ main_out k ne (location_at (Condvar c at) k).stands (stands_at c at k)
     stood_out k Second ne = steady.stands.lines t k Second ∙ ap (λ p. stood_in (location_at p k).stands Second) is ∙ second_out k (location_at (Condvar c at) k).stands refl
 
-    -- so where it leaves the queues, only that one changes
+    -- where it leaves the queues, only that one changes
     pub left_at : IsInsideKey c at key → (k : ℕ)
         → (get_or (map (without t) w.queues) k [] ≡ queue_at w k) ⊎ (section_at w k ≡ Some t)
     left_at within k = let of = line_of_key k in elim (cases_eq (key_of of.0 of.1) key) [

@@ -1,4 +1,5 @@
--- Condition variables of a world: each thread in a call of one is where the row of its place says, and who waits stands nowhere at its mutex.
+-- Condition variables of a world: each thread in a call of one is where the row of its place says, and a
+-- thread that waits stands nowhere at its mutex.
 use Rattle.std.proofs.Common.{ℕ, Bool, true, false, Option, Some, None, if◌then◌else◌, ◌≡◌, ◌*◌, refl, sym, ◌∙◌, ap}
 use Rattle.steps_base.specs.Profiles.{Profile}
 use Rattle.steps_base.specs.Locations.{Location, location_by}
@@ -29,7 +30,7 @@ module _ (w : State) (stands : Stands w) (t l : ℕ) (at : CondvarPlace) (is : p
       held : section_at w (key_of l Main) ≡ Some t
       held = (stands.sections t l Main).0 (ap (λ (y : Location). y.inside) location_there ∙ ap section_in e)
 
-  -- or not inside
+  -- A place without a stage is not inside the section.
   outside : (condvar_row at).stage ≡ None → (o : Option ℕ) → section_at w (key_of l Main) ≡ o
       → IsInsideNot (inside_as o (λ u. (profile_at (place_at w u) l).stage)) t
   outside none None e = tt

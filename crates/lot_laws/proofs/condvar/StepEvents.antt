@@ -137,7 +137,7 @@ module _ (w v : State) (t l m : ℕ) (p : CondvarPlace) (call_is : call_at w t �
       by_event (AtLock k case) h may moves = may_do (locks_of w) t k case ((condvar_profile p).purpose l) call call_is refl may.0 h.needs may.1
       by_event (Moves c k all owned n) h may moves = moves c k all owned n refl
 
-  -- and what it comes to
+  -- The call that a step leads to.
   pub call_led : (n : Next CondvarPlace) (o : Outcome) → heard told call ≡ call
       → woken (locks_of w) t e t (going_on e call) ≡ going_on e call
       → calls.BecomesOfTwo l m p told e shown (lock_state w m) s2 t n
@@ -154,7 +154,7 @@ module _ (w v : State) (t l m : ℕ) (p : CondvarPlace) (call_is : call_at w t �
     subst (λ x. AnswerHolds (Some ((condvar_profile p).purpose l)) (locks_of v) t (going_on e x) a) unheard (becomes (locks_of v) (rights w t) shown_is refl led),
   )
 
-  -- so the step is that event
+  -- the step is that event
   pub condvar_goes_on : (n : Next CondvarPlace) (o : Outcome) → MayHappen (locks_of w) t e → CallLed w v t e call o
       → OthersFollow w v t e → Begins (locks_of w) e o → GoesOn (locks_of w) t o (locks_of v)
   condvar_goes_on n o may led others begins = goes_with w v t e h call call_is o may (λ f. cc) led others begins
@@ -181,7 +181,7 @@ pub no_closure : (l : ℕ) (n : Next CondvarPlace) → is_closure (outcome_of (c
 no_closure l (next.At q) = closure_told (condvar_act l q) ∙ condvar_runs_none l q
 no_closure l (next.End answer) = refl
 
--- where it isn't in its own hand, nor among those whom it moves, it is neither woken nor moved by itself
+-- where it isn't in its own hand, nor among those that it moves, it is neither woken nor moved by itself
 pub unwoken : (w : State) (t : ℕ) (e : Event) (x : CallState) → ((k : ℕ) → is_taken_by t (taken_at (place_at w t) k) ≡ false)
     → ((c m n : ℕ) (all owned : Bool) → e ≡ Moves c m all owned n → is_among t (moved_of all (lock_state w c).queue) ≡ false)
     → woken (locks_of w) t e t x ≡ x

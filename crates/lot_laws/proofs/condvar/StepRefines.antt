@@ -82,7 +82,7 @@ module _ (w v : State) (t l : ℕ) (shape : IsWellFormed w) (steady : IsInductiv
       (wait_rests v t l m timed after (next_wait m timed p (reply_to w t (wait_act l m p))) goes_there (wait_settles w t l m timed steady p is (fits_here w t l (Wait m timed p) steady is).reached can))
       others
 
-  -- or from where its own act has left it
+  -- A thread goes on from where its own act has left it.
   pub told_step : (m : ℕ) (timed : Bool) (p q q2 : WaitAt) → place_at w t ≡ Condvar l (Wait m timed p)
       → (can : can_do w (wait_act l m p) ≡ true)
       → ((k : ℕ) → k ≢ l → k ≢ m → all_deeds k ≡ [])

@@ -241,7 +241,7 @@ module _ (w v : State) (t l m : ℕ) (timed : Bool) (p : WaitAt) (steady : IsInd
       follows.becomes there (names_wait m timed (next_wait m timed p told)) shown rights_led rests)
       others_follow (begins_two (locks_of w) l (Wait m timed p) event _ follows.may (no_closure l (condvar_next (Wait m timed p) told)))
 
-  -- or where its own act has befallen it: its call is then what that makes of the one that its reply says
+  -- A wait that its own act has befallen goes on with what that makes of the call which its reply says.
   pub wait_goes_told : (q q2 : WaitAt) → condvar_next (Wait m timed p) told ≡ next.At (Wait m timed q)
       → place_at v t ≡ Condvar l (Wait m timed q2) → (makes : CallState → CallState)
       → ((r : ℕ → Rights) → calls.condvar_call_by l m (Wait m timed q2) r ≡ makes (calls.condvar_call_by l m (Wait m timed q) r))

@@ -42,7 +42,7 @@ module _ (w : State) (t l m : ℕ) (timed : Bool) (steady : IsInductive w) (is_t
   else_alike : (k : ℕ) → k ≢ l → k ≢ m → Alike k (place_at w t) Idle
   else_alike k nl nm = subst (λ q. Alike k q Idle) (sym is) (nothing_else l m apart (At this) (Over answer.TwoMutexes) refl tt k nl nm)
 
-  -- and at the mutex it stands nowhere before and behind it
+  -- A refused wait stands nowhere at the mutex, before and after the step.
   location_m : location_at (place_at w t) m ≡ nowhere
   location_m = ap (λ q. location_at q m) is ∙ location_beside l m apart (At this) refl
 

@@ -1,4 +1,5 @@
--- A wait's own step never leads it to sleep where it was handed its mutex: whoever hands it over is inside the section of the mutex till it has told so.
+-- A wait's own step never leads it to sleep where it was handed its mutex: each thread that hands it over is
+-- inside the section of the mutex till it has told so.
 use Rattle.std.proofs.Common.{ℕ, Bool, true, false, Some, if◌then◌else◌, ◌==◌, ◌≡◌, ◌≢◌, ◌+◌, ◌*◌, not, refl, sym, ◌∙◌, ap}
 use Rattle.std.proofs.lemmas.Bool.{eqb-true}
 use Rattle.core_base.specs.declared.keys.Keys.TheVariants.{One}

@@ -69,7 +69,7 @@ module _ (w : State) (t l m : ℕ) (timed : Bool) (steady : IsInductive w) (here
   abbrev goes_to : Stands → Bool → Bool → WaitAt
   goes_to s any none_left = released s (in_unlock (if none_left then At (unlock.Clear any) else At (unlock.Leave any)))
 
-  -- by who stands in the line
+  -- by the threads that stand in the line
   abbrev told : List Waiter → Reply
   told q = Took (is_there (first_of q)) (length (drop 1 q) == 0)
 
@@ -224,7 +224,7 @@ module _ (w : State) (t l m : ℕ) (timed : Bool) (steady : IsInductive w) (here
       → queue_at w (2 * m) ≡ x ∷ rest → x.thread ≡ t → s ≡ stands.Moved
   moved_first s is x rest e itself = moved_so s (sym (ap (λ (y : Location). y.stands) (location_was s is)) ∙ sym (ap (λ u. (location_at (place_at w u) m).stands) itself) ∙ first_stands w m steady plain x rest e)
 
-  -- ---------------------------------------------------------------- whoever it takes
+  -- ---------------------------------------------------------------- each thread that it takes
 
   pub takes : (s : Stands) → place_at w t ≡ Condvar l (waits (taking s)) → FitsBy (queue_at w (2 * m))
       → KeptBy (queue_at w (2 * m)) s

@@ -1,5 +1,5 @@
--- A wait that releases its mutex goes out of its section and wakes whom it has in hand, itself too where a notification brought it there and it took
--- itself: every lock is a site again.
+-- A wait that releases its mutex goes out of its section and wakes the threads that it has in hand, itself
+-- too where a notification brought it there and it took itself: every lock is a site again.
 use Rattle.std.proofs.Common.{ℕ, Bool, true, false, Option, Some, None, if◌then◌else◌, ◌==◌, ◌≡◌, ◌≢◌, ◌⊎◌, ◌*◌, ◌<◌, [], ◌∷◌, length, refl, sym, ◌∙◌, ap, subst, inl, inr}
 use Rattle.std.proofs.lemmas.Bool.{cases_eq}
 use Rattle.std.proofs.Math.ListN.{get_or-map}
@@ -131,7 +131,7 @@ module _ (w : State) (t l m : ℕ) (timed : Bool) (steady : IsInductive w) (is_t
       | inr nl ↦ ap (λ (y : Location). y.carries) (nothing_there l m apart (At (waits (leaving any s))) refl k nl ne)
     ]
 
-    -- and whom it has there it has taken
+    -- A thread has taken each waiter that it has in hand.
     pub not_given : hand_of s ≡ hand t true → ⊥
     not_given e = by_any any (ap (λ (y : Location). y.carries) location_was) (steady.stands.hands.taken t t m true (ap (λ (y : Location). y.hand) location_was ∙ e))
       where
@@ -154,7 +154,7 @@ module _ (w : State) (t l m : ℕ) (timed : Bool) (steady : IsInductive w) (is_t
     location_then : location_at p2 m ≡ beside_of (behind_release goes.0)
     location_then = location_beside l m apart (At (waits (behind_release goes.0))) refl
 
-    -- how it stands then, but for whom it has in hand
+    -- how it stands then, but for the threads that it has in hand
     side : location_at p2 m ≡ record (location_at (place_at w t) m) { inside = None; carries = None; hand = (if is_thread t (taker_of s) then None else hand_of s) }
     side = location_then ∙ goes.1.side ∙ sym (ap (λ (y : Location). record y { inside = None; carries = None; hand = (if is_thread t (taker_of s) then None else hand_of s) }) location_was)
 

@@ -118,7 +118,7 @@ module _ (w : State) (t l m : ℕ) (timed : Bool) (steady : IsInductive w) (is_t
   unwoken (MarkBrought ∷ []) d h = refl
   unwoken ds d h = absurd h
 
-  -- but for the owner nothing of who owns changes
+  -- but for the owner nothing of the owners changes
   abbrev KeepsOthers : WaitAt → Type 0
   KeepsOthers at = condvar_owners (waits at) t (word_at w m) (owners_at w m) ≡ with_exclusive (owners_at w m) (condvar_owners (waits at) t (word_at w m) (owners_at w m)).exclusive
 

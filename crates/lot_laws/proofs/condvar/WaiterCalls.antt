@@ -30,7 +30,7 @@ use Rattle.lot_laws.specs.SitesOf.{hand_at}
 use Rattle.lot_laws.proofs.machine.Parts.{differ, same}
 use Rattle.lot_laws.proofs.mutex.Waiters.{notifier_stands, side_wanted}
 
--- by whom one is taken that is in a hand, or in none
+-- the thread by which one is taken that is in a hand, or in none
 taken_hand : (t : ℕ) (h : Option Hand) (x : Option Want) → is_taken_by t (taken_from h x true) ≡ true → h ≡ hand t false
 taken_hand t None x e = absurd cc
 taken_hand t (Some (Of u true)) x e = absurd cc
@@ -71,7 +71,7 @@ taken_beside k (Wait m timed at) t l e = either (m == l) (not (k == l)) refl e
     either true false same_one f = absurd cc
     either false c same_one f = absurd cc
 
--- and who is in a hand there is taken
+-- A waiter that is in a hand at the mutex is taken.
 pub waiter_taken_by : (k : ℕ) (at : CondvarPlace) (t l : ℕ) → hand_at (Condvar k at) l ≡ hand t false
     → is_taken_by t (taken_at (Condvar k at) l) ≡ true
 waiter_taken_by k at t l h = by_lock (k == l) (is_lock l (mutex_beside at)) h
@@ -132,7 +132,7 @@ pub waiter_claims : (k : ℕ) (at : CondvarPlace) (t l : ℕ) → IsReached at �
 waiter_claims k at t l reached e = let b = taken_beside k at t l e in
     subst (λ q. ((mutex_side q).role.claims ≡ None) ⊎ ((mutex_side q).role.claims ≡ Some (Has Exclusive))) (sym b.is) (wait_claims l t b.timed b.place (subst IsReached b.is reached) b.hand)
 
--- and that is what it does about the mutex
+-- A taken waiter does at the mutex what its place says.
 pub waiter_does : (k : ℕ) (at : CondvarPlace) (t l : ℕ) → is_taken_by t (taken_at (Condvar k at) l) ≡ true
     → role_on (Condvar k at) l ≡ (mutex_side at).role
 waiter_does k at t l e = by_lock (k == l) (is_lock l (mutex_beside at)) e

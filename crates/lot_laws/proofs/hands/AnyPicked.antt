@@ -1,4 +1,5 @@
--- Whether a take has picked anybody, by how many want to share and what the one wants who wants more, is whether anybody is in the hand of its thread.
+-- A take tells how many want to share, and what the one wants that wants more. Whether it has picked anybody
+-- is whether anybody is in the hand of its thread.
 use Rattle.std.proofs.Common.{ℕ, zero, suc, Bool, true, false, Option, Some, None, if◌then◌else◌, ◌==◌, ◌&&◌, ◌||◌, not, cond, ◌≡◌, ◌⊎◌, List, [], ◌∷◌, length, get_or, inl, inr, refl, sym, ◌∙◌, ap, arith}
 use Rattle.std.proofs.Math.Bool.{or-true}
 use Rattle.core_base.specs.declared.wants.Want.{Want}
@@ -24,7 +25,7 @@ joined false None u p qs later = refl
 joined false (Some x) u p qs later = or-true (not (length qs == 0))
 
 module _ (t : ℕ) where
-  -- by whom it was taken, and what it wants
+  -- the thread by which it was taken, and what it wants
   abbrev is_of : Option ℕ → Option Want → Bool → Bool
   is_of o y rest = shares_in_hand t (held_by o y) || (is_there (wants_more_in_hand t (held_by o y)) || rest)
 
@@ -65,7 +66,7 @@ module _ (t : ℕ) where
     | inr e ↦ let later = any_held (suc k) ps e in (suc later.0, later.1)
   ]
 
-  -- and who is in hand was picked
+  -- Each thread in the hand was picked.
   pub held_any : (k : ℕ) (ps : List Place) (u : ℕ) (z : Want) → is_thread t (taker (get_or ps u Idle)) ≡ true
       → wants (get_or ps u Idle) ≡ Some z → any_in t k ps ≡ true
   held_any k [] u z h e = absurd cc

@@ -114,7 +114,7 @@ unshared Upgradable more = refl
 unshared Wait more = refl
 unshared CallOnce more = refl
 
--- a thread that is taken now was, or is among those who are taken
+-- a thread that is taken now was, or is among those that are taken
 taken_more : (t u : ℕ) (x : Want) (xs : List Queued) (taken : ℕ → Option Taken) → x ≢ Shared → taking t xs taken u ≡ Some (record { by = t; want = x }) → (taken u ≡ Some (record { by = t; want = x })) ⊎ HasMore u xs
 taken_more t u x [] taken more e = inl e
 taken_more t u x (z ∷ zs) taken more e = elim (taken_more t u x zs (putting taken z.thread (Some (record { by = t; want = z.want }))) more e) [

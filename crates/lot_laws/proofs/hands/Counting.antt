@@ -1,4 +1,5 @@
--- The places whose call has counted those whom its thread has in hand: a thread comes to one by its own step alone, and none of them is in a hand.
+-- The places whose call has counted those that its thread has in hand: a thread comes to one by its own step
+-- alone, and none of them is in a hand.
 use Rattle.std.proofs.Common.{ℕ, Bool, true, false, Option, Some, None, if◌then◌else◌, ◌==◌, ◌≡◌, refl, sym, ◌∙◌, ap, subst}
 use Rattle.std.proofs.lemmas.Bool.{eqb-true}
 use Rattle.steps_semaphore.specs.declared.places.SemaphorePlace.{SemaphorePlace}
@@ -53,7 +54,7 @@ use Rattle.lot_laws.specs.Locations.{nowhere, location}
 use Rattle.lot_laws.proofs.machine.Parts.{IsOf, same}
 use Rattle.lot_laws.proofs.promises.RowPromises.{Befalls}
 
--- tells what a place has counted of those whom its thread has in hand, to hand them the lock
+-- tells what a place has counted of those that its thread has in hand, to hand them the lock
 abbrev pub counted_on : Place → ℕ → Option Counted
 counted_on Idle l = None
 counted_on (Mutex j at) l = None
@@ -62,7 +63,7 @@ counted_on (Once j at) l = None
 counted_on (Semaphore j at) l = None
 counted_on (Condvar j at) l = None
 
--- and where a call goes on
+-- How a call counts where it goes on.
 abbrev pub counted_next : Next RwLockCallPlace → Option Counted
 counted_next (next.At c) = in_hand_of c
 counted_next (next.End answer) = None
@@ -308,7 +309,7 @@ looks_bare (RwLock j a (Glance x)) q is = absurd cc
 looks_bare (RwLock j a (HandOver x b to)) q is = absurd cc
 looks_bare (RwLock j a (Handed x how b to)) q is = absurd cc
 
--- nor does who is late
+-- nor does a thread that is late
 pub late_bare : (p : Place) (key : ℕ) → late_key p ≡ Some key → (l : ℕ) → counted_on (next_place p reply.Late) l ≡ None
 late_bare Idle key e l = refl
 late_bare (Mutex j at) key e l = mutex_counted l j (mutex_next at reply.Late)

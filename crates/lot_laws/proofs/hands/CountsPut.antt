@@ -1,4 +1,5 @@
--- A thread stands elsewhere in its call: who counted whom it has in hand has counted them still.
+-- A thread stands elsewhere in its call: a thread that counted the threads that it has in hand has counted
+-- them still.
 use Rattle.std.proofs.Common.{ℕ, Some, None, ◌≡◌, ◌<◌, List, inl, inr, length, length-set, get_or-set_other, get_or-set_same, sym, ◌∙◌, ap}
 use Rattle.std.proofs.lemmas.Bool.{cases_eq}
 use Rattle.spec_locks.specs.declared.kinds.Kind.{Kind}

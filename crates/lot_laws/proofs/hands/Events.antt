@@ -1,4 +1,5 @@
--- A right is handed over to many at once: it is one case of the lock, and the calls of all who were handed it go on with what they wanted.
+-- A right is handed over to many at once: it is one case of the lock, and the calls of all that were handed
+-- it go on with what they wanted.
 use Rattle.std.proofs.Common.{ℕ, zero, suc, Bool, true, false, Option, Some, None, if◌then◌else◌, ◌==◌, ◌≡◌, ◌<◌, List, [], ◌∷◌, ◌++◌, length, inl, inr, refl, sym, ◌∙◌, ap, arith}
 use Rattle.std.proofs.lemmas.Bool.{cases_lt, eqb-true}
 use Rattle.core_base.specs.declared.wants.Want.{Want}

@@ -48,13 +48,13 @@ only_held p apart hands t l u b single here held x ne = either (is_thread t (tak
     either false e = refl
     either true e = absurd (second (in_hand_where (p x) t (apart x) e))
 
--- so all whom t has in hand are that one
+-- all that t has in hand are that one
 pub told_one : {one : ℕ → Type 0} (w : State) (t l u : ℕ) (b : Bool) (reply : Reply) → ((u : ℕ) → IsApart (place_at w u))
     → Hands one (place_at w) → one l → CarriesAt l (place_at w t) → hand_at (place_at w u) l ≡ hand t b
     → state_after_telling w t reply ≡ state_after_reply w u reply
 told_one w t l u b reply apart hands single here held = λ i. record w { places = told_in t reply w.places u (held_tells (place_at w u) t l b held) (only_held (place_at w) apart hands t l u b single here held) i }
 
--- and it owns when t hands the lock over
+-- A successor owns the lock when t hands it over.
 pub successor_one : {one : ℕ → Type 0} (w : State) (t l u : ℕ) (b : Bool) → ((u : ℕ) → IsApart (place_at w u))
     → Hands one (place_at w) → one l → CarriesAt l (place_at w t) → hand_at (place_at w u) l ≡ hand t b
     → ((x : ℕ) → WantsAlone t (place_at w x)) → sum (shares_at w l) ≡ 0 → (o : Owners)
@@ -63,7 +63,7 @@ successor_one w t l u b apart hands single here held_at alone unshared o =
     ap (λ s. owners_of_successor (sum (shares_handed_over w t l)) s o) (successor_in t 0 w.places u (alone u) (held_tells (place_at w u) t l b held_at) (only_held (place_at w) apart hands t l u b single here held_at) ∙ ap (λ n. Some (successor_is n)) (let e : 0 + u ≡ u = omega arith in e))
     ∙ ap (λ (n : ℕ). if n == 0 then with_exclusive o (Some u) else owners_with_pending u o) (ap sum (none_given t w.places (shares_at w l) alone) ∙ unshared)
 
--- ---------------------------------------------------------------- a release wakes whom it has taken
+-- ------------------------------------------------------- a release wakes the threads that it has taken
 
 -- a thread that has nobody in hand leaves alone
 pub lets_nobody : {one : ℕ → Type 0} (places : ℕ → Place) (hands : Hands one places) (t l : ℕ) (p2 : Place)

@@ -1,4 +1,5 @@
--- A thread in a call of a reader-writer lock hands its right over: where its operation takes effect, all whom it has in hand own.
+-- A thread in a call of a reader-writer lock hands its right over: where its operation takes effect, all that
+-- it has in hand own.
 use Rattle.std.proofs.Common.{◌+◌, ◌*◌, ◌-◌, ℕ, Bool, true, false, Option, Some, None, if◌then◌else◌, ◌==◌, ◌≡◌, ◌≢◌, ◌^◌, ◌<◌, ◌≤◌, ◌⊎◌, inl, inr, List, [], ◌∷◌, ◌++◌, length, refl, sym, ◌∙◌, ap, subst, arith}
 use Rattle.lot_laws.proofs.rwlock.Kept.{beside_no_call, of_no_once}
 use Rattle.std.proofs.lemmas.Bool.{eqb-true}

@@ -1,4 +1,5 @@
--- A hand-over of a reader-writer lock is one case of the abstract lock, and the calls of all who were handed it go on with what they wanted.
+-- A hand-over of a reader-writer lock is one case of the abstract lock, and the calls of all that were handed
+-- it go on with what they wanted.
 use Rattle.std.proofs.Common.{ℕ, Bool, true, false, Option, Some, None, if◌then◌else◌, ◌==◌, ◌≡◌, ◌<◌, List, ◌++◌, length, get_or, get_or-set_other, refl, sym, ◌∙◌, ap, subst}
 use Rattle.lot_laws.proofs.rwlock.Kept.{beside_no_call, of_no_once}
 use Rattle.std.proofs.lemmas.Bool.{eqb-true}
@@ -130,7 +131,7 @@ module _ (w : State) (t l : ℕ) (a : Admission) (c : RwLockCallPlace) (steady :
       by_place (Once j at) f h = tt
       by_place (Semaphore j at) f h = tt
 
-  -- and their calls go on with it
+  -- Calls of the taken go on with what they are handed.
   handed_calls : (u : ℕ) (x : Want) → IsTaken (lock_state w l) t u x → IsHandedCall l t alone x (place_at w u)
   handed_calls u x taken = by_place (place_at w u) refl taken
     where

@@ -95,7 +95,7 @@ heir_wants t i (p ∷ ps) x e = by_first (wants_more_in_hand t (held p)) refl e 
     by_first (Some y) f g later = let same_one : record { thread = i; want = y } ≡ x = cc in
         (0, (sym (ap (λ (z : Successor). z.thread) same_one) ∙ (let z : i ≡ i + 0 = omega arith in z), f ∙ ap Some (ap (λ (z : Successor). z.want) same_one)))
 
--- and where anybody wants more, there is one
+-- Where some thread in the hand wants more than a share, one of them is the heir.
 pub wants_heir : (t i : ℕ) (ps : List Place) (j : ℕ) (x : Want) → wants_more_in_hand t (held (get_or ps j Idle)) ≡ Some x
     → (y : Successor) × (successor_from t i ps ≡ Some y)
 wants_heir t i [] j x e = absurd cc

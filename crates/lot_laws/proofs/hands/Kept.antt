@@ -1,5 +1,6 @@
--- A thread hands its right over to all whom it has in hand, one or many, each by its want: every lock is a site again. No place is named: the laws of its
--- sort of lock say that its deeds may be done, what it does then, and where those in its hand go.
+-- A thread hands its right over to all that it has in hand, one or many, each by its want: every lock is a
+-- site again. No place is named: the laws of its sort of lock say that its deeds may be done, what it does
+-- then, and where those in its hand go.
 use Rattle.std.proofs.Common.{ℕ, zero, suc, Bool, true, false, Option, Some, None, if◌then◌else◌, ◌==◌, ◌&&◌, ◌||◌, ◌≡◌, ◌≢◌, ◌+◌, ◌-◌, ◌*◌, ◌%◌, ◌^◌, ◌≤◌, ◌<◌, ◌⊎◌, replicate, List, [], ◌∷◌, ◌++◌, length, get_or, set, map, inl, inr, refl, sym, ◌∙◌, ap, subst, arith, length-set, get_or-set_same, get_or-set_other}
 use Rattle.std.specs.Prelude.{sum}
 use Rattle.std.proofs.lemmas.Bool.{cases_eq, cases_lt, eqb-true}

@@ -1,5 +1,5 @@
--- A thread goes on by the act that hands its right over, at a lock that is shared: where the operation takes effect all whom it has in hand own, and else
--- nothing changes. No place is named, as in `MovesKept`.
+-- A thread goes on by the act that hands its right over, at a lock that is shared: where the operation takes
+-- effect all that it has in hand own, and else nothing changes. No place is named, as in `MovesKept`.
 use Rattle.std.proofs.Common.{ℕ, Bool, true, false, Option, Some, None, ◌≡◌, ◌+◌, ◌*◌, ◌<◌, List, [], ◌∷◌, ◌++◌, length, refl, sym, ◌∙◌, ap, subst}
 use Rattle.core_base.specs.declared.ops.Op.{Op}
 use Rattle.core_base.specs.Words.{apply}
@@ -133,7 +133,7 @@ module _ (w : State) (t l : ℕ) (steady : IsInductive w) (there : t < length w.
     pub told_hears : hears r now t None Done
     told_hears = g.may r now t (free_of (place_at w t) l (of_single l (place_at w t) own) bare)
 
-    -- out of the section, and whom it has handed its right hears of it
+    -- out of the section, and the threads to which it has handed its right hear of it
     pub tells_handed : (p2 : Place) → key_of l Main < length w.sections
         → IsFollowed w t l steady there own r rules x same_row None Done p2
         → ((u : ℕ) (b : Bool) → hand_at (place_at w u) l ≡ hand t b → IsWokenAt w t l HandOffNote (place_at w u))

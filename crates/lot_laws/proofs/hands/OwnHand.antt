@@ -1,4 +1,4 @@
--- A thread that calls one lock is in no hand of its own: who is in a hand has nobody in hand.
+-- A thread that calls one lock is in no hand of its own: a thread that is in a hand has nobody in hand.
 use Rattle.std.proofs.Common.{ℕ, Bool, true, false, Some, None, if◌then◌else◌, ◌≡◌, ◌⊎◌, inl, inr, refl, ◌∙◌, ap}
 use Rattle.lot_steps.specs.declared.places.Place.{Place}
 use Rattle.lot_steps.specs.declared.places.Place.TheVariants.{Idle, Mutex, RwLock, Once, Condvar, Semaphore}

@@ -90,7 +90,7 @@ pub record Hears (l : ℕ) (p : Place) (a : Act) : Type 0 where
   pub sleeps_on : a ≡ Sleep → (r : Reply) → Quiet r → act_of (next_place p r) ≡ Sleep
   -- its call goes on as it is where it is taken
   pub taken : GoesOnTaken p
-  -- and tries the lock again where it is woken out of a hand
+  -- A thread that is woken out of a hand tries the lock again.
   pub woken : TriesAgain l p
 
 silent_so : (a : Act) → tells a ≡ false → tells a ≡ true → ⊥

@@ -181,7 +181,7 @@ abbrev pub IsSingle : Place → Type 0
 IsSingle (Condvar k at) = ⊥
 IsSingle p = Unit {0}
 
--- or of two
+-- A place of a call of two locks.
 pub record IsOfTwo (p : Place) : Type 0 where
   pub lock : ℕ
   pub at : CondvarPlace
@@ -524,7 +524,7 @@ told_in t reply (p ∷ ps) (suc u) held only = λ i. ap (λ b. if b then next_pl
 abbrev pub WantsAlone : ℕ → Place → Type 0
 WantsAlone t p = is_thread t (taker p) ≡ true → wants p ≡ Some Exclusive
 
--- so it does not want to share
+-- it does not want to share
 no_sharer : (t : ℕ) (p : Place) → WantsAlone t p → shares_in_hand t (held p) ≡ false
 no_sharer t p alone = by_hand (taker p) (wants p) alone
   where
@@ -579,7 +579,7 @@ held_taker p t l b single h = ap (is_thread t) (single_taker p single) ∙ eithe
     either true g = ap (λ x. is_thread t (hand_owner x)) g ∙ same t
     either false g = absurd cc
 
--- and at some lock, if by the taker
+-- A place that is held at some lock, if by the taker.
 pub record IsHeldBy (p : Place) (t : ℕ) : Type 0 where
   pub lock : ℕ
   pub handed : Bool
@@ -621,7 +621,8 @@ fits_apart w (Condvar k at) fits m e = differ k m (condvar_apart w k at fits m e
 pub aparts : (w : State) → IsInductive w → (t : ℕ) → IsApart (place_at w t)
 aparts w steady t = fits_apart w (place_at w t) (steady.stands.calls t)
 
--- nobody is in a hand at a condition variable: who is in one by the place, at either of its locks, is so by the taker
+-- nobody is in a hand at a condition variable: a thread that is in one by the place, at either of its locks,
+-- is so by the taker
 pub held_tells : (p : Place) (t l : ℕ) (b : Bool) → hand_at p l ≡ hand t b → is_thread t (taker p) ≡ true
 held_tells (Condvar k at) t l b h = either (k == l) (is_lock l (mutex_beside at)) h
   where
@@ -685,7 +686,7 @@ beside_takes_one w (Once k at) l fits e = absurd cc
 beside_takes_one w (Semaphore k at) l fits e = absurd cc
 beside_takes_one w (Condvar k at) l fits e = ap (λ (r : Rules). r.sort) (plain_rules (kind_at w l) (fits.mutex l e))
 
--- so a lock that lets many go at once is beside no call
+-- a lock that lets many go at once is beside no call
 pub not_beside : (w : State) (p : Place) (l : ℕ) → FitsItsLock w p → (TakesOne w l → ⊥) → is_lock l (beside_of p) ≡ false
 not_beside w p l fits many = by_mutex (beside_of p) refl
   where

@@ -128,7 +128,7 @@ pub record IsSilent (row : Profile) : Type 0 where
   pub names : row.names ≡ None
   pub recalls : row.recalls ≡ Blank
 
--- and of a call of one lock, which readers share or not
+-- The facts of a place of a call of one lock, which readers share or not.
 pub record PlaceFacts (shared : Bool) (l : ℕ) (row : Profile) (a : Act) : Type 0 where
   pub by_row : RowFacts row a
   -- it says nothing of a condition variable
@@ -359,7 +359,7 @@ pub shows : {shared : Bool} {l : ℕ} {row : Profile} {a : Act} (m : Line) → k
     → place_test shared m row a (tries (row.purpose l)) ≡ true → PlaceFacts shared l row a
 shows m e h = facts _ _ _ _ m _ e refl h
 
--- and where its call is no try, whatever else it is
+-- A place at which a call that is no try may wait.
 pub waits : {shared : Bool} {l : ℕ} {row : Profile} {a : Act} (m : Line) → key_or (key_of l m) a ≡ key_of l m
     → tries (row.purpose l) ≡ false → place_test shared m row a false ≡ true → PlaceFacts shared l row a
 waits m e q h = facts _ _ _ _ m false e q h
@@ -520,7 +520,7 @@ condvar_facts l (condvar.Notify all m (notify.Move locked)) = by_all all locked
     by_all false false = row_shows refl
 condvar_facts l (condvar.Notify all m to) = row_shows refl
 
--- and at the mutex beside it
+-- The facts of a wait at the mutex beside its condition variable.
 wait_beside : (l m : ℕ) (timed : Bool) (to : WaitAt) → RowFacts (mutex_side (condvar.Wait m timed to)) (condvar_act l (condvar.Wait m timed to))
 wait_beside l m timed (wait.Release s to) = let f = (mutex_facts m to).by_row in record {
   goes = f.goes;

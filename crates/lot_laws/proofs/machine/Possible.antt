@@ -262,7 +262,7 @@ told_gone (Condvar l at) r = by_next (condvar_next at r)
     by_next (next.At q) = told_act (condvar_act l q)
     by_next (next.End answer) = ((λ h. cc), λ h. cc)
 
--- and that it runs its closure where it does then
+-- A thread runs its closure next exactly where it is told so.
 pub closure_gone : (p : Place) (r : Reply) → is_closure (outcome_of (next_act p r)) ≡ runs_closure (act_of (next_place p r))
 closure_gone Idle r = refl
 closure_gone (Mutex l at) r = by_next (mutex_next at r)

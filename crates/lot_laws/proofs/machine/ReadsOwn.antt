@@ -1,4 +1,5 @@
--- A call that reads who waits does so in the main line of its lock, which it has to itself where the thread has its way.
+-- A call that reads the waiters does so in the main line of its lock, which it has to itself where the thread
+-- has its way.
 use Rattle.std.proofs.Common.{ℕ, Bool, true, false, Some, ◌≡◌, inl, ap}
 use Rattle.spec_locks.specs.declared.calls.Access.TheVariants as access
 use Rattle.spec_locks.specs.declared.calls.Call.{Call}

@@ -150,7 +150,7 @@ module _ (w : State) (t m : ℕ) (steady : IsInductive w) (is_there : t < length
         nobody : (u : ℕ) → hand_at (place_at w u) m ≡ hand t false → ⊥
         nobody u h = let a : carried_at (place_at w t) m ≡ Some false = steady.stands.hands.taken t u m false h in let c : ◌≡◌ {A = Option Bool} None (Some false) = sym bare ∙ a in cc
 
-    -- out of it, and whoever is in its hand is woken, itself too where it is
+    -- out of it, and each thread that is in its hand is woken, itself too where it is
     pub goes_out_waking : (holds : HoldsHere w t m)
         (woken : (u : ℕ) (b : Bool) → hand_at (place_at w u) m ≡ hand t b → IsWokenAt w t m Normal (place_at w u))
         → (location_at (place_at w t) m).inside ≡ Some Main

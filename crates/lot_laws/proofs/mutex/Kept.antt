@@ -182,7 +182,7 @@ module _ (w : State) (t l : ℕ) (at : MutexPlace) (steady : IsInductive w) (sha
     pub goes : Goes w (Then q y) l (acts t (deeds_of whom (reply_to w t y)) ++ claims_at at whom)
     pub tells : CallFollows r here.lock t l (mutex_row at) (deeds_of whom (reply_to w t y)) (next_row (mutex_next at (reply_to w t y)))
     pub others : WakesOwn (mutex_row at).carries y (case_at whom (reply_to w t y)) ⊎ HandsOn q y whom
-    -- and that it is in nobody's hand then
+    -- The thread is in nobody's hand after the step.
     pub unheld : (location_then (mutex_move at) (reply_to w t y)).hand ≡ None
 
   -- where nobody claims the mutex then
@@ -247,7 +247,7 @@ module _ (w : State) (t l : ℕ) (at : MutexPlace) (steady : IsInductive w) (sha
   calls_it : (u : ℕ) → CallsMutex l (place_at w u)
   calls_it u = calls_mutex_at w l (place_at w u) (steady.stands.calls u) rules_are
 
-  -- so each of them tries again, or has the mutex
+  -- each of them tries again, or has the mutex
   tries_again : (any : Bool) → (location_of (mutex_move at)).carries ≡ in_hand any false → (u : ℕ) (b : Bool) → hand_at (place_at w u) l ≡ hand t b → IsWokenAt w t l Normal (place_at w u)
   tries_again any carries u b held = let k : IsHeldThere l t (place_at w u) = held_there (place_at w u) t l (calls_it u) (held ∙ ap (hand t) (held_so any false b carries u held)) in
       record { lets = tries l t (place_at w u) k; goes = k.woken.location; alike = k.woken.others; fits = k.woken.fits tt w (steady.stands.calls u) }

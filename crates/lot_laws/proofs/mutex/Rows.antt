@@ -27,7 +27,7 @@ pub lock_owes : (timed retries : Bool) (at : LockAt) → (lock_row timed retries
 lock_owes timed retries lock.First = refl
 lock_owes timed retries at = refl
 
--- and lets nobody in
+-- A lock's place lets nobody in.
 pub shut : (l : ℕ) (e : Entry) (r : Bool) (at : LockAt) → LetsIn locks.Mutex l (mutex_row (Lock e r at)) → ⊥
 shut l entries.Lock r at (inl h) = h
 shut l entries.LockTimed r at (inl h) = h

@@ -406,7 +406,7 @@ held_wants p t l b = by_row l (λ q. wants q ≡ Some Exclusive) (λ (s : Locati
     (λ k apart m timed at reached of h. ap (λ x. or_else x (condvar_profile (Wait m timed at)).wants) (wait_wanted m timed at t b h))
     (λ k apart all m at of h. absurd (let f : ◌≡◌ {A = Option Hand} None (hand t b) = sym (notifier_stands all m at).1 ∙ h in cc)) p
 
--- so does each whom t has in hand, where it has nobody in hand elsewhere
+-- each that t has in hand does so too, where it has nobody in hand elsewhere
 pub held_alone : {one : ℕ → Type 0} (p : ℕ → Place) → ((u : ℕ) → IsApart (p u)) → Hands one p → (t l : ℕ) → CarriesAt l (p t)
     → ((u : ℕ) → CallsMutex l (p u)) → (u : ℕ) → WantsAlone t (p u)
 held_alone p apart hands t l here mutexes u h = let x = in_hand_where (p u) t (apart u) h in

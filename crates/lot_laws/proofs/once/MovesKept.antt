@@ -1,5 +1,5 @@
 -- A thread in a call of a `Once` goes on where its act takes it: on the word, behind the last of the queue,
--- or with all who wait in its hand. No place is named.
+-- or with all that wait in its hand. No place is named.
 use Rattle.std.proofs.Common.{ℕ, Bool, true, false, Option, Some, None, if◌then◌else◌, ◌==◌, ◌||◌, ◌≡◌, ◌*◌, ◌≤◌, ◌<◌, List, [], ◌∷◌, ◌++◌, length, not, refl, sym, ◌∙◌, ap, subst, arith}
 use Rattle.std.specs.Prelude.{◌&&◌, nat_le}
 use Rattle.std.proofs.Math.Bool.{or-false}
@@ -142,7 +142,7 @@ module _ (w : State) (t l : ℕ) (steady : IsInductive w) (there : t < length w.
         either false e = let f = followed false (told_so false e) in
             rests_there (Parked false) (next_place (place_at w t) (Parked false)) (inside_of Main) (is_now ∙ g.was) refl g.turns (there_is w t l steady there own r rules x same_row None (Parked false) (next_place (place_at w t) (Parked false)) f ∙ g.turned) f
 
-  -- with all who wait in its hand
+  -- with all that wait in its hand
   module _ (asleep : (u : ℕ) → SleepsIfCalls w t l steady there own r rules x same_row u) (hears : Hears)
       (many : TakesOne w l → ⊥) (line : 2 * l < length w.queues) (g : TakesAll x hears)
       (followed : (any none_left : Bool) → hears r now t None (Took any none_left) → Followed (Took any none_left) (next_place (place_at w t) (Took any none_left))) where

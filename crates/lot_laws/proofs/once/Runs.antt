@@ -86,7 +86,7 @@ moves_phase w u c m all owned number l = either (l == m) (l == c) refl refl
     either false true e f = ap (λ k. (w.locks k).phase) (sym (eqb-true l c f))
     either false false e f = refl
 
--- and behind an event
+-- A `Once` that is in progress after an event is run by the thread that the event says.
 by_event : (w : LocksState) (u : ℕ) (event : Event) (l t : ℕ) → (locks_after w u event l).phase ≡ InProgress t
     → ((w.locks l).phase ≡ InProgress t) ⊎ ((forced : Bool) × (event ≡ AtLock l (OfOnce (Start forced))) × (t ≡ u))
 by_event w u Nothing l t e = inl e

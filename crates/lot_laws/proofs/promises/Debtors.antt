@@ -60,7 +60,7 @@ owes_there (Wait m timed wait.Hide) = refl
 owes_there (Wait m timed wait.GiveUp) = refl
 owes_there (Wait m timed at) = refl
 
--- and at its mutex too, but for a wait that enters the section next
+-- A call on a condition variable owes at its mutex too, but for a wait that enters the section next.
 abbrev OwesInside : CondvarPlace → Type 0
 OwesInside at = in_line (condvar_row at).owes_mutex Main ≡ (condvar_row at).role.inside
 
@@ -232,7 +232,7 @@ module _ (w : State) (t : ℕ) (steady : IsInductive w) where
     | inr two ↦ (two_owe two.lock two.at two.is l m).1 (inl i)
   ]
 
-  -- and so does whoever is on its way, but for a wait
+  -- Each thread that is on its way to wake owes, but for a wait.
   pub going_owes_so : (l : ℕ) (m : Line) → GoesToWake w t l m → Owes w t l m ⊎ IsWait (call_at w t).purpose
   going_owes_so l m g = elim (single_or_two (place_at w t)) [
     | inl single ↦ inl ((owing_is w t steady single l m).1 (inr g))

@@ -21,7 +21,7 @@ abbrev pub unlock_owner : UnlockAt → Option ℕ → Option ℕ
 unlock_owner unlock.Subtract o = None
 unlock_owner at o = o
 
--- the exclusive owner after a step on the word that saw v, but for one whom it hands the lock
+-- the exclusive owner after a step on the word that saw v, but for one to which it hands the lock
 abbrev pub mutex_owner_after : MutexPlace → ℕ → ℕ → Option ℕ → Option ℕ
 mutex_owner_after (Lock entry retries at) t v o = lock_owner at t v o
 mutex_owner_after TryLock t v o = if is_locked v then o else Some t

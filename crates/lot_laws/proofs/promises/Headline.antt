@@ -66,7 +66,7 @@ module _ (w : State) (k : IsKept w) where
   at_line : (t l : ℕ) (m : Line) → Owes w t l m → headline.IsAtLine (locks_of w) t l m
   at_line t l m owes = elim (k.owing t l m owes) [ inl inside ↦ inl inside | inr goes ↦ inr (ap keys_entered goes.0) ]
 
-  -- and runs no closure
+  -- A thread that owes runs no closure.
   no_closure : (t l : ℕ) (m : Line) → Owes w t l m → runs_closure (act_of (place_at w t)) ≡ false
   no_closure t l m owes = elim (k.owing t l m owes) [ inl inside ↦ (k.inside_goes t l m inside).1 | inr goes ↦ ap runs_closure goes.0 ]
 

@@ -26,7 +26,7 @@ awake_yet : (sort : _) (l : ℕ) → LeadsToSleep sort l Sleep → ⊥
 awake_yet sort l (inl h) = let e : Sleep ≡ Word l _ = h.2 in absurd cc
 awake_yet sort l (inr h) = absurd cc
 
--- who sleeps doesn't look at a word once more
+-- a thread that sleeps doesn't look at a word once more
 no_look : (w : State) → IsKept w → (u : ℕ) → act_of (place_at w u) ≡ Sleep → is_some (looking (place_at w u)) ≡ false
 no_look w k u asleep = by_look (is_some (looking (place_at w u))) refl
   where

@@ -100,7 +100,7 @@ module _ (w : State) (t l : ℕ) (steady : IsInductive w) (is_of : IsOf l (place
       here (inl none) f = ap (λ x. stood_in x n) none
       here (inr same) f = ap (λ x. stood_in x n) (same ∙ within) ∙ other n m f
 
-  -- so where it leaves the queues, only that one changes
+  -- where it leaves the queues, only that one changes
   pub removed_at : (m : Line) → (location (place_at w t)).inside ≡ Some m → StandsThere (location (place_at w t)) → (key : ℕ)
       → (get_or (map (without t) w.queues) key [] ≡ queue_at w key) ⊎ (section_at w key ≡ Some t)
   removed_at m within stands key = let of = line_of_key key in elim (cases_eq (key_of of.0 of.1) (key_of l m)) [

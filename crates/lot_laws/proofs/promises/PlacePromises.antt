@@ -245,7 +245,7 @@ module _ (w : State) (t : ℕ) (steady : IsInductive w) where
         by_row None e (Some x) f = inr (λ none. let g : ◌≡◌ {A = Option Taken} None (Some x) = sym none ∙ f in cc)
         by_row None e None f = absurd (let n : standing t (lock_state w l) ≡ 0 = standing_by ∙ (λ i. stood_in (e i) Main + stood_in (e i) Second + one_if_some (f i)) in omega arith)
 
-    -- and whoever stands in a line of it, or is taken there, stands about it
+    -- A thread that stands in a line of a lock, or is taken there, stands about it.
     pub there_stands : StandsAt (place_at w t) l → 1 ≤ standing t (lock_state w l)
     there_stands (inl in_line) = by_line (location_at (place_at w t) l).stands refl
       where
@@ -282,7 +282,7 @@ module _ (w : State) (t : ℕ) (steady : IsInductive w) where
       ])
     ]
 
-    -- and whoever waits stands about the lock that it calls
+    -- A thread that waits stands about the lock that it calls.
     pub waiting_stands : called_lock (place_at w t) ≡ Some l → IsWaiting (profile (place_at w t)) → 1 ≤ standing t (lock_state w l)
     waiting_stands own waits = elim waits [
       | inl in_line ↦ by_line (profile (place_at w t)).stands refl in_line
@@ -328,7 +328,7 @@ module _ (w : State) (t : ℕ) (steady : IsInductive w) where
     gave_up_so true h = refl
     gave_up_so false h = absurd cc
 
-    -- and so whether it lets others in
+    -- A place says whether its thread lets others in.
     pub lets_in : LetsOthersIn w t l → LetsIn (sort_at w l) l (profile (place_at w t))
     lets_in h = elim (subst (LetsBy w t l) call_own h) [
       | inl releases ↦ inl releases

@@ -90,7 +90,7 @@ pub owes_next : (w : State) (t l : ℕ) → IsInductive w → IsSingle (place_at
     → OwesAt w t (sort_at w l) l (place_at w t)
 owes_next w t l steady single own = by_place (place_at w t) refl own
   where
-    -- an exclusive owner knows the word but for those who wait
+    -- an exclusive owner knows the word but for those that wait
     alone : (k : ℕ) (a : Admission) (c : RwLockCallPlace) → place_at w t ≡ RwLock k a c → has_readers (rules_in w k).sort ≡ true
         → (b : Bool) (seen : ℕ) → c ≡ HandOver access.Exclusive b (handing.Free seen) → IsOwners (word_at w k)
     alone k a c is readers b seen e = subst IsOwners (sym (steady.sites.word k)) (owners_word (rules_in w k) (site_of w k) t readers (steady.sites.site k) ((steady.sites.site k).held t (Has Exclusive) claims))

@@ -268,7 +268,7 @@ module _ (w : State) (steady : IsInductive w) where
       let d = (steady.sites.site l).main (inl some) now empty in
       looked_after d.0 l Main d.1 (λ own. let e : ◌≡◌ {A = Option ℕ} None (Some d.0) = sym free ∙ own in cc)
 
-  -- or for a permit, where one is free
+  -- A waiter for a permit is looked after where one is free.
   beside_permit : (l : ℕ) → sort_at w l ≡ sorts.Semaphore → (lock_state w l).queue ≢ [] → readers (lock_state w l) < (rules_in w l).limit
       → IsLookedAfterIn w l Main
   beside_permit l sort some fewer =
@@ -291,7 +291,7 @@ module _ (w : State) (steady : IsInductive w) where
       let some = not_empty t (lock_state w l).queue waiting in
       elim open_now [ inl now ↦ in_line l some now (unfilled l full) | inr free ↦ beside_permit l free.0 some free.1 ]
 
-  -- nobody counts as one who passes the turn of a `Once` on but who owes its waiters their wake
+  -- nobody counts as one that passes the turn of a `Once` on but a thread that owes its waiters their wake
   callers : (l : ℕ) → sort_at w l ≡ sorts.Once → has_caller (lock_state w l).queue ≡ true → (IsRunning (lock_state w l).phase → ⊥)
       → IsOwedWake w l
   callers l once called rests = record { debtor = after.debtor; owes = by_debt after.debtor after.debt; awake = after.awake; stands_nowhere = rests_nowhere }
@@ -350,7 +350,7 @@ module _ (w : State) (steady : IsInductive w) where
         claims : (role_on (place_at w t) l).claims ≡ (profile (place_at w t)).role.claims
         claims = ap (λ (d : Role). d.claims) (role_own (place_at w t) l own)
 
-    -- each thread that hands over is inside, and wakes all whom it has in hand as it leaves
+    -- each thread that hands over is inside, and wakes all that it has in hand as it leaves
     tells_inside : (by l : ℕ) → (location_at (place_at w by) l).carries ≡ Some true
         → (section_at w (2 * l) ≡ Some by)
         × (act_of (place_at w by) ≡ Leave (One (2 * l)) (wakes.TheVariants.All note.TheVariants.HandOff))

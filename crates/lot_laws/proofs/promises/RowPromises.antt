@@ -77,7 +77,7 @@ RowFinds sort l word row m =
 abbrev pub RowLooks : ℕ → Profile → Type 0
 RowLooks l row = LooksFirst (Some (row.purpose l)) l × (row.released ≡ false)
 
--- and a thread that may hand its lock over, or bump, which does this next
+-- A thread that may hand its lock over, or bump, owes as it does this next.
 pub record RowOwesThen (sort : Sort) (l word : ℕ) (row : Profile) (o : Outcome) (next : Profile) (a : Act) : Type 0 where
   pub since : (m : Line) → next.owes ≡ Some m → (next.role.inside ≡ Some m) ⊎ (RowFinds sort l word row m × (o ≡ told.Step))
   pub sees : (m : Line) → RowFinds sort l word row m → o ≡ told.Step → (RowLooks l next → a ≡ Enter (One (key_of l m)))

@@ -36,14 +36,14 @@ module _ (w : State) (s : IsInductive w) (l : ℕ) (rules : rules_in w l ≡ mut
     | inr once ↦ absurd (let both : locks.Once ≡ locks.Mutex = sym once.0 ∙ ap (λ (r : locks.Rules). r.sort) rules in cc)
   ]
 
-  -- a waiter of a mutex implies its parked bit, or somebody who is about to set it
+  -- a waiter of a mutex implies its parked bit, or somebody that is about to set it
   pub parked_or_marks : (t : ℕ) → WaitsFor w t l → (is_parked (word_at w l) ≡ true) ⊎ ((u : ℕ) × IsAboutToMark w u l)
   parked_or_marks t h = elim ((s.sites.site l).parked (not_empty t (lock_state w l).queue h)) [
     | inl g ↦ inl (subst (λ r. parked_in r.sort (word_at w l) ≡ true) rules g)
     | inr g ↦ inr g
   ]
 
--- so it implies the bit where nobody is inside the section
+-- a waiter implies the bit where nobody is inside the section
 pub parked_at : (w : State) → IsInductive w → (t l : ℕ) → rules_in w l ≡ mutex → section_at w (2 * l) ≡ None
     → 1 ≤ Lines.times t (queue_at w (2 * l)) → is_parked (word_at w l) ≡ true
 parked_at w s t l rules free h = elim (parked_or_marks w s l rules t (subst (λ n. 1 ≤ n) (sym (queued_times t (queue_at w (2 * l)))) h)) [

@@ -1,4 +1,5 @@
--- How a fair release, a bump, and who was handed the lock come to owe a wake: by the word that they see, and by entering a section.
+-- How a fair release, a bump, and a thread that was handed the lock come to owe a wake: by the word that they
+-- see, and by entering a section.
 use Rattle.std.proofs.lemmas.Bool.{eqb-true}
 use Rattle.std.proofs.Common.{ℕ, Bool, true, false, Option, Some, None, if◌then◌else◌, ◌==◌, ◌&&◌, ◌||◌, ◌≡◌, ◌⊎◌, inl, inr, refl, sym, ◌∙◌, ap, subst, arith}
 use Rattle.core_base.specs.declared.keys.Keys.TheVariants.{One}

@@ -124,7 +124,7 @@ module _ (r : Rules) (a : Admission) (l : ℕ) (admits : Admits r a) where
     abbrev row : Profile
     row = call_profile a (Bump p)
 
-    -- it lets in whom the plain call does
+    -- it lets in the threads that the plain call does
     lets_plain : LetsIn r.sort l row → LetsIn r.sort l (rwlock_profile a p)
     lets_plain (inl h) = absurd (let e : true ≡ false = h.1 in cc)
     lets_plain (inr h) = inr (h.0, elim h.1 [ inl less ↦ absurd less | inr left ↦ inr left ])
@@ -349,7 +349,7 @@ module _ (r : Rules) (a : Admission) (l : ℕ) (admits : Admits r a) where
     hands_enter (handing.Exchange k seen) m e = absurd ((exchange_other x k seen).1 m e)
     hands_enter (handing.Leave any told) m e = absurd cc
 
-  -- an upgradable owner wakes whom it takes where there is no room for them
+  -- an upgradable owner wakes the threads that it takes where there is no room for them
   debt_over : (b : Bool) (to : HandOverAt) → (call_profile a (HandOver access.Upgradable b to)).owes ≡ Some Main
       → HasDebt r.sort l (call_profile a (HandOver access.Upgradable b to)) Main
   debt_over true to owes = inl (owes, (refl, λ e. cc))

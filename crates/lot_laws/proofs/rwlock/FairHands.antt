@@ -1,4 +1,4 @@
--- A fair release, or a bump, of a lock that is shared: what its own steps make of those whom it has taken.
+-- A fair release, or a bump, of a lock that is shared: what its own steps make of those that it has taken.
 use Rattle.std.proofs.Common.{ℕ, Bool, true, false, Option, Some, None, if◌then◌else◌, ◌≡◌, ◌≢◌, ◌<◌, ◌==◌, ◌⊎◌, inl, inr, length, refl, sym, ◌∙◌, ap, subst}
 use Rattle.core_base.specs.declared.keys.Keys.TheVariants.{One, Two}
 use Rattle.core_base.specs.declared.ops.Op.{Op}
@@ -133,7 +133,7 @@ module _ (w : State) (t l : ℕ) (a : Admission) (c : RwLockCallPlace) (shape : 
   may : CallStands a c
   may = stands w t l a c steady shape there lt is
 
-  -- a thread that gives a right up is in nobody's hand, and says whom it has in its own
+  -- a thread that gives a right up is in nobody's hand, and says which threads it has in its own
   bare : (c : RwLockCallPlace) → CallStands a c → IsToGive ((call_profile a c).purpose l) (call_profile a c).released x
       → (call_profile a c).hand ≡ None
   bare (Plain p) may gives = absurd (plain_keeps l p.purpose (call_profile a (Plain p)).released x gives)

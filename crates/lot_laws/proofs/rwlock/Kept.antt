@@ -307,7 +307,7 @@ module _ (w : State) (t l : ℕ) (a : Admission) (c : RwLockCallPlace) (steady :
   many : TakesOne w l → ⊥
   many one = let none : has_readers (rules_in w l).sort ≡ false = ap has_readers one in let some : has_readers (rules_in w l).sort ≡ true = admits.0 in cc
 
-  -- and no condition variable is beside it
+  -- No condition variable is beside the call.
   pub beside_no_call : (u k : ℕ) (at : CondvarPlace) → place_at w u ≡ Condvar k at → is_lock l (mutex_beside at) ≡ false
   beside_no_call u k at e = not_beside w (Condvar k at) l (subst (FitsItsLock w) e (steady.stands.calls u)) many
 
@@ -522,7 +522,7 @@ module _ (w : State) (t l : ℕ) (a : Admission) (c : RwLockCallPlace) (steady :
 
 -- ---------------------------------------------------------------- a call begins
 
--- a lock of such a kind lets in whom the call says
+-- a lock of such a kind lets in the threads that the call says
 pub admits_by : (k : Kind) → has_readers (rules_of k).sort ≡ true → Admits (rules_of k) (admission_of_kind k)
 admits_by (kinds.RwLock limit) h = (refl, refl, refl)
 admits_by (kinds.Recursive limit) h = (refl, refl, refl)

@@ -231,7 +231,7 @@ waiting_parks a p (at.Park to) h = tt
 waiting_parks a p (at.Aside to) h = tt
 waiting_parks a p to h = absurd (elim h [ inl n ↦ n refl | inr n ↦ n refl ])
 
--- only who is pending stands in the second line
+-- only a thread that is pending stands in the second line
 aside_claims : (again : Option Want) (q : RwLockPurpose) (to : RwLockAt) → stands_at to ≡ Some Second
     → (b : Bool) × ((role_at again q to).claims ≡ Some (Pends b))
 aside_claims again q (at.Aside (parking.Leave true)) h = (falls_back q, refl)
@@ -335,7 +335,7 @@ module _ (r : Rules) (readers : has_readers r.sort ≡ true) (a : Admission) (l 
       → LetsIn r.sort l (row_of a q again to) → ⊥
   shut_before q again to stands before lets = shut q again to (before_waits q again to stands before) (before_shut q again to before) lets
 
-  -- and who wakes others lets them in
+  -- A thread that wakes others lets them in.
   pub lets_waking : (q : RwLockPurpose) (again : Bool) (m : Line) → LetsIn r.sort l (row_of a q again (at.Wake m waking.Enter))
   lets_waking (purpose.Enter x how) again m = inr (readers, inr (refl, refl))
   lets_waking (purpose.Upgrade how) again m = inr (readers, inr (refl, refl))

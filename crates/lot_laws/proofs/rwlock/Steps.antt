@@ -1,4 +1,5 @@
--- A thread in a call of a reader-writer lock goes on by its act: for itself alone, or handing its right over to those whom it has in hand.
+-- A thread in a call of a reader-writer lock goes on by its act: for itself alone, or handing its right over
+-- to those that it has in hand.
 use Rattle.std.proofs.Common.{ℕ, Bool, true, false, Option, Some, ◌≡◌, ◌≢◌, ◌<◌, List, [], length, refl, sym, ◌∙◌, ap, subst, append-nil}
 use Rattle.core_base.specs.declared.ops.Op.{Op}
 use Rattle.spec_locks.specs.declared.calls.Access.TheVariants as access
@@ -56,7 +57,7 @@ use Rattle.lot_laws.proofs.sites.SitesKept.{go_by}
 plain_gives : (l k : ℕ) (a : Admission) (p : RwLockPlace) (op : Op) → MayStand a p → rwlock_act l a p ≡ act.HandOver k op → ⊥
 plain_gives l k a p op may e = subst (λ x. MovesByAct l a.recursive (rwlock_move a p) (rwlock_hears a p) x) e (rwlock_acts_move l a p may)
 
--- a thread that hands over says whom it has in hand
+-- a thread that hands over says which threads it has in hand
 pub gives_counted : (l k : ℕ) (a : Admission) (c : RwLockCallPlace) (op : Op) → CallStands a c
     → call_act l a c ≡ act.HandOver k op → (n : Counted) × (in_hand_of c ≡ Some n)
 gives_counted l k a (HandOver x b (handing.Store n)) op may e = (n, refl)
@@ -129,7 +130,7 @@ module _ (w : State) (t l : ℕ) (a : Admission) (c : RwLockCallPlace) (steady :
     by_own : GoesOnBy w t l a c y
     by_own = record { whom = from.whom; tells = from.tells; happened = own_happened; others = own_others }
 
-  -- to those whom it has in hand, where its operation takes effect
+  -- to those that it has in hand, where its operation takes effect
   module _ (k : Counted) (is_k : in_hand_of c ≡ Some k) (counted : AreCounted w) (op : Op)
       (e : call_act l a c ≡ act.HandOver l op) where
     abbrev heir : Option ℕ
@@ -146,7 +147,7 @@ module _ (w : State) (t l : ℕ) (a : Admission) (c : RwLockCallPlace) (steady :
       others = hands_others w t l a c steady shape there lt is k is_k (counted t l a c k is is_k) op e takes;
     }
 
-    -- and else it looks again
+    -- A failed exchange looks again.
     module _ (fails : takes_effect op (word_at w l) ≡ false) where
       abbrev behind : State
       behind = then_by w t l a c (act.HandOver l op)

@@ -81,7 +81,7 @@ role_is (next.End answer) = refl
 
 -- ---------------------------------------------------------------- its word
 
--- it has no second line, and nothing but who holds a permit changes
+-- it has no second line, and nothing but the holders of permits changes
 module _ (r : Rules) (s : Site) (t : ℕ) where
   pub record OnlyPermits (ds : List Deed) : Type 0 where
     pub aside : (laws.after_all r ds s t).aside_parked ≡ s.aside_parked
@@ -366,7 +366,7 @@ module _ (w : State) (t l : ℕ) (at : SemaphorePlace) (steady : IsInductive w) 
 
 -- ---------------------------------------------------------------- a call begins
 
--- tells what it claims: who is to give a permit back holds one
+-- tells what it claims: a thread that is to give a permit back holds one
 abbrev pub claims_first : SemaphoreCall → Option Claim
 claims_first (semaphore_call.Acquire patience) = None
 claims_first semaphore_call.Release = Some (Has Shared)

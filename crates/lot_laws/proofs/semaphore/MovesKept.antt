@@ -1,4 +1,5 @@
--- A thread inside the section of a semaphore takes the first who waits: every lock is a site again. No place is named.
+-- A thread inside the section of a semaphore takes the first that waits: every lock is a site again. No place
+-- is named.
 use Rattle.std.proofs.Common.{ℕ, Bool, true, false, Some, None, if◌then◌else◌, ◌==◌, ◌≡◌, ◌*◌, ◌<◌, List, [], ◌∷◌, length, map, drop, refl, sym, ◌∙◌, ap, subst, arith, length-set, get_or-set_same, get_or-set_other}
 use Rattle.core_base.specs.declared.wants.Waiter.{Waiter}
 use Rattle.core_base.specs.declared.wants.Want.{Want}

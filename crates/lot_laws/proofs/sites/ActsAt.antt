@@ -62,7 +62,7 @@ module _ (w : State) (t l : ℕ) (steady : IsInductive w) (there : t < length w.
   pub site_by : IsSite r (lock_by w l r)
   site_by = subst (λ x. IsSite x (lock_by w l x)) rules (steady.sites.site l)
 
-  -- the word is the lock's, whoever stands in its lines and wherever its callers are
+  -- the word is the lock's, whatever waiters its lines have and wherever its callers are
   pub word_by_lines : (m s : List Waiter) (q : ℕ → Place) → word_at w l ≡ code r (seen_in r l (record (parts_at w l) { main = m; second = s }) q)
   word_by_lines m s q = steady.sites.word l ∙ (λ i. code (rules i) (lock_by w l (rules i))) ∙ same_word r.sort r.limit _ _ _ _ refl refl refl refl refl refl
 
@@ -73,7 +73,7 @@ module _ (w : State) (t l : ℕ) (steady : IsInductive w) (there : t < length w.
   places_put : (v : State) → v.places ≡ set w.places t p2 → place_at v ≡ putting (place_at w) t p2
   places_put v ep = ap (λ (xs : List Place). λ u. get_or xs u Idle) ep ∙ put_places w t p2 past
 
-  -- its place changes, and who stands in the lines of the lock
+  -- its place changes, and the waiters in the lines of the lock
   lines_move : (v : State) (m s : List Waiter) → v.locks ≡ w.locks → v.shares ≡ w.shares → v.places ≡ set w.places t p2
       → queue_at v (2 * l) ≡ m → queue_at v (2 * l + 1) ≡ s
       → ((k : ℕ) → k ≢ l → (n : Line) → queue_at v (key_of k n) ≡ queue_at w (key_of k n))

@@ -82,7 +82,7 @@ left_wakes (Out ∷ []) h = refl
 left_wakes (Out ∷ End ∷ []) h = refl
 left_wakes ds h = absurd h
 
--- or tells those to whom it has handed the lock
+-- A thread that has handed the lock over tells those to which it did.
 handed_calm : (ds : List Deed) → AreLeaving ds → IsCalm (case_of (Some true) ds)
 handed_calm (Out ∷ []) h = tt
 handed_calm (Out ∷ End ∷ []) h = tt
@@ -150,7 +150,7 @@ module _ (w : State) (t l : ℕ) (steady : IsInductive w) (shape : IsWellFormed 
       is_free : section_at w (key_of l m) ≡ None
       is_free = none_is (section_at w (key_of l m)) (subst (λ k. are_free w k ≡ true) e free)
 
-  -- each whom it has in hand is woken
+  -- each that it has in hand is woken
   pub out_of : (m : Line) (keys : Keys) (wakes : Wakes) → keys ≡ One (key_of l m) → (g : GoesOut x hears m wakes)
       → ((u : ℕ) (b : Bool) → hand_at (place_at w u) l ≡ hand t b → IsWokenAt w t l Normal (place_at w u)) → GoesBy None (act.Leave keys wakes)
   out_of m keys wakes e g woken = subst (λ k. GoesBy None (act.Leave k wakes)) (sym e) (record {
@@ -165,7 +165,7 @@ module _ (w : State) (t l : ℕ) (steady : IsInductive w) (shape : IsWellFormed 
       either false f = subst (λ y. IsCalm (case_of y (x.deeds None Done))) (sym f) (left_calm (x.deeds None Done) g.deeds)
       either true f = inl (f, (refl, ap (λ y. case_of y (x.deeds None Done)) f ∙ left_wakes (x.deeds None Done) g.deeds))
 
-  -- or was handed the lock, and is told so
+  -- A thread that was handed the lock is told so.
   pub tells_all : (keys : Keys) (wakes : Wakes) → keys ≡ One (key_of l Main) → (g : TellsHanded x hears wakes)
       → ((u : ℕ) (b : Bool) → hand_at (place_at w u) l ≡ hand t b → IsWokenAt w t l HandOff (place_at w u)) → GoesBy None (act.Leave keys wakes)
   tells_all keys wakes e g woken = subst (λ k. GoesBy None (act.Leave k wakes)) (sym e) (record {
@@ -209,7 +209,7 @@ module _ (w : State) (t l : ℕ) (steady : IsInductive w) (shape : IsWellFormed 
       out true = ap (λ (y : Location). y.hand) g.parked
       out false = ap (λ (y : Location). y.hand) g.turned
 
-  -- out of the main line, whoever else waits there
+  -- out of the main line, whatever other threads wait there
   pub left_main : (key : ℕ) → key ≡ key_of l Main → LeavesLine x hears Main → GoesBy None (act.Remove key)
   left_main key e g = subst (λ j. GoesBy None (act.Remove j)) (sym e) (record {
     goes = leaves_main w t l steady there own r refl x same_row hears g (λ b h. followed (Removed b) tt h);
@@ -219,7 +219,7 @@ module _ (w : State) (t l : ℕ) (steady : IsInductive w) (shape : IsWellFormed 
     free = ap (λ (y : Location). y.hand) (g.goes _);
   })
 
-  -- or of any line
+  -- A thread that is late leaves any line.
   pub left : ((u : ℕ) → SleepsIfCalls w t l steady there own r refl x same_row u) → (m : Line) (key : ℕ) → key ≡ key_of l m → LeavesLine x hears m → GoesBy None (act.Remove key)
   left asleep m key e g = subst (λ j. GoesBy None (act.Remove j)) (sym e) (record {
     goes = leaves_line w t l steady there own r refl x same_row asleep hears m g (λ b h. followed (Removed b) tt h);

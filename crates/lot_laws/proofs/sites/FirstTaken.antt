@@ -63,7 +63,7 @@ module _ (w : State) (t l : ℕ) (steady : IsInductive w) (there : t < length w.
     pub hand_then : taken_at (next_place (place_at w t) (Took any none_left)) l ≡ None
     hand_then = free_of (next_place (place_at w t) (Took any none_left)) l (of_single l (next_place (place_at w t) (Took any none_left)) f.of) (ap (λ (y : Location). y.hand) is_then)
 
-  -- by who waits
+  -- by the waiters
   abbrev pub told_of : List Waiter → Reply
   told_of q = Took (is_there (first_of q)) (length (drop 1 q) == 0)
 

@@ -165,7 +165,7 @@ follows_all w v l ds steady f = record {
 pub goes_all : (w v : State) (l : ℕ) (ds : List deeds.Act) → IsInductive w → Goes w v l ds → GoesAll w v (only_at l ds)
 goes_all w v l ds steady g = record { follows = follows_all w v l ds steady g.follows; stands = g.stands }
 
--- and keeps all
+-- A step that goes by its acts keeps what is inductive.
 pub goes_steady : (w v : State) (l : ℕ) (ds : List deeds.Act) → IsInductive w → Goes w v l ds → IsInductive v
 goes_steady w v l ds steady g = goes_all_steady w v (only_at l ds) steady (follows_all w v l ds steady g.follows) g.stands
 

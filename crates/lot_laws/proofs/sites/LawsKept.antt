@@ -82,7 +82,7 @@ module _ (w : State) (t l : ℕ) (steady : IsInductive w) (own : IsOf l (place_a
         full
         (sym law.role ∙ sym (ap (λ (s : Site). s.role t) (after_same r ds (lock_by w l r) t)))
 
-    -- so every lock is a site again
+    -- every lock is a site again
     pub lawful_goes : l < length w.locks → NoHandOff ds → taken_at (place_at w t) l ≡ taken_at p2 l
         → location p2 ≡ location (place_at w t) → Goes w (put (state_after_operation w t p l f) t p2) l (acts t ds)
     lawful_goes lt plain hand e = word_goes w t l steady own there r rules p2 of fits p lt (rw steady.numbers.locks lt) f ds (λ h. plain) (steps hand)

@@ -189,7 +189,7 @@ module _ (w : State) (t l : ℕ) (steady : IsInductive w) (there : t < length w.
         })
         (there_is None Done p2 f ∙ out ∙ (λ i. record (location_of x) { inside = None; carries = sym bare i }) ∙ sym (ap (λ (y : Location). record y { inside = None }) location_is))
 
-    -- or whom it has is woken
+    -- A thread that goes out wakes each thread that it has in hand.
     goes_out_waking : (p2 : Place) → key_of l m < length w.sections → (g : AreLeaving (x.deeds None Done)) → (location_of x).inside ≡ Some m → (location_of x).hand ≡ None → location_then x Done ≡ record (location_of x) { inside = None; carries = None } → IsFollowed None Done p2
         → ((u : ℕ) (b : Bool) → hand_at (place_at w u) l ≡ hand t b → IsWokenAt w t l Normal (place_at w u))
         → Goes w (put (state_after_telling (state_with_sections w (One (key_of l m)) None) t (Woken Normal)) t p2) l
@@ -332,7 +332,7 @@ module _ (w : State) (t l : ℕ) (steady : IsInductive w) (there : t < length w.
     pub apart : is_lock l (beside_of (place_at w u)) ≡ false
     pub sleeper : calls (place_at w u) l ≡ true → IsSleeper u
 
-  -- so who has a part in the lock calls it
+  -- a thread that has a part in the lock calls it
   by_calls : {A : Type 0} (p : Place) → is_lock l (beside_of p) ≡ false → (g : Location → Option A) (y : A) → g nowhere ≡ None
       → g (location_at p l) ≡ Some y → (calls p l ≡ true) × (g (location p) ≡ Some y)
   by_calls p apart g y none h = either (calls p l) (ap (λ c. g (if calls p l then location p else if c then location_by (profile_beside p) else nowhere)) (sym apart) ∙ h)
@@ -418,7 +418,7 @@ module _ (w : State) (t l : ℕ) (steady : IsInductive w) (there : t < length w.
       pub sleeper : IsSleeper u
       pub sleeps : Sleeps sleeper.move m
 
-    -- and whoever stands in a line sleeps there, where t is inside its section and stands in none
+    -- Each thread in a line sleeps there, while t is inside its section and stands in none.
     asleep_in : (m : Line) (u : ℕ) → location_of x ≡ inside_of m → (location_at (place_at w u) l).stands ≡ Some m → IsAsleepIn m u
     asleep_in m u inside stands = let k = by_calls (place_at w u) (asleep u).apart (λ (y : Location). y.stands) m refl stands in by_sleeper k.0 k.1 ((asleep u).sleeper k.0)
       where
@@ -455,7 +455,7 @@ module _ (w : State) (t l : ℕ) (steady : IsInductive w) (there : t < length w.
             let pends : here.lock.pending ≡ Some (record { thread = u; falls_back = a.1.0 }) = site.held u (Pends a.1.0) (ap (λ (d : Role). d.claims) (role_here l (place_at w u) (called (place_at w u) z.single calls_l) ∙ ap (λ (y : Profile). y.role) z.row) ∙ a.1.1) in
             subst (λ o. IsSomePending o u) (sym pends) refl
 
-    -- so it stands there alone
+    -- it stands there alone
     alone_aside : (y : Waiter) (rest : List Waiter) → queue_at w (2 * l + 1) ≡ y ∷ rest → rest ≡ []
     alone_aside y [] e = refl
     alone_aside y (z ∷ rest) e = absurd (
@@ -560,7 +560,7 @@ module _ (w : State) (t l : ℕ) (steady : IsInductive w) (there : t < length w.
             f : IsFollowed None (Took false true) (next_place (place_at w t) (Took false true))
             f = followed_by None false true (ap first_of empty)
 
-        -- or the pending writer
+        -- A thread inside the second section takes the pending writer.
         takes_writer : (y : Waiter) → queue_at w (2 * l + 1) ≡ y ∷ [] → Goes w (put (state_after_reply (record w { queues = queues_without_first w.queues (2 * l + 1) }) y.thread (TakenBy t)) t (next_place (place_at w t) (Took true true))) l (acts t (x.deeds (Some y.thread) (Took true true)))
         takes_writer y first = subst (λ ds. Goes w (put (state_after_reply (record w { queues = queues_without_first w.queues (2 * l + 1) }) y.thread (TakenBy t)) t (next_place (place_at w t) (Took true true))) l (acts t ds)) (sym (g.deeds (Some y.thread) true true))
             (aside_goes w t l steady own there (next_place (place_at w t) (Took true true)) f.of f.fits many (ap (λ (y : Location). y.stands) (location_is ∙ g.was)) (ap (λ (y : Location). y.hand) (location_is ∙ g.was)) (ap (λ (y : Location). y.carries) (location_is ∙ g.was)) r rules hand_now (hand_then (Some y.thread) true true (ap first_of first))
@@ -588,7 +588,7 @@ module _ (w : State) (t l : ℕ) (steady : IsInductive w) (there : t < length w.
             by_line (y ∷ rest) e = let one : queue_at w (2 * l + 1) ≡ y ∷ [] = e ∙ ap (λ (ys : List Waiter). y ∷ ys) (alone_aside y rest e) in
                 let a : first_of (queue_at w (2 * l + 1)) ≡ Some y.thread = ap first_of one in let b : (length (drop 1 (queue_at w (2 * l + 1))) == 0) ≡ true = ap (λ (q : List Waiter). length (drop 1 q) == 0) one in rw (a, b) (takes_writer y one)
 
-      -- ---------------------------------------------------------------- those who are picked
+      -- ---------------------------------------------------------------- those that are picked
 
       module _ (many : TakesOne w l → ⊥) (line : key_of l Main < length w.queues) (start : Option Want) (g : Picks x hears start)
           (followed : (n : ℕ) (y : Option Want) (none_left : Bool) → hears r here t None (Picked n y none_left) → IsFollowed None (Picked n y none_left) (next_place (place_at w t) (Picked n y none_left))) where

@@ -74,7 +74,7 @@ first_there [] l = refl
 first_there (x ∷ xs) zero = refl
 first_there (x ∷ xs) (suc l) = first_there xs l
 
--- and of permits
+-- The permits of a new semaphore can be counted.
 countable : (k : Kind) (n : ℕ) → fits k n ≡ true → (rules_of k).sort ≡ sorts.Semaphore → (rules_of k).limit ≤ 2 ^ 62
 countable (kind.TheVariants.Semaphore permits) n h e = few_permits permits h
 countable kind.TheVariants.Mutex n h e = absurd cc

@@ -1,4 +1,5 @@
--- A thread takes those who are picked of the main queue of a reader-writer lock, the writer aside, or all who wait for a `Once`: what the machine does is the case of the lock.
+-- A thread takes those that are picked of the main queue of a reader-writer lock, the writer aside, or all
+-- that wait for a `Once`: what the machine does is the case of the lock.
 use Rattle.std.proofs.Common.{ℕ, Bool, true, false, Option, Some, None, if◌then◌else◌, ◌==◌, ◌||◌, ◌≡◌, ◌+◌, ◌*◌, ◌≤◌, ◌<◌, List, [], ◌∷◌, length, map, drop, refl, sym, ◌∙◌, ap, subst, arith, length-set, get_or-set_same, get_or-set_other}
 use Rattle.std.proofs.lemmas.Bool.Decides.{nat_tests}
 use Rattle.core_base.specs.declared.lock_picker.LockPicker.{LockPicker}
@@ -124,7 +125,7 @@ module _ (w : State) (t l : ℕ) (steady : IsInductive w) (own : IsOf l (place_a
   past : (n : ℕ) → n ≡ length w.places → n ≤ t → p2 ≡ Idle
   past n e h = absurd (omega arith)
 
-  -- those who are picked of the main queue
+  -- those that are picked of the main queue
   module _ (start : Option Want) (some_line : 2 * l < length w.queues) where
     abbrev pub picks : List Waiter
     picks = lock_picked start (is_recursive r.sort) (queue_at w (2 * l))

@@ -93,11 +93,11 @@ module _ (w v : State) (l : ℕ) (rules : rules_in w l ≡ mutex) (q : ℕ → P
 pub mutex_unshared : (w : State) (l : ℕ) → IsInductive w → rules_in w l ≡ mutex → sum (shares_at w l) ≡ 0
 mutex_unshared w l steady rules = (subst (λ r. IsSite r (lock_by w l r)) rules (steady.sites.site l)).state.unshared (λ h. h)
 
--- so it is where a thread calls one
+-- a lock that a thread calls is taken from so
 pub unshared_at : (w : State) (t l : ℕ) (at : MutexPlace) → IsInductive w → place_at w t ≡ Mutex l at → sum (shares_at w l) ≡ 0
 unshared_at w t l at steady is = mutex_unshared w l steady (mutex_rules (kind_at w l) (let c : FitsItsLock w (Mutex l at) = rw is at (steady.stands.calls t) in c))
 
--- and it is taken from one by one
+-- A mutex is taken from one by one.
 pub single_at : (w : State) (t l : ℕ) (at : MutexPlace) → IsInductive w → place_at w t ≡ Mutex l at → TakesOne w l
 single_at w t l at steady is = takes_one w l (mutex_rules (kind_at w l) (let c : FitsItsLock w (Mutex l at) = rw is at (steady.stands.calls t) in c))
 
@@ -106,7 +106,7 @@ pub mutexes_at : (w : State) (t l : ℕ) (at : MutexPlace) → IsInductive w →
     → CallsMutex l (place_at w u)
 mutexes_at w t l at steady is u = calls_mutex_at w l (place_at w u) (steady.stands.calls u) (mutex_rules (kind_at w l) (let c : FitsItsLock w (Mutex l at) = rw is at (steady.stands.calls t) in c))
 
--- so whom it has in hand wants to own alone
+-- the thread that it has in hand wants to own alone
 pub alone_at : (w : State) (t l : ℕ) (at : MutexPlace) → IsInductive w → place_at w t ≡ Mutex l at → (u : ℕ)
     → WantsAlone t (place_at w u)
 alone_at w t l at steady is = held_alone (place_at w) (aparts w steady) steady.stands.hands t l (of_carries l (place_at w t) (rw is refl)) (mutexes_at w t l at steady is)

@@ -202,7 +202,7 @@ hands_same p q h c n = record {
   taken = λ t u l b e. c t l ∙ h.taken t u l b (sym (n u l) ∙ e);
 }
 
--- many are taken, or let go: whom `has` tells
+-- many are taken, or let go: the threads that `has` tells
 module _ (one : ℕ → Type 0) (p q : ℕ → ℕ → Location) (hands : HandsBy one p) (t l : ℕ) (has : ℕ → Bool) where
   -- whether it is one of them, at the lock
   abbrev meant : ℕ → ℕ → Bool
@@ -224,7 +224,7 @@ module _ (one : ℕ → Type 0) (p q : ℕ → ℕ → Location) (hands : HandsB
   meant_here : (u k : ℕ) → has u ≡ true → k ≡ l → meant u k ≡ true
   meant_here u k h f = rw f (both_true h (same l))
 
-  -- t has taken them, who were in nobody's hand, and no more than one where it takes one at a time
+  -- t has taken them, which were in nobody's hand, and no more than one where it takes one at a time
   module _ (single : one l → (u v : ℕ) → has u ≡ true → has v ≡ true → u ≡ v) (c : Option Bool)
       (in_hand : (u k : ℕ) → (q u k).hand ≡ (if meant u k then hand t false else (p u k).hand))
       (carries : (i k : ℕ) → (q i k).carries ≡ (if taking i k then c else (p i k).carries))
@@ -276,7 +276,7 @@ module _ (one : ℕ → Type 0) (p q : ℕ → ℕ → Location) (hands : HandsB
     pub hands_taken : HandsBy one q
     hands_taken = record { carried = carried_then_many; alone = alone_then_many; taken = taken_then_many }
 
-  -- t lets go whomever it has in hand
+  -- t lets go each thread that it has in hand
   module _ (in_hand : (u k : ℕ) → (q u k).hand ≡ (if meant u k then None else (p u k).hand))
       (carries : (i k : ℕ) → (q i k).carries ≡ (if taking i k then None else (p i k).carries))
       (mine : (u : ℕ) → has u ≡ true → (b : Bool) × ((p u l).hand ≡ hand t b)) (all : (u : ℕ) (b : Bool) → (p u l).hand ≡ hand t b → has u ≡ true) where
@@ -323,7 +323,7 @@ module _ (one : ℕ → Type 0) (p q : ℕ → ℕ → Location) (hands : HandsB
       taken = taken_then_free;
     }
 
-  -- t has handed the lock over to whomever it has in hand
+  -- t has handed the lock over to each thread that it has in hand
   module _ (c : Option Bool) (in_hand : (u k : ℕ) → (q u k).hand ≡ (if meant u k then hand t true else (p u k).hand))
       (carries : (i k : ℕ) → (q i k).carries ≡ (if taking i k then c else (p i k).carries))
       (mine : (u : ℕ) → has u ≡ true → (b : Bool) × ((p u l).hand ≡ hand t b)) (all : (u : ℕ) (b : Bool) → (p u l).hand ≡ hand t b → has u ≡ true) (some : (b : Bool) → c ≡ Some b → (b ≡ true) × ((u : ℕ) × (has u ≡ true))) (full : (u : ℕ) → has u ≡ true → c ≡ Some true) where

@@ -149,6 +149,6 @@ pub others_stay : (p : ℕ → Place) (t l : ℕ) (p2 : Place) → AlikeBeside l
     → locations_of (putting p t p2) u k ≡ locations_of p u k
 others_stay p t l p2 alike = part_else (λ x. x) l p t p2 alike
 
--- and its own station there is that of the place
+-- A thread's own location at a lock is that of its place.
 pub location_put : (p : ℕ → Place) (t l : ℕ) (p2 : Place) → locations_of (putting p t p2) t l ≡ location_at p2 l
 location_put p t l p2 = ap (λ q. location_at q l) (put_here p t p2)

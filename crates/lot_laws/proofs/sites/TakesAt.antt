@@ -171,7 +171,7 @@ module _ (w : State) (t l : ℕ) (steady : IsInductive w) (there : t < length w.
   told_off : (u : ℕ) → has u ≡ false → told u ≡ place_at w u
   told_off u h = told_once (TakenBy t) taken (place_at w) u (once u) ∙ ap (λ b. if b then next_place (place_at w u) (TakenBy t) else place_at w u) h
 
-  -- by who is looked at
+  -- by the thread that is looked at
   by_thread : (P : ℕ → Place → Type 0) → P t p2 → ((u : ℕ) → u ≢ t → has u ≡ true → P u (next_place (place_at w u) (TakenBy t)))
       → ((u : ℕ) → u ≢ t → has u ≡ false → P u (place_at w u)) → (u : ℕ) → P u (places_now u)
   by_thread P here on off u = elim (cases_eq u t) [
@@ -183,14 +183,14 @@ module _ (w : State) (t l : ℕ) (steady : IsInductive w) (there : t < length w.
       either ne true h = subst (P u) (sym (told_on u h)) (on u ne h)
       either ne false h = subst (P u) (sym (told_off u h)) (off u ne h)
 
-  -- a part of a station at the lock, but for whom t carries
+  -- a part of a location at the lock, but for the threads that t carries
   part_here : {A : Type 0} (g : Location → A) → ((x : Location) (b : Option Bool) → g (record x { carries = b }) ≡ g x) → (u : ℕ) → g (location_at (places_now u) l) ≡ g (behind_take t (has u) (was u))
   part_here g same_part = by_thread (λ u p. g (location_at p l) ≡ g (behind_take t (has u) (was u)))
       (ap g now ∙ same_part (behind_take t (has t) (was t)) c)
       (λ u nu h. ap g ((splits.sleeps u h).goes) ∙ sym (ap (λ b. g (behind_take t b (was u))) h))
       (λ u nu h. sym (ap (λ b. g (behind_take t b (was u))) h))
 
-  -- and elsewhere all is as it was
+  -- At other locks all locations are as they were.
   location_there : (u k : ℕ) → k ≢ l → location_at (places_now u) k ≡ location_at (place_at w u) k
   location_there u k ne = by_thread (λ u p. location_at p k ≡ location_at (place_at w u) k) (beside k ne).location (λ u nu h. ((splits.sleeps u h).alike k ne).location) (λ u nu h. refl) u
 
@@ -239,7 +239,7 @@ module _ (w : State) (t l : ℕ) (steady : IsInductive w) (there : t < length w.
   stood_there : (u : ℕ) (n : Line) → has u ≡ true → n ≢ m → times u (queue_at w (key_of l n)) ≡ 0
   stood_there u n h ng = steady.stands.lines u l n ∙ ap (λ o. stood_in o n) (splits.sleeps u h).stands ∙ stood_other m n ng
 
-  -- those who are left stand in the line
+  -- those that are left stand in the line
   lines_now : (queue : ℕ → List Waiter) → queue (key_of l m) ≡ left → ((key : ℕ) → key ≢ key_of l m → queue key ≡ queue_at w key)
       → Lines (locations_of places_now) queue
   lines_now queue here others u k n = elim (cases_eq k l) [
@@ -254,7 +254,7 @@ module _ (w : State) (t l : ℕ) (steady : IsInductive w) (there : t < length w.
       at_line true h (inr ng) = rw h (ap (times u) (others (key_of l n) (other_line l m n ng)) ∙ stood_there u n h ng)
       at_line false h (inr ng) = rw h (ap (times u) (others (key_of l n) (other_line l m n ng)) ∙ steady.stands.lines u l n)
 
-  -- and wait as before
+  -- Those that are left wait as before.
   waits_now : (queue : ℕ → List Waiter) → queue (key_of l m) ≡ left → ((key : ℕ) → key ≢ key_of l m → queue key ≡ queue_at w key)
       → AllAreWaiting (locations_of places_now) queue
   waits_now queue here others k n = elim (cases_eq k l) [
@@ -283,7 +283,7 @@ module _ (w : State) (t l : ℕ) (steady : IsInductive w) (there : t < length w.
           either false h = refl
           either true h = absurd (let a : times u (queue_at w (key_of l n)) ≡ 0 = stood_there u n h ng in omega arith)
 
-  -- the lock, by those whom t has in hand then
+  -- the lock, by those that t has in hand then
   module _ (r : Rules) (rules : rules_in w l ≡ r)
       (own_taken : taken_at p2 l ≡ (if has t then taken_at (next_place (place_at w t) (TakenBy t)) l else taken_at (place_at w t) l)) where
     abbrev pub lock_taken : Site

@@ -71,7 +71,7 @@ module _ (w : State) (t l : ℕ) (steady : IsInductive w) (own : IsOf l (place_a
   waits_out : (p : Place) → (location p).stands ≡ None → (location p).waits ≡ None
   waits_out p e = ap (λ o. want_in_line o (profile p).wants) e
 
-  -- its station, but for whom it carries
+  -- its location, but for the threads that it carries
   now : (location p2).inside ≡ (location (place_at w t)).inside → (location p2).stands ≡ None → (location p2).hand ≡ None → location_at p2 l ≡ record (behind_take t (member t taken) (location_at (place_at w t) l)) { carries = (location p2).carries }
   now inside stands unheld = location_here l p2 of ∙ (λ i. record (location (place_at w t)) {
     inside = inside i;

@@ -1,5 +1,5 @@
--- All whom a thread has in hand at one lock are told one thing, and it goes on itself: where the threads stand then. They may be in calls of other locks
--- too, and the thread itself may be among them.
+-- All that a thread has in hand at one lock are told one thing, and it goes on itself: where the threads
+-- stand then. They may be in calls of other locks too, and the thread itself may be among them.
 use Rattle.std.proofs.Common.{ℕ, Bool, true, false, Option, Some, None, if◌then◌else◌, ◌==◌, ◌&&◌, ◌≡◌, ◌≢◌, ◌<◌, ◌⊎◌, length, get_or, map, inl, inr, refl, sym, ◌∙◌, ap, subst, arith}
 use Rattle.std.proofs.lemmas.Bool.{cases_eq, eqb-true}
 use Rattle.std.proofs.lemmas.List.{length-map}

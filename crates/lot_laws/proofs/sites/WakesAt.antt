@@ -1,4 +1,5 @@
--- A thread leaves its section of a lock and lets go whomever it has in hand there, one or many, itself among them or not: every lock is a site again.
+-- A thread leaves its section of a lock and lets go each thread that it has in hand there, one or many,
+-- itself among them or not: every lock is a site again.
 use Rattle.std.proofs.Common.{Option, ℕ, Bool, true, false, Some, None, if◌then◌else◌, ◌==◌, ◌&&◌, ◌≡◌, ◌≢◌, ◌+◌, ◌*◌, ◌<◌, replicate, List, [], ◌∷◌, length, get_or, map, inl, inr, refl, sym, ◌∙◌, ap, subst, length-set, get_or-set_same, get_or-set_other}
 use Rattle.std.proofs.lemmas.Bool.{cases_eq}
 use Rattle.std.proofs.lemmas.List.{length-map}
@@ -24,7 +25,7 @@ use Rattle.lot_laws.proofs.sites.ToldAt.{IsToldAt, HoldsHere, SameHands, has, to
 use Rattle.lot_laws.proofs.sites.StandsKept.{AlikeBeside, left, lines_same, waits_same, hands_freed, calls_in}
 use Rattle.lot_laws.proofs.sites.StandsMoved.{AreThere, stands_by}
 
--- ---------------------------------------------------------------- leaving a section, whoever is woken by it
+-- ----------------------------------------------------- leaving a section, whatever threads are woken by it
 
 module _ (r : Rules) (l : ℕ) (a : Parts) (p q : ℕ → Place) (t : ℕ) (own_taken : taken_at (q t) l ≡ keep_from t (taken_at (p t) l))
     (others : (u : ℕ) → u ≢ t → LetGo t l (p u) (q u)) where

@@ -1,4 +1,5 @@
--- A thread in a call of one lock leaves its section and lets go whomever it has in hand, one or many, each in a call of that lock.
+-- A thread in a call of one lock leaves its section and lets go each thread that it has in hand, one or many,
+-- each in a call of that lock.
 use Rattle.std.proofs.Common.{ℕ, Bool, true, false, Some, None, if◌then◌else◌, ◌≡◌, ◌≢◌, ◌<◌, List, length, sym, ◌∙◌, ap}
 use Rattle.core_base.specs.declared.keys.Keys.TheVariants.{One}
 use Rattle.core_base.specs.declared.notes.Note.{Note}
@@ -22,7 +23,7 @@ use Rattle.lot_laws.proofs.sites.ToldAt.{HoldsHere, same_hands}
 use Rattle.lot_laws.proofs.sites.WakesAt.{IsWokenAt}
 use Rattle.lot_laws.proofs.sites.WakesAt as at
 
--- leaving a section, whoever is woken by it
+-- leaving a section, whatever threads are woken by it
 module _ (r : Rules) (l : ℕ) (a : Parts) (p q : ℕ → Place) (t : ℕ) (none : taken_at (p t) l ≡ None)
     (none2 : taken_at (q t) l ≡ None) (others : (u : ℕ) → u ≢ t → LetGo t l (p u) (q u)) where
   pub leaving_by : (ds : List Deed) → AreLeaving ds → role_on (q t) l ≡ (after_acts r (acts t ds) (seen_in r l a p)).role t

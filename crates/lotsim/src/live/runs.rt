@@ -12,15 +12,15 @@ use std::sync::atomic::Ordering::SeqCst;
 use std::sync::{Arc, Wait};
 use std::thread::{Threads, scope, scope_env, yield_now};
 
-// So many threads read at once.
+// The number of threads that read at once.
 const READERS: usize = 2;
 
-// So often each looks for the other.
+// How often each reader looks for the other.
 const TURNS: u32 = 1_000_000;
 
 const COUNTERS: usize = 6;
 
-// So often each of them adds 1.
+// How often each thread adds 1.
 const TIMES: u32 = 1_000;
 
 // The value that is written, and then read.

@@ -22,7 +22,7 @@ fn room_among<A: Abort>(rt: &A, alloc: Global, seats: usize) -> (Room, Token)
     (room, token)
 }
 
-// The same where no other thread has a seat.
+// Makes a room where no other thread has a seat.
 fn room_alone<A: Abort>(rt: &A, alloc: Global) -> (Room, Token)
     ensures { IsTokenOf (lot_of result.0.mutex) result.1 }
 {
@@ -64,8 +64,8 @@ fn a_condition_that_does_not_hold_is_called_once(rt: HostRuntime) {
     check_eq(&rt, look(&rt, &room, &mut token), 1);
 }
 
-// The same within a time, or up to a deadline. How often the condition was called, and whether the
-// wait timed out.
+// Waits within a time, or up to a deadline. Answers how often the condition was called, and whether
+// the wait timed out.
 fn calls_in_time<R: Wait>(
     rt: &R,
     room: &Room,

@@ -13,7 +13,7 @@ use std::thread::yield_now;
 pub(super) enum Whom {
     AllUnderMutex,
     AllFree,
-    // One, who notifies the next.
+    // One, which notifies the next.
     One,
 }
 

@@ -13,7 +13,7 @@ use std::thread::{Threads, map_vec};
 
 const EACH: u64 = 200;
 
-// So many nanoseconds each wait may last that is bounded.
+// The nanoseconds that a bounded wait may last.
 const SHORT: u64 = 1000;
 
 // Numbers that were sent and not taken yet: how many they are, the sum of all that were sent, how
@@ -52,7 +52,7 @@ impl Line {
     }
 }
 
-// A queue, on which those wait who find it empty, and those who find it full.
+// A queue, on which those wait that find it empty, and those that find it full.
 #[derive(Drop)]
 struct Pipe {
     line: Mutex<Line>,
@@ -162,7 +162,7 @@ fn receive_each<R: Wait>(rt: &R, pipe: &Pipe, token: &mut Token, style: Style, t
     }
 }
 
-// How many numbers all threads of these tickets took, of whom the first who come send.
+// How many numbers all threads of these tickets took. The first that come send.
 fn send_and_receive<R: Threads + Wait + Sync>(
     rt: &R,
     pipe: &Pipe,

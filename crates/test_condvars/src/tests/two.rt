@@ -10,7 +10,7 @@ use std::sync::atomic::AtomicBool;
 use std::sync::atomic::Ordering::SeqCst;
 use std::thread::yield_now;
 
-// So many nanoseconds that no test comes to their end.
+// The nanoseconds of a wait to whose end no test comes.
 const LONG: u64 = 3_600_000_000_000;
 
 // How the one waits, and how the other comes to notify it.

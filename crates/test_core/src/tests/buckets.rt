@@ -132,8 +132,8 @@ fn shift<R: Wait>(rt: &R, lot: &ParkingLot, token: &mut Token, back: bool)
     section.leave(rt, token, Note::Normal);
 }
 
-// Moves whoever lines up to another key, back and there again, and may take the first. How many it
-// took.
+// Moves each thread that lines up to another key, back and there again, and may take the first. How
+// many it took.
 pub fn wake_moved<R: Wait>(
     rt: &R,
     lot: &ParkingLot,

@@ -33,7 +33,7 @@ fn take_all<R: Wait>(rt: &R, lot: &ParkingLot, token: &mut Token, threads: usize
     queued
 }
 
-// How many were told to try again, each of whom sleeps until it is told something.
+// How many were told to try again, each of which sleeps until it is told something.
 fn count_woken<R: Wait>(rt: &R, lot: &ParkingLot, tickets: Vec<Ticket>, word: Word) -> usize
     requires { All (IsNewTicketOf lot.now) tickets.items }
 {

@@ -87,7 +87,7 @@ pub fn append_three(
     section.append(key, threads.2, wants.2);
 }
 
-// Takes those who stand in the line. It gives the note that is then right for them.
+// Takes those that stand in the line. It gives the note that is then right for them.
 fn take_together<R: Wait>(
     rt: &R,
     lot: &ParkingLot,

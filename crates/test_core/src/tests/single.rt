@@ -276,7 +276,7 @@ fn first_two(section: &Section) -> (bool, bool, usize)
     )
 }
 
-// Three line up, and those are taken who are picked.
+// Three line up, and those are taken that are picked.
 fn pick_of_three<R: Wait>(rt: &R, lot: &ParkingLot, token: &mut Token) -> (bool, bool, usize)
     requires { IsTokenOf lot.now token.old × (lot.now.records.count ≡ 3) }
     ensures { IsSameThread lot.now token.old token.new }
@@ -301,7 +301,7 @@ fn a_section_takes_who_is_picked(rt: HostRuntime) {
     check_eq(&rt, token.last_section(), recorded(did, 2));
 }
 
-// The answer of a section that requeues, the first of whom it took, and how many stand under each
+// The answer of a section that requeues, the first of which it took, and how many stand under each
 // key.
 type Requeued = ((Option<usize>, usize), Option<usize>, [usize; 2]);
 

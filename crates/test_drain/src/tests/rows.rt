@@ -339,7 +339,7 @@ lock r rwlock
 1 do write r
 2 do try_read r
 ",
-    // The same on a recursive lock.
+    // Upgrades and readers on a recursive lock.
     b"threads 4
 lock r recursive
 0 do read r

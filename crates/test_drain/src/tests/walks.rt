@@ -183,7 +183,7 @@ fn turn_of(dice: &mut Dice, kind: Kind, owns: bool) -> Turn {
     }
 }
 
-/// So many turns of any threads.
+/// Takes a number of turns of any threads.
 fn wanders<Q: Queues + Drop>(world: &mut World<Q>, dice: &mut Dice, kind: Kind, turns: usize) {
     for _ in 0..turns {
         let threads = world.threads();

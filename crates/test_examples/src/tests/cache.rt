@@ -1,4 +1,4 @@
-//! Prices with their tax, which many threads look up. The first who misses one works it out, and
+//! Prices with their tax, which many threads look up. The first that misses one works it out, and
 //! the others find it.
 ghost use Rattle.std.specs.Prelude.{◌≡◌, ◌+◌, ◌*◌, ◌/◌, IfOk, IfSome};
 ghost use Rattle.parking_lot.specs.Names.{IsTokenOf, lot_of_rwlock};
@@ -10,8 +10,8 @@ use std::test::Fail;
 
 const PRICES: [u32; 4] = [100, 250, 999, 1000];
 
-/// A price and what it comes to with its tax. A lock keeps what its value's type says, so who reads
-/// finds right prices alone.
+/// A price and what it comes to with its tax. A lock keeps what its value's type says, so a thread
+/// that reads finds right prices alone.
 #[derive(Clone, Copy)]
 struct Priced {
     net: u32,

@@ -68,7 +68,7 @@ impl Door {
         }
     }
 
-    // Opens the door, and wakes all who wait.
+    // Opens the door, and wakes all that wait.
     fn open<R: Wait>(&self, rt: &R, token: &mut Token)
         requires { IsTokenOf (arc_value self.now.lot) token.old }
         ensures { IsTokenOf (arc_value self.now.lot) token.new }

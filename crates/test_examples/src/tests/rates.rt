@@ -1,5 +1,5 @@
-//! Rates that are read from a text once, by whoever asks first. A text that can't be read leaves
-//! the cell empty.
+//! Rates that are read from a text once, by the thread that asks first. A text that can't be read
+//! leaves the cell empty.
 ghost use Rattle.parking_lot.specs.Names.{IsTokenOf, lot_of_once};
 
 use super::{all_are, check, check_eq};

@@ -59,7 +59,8 @@ fn disturbed<Q: Queues + Drop>(
     Ok(checked.taken)
 }
 
-/// Nothing is wrong with a schedule over a kind of queues, whoever disturbs it behind so many lines.
+/// Nothing is wrong with a schedule over a kind of queues, whatever thread disturbs it after so
+/// many lines.
 fn bears_at<Q: Queues + Drop, A: Abort>(
     rt: &A,
     alloc: Global,

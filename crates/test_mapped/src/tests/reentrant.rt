@@ -78,7 +78,8 @@ fn tried<'a, T, R: Wait + Abort>(
     }
 }
 
-// What a guard shows. A method of a guard is dear to prove, and is called in one place each.
+// Returns the value that a guard shows. A method of a guard is dear to prove, and is called in one
+// place each.
 fn value_of<'g, T>(guard: &'g ReentrantMutexGuard<'_, T>) -> &'g T {
     &**guard
 }

@@ -84,8 +84,8 @@ pub(super) fn take_and_keep<R: Wait>(
     });
 }
 
-// Hands the mutex to who waits: whether it refuses tries for as long as that one is not told to
-// unlock.
+// Hands the mutex to a thread that waits: whether it refuses tries for as long as that one is not
+// told to unlock.
 fn hand_over<R: Wait>(
     rt: &R,
     mutex: &Mutex<u64>,
@@ -103,7 +103,8 @@ fn hand_over<R: Wait>(
     refuses && is_written(rt, mutex, token)
 }
 
-// Bumps the mutex for who waits: whether that one had it before the mutex was there again.
+// Bumps the mutex for a thread that waits: whether that one had it before the mutex was there
+// again.
 fn bump<R: Wait>(rt: &R, token: &mut Token, guard: MutexGuard<'_, u64>) -> bool
     requires { IsTokenOf (lot_of (lock_of guard)) token.old }
     ensures { IsTokenOf (lot_of (lock_of guard.entry)) token.new }
@@ -114,7 +115,7 @@ fn bump<R: Wait>(rt: &R, token: &mut Token, guard: MutexGuard<'_, u64>) -> bool
     had
 }
 
-// Unlocks the mutex for who waits, and waits until that one has had it.
+// Unlocks the mutex for a thread that waits, and waits until that one has had it.
 fn release<R: Wait>(
     rt: &R,
     mutex: &Mutex<u64>,

@@ -30,7 +30,7 @@ fn replace<R: Wait>(rt: &R, mutex: &Mutex<u8>, token: &mut Token, value: u8) -> 
     mutex.with(rt, token, move |found: &mut u8| mem::replace(found, value))
 }
 
-// The same with 0, through a guard that goes about.
+// Clears the value, through a guard that goes about.
 fn clear<R: Wait>(rt: &R, mutex: &Mutex<u8>, token: &mut Token) -> u8
     requires { IsTokenOf (lot_of mutex.now) token.old }
     ensures { IsTokenOf (lot_of mutex.now) token.new }
@@ -118,7 +118,7 @@ fn add_where_free<R: Wait>(rt: &R, mutex: &Mutex<u8>, token: &mut Token) -> Opti
     })
 }
 
-// The same before who has the mutex, beside it, and behind it.
+// Tries to add before a thread has the mutex, while it has it, and after.
 fn add_around<R: Wait>(rt: &R, mutex: &Mutex<u8>, token: &mut Token) -> [Option<u8>; 3]
     requires { IsTokenOf (lot_of mutex.now) token.old }
 {

@@ -68,9 +68,9 @@ enum Part<'a> {
     Try,
     /// The first holds the mutex until the other waits for it.
     Meet,
-    /// And the other waits up to a deadline that doesn't come, or for the longest time.
+    /// The other thread waits up to a deadline that doesn't come, or for the longest time.
     MeetTimed(Option<u64>),
-    /// And the first moves the other to a queue in which it doesn't wait.
+    /// The first thread moves the other to a queue in which it doesn't wait.
     Move,
     /// Both take the mutex often, and count here how often they got it, and under the mutex.
     Race(&'a AtomicU64, &'a AtomicU64),

@@ -84,7 +84,7 @@ fn gives_up<M: lock_api::RawMutexTimed, R: Wait>(
     !got && in_time && !got_later && is_just_past(clock, FAR + 80)
 }
 
-// Whether it gives up beside who holds the mutex, and gets it in time once that is free.
+// Whether it gives up beside a thread that holds the mutex, and gets it in time once that is free.
 fn gives_up_and_gets<M: lock_api::RawMutexTimed, R: Wait>(
     rt: &R,
     mutex: &lock_api::Mutex<M, u64>,

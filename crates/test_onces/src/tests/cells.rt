@@ -1,4 +1,4 @@
-//! A value that the first who asks makes.
+//! A value that the first that asks makes.
 ghost use Rattle.run_signals.specs.OnceUsers.{IsTokenOf, lot_of};
 
 use super::crowds::{Part, play};
@@ -97,7 +97,7 @@ fn a_value_that_cannot_fail_is_made_once(rt: HostRuntime) {
 
 const ASKERS: usize = 10;
 
-// Looks until all who are to ask have come, a million times at most.
+// Looks until all that are to ask have come, a million times at most.
 fn await_askers(came: &AtomicUsize) {
     for _ in 0..1_000_000 {
         if ASKERS <= came.load(SeqCst) {
@@ -107,8 +107,8 @@ fn await_askers(came: &AtomicUsize) {
     }
 }
 
-// The value, which whoever makes it makes only once all have come to ask: a cell whose value each
-// of them could make would have several made.
+// The value, which each thread that makes it makes only once all have come to ask: a cell whose
+// value each of them could make would have several made.
 pub(super) fn shared_value_of<R: Wait>(
     rt: &R,
     cell: &OnceCell<u64>,

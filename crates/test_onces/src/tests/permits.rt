@@ -43,7 +43,7 @@ fn alone<A: Abort>(rt: &A, alloc: Global, permits: u64) -> (Arc<ParkingLot>, Sem
     (lot, semaphore, token)
 }
 
-// So many permits are free, by one look.
+// Checks that this many permits are free, by one look.
 fn has_free(rt: &impl Abort, semaphore: &Semaphore, token: &mut Token, wanted: u64)
     requires { IsTokenOf (lot_of semaphore.now) token.old }
     ensures { IsTokenOf (lot_of semaphore.now) token.new }
@@ -85,7 +85,7 @@ fn waits_for<R: Wait>(
     }
 }
 
-// The same up to a time of the clock.
+// Waits for a permit up to a time of the clock.
 fn waits_until<R: Wait>(
     rt: &R,
     semaphore: &Semaphore,

@@ -56,7 +56,7 @@ fn take_part<const RECURSIVE: bool, R: Wait>(
     }
 }
 
-// Whether all threads were content with their parts, and nobody found whom nobody may find.
+// Whether all threads were content with their parts, and none found another where none may be.
 pub(super) fn play<const RECURSIVE: bool, R: Threads + Wait + Sync>(
     rt: &R,
     alloc: Global,

@@ -15,7 +15,7 @@ use std::sync::atomic::{AtomicBool, AtomicUsize};
 use std::sync::{Arc, Wait};
 use std::thread::yield_now;
 
-/// So often a thread looks for what it waits for before it gives up.
+/// How often a thread looks for what it waits for before it gives up.
 pub(super) const TURNS: usize = 1_000_000;
 
 fn lock_by<const RECURSIVE: bool>(

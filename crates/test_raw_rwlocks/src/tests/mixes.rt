@@ -40,7 +40,7 @@ fn read_by<const RECURSIVE: bool, R: Wait>(
     }
 }
 
-// The same of who reads with the upgradable right.
+// Reads with the upgradable right.
 fn read_upgradable_by<const RECURSIVE: bool, R: Wait>(
     rt: &R,
     lock: &RawRwLock<RECURSIVE>,
@@ -62,7 +62,7 @@ fn read_upgradable_by<const RECURSIVE: bool, R: Wait>(
     }
 }
 
-// The same of a writer.
+// Writes.
 fn write_by<const RECURSIVE: bool, R: Wait>(
     rt: &R,
     lock: &RawRwLock<RECURSIVE>,

@@ -28,8 +28,8 @@ fn check_eq<T: PartialEq + Debug + Drop>(rt: &impl Abort, found: T, wanted: T) {
     assert_eq!(rt; found, wanted);
 }
 
-// The first who comes holds the lock, and the others come to it then. Whether the thread is content
-// with what came of its part.
+// The first that comes holds the lock, and the others come to it then. Whether the thread is
+// content with what came of its part.
 fn take_part<const RECURSIVE: bool, R: Wait>(
     rt: &R,
     lot: &ParkingLot,
@@ -48,7 +48,7 @@ fn take_part<const RECURSIVE: bool, R: Wait>(
     }
 }
 
-// Plays a scene: all stand where they are to, and all come in, beside none whom they exclude.
+// Plays a scene: all stand where they are to, and all come in, beside none that they exclude.
 fn play<const RECURSIVE: bool, R: Threads + Wait + Sync + Abort>(
     rt: &R,
     alloc: Global,
@@ -57,7 +57,7 @@ fn play<const RECURSIVE: bool, R: Threads + Wait + Sync + Abort>(
     play_within::<RECURSIVE, R>(rt, alloc, scene, 1000);
 }
 
-// The same on a lock that so many may share. It gives up where memory is refused.
+// Plays on a lock that at most `limit` threads may share. It gives up where memory is refused.
 fn play_within<const RECURSIVE: bool, R: Threads + Wait + Sync + Abort>(
     rt: &R,
     alloc: Global,

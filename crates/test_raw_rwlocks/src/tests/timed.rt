@@ -28,7 +28,7 @@ fn soon() -> Duration {
     Duration::from_nanos(EARLY)
 }
 
-// Whether who gave up did so long before twice its time was up.
+// Whether a thread that gave up did so long before twice its time was up.
 fn gave_up_soon(clock: &TickClock) -> bool {
     clock.now() < 2 * EARLY - 10
 }
@@ -52,7 +52,7 @@ fn reads_in_vain<const RECURSIVE: bool, R: Wait>(
     matches!(goes(rt, lock, token, taken), Some(false)) && gave_up_soon(&clock)
 }
 
-// The same of an upgradable reader.
+// Comes as an upgradable reader, in vain.
 fn comes_upgradable_in_vain<const RECURSIVE: bool, R: Wait>(
     rt: &R,
     lock: &RawRwLock<RECURSIVE>,
@@ -71,7 +71,7 @@ fn comes_upgradable_in_vain<const RECURSIVE: bool, R: Wait>(
     matches!(goes_upgradable(rt, lock, token, taken), Some(false)) && gave_up_soon(&clock)
 }
 
-// The same of a writer.
+// Comes as a writer, in vain.
 fn writes_in_vain<const RECURSIVE: bool, R: Wait>(
     rt: &R,
     lock: &RawRwLock<RECURSIVE>,
@@ -106,7 +106,7 @@ fn waits_in_vain<const RECURSIVE: bool, R: Wait>(
     read && read_upgradable && written
 }
 
-// Whether who waits beside a writer gives up, and leaves the lock as it is.
+// Whether a thread that waits beside a writer gives up, and leaves the lock as it is.
 fn gives_up_beside_a_writer<const RECURSIVE: bool, R: Wait>(
     rt: &R,
     lock: &RawRwLock<RECURSIVE>,

@@ -37,7 +37,7 @@ fn add_torn(value: &mut u64) -> u64 {
     before
 }
 
-// The same under a guard, which stays that of its lock.
+// Adds under a guard, which stays that of its lock.
 pub(super) fn add_under<'l, const RECURSIVE: bool>(
     mut guard: Writer<'l, RECURSIVE>,
 ) -> (u64, Writer<'l, RECURSIVE>)
@@ -47,7 +47,7 @@ pub(super) fn add_under<'l, const RECURSIVE: bool>(
     (before, guard)
 }
 
-// The same so often. Whether it found it whole each time.
+// Adds a number of times. Whether it found the value whole each time.
 fn add_torn_often(value: &mut u64, times: usize) -> bool {
     let mut whole = true;
     for _ in 0..times {
@@ -169,7 +169,7 @@ fn come_often<const RECURSIVE: bool, R: Wait>(
     whole
 }
 
-// Whether who reads finds the value whole.
+// Whether a thread that reads finds the value whole.
 fn is_whole<const RECURSIVE: bool, R: Wait>(
     rt: &R,
     lock: &Lock<RECURSIVE>,
@@ -234,7 +234,7 @@ pub(super) enum Part<'a> {
     Tear(usize),
     /// Reads once more beside a writer, as the first.
     ReadTwice,
-    /// Reads until so many do at once, who count themselves here.
+    /// Reads until so many do at once, which count themselves here.
     Meet(&'a AtomicUsize, usize),
     /// Gives the lock up to a writer, as the first.
     Give(Giver, bool),

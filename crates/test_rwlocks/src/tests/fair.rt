@@ -15,7 +15,7 @@ use std::sync::Wait;
 use std::sync::atomic::AtomicBool;
 use std::thread::Threads;
 
-// Whether a reader saw a writer come for whom it gave the lock up, or whom it let in by a bump.
+// Whether a reader saw a writer come for which it gave the lock up, or which it let in by a bump.
 fn give_as_reader<const RECURSIVE: bool, R: Wait>(
     rt: &R,
     lot: &ParkingLot,
@@ -41,7 +41,7 @@ fn give_as_reader<const RECURSIVE: bool, R: Wait>(
     }
 }
 
-// The same with the upgradable right.
+// Gives the lock up fairly with the upgradable right.
 fn give_as_upgradable<const RECURSIVE: bool, R: Wait>(
     rt: &R,
     lot: &ParkingLot,
@@ -67,7 +67,7 @@ fn give_as_upgradable<const RECURSIVE: bool, R: Wait>(
     }
 }
 
-// The same of who writes.
+// Gives the lock up fairly as a writer.
 fn give_as_writer<const RECURSIVE: bool, R: Wait>(
     rt: &R,
     lot: &ParkingLot,

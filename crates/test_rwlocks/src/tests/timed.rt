@@ -45,7 +45,7 @@ fn reads_in_time<R: Wait>(rt: &R, lock: &Lock<false>, token: &mut Token, until: 
     }
 }
 
-// The same of an upgradable reader.
+// Comes as an upgradable reader, in time or not.
 fn comes_upgradable_in_time<R: Wait>(
     rt: &R,
     lock: &Lock<false>,
@@ -70,7 +70,7 @@ fn comes_upgradable_in_time<R: Wait>(
     }
 }
 
-// The same of a writer.
+// Comes as a writer, in time or not.
 fn writes_in_time<R: Wait>(rt: &R, lock: &Lock<false>, token: &mut Token, until: bool) -> bool
     requires { IsTokenOf (lot_of_rwlock lock.now) token.old }
     ensures { IsTokenOf (lot_of_rwlock lock.now) token.new }

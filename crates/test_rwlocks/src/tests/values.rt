@@ -86,7 +86,7 @@ fn try_both<R: Wait>(rt: &R, lock: &Lock<false>, token: &mut Token) -> Tried
     (read, written)
 }
 
-// The same beside a writer, and behind it.
+// Tries while a writer has the lock, and after.
 fn try_around<R: Wait>(rt: &R, lock: &Lock<false>, token: &mut Token) -> [Tried; 2]
     requires { IsTokenOf (lot_of_rwlock lock.now) token.old }
     ensures { IsTokenOf (lot_of_rwlock lock.now) token.new }

@@ -71,7 +71,7 @@ fn follow(rt: &impl Abort, first: CondvarPlace, turns: &[Turn]) -> CondvarPlace
     place
 }
 
-/// So its call ends by a reply.
+/// Checks that a call ends by a reply.
 fn ends(rt: &impl Abort, place: CondvarPlace, reply: Reply, answer: Answer) {
     ends_as(rt, &place.next(reply), answer);
 }

@@ -37,7 +37,7 @@ fn behind_seven(rt: &impl Abort, alloc: Global) -> Vec<usize>
     out
 }
 
-/// So many stand under these keys.
+/// Checks that this many waiters are under these keys.
 fn counts<Q: Queues + Drop>(rt: &impl Abort, queues: &Q, wanted: &[(Key, usize)]) {
     for row in wanted {
         let (key, _) = *row;
@@ -362,8 +362,8 @@ fn tells_the_bucket_of_a_key(rt: HostRuntime) -> Result<(), Fail> {
     Ok(())
 }
 
-/// Two lines of one bucket keep their own order, where whoever leaves stands first, in the midst
-/// or last of its chain.
+/// Two lines of one bucket keep their own order, where each thread that leaves stands first, in the
+/// midst or last of its chain.
 #[test]
 fn keys_of_one_bucket_keep_their_own_order(rt: HostRuntime) -> Result<(), Fail> {
     let mut queues = BucketQueues::with_capacity(rt.alloc(), 4)?;

@@ -220,7 +220,7 @@ fn a_timed_wait_gives_up_in_the_queue_where_it_stands(rt: HostRuntime) {
     plays_anew(&rt, rt.alloc(), KINDS, 3, GIVES_UP);
 }
 
-// The first of three has been told to try again, and the second is the first who waits.
+// The first of three has been told to try again, and the second is the first that waits.
 const FIRST_IS_WOKEN: Line = Shows(
     MUTEX,
     (
@@ -267,7 +267,7 @@ const THE_REST_ARE_MOVED: &[Line] = &[
     Rests(CONDVAR, 0, None),
 ];
 
-// Another locks the mutex first: who was woken sleeps behind the rest.
+// Another locks the mutex first: a thread that was woken sleeps behind the rest.
 const OVERTAKEN: &[Line] = &[
     Calls(3, NOTIFY_ALL, Outcome::End(Answer::Number(3))),
     Calls(4, LOCK, DONE),
@@ -348,7 +348,7 @@ const ALL_OF_600: &[Line] = &[
     Rests(CONDVAR, 0, None),
 ];
 
-// And where somebody owns the mutex meanwhile.
+// Steps of a notification while somebody owns the mutex.
 const BESIDE_AN_OWNER: &[Line] = &[
     Rests(MUTEX, 0, None),
     Calls(600, LOCK, DONE),

@@ -93,7 +93,7 @@ const HANDS_OVER: &[Line] = &[
     Calls(0, LOCK, DONE),
     Calls(1, LOCK, Outcome::Sleep),
     Calls(2, LOCK, Outcome::Sleep),
-    // The owner sees who waits, enters the section, takes the first, and stores the word.
+    // The owner sees a thread that waits, enters the section, takes the first, and stores the word.
     Takes(0, Turn::Begin(UNLOCK), Outcome::Step),
     Takes(0, Turn::Go, Outcome::Step),
     Takes(0, Turn::Go, Outcome::Step),

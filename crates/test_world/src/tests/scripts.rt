@@ -116,7 +116,7 @@ pub fn world_of<A: Abort>(
     world_over::<ListQueues, A>(rt, alloc, kinds, threads)
 }
 
-/// The same over any kind of queues.
+/// Makes a world over any kind of queues.
 fn world_over<Q: Queues + Drop, A: Abort>(
     rt: &A,
     alloc: Global,

@@ -39,7 +39,7 @@ wake-requires-clause-owns g c = let n = c.args.word.number in let w = c.word-see
   behind n c.args.succeeded w.result c.word_behind.result c.args.word.kind owns (owns_of w.new.token) c.requires.own.2 c.word_behind.ensures w.ensures.coded c.requires.runs (ap (λ (v : View). v.owns) w.ensures.stepped),
 )
 
--- and the step
+-- The step of a close adds one to the path.
 added : (n seen left : ℕ) (s : Bool) (kind : WordKind) (old new : List WordStep) → kind ≡ Once → left ≡ word_behind s → new ≡ old ++ step (word_index n kind) (Swap left) seen → new ≡ old ++ step (once_at n) (Swap (word_behind s)) seen
 added n seen left s kind old new once same is = is ∙ ap (λ (kind : WordKind). old ++ step (word_index n kind) (Swap left) seen) once ∙ ap (λ (left : ℕ). old ++ step (once_at n) (Swap left) seen) same
 

@@ -44,7 +44,7 @@ pub(super) fn wait_moved<R: Wait>(rt: &R, mutex: &RawMutex, token: &mut Token, t
     got
 }
 
-// Moves who waits for the mutex to another queue, as nobody does that knows it.
+// Moves a thread that waits for the mutex to another queue, as nobody does that knows it.
 fn move_away<R: Wait>(rt: &R, lot: &ParkingLot, mutex: &RawMutex, token: &mut Token)
     requires { IsTokenOf lot.now token.old × (lot_of mutex.now ≡ lot.now) }
     ensures { IsTokenOf lot.now token.new }

@@ -23,7 +23,7 @@ const TURNS: usize = 1_000_000;
 enum Part {
     /// Counts up beside as many as there are permits.
     Count,
-    /// The same, by waits that may give up.
+    /// Counts by waits that may give up.
     CountInTime,
     /// Holds a permit until the other holds one too.
     Meet,
@@ -38,7 +38,7 @@ struct Told {
     /// How many hold a permit, and how many did at most.
     inside: AtomicU64,
     most: AtomicU64,
-    /// Added to by a load and a store, so that two who add at once lose a number.
+    /// Added to by a load and a store, so that two that add at once lose a number.
     count: AtomicU64,
     flags: (AtomicBool, AtomicBool),
 }
@@ -112,7 +112,7 @@ fn sees(flag: &AtomicBool) -> bool {
     false
 }
 
-// Holds a permit, and looks for the flag of who holds the other. Whether it was seen.
+// Holds a permit, and looks for the flag of a thread that holds the other. Whether it was seen.
 fn meet<R: Wait>(
     rt: &R,
     semaphore: &Semaphore,

@@ -1,4 +1,4 @@
-//! Threads to whom a reader-writer lock is handed over.
+//! Threads to which a reader-writer lock is handed over.
 ghost use Rattle.parking_lot_core.specs.Tokens.{IsTokenOf};
 ghost use Rattle.parking_lot.specs.Names.{lot_of_rwlock};
 
@@ -12,7 +12,7 @@ use parking_lot::{RawRwLock, Token};
 use std::sync::Wait;
 use std::test::Fail;
 
-// So many of those who come stand in each queue.
+// The number of comers in each queue.
 fn scene(manner: Manner, coming: [Coming; 3], main: usize, second: usize) -> Scene {
     Scene {
         manner,
@@ -55,8 +55,8 @@ fn who_waits_with_a_deadline_is_handed_the_lock(rt: HostRuntime) {
     play::<false, HostRuntime>(&rt, rt.alloc(), handed);
 }
 
-// An exclusive owner hands the lock to all who read, on a lock that no more may share than there are
-// threads.
+// An exclusive owner hands the lock to all that read, on a lock that no more may share than there
+// are threads.
 #[test]
 fn all_who_are_handed_the_lock_have_it(rt: HostRuntime) {
     let readers = [Coming::Reader, Coming::Reader, Coming::Reader];

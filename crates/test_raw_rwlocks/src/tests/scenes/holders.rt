@@ -15,7 +15,7 @@ use parking_lot::{
 use std::sync::Wait;
 use std::sync::atomic::Ordering::SeqCst;
 
-// A writer goes, to whom others wait. Where it hands the lock over, whether somebody had it at
+// A writer goes for which others wait. Where it hands the lock over, whether somebody had it at
 // once; where it bumps, whether somebody came in before it had the lock again.
 fn go_alone<const RECURSIVE: bool, R: Wait>(
     rt: &R,
@@ -49,7 +49,7 @@ fn go_alone<const RECURSIVE: bool, R: Wait>(
     }
 }
 
-// The same of who has the upgradable right.
+// Goes on with the upgradable right.
 fn go_upgradable<const RECURSIVE: bool, R: Wait>(
     rt: &R,
     lock: &RawRwLock<RECURSIVE>,
@@ -138,7 +138,7 @@ fn hold_alone<const RECURSIVE: bool, R: Wait>(
     stood && came
 }
 
-// The same of who has the upgradable right.
+// Holds the upgradable right.
 fn hold_upgradable<const RECURSIVE: bool, R: Wait>(
     rt: &R,
     lot: &ParkingLot,

@@ -10,13 +10,13 @@ pub(super) enum Coming {
     Reader,
     Upgradable,
     Writer,
-    /// The same, and its wait has a deadline, which never comes.
+    /// A reader whose wait has a deadline, which never comes.
     TimedReader,
     TimedUpgradable,
     TimedWriter,
 }
 
-/// How who holds the lock lets the others in.
+/// How a thread that holds the lock lets the others in.
 #[derive(Clone, Copy)]
 pub(super) enum Manner {
     /// A writer goes.
@@ -67,7 +67,7 @@ pub(super) struct Told {
     pub(super) roles: AtomicUsize,
     /// How many have come in.
     pub(super) came: AtomicUsize,
-    // Whether who has come in stays.
+    // Whether a thread that has come in stays.
     stays: AtomicBool,
     pub(super) inside: Inside,
 }
@@ -84,7 +84,7 @@ impl Told {
         }
     }
 
-    /// Whether who asks is the first who does.
+    /// Whether a thread that asks is the first that does.
     pub(super) fn comes_first(&self) -> bool {
         self.begun.fetch_add(1, SeqCst) == 0
     }
