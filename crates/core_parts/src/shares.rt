@@ -164,8 +164,8 @@ impl<K, T: Shared<K> + Drop> ShareRow<K, T> {
         }
     }
 
-    // Waits until nobody is inside. Others may be parked on the word, of whom the first try left no
-    // trace: so from here on the word says that somebody waits.
+    // Waits until nobody is inside. Others may be parked on the word, of which the first try left no
+    // trace. From here on the word says that a thread waits.
     #[cold]
     #[inline(never)]
     fn enter_later<W: Wait>(

@@ -94,7 +94,7 @@ impl ParkingLot {
         queueing
     }
 
-    // The queues of a bucket, of who has those of a lower one.
+    // The queues of a bucket, for a thread that has those of a lower one.
     fn queues_above<'a, R: Wait>(
         &'a self,
         rt: &R,
