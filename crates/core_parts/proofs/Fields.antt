@@ -4,18 +4,20 @@ use seplogic.Ra.Ura.{Ura}
 use mir.Val.{Val, vptr, vstruct, vcons, vnil, of_list}
 use base.Logic.{ent, emp}
 use types.Logic.{Logic, sem}
-use types.Kit.{‵, ◌$◌, ◌∵◌, !, qed, move, fjoin, fpack, feq_i, done}
+use types.Kit.{‵, ◌$◌, ◌∵◌, !, qed, move, fjoin, fpack, feq_i, use0, done}
 use denote.RattleType.{RattleType, Valss}
 use denote.Laws.{Is}
 use denote.Memory.{hidden_shr}
 use denote.Ref.{NamedLft, ShrRef, shr_vals}
+use denote.RawPtr.{RawPtr}
 use denote.Opens.{Opens}
 use denote.Copied.{Struct-Copied}
 use denote.Shadow.{makes_shadow}
 use denote.Steps.{nothing}
-use denote.Struct.Laws.{shr_ref_copy}
+use denote.Struct.Laws.{shr_ref_copy, field_copy}
 use denote.Struct.Struct.{Struct, within}
 use denote.Struct.Owning.{shape}
+use Rattle.core.specs.contracts.marker.PhantomData as marker
 use Rattle.core_parts.specs.contracts.permit.Permit as permit
 use Rattle.core_parts.specs.contracts.permit.Permits as permits
 use Rattle.core_parts.specs.contracts.slot.PermitSlot as slot
@@ -54,7 +56,7 @@ pub bare_made : {M : Type 1} {𝓤 : Ura M} (𝓛 : Logic 𝓤) → ent 𝓤 (em
 bare_made 𝓛 = makes_shadow 𝓛 (Bare.own_val tt (permit_val ∷ [])) (λ uss. (tt, tt)) (tt, (refl, tt))
 
 abbrev pub open_val : ℕ × ℕ → Val
-open_val p = vstruct (vcons (vptr p.0 p.1) vnil)
+open_val p = vstruct (vcons (vptr p.0 p.1) (vcons (vstruct vnil) vnil))
 
 module _ (a : NamedLft) (R : RattleType) where
   abbrev pub Words : RattleType
@@ -63,15 +65,20 @@ module _ (a : NamedLft) (R : RattleType) where
   abbrev pub Near : RattleType
   Near = ShrRef a.mir a.lft (place.the_row R)
 
-  pub told : (p : Near.Denot) (vs : List Val) → Is Words (p, tt) vs → vs ≡ open_val p.ref_ptr ∷ []
-  told p vs is = is.1.0 ∙ ap (λ (ws : List Val). vstruct (of_list (ws ++ [])) ∷ []) is.1.1.0.0
+  abbrev pub Here : RattleType
+  Here = marker.the_row RawPtr
+
+  pub told : (p : Near.Denot) (vs : List Val) → Is Words (p, (tt, tt)) vs → vs ≡ open_val p.ref_ptr ∷ []
+  told p vs is = is.1.0 ∙ ap (λ (ws : List Val). vstruct (of_list (ws ++ (is.0.1.0 ++ []))) ∷ []) is.1.1.0.0 ∙ ap (λ (ws : List Val). vstruct (of_list (vptr p.ref_ptr.0 p.ref_ptr.1 ∷ (ws ++ []))) ∷ []) is.1.1.1.0.1.0
 
   module _ {M : Type 1} {𝓤 : Ura M} (𝓛 : Logic 𝓤) where
     -- the reference is kept
-    pub made : (p : Near.Denot) → ent 𝓤 (sem 𝓛 (hidden_shr (place.the_row R) a.lft p.now p.ref_ptr.0 p.ref_ptr.1)) (sem 𝓛 (Words.own_val (p, tt) (open_val p.ref_ptr ∷ [])))
+    pub made : (p : Near.Denot) → ent 𝓤 (sem 𝓛 (hidden_shr (place.the_row R) a.lft p.now p.ref_ptr.0 p.ref_ptr.1)) (sem 𝓛 (Words.own_val (p, (tt, tt)) (open_val p.ref_ptr ∷ [])))
     made p = let v : Val = open_val p.ref_ptr in qed 𝓛 (‵ (hidden_shr (place.the_row R) a.lft p.now p.ref_ptr.0 p.ref_ptr.1) ∷ []) ∵
-        feq_i ! (List Val) (shr_vals p) (shr_vals p) refl $ fjoin ! $ nothing ! $ move ! (1 ∷ 0 ∷ []) $ fjoin ! $ feq_i ! (List Val) (v ∷ []) (v ∷ []) refl $ fjoin ! $
-        fpack ! (Valss (Near ∷ [])) (within (shape (opened.the_type a R)) (p, tt) (v ∷ [])) (shr_vals p, tt) $ done !
+        feq_i ! (List Val) (shr_vals p) (shr_vals p) refl $ fjoin ! $
+        use0 𝓛 (‵ (Here.own_val (record {}) (permit_val ∷ []))) (makes_shadow 𝓛 (Here.own_val (record {}) (permit_val ∷ [])) (λ uss. (tt, tt)) (tt, (refl, tt))) $ nothing ! $ move ! (1 ∷ 0 ∷ []) $ fjoin ! $
+        move ! (1 ∷ 0 ∷ []) $ fjoin ! $ feq_i ! (List Val) (v ∷ []) (v ∷ []) refl $ fjoin ! $
+        fpack ! (Valss (Near ∷ Here ∷ [])) (within (shape (opened.the_type a R)) (p, (tt, tt)) (v ∷ [])) (shr_vals p, (permit_val ∷ [], tt)) $ done !
 
     pub words_open : Opens 𝓛 Words
-    words_open = (Struct-Copied 𝓛 (shape (opened.the_type a R)) (refl, tt) ((shr_ref_copy a (place.the_row R) tt (place_laws R)).copied M 𝓤 𝓛, tt)).opens
+    words_open = (Struct-Copied 𝓛 (shape (opened.the_type a R)) (refl, (refl, tt)) ((shr_ref_copy a (place.the_row R) tt (place_laws R)).copied M 𝓤 𝓛, ((field_copy (marker.the_type RawPtr) tt).copied M 𝓤 𝓛, tt))).opens

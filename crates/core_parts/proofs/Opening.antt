@@ -2,6 +2,10 @@
 -- Assumes `Logic`.
 use mathlib.Core.Bool.{Bool, true, false}
 use mathlib.Core.List.{[], ◌∷◌}
+use mathlib.Core.Logic.{◌≢◌, dite}
+use mathlib.Core.Path.{ap, subst}
+use native.Mathlib.Decide.{ℕ_discrete}
+use contract.Monad.{fact, fact_i}
 use Prim.Native.Nat.{ℕ, ◌+◌}
 use seplogic.Ra.Ura.{Ura}
 use base.Logic.{SProp, ent, sep, wand, ex, ex_i, all, all_e, never, upd, upd_i, never_e, via}
@@ -9,7 +13,7 @@ use base.Fml.{Lft, Share, Incl, Fml, fbor, finv, flft}
 use base.Before.{before}
 use types.Logic.{Logic, sem}
 use types.Kit.{‵, raw, ◌⊛◌, some, later, ◌$◌, ◌∵◌, !, qed, by, move, keep, use1, use2, use3, split, split3, fsplit, fjoin, fpick, fpack, pick, show, frame, each, assume, suffices, await, updating, now, done}
-use types.Keyed.{ticket_once}
+use types.Keyed.{ticket, ticket_once}
 use types.Na.{out_once, before_dup}
 use denote.RattleType.{RattleType, RowLaws}
 use denote.RawPtr.{block_ptr}
@@ -70,6 +74,17 @@ module _ {M : Type 1} {𝓤 : Ura M} (𝓛 : Logic 𝓤) where
 
     pub shuts : A.inv I ∗ ⟦ Away ⟧ ⊢ H.⇛ ⟦ permit_owns id ⟧
     shuts = qed 𝓛 (‵ (finv I) ∷ ‵ Away ∷ []) ∵ suffices ! _ (𝓛.invs.inv_acc I ⟦ permit_owns id ⟧) $ frame ! $ assume ! (‵ I) $ fpick ! (λ y. by ! (lays y))
+
+  -- two permits have two ids
+  pub ids_differ : (one other : PermitId) → ⟦ permit_owns one ⟧ ∗ ⟦ permit_owns other ⟧ ⊢ fact 𝓤 (one ≢ other)
+  ids_differ one other = let both : Pr = ⟦ permit_owns one ⟧ ∗ ⟦ permit_owns other ⟧ in
+      dite (ℕ_discrete one.family other.family)
+      (λ f. dite (ℕ_discrete one.number other.number)
+      (λ n. subst (λ (k : ℕ). ⟦ permit_owns one ⟧ ∗ ⟦ ticket other.family k ⟧ ⊢ fact 𝓤 (one ≢ other)) n
+      (subst (λ (k : ℕ). ⟦ permit_owns one ⟧ ∗ ⟦ ticket k one.number ⟧ ⊢ fact 𝓤 (one ≢ other)) f
+      (via 𝓤 (never 𝓤) (ticket_once 𝓛 one.family one.number) (never_e 𝓤 _))))
+      (λ ne. fact_i 𝓤 (one ≢ other) both (λ e. ne (ap (λ (z : PermitId). z.number) e))))
+      (λ ne. fact_i 𝓤 (one ≢ other) both (λ e. ne (ap (λ (z : PermitId). z.family) e)))
 
   -- tells what a `&` to the place and its permit make, and back
   pub opened : (β : Lft) (R : RattleType) (id : PermitId) (b o : ℕ) (q : Share) → ⟦ place_shares R id (block_ptr b o) β ⟧ ∗ ⟦ permit_owns id ⟧ ∗ A.lft β q

@@ -25,11 +25,11 @@ module _ {A : Type 0} (weight : A → ℕ) where
   term_le (x ∷ xs) zero v e = omega (arith, ap weight (some-injective x v e))
   term_le (x ∷ xs) (suc j) v e = omega (arith, term_le xs j v e)
 
-is_one : (n : ℕ) → n ≡ 1 → ◌≡◌ {A = ℕ} (cond (eqb n 1) 1 0) 1
-is_one n e = ap (λ b. cond b 1 0) (eq-eqb n 1 e)
+is_one : (n : ℕ) → n ≢ 0 → ◌≡◌ {A = ℕ} (cond (eqb n 0) 0 1) 1
+is_one n ne = ap (λ b. cond b 0 1) (ne_eqb n 0 ne)
 
-not_one : (n : ℕ) → n ≢ 1 → ◌≡◌ {A = ℕ} (cond (eqb n 1) 1 0) 0
-not_one n ne = ap (λ b. cond b 1 0) (ne_eqb n 1 ne)
+not_one : (n : ℕ) → n ≡ 0 → ◌≡◌ {A = ℕ} (cond (eqb n 0) 0 1) 0
+not_one n e = ap (λ b. cond b 0 1) (eq-eqb n 0 e)
 
 -- a list of one place
 here : (i r : ℕ) → i ≡ r → times r (i ∷ []) ≡ 1
@@ -72,36 +72,17 @@ module _ {T K : Type 0} (fits : ℕ → T → ℕ → Type 0) (tag : T → ℕ) 
         refl,
       )
 
-  -- a swap of 1 by a thread that is outside
-  pub enter : (slots id i : ℕ) (key : K) (owns : List ℕ) (mark : ℕ) → i < slots
-      → Allows (Shares {T = T} {K = K} fits tag) slots id (view key owns [] 0 mark 0, []) i (λ _. 1) (enters {T = T} {K = K} fits tag (step slots i 1 0 none) (view key owns [] 0 mark 0, []))
-  enter slots id i key owns mark below s r wide at small =
+  -- a swap by a thread that is outside, which leaves the word taken
+  pub enter : (slots id i new : ℕ) (key : K) (owns : List ℕ) (mark : ℕ) → i < slots → new ≢ 0
+      → Allows (Shares {T = T} {K = K} fits tag) slots id (view key owns [] 0 mark 0, []) i (λ _. new) (enters {T = T} {K = K} fits tag (step slots i new 0 none) (view key owns [] 0 mark 0, []))
+  enter slots id i new key owns mark below put s r wide at small =
       let v = view key owns [] 0 mark 0 in
       let near : i < length s.words = omega (arith, below, wide, r.slots) in
-      let one : get_or (set s.words i 1) i 0 ≡ 1 = get_or-set_same s.words i 1 0 near in
-      let other : (k : ℕ) → k ≢ i → get_or (set s.words i 1) k 0 ≡ get_or s.words k 0 = λ k ne. get_or-set_other s.words i k 1 0 ne in
-      let code : (k : ℕ) → ℕ = λ k. cond (eqb (get_or (set s.words i 1) k 0) 1) 1 0 in
-      let size : (k : ℕ) → k < length (set s.words i 1) → k < length s.words = λ k h. omega (arith, h, length-set s.words i 1) in
-      dite (ℕ_discrete (get_or s.words i 0) 1)
-      (λ taken. let same : (k : ℕ) → shares_of_place k (set s.views id v) ≡ shares_of_place k s.views = λ k. omega (arith, owns-set k s.views id v v at) in
-      let stays : (k : ℕ) → inside_at k (set s.views id v) ≡ inside_at k s.views = λ k. omega (arith, inside-set k s.views id v v at) in (
-        v,
-        keeps,
-        tt,
-        record {
-          slots = length-set s.words i 1 ∙ r.slots;
-          inside = λ k h. dite (ℕ_discrete k i)
-              (λ (e : k ≡ i). subst (λ (q : ℕ). inside_at q (set s.views id v) ≡ code q) (sym e) (stays i ∙ (r.inside i near ∙ (is_one (get_or s.words i 0) taken ∙ sym (is_one (get_or (set s.words i 1) i 0) one)))))
-              (λ ne. stays k ∙ (r.inside k (size k h) ∙ sym (ap (λ (n : ℕ). cond (eqb n 1) 1 0) (other k ne))));
-          knows = λ seat u there k some'. ⊎_elim (λ t. absurd (omega (arith, some', ap (λ (x : View K). times k x.inside) t.1))) (λ t. r.knows seat u t.1 k some' ∙ sym (same k)) (at_set s.views id seat v u there);
-          tags = λ seat u there k some'. ⊎_elim (λ t. absurd (omega (arith, some', ap (λ (x : View K). times k x.inside) t.1)))
-              (λ t. let all = r.tags seat u t.1 k some' in tagged-set k u.found s.views id v all (λ mine. all id v at mine)) (at_set s.views id seat v u there);
-          home = λ k h free. dite (ℕ_discrete k i)
-              (λ (e : k ≡ i). absurd (free (ap (λ (q : ℕ). get_or (set s.words i 1) q 0) e ∙ one)))
-              (λ ne. let t = r.home k (size k h) (λ e. free (other k ne ∙ e)) in (t.0, t.1, subst (FitsShares (fits k) t.0) (sym (same k)) t.2, tagged-set k (tag_in tag t.0) s.views id v t.3 (λ mine. t.3 id v at mine)));
-        },
-        ((λ _. refl), λ ne. absurd (ne taken)),
-      ))
+      let held : get_or (set s.words i new) i 0 ≢ 0 = λ e. put (sym (get_or-set_same s.words i new 0 near) ∙ e) in
+      let other : (k : ℕ) → k ≢ i → get_or (set s.words i new) k 0 ≡ get_or s.words k 0 = λ k ne. get_or-set_other s.words i k new 0 ne in
+      let code : (k : ℕ) → ℕ = λ k. cond (eqb (get_or (set s.words i new) k 0) 0) 0 1 in
+      let size : (k : ℕ) → k < length (set s.words i new) → k < length s.words = λ k h. omega (arith, h, length-set s.words i new) in
+      dite (ℕ_discrete (get_or s.words i 0) 0)
       (λ free. let t = r.home i near free in let known : ℕ = shares_of_place i s.views in let w = view key owns (i ∷ []) known mark (tag_in tag t.0) in
       let vs = set s.views id w in
       let same : (k : ℕ) → shares_of_place k vs ≡ shares_of_place k s.views = λ k. omega (arith, owns-set k s.views id v w at) in
@@ -110,12 +91,12 @@ module _ {T K : Type 0} (fits : ℕ → T → ℕ → Type 0) (tag : T → ℕ) 
         takes i t.0,
         t.1,
         record {
-          slots = length-set s.words i 1 ∙ (r.slots ∙ sym (length-set s.homes i none));
+          slots = length-set s.words i new ∙ (r.slots ∙ sym (length-set s.homes i none));
           inside = λ k h. dite (ℕ_discrete k i)
               (λ (e : k ≡ i). let now : inside_at i vs ≡ 1 = omega (arith, inside-set i s.views id v w at, none_inside, here i i refl) in
-              subst (λ (q : ℕ). inside_at q vs ≡ code q) (sym e) (now ∙ sym (is_one (get_or (set s.words i 1) i 0) one)))
+              subst (λ (q : ℕ). inside_at q vs ≡ code q) (sym e) (now ∙ sym (is_one (get_or (set s.words i new) i 0) held)))
               (λ ne. let stays : inside_at k vs ≡ inside_at k s.views = omega (arith, inside-set k s.views id v w at, elsewhere i k (λ e. ne (sym e))) in
-              stays ∙ (r.inside k (size k h) ∙ sym (ap (λ (n : ℕ). cond (eqb n 1) 1 0) (other k ne))));
+              stays ∙ (r.inside k (size k h) ∙ sym (ap (λ (n : ℕ). cond (eqb n 0) 0 1) (other k ne))));
           knows = λ seat u there k some'. ⊎_elim
               (λ t. ap (λ (x : View K). x.knows) (sym t.1) ∙ (dite (ℕ_discrete i k)
               (λ (e : i ≡ k). ap (λ (q : ℕ). shares_of_place q s.views) e)
@@ -127,10 +108,29 @@ module _ {T K : Type 0} (fits : ℕ → T → ℕ → Type 0) (tag : T → ℕ) 
               (λ ne. absurd (omega (arith, some', ap (λ (x : View K). times k x.inside) e.1, elsewhere i k ne))))
               (λ e. let all = r.tags seat u e.1 k some' in tagged-set k u.found s.views id w all (λ mine. all id v at mine)) (at_set s.views id seat w u there);
           home = λ k h still. dite (ℕ_discrete k i)
-              (λ (e : k ≡ i). absurd (still (ap (λ (q : ℕ). get_or (set s.words i 1) q 0) e ∙ one)))
-              (λ ne. let u = r.home k (size k h) (λ e. still (other k ne ∙ e)) in (u.0, set_else s.homes i k none ne ∙ u.1, subst (FitsShares (fits k) u.0) (sym (same k)) u.2, tagged-set k (tag_in tag u.0) s.views id w u.3 (λ mine. u.3 id v at mine)));
+              (λ (e : k ≡ i). absurd (held (sym (ap (λ (q : ℕ). get_or (set s.words i new) q 0) e) ∙ still)))
+              (λ ne. let u = r.home k (size k h) (sym (other k ne) ∙ still) in (u.0, set_else s.homes i k none ne ∙ u.1, subst (FitsShares (fits k) u.0) (sym (same k)) u.2, tagged-set k (tag_in tag u.0) s.views id w u.3 (λ mine. u.3 id v at mine)));
         },
-        ((λ taken. absurd (free taken)), λ _. (t.0, known, t.2, term_le (λ (x : View K). times i x.owns) s.views id v at, (λ mine. t.3 id v at mine), refl)),
+        ((λ taken. absurd (taken free)), λ _. (t.0, known, t.2, term_le (λ (x : View K). times i x.owns) s.views id v at, (λ mine. t.3 id v at mine), refl)),
+      ))
+      (λ taken. let same : (k : ℕ) → shares_of_place k (set s.views id v) ≡ shares_of_place k s.views = λ k. omega (arith, owns-set k s.views id v v at) in
+      let stays : (k : ℕ) → inside_at k (set s.views id v) ≡ inside_at k s.views = λ k. omega (arith, inside-set k s.views id v v at) in (
+        v,
+        keeps,
+        tt,
+        record {
+          slots = length-set s.words i new ∙ r.slots;
+          inside = λ k h. dite (ℕ_discrete k i)
+              (λ (e : k ≡ i). subst (λ (q : ℕ). inside_at q (set s.views id v) ≡ code q) (sym e) (stays i ∙ (r.inside i near ∙ (is_one (get_or s.words i 0) taken ∙ sym (is_one (get_or (set s.words i new) i 0) held)))))
+              (λ ne. stays k ∙ (r.inside k (size k h) ∙ sym (ap (λ (n : ℕ). cond (eqb n 0) 0 1) (other k ne))));
+          knows = λ seat u there k some'. ⊎_elim (λ t. absurd (omega (arith, some', ap (λ (x : View K). times k x.inside) t.1))) (λ t. r.knows seat u t.1 k some' ∙ sym (same k)) (at_set s.views id seat v u there);
+          tags = λ seat u there k some'. ⊎_elim (λ t. absurd (omega (arith, some', ap (λ (x : View K). times k x.inside) t.1)))
+              (λ t. let all = r.tags seat u t.1 k some' in tagged-set k u.found s.views id v all (λ mine. all id v at mine)) (at_set s.views id seat v u there);
+          home = λ k h free. dite (ℕ_discrete k i)
+              (λ (e : k ≡ i). absurd (held (sym (ap (λ (q : ℕ). get_or (set s.words i new) q 0) e) ∙ free)))
+              (λ ne. let t = r.home k (size k h) (sym (other k ne) ∙ free) in (t.0, t.1, subst (FitsShares (fits k) t.0) (sym (same k)) t.2, tagged-set k (tag_in tag t.0) s.views id v t.3 (λ mine. t.3 id v at mine)));
+        },
+        ((λ _. refl), λ e. absurd (taken e)),
       ))
 
   -- a store of 0 by a thread that is inside, with what fits the shares that there are then
@@ -142,15 +142,14 @@ module _ {T K : Type 0} (fits : ℕ → T → ℕ → Type 0) (tag : T → ℕ) 
       let v = view key owns (i ∷ []) knows mark found in let w = view key more [] 0 last 0 in let vs = set s.views id w in
       let near : i < length s.words = omega (arith, below, wide, r.slots) in
       let zero' : get_or (set s.words i 0) i 0 ≡ 0 = get_or-set_same s.words i 0 0 near in
-      let free : get_or (set s.words i 0) i 0 ≢ 1 = λ e. omega (arith, e, zero') in
       let other : (k : ℕ) → k ≢ i → get_or (set s.words i 0) k 0 ≡ get_or s.words k 0 = λ k ne. get_or-set_other s.words i k 0 0 ne in
       let size : (k : ℕ) → k < length (set s.words i 0) → k < length s.words = λ k h. omega (arith, h, length-set s.words i 0) in
-      let code : (k : ℕ) → ℕ = λ k. cond (eqb (get_or (set s.words i 0) k 0) 1) 1 0 in
+      let code : (k : ℕ) → ℕ = λ k. cond (eqb (get_or (set s.words i 0) k 0) 0) 0 1 in
       let mine : times i (i ∷ []) ≡ 1 = here i i refl in
       let said : knows ≡ shares_of_place i s.views = r.knows id v at i (omega (arith, mine)) in
       let now : shares_of_place i vs ≡ left = omega (arith, owns-set i s.views id v w at, said, balance) in
       let same : (k : ℕ) → k ≢ i → shares_of_place k vs ≡ shares_of_place k s.views = λ k ne. omega (arith, owns-set k s.views id v w at, else' k ne) in
-      let most : inside_at i s.views ≤ 1 = dite (ℕ_discrete (get_or s.words i 0) 1) (λ e. omega (arith, r.inside i near, is_one (get_or s.words i 0) e)) (λ ne. omega (arith, r.inside i near, not_one (get_or s.words i 0) ne)) in
+      let most : inside_at i s.views ≤ 1 = dite (ℕ_discrete (get_or s.words i 0) 0) (λ e. omega (arith, r.inside i near, not_one (get_or s.words i 0) e)) (λ ne. omega (arith, r.inside i near, is_one (get_or s.words i 0) ne)) in
       let none_inside : inside_at i vs ≡ 0 = omega (arith, inside-set i s.views id v w at, most, mine) in
       let tagged : AllTagged i (tag_in tag content) vs = λ seat u there some'. ⊎_elim
       (λ t. subst (λ (x : View K). x.tag ≡ tag_in tag content) t.1 (mine' (subst (λ (x : View K). 0 < times i x.owns) (sym t.1) some')))
@@ -162,9 +161,9 @@ module _ {T K : Type 0} (fits : ℕ → T → ℕ → Type 0) (tag : T → ℕ) 
         record {
           slots = length-set s.words i 0 ∙ (r.slots ∙ sym (length-set s.homes i (some content)));
           inside = λ k h. dite (ℕ_discrete k i)
-              (λ (e : k ≡ i). subst (λ (q : ℕ). inside_at q vs ≡ code q) (sym e) (none_inside ∙ sym (not_one (get_or (set s.words i 0) i 0) free)))
+              (λ (e : k ≡ i). subst (λ (q : ℕ). inside_at q vs ≡ code q) (sym e) (none_inside ∙ sym (not_one (get_or (set s.words i 0) i 0) zero')))
               (λ ne. let stays : inside_at k vs ≡ inside_at k s.views = omega (arith, inside-set k s.views id v w at, elsewhere i k (λ e. ne (sym e))) in
-              stays ∙ (r.inside k (size k h) ∙ sym (ap (λ (n : ℕ). cond (eqb n 1) 1 0) (other k ne))));
+              stays ∙ (r.inside k (size k h) ∙ sym (ap (λ (n : ℕ). cond (eqb n 0) 0 1) (other k ne))));
           knows = λ seat u there k some'. dite (ℕ_discrete k i)
               (λ (e : k ≡ i). absurd (let there' : times i u.inside ≤ inside_at i vs = term_le (λ (x : View K). times i x.inside) vs seat u there in
               let some'' : 0 < times i u.inside = subst (λ (q : ℕ). 0 < times q u.inside) e some' in omega (arith, none_inside, there', some'')))
@@ -181,7 +180,7 @@ module _ {T K : Type 0} (fits : ℕ → T → ℕ → Type 0) (tag : T → ℕ) 
                 subst (λ (q : ℕ). FitsShares (fits q) content (shares_of_place q vs)) (sym e) (subst (FitsShares (fits i) content) (sym now) ok),
                 subst (λ (q : ℕ). AllTagged q (tag_in tag content) vs) (sym e) tagged,
               ))
-              (λ ne. let u = r.home k (size k h) (λ e. bare (other k ne ∙ e)) in (u.0, set_else s.homes i k (some content) ne ∙ u.1, subst (FitsShares (fits k) u.0) (sym (same k ne)) u.2, tagged-set k (tag_in tag u.0) s.views id w u.3 (λ m. absurd (omega (arith, m, only k ne)))));
+              (λ ne. let u = r.home k (size k h) (sym (other k ne) ∙ bare) in (u.0, set_else s.homes i k (some content) ne ∙ u.1, subst (FitsShares (fits k) u.0) (sym (same k ne)) u.2, tagged-set k (tag_in tag u.0) s.views id w u.3 (λ m. absurd (omega (arith, m, only k ne)))));
         },
         refl,
       )
@@ -240,7 +239,7 @@ module _ {T K : Type 0} (fits : K → ℕ → T → ℕ → Type 0) (tag : T →
       ] in
       record {
         slots = size ∙ sym (length-map (replicate count None) some ∙ length-replicate count None);
-        inside = λ i h. sym (not_one (get_or words i 0) (λ e. omega (arith, e, free i)));
+        inside = λ i h. sym (not_one (get_or words i 0) (free i));
         knows = λ seat. elim seat as (λ (q : ℕ). (v : View K) → get_elem? (view key [] [] 0 0 0 ∷ []) q ≡ some v → (i : ℕ) → 0 < times i v.inside → v.knows ≡ shares_of_place i (view key [] [] 0 0 0 ∷ [])) [
           | zero ↦ λ v at i some'. absurd (omega (arith, some', ap (λ (u : View K). times i u.inside) (some-injective (view key [] [] 0 0 0) v at)))
           | suc q ↦ λ v at i some'. absurd (some-ne-none v (sym at))
@@ -252,20 +251,20 @@ module _ {T K : Type 0} (fits : K → ℕ → T → ℕ → Type 0) (tag : T →
         home = λ i h ne. (None, bare_at None count i (omega (arith, h, size)), refl, untagged i);
       }
 
-  pub enter_at : (slots id i : ℕ) (me : Me (Option T) (View K)) (key : K) (owns : List ℕ) (mark : ℕ) → i < slots → me ≡ (view key owns [] 0 mark 0, [])
-      → Allows (Shares {T = T} {K = K} (fits key) tag) slots id me i (λ _. 1) (λ found after. enters {T = T} {K = K} (fits me.0.key) tag (step slots i 1 0 none) me found after)
-  enter_at slots id i me key owns mark below e =
-      subst (λ (x : Me (Option T) (View K)). Allows (Shares {T = T} {K = K} (fits key) tag) slots id x i (λ _. 1) (λ found after. enters {T = T} {K = K} (fits x.0.key) tag (step slots i 1 0 none) x found after)) (sym e)
-      (enter {T = T} {K = K} (fits key) tag slots id i key owns mark below)
+  pub enter_at : (slots id i new : ℕ) (me : Me (Option T) (View K)) (key : K) (owns : List ℕ) (mark : ℕ) → i < slots → new ≢ 0 → me ≡ (view key owns [] 0 mark 0, [])
+      → Allows (Shares {T = T} {K = K} (fits key) tag) slots id me i (λ _. new) (λ found after. enters {T = T} {K = K} (fits me.0.key) tag (step slots i new 0 none) me found after)
+  enter_at slots id i new me key owns mark below put e =
+      subst (λ (x : Me (Option T) (View K)). Allows (Shares {T = T} {K = K} (fits key) tag) slots id x i (λ _. new) (λ found after. enters {T = T} {K = K} (fits x.0.key) tag (step slots i new 0 none) x found after)) (sym e)
+      (enter {T = T} {K = K} (fits key) tag slots id i new key owns mark below put)
 
   -- a thread that has come in has what is there, and the slot is bare then
-  pub came_in : (slots i : ℕ) (me after last : Me (Option T) (View K)) (key : K) (owns : List ℕ) (mark found : ℕ) (out : Option T) → me ≡ (view key owns [] 0 mark 0, [])
-      → enters {T = T} {K = K} (fits me.0.key) tag (step slots i 1 0 none) me found after → found ≢ 1 → after.1 ≡ (i, out) ∷ rest after.1 → last ≡ (after.0, (i, None) ∷ rest after.1)
+  pub came_in : (slots i new : ℕ) (me after last : Me (Option T) (View K)) (key : K) (owns : List ℕ) (mark found : ℕ) (out : Option T) → me ≡ (view key owns [] 0 mark 0, [])
+      → enters {T = T} {K = K} (fits me.0.key) tag (step slots i new 0 none) me found after → found ≡ 0 → after.1 ≡ (i, out) ∷ rest after.1 → last ≡ (after.0, (i, None) ∷ rest after.1)
       → (last.0.key ≡ key) × (last.0.owns ≡ owns) × FitsShares (fits key i) out last.0.knows × (times i owns ≤ last.0.knows)
       × (tag_in tag out ≡ last.0.found) × (0 < times i owns → mark ≡ last.0.found)
       × (last ≡ (view last.0.key last.0.owns (i ∷ []) last.0.knows last.0.tag last.0.found, (i, None) ∷ []))
-  came_in slots i me after last key owns mark found out is h ne slot put =
-      let g = subst (λ (x : Me (Option T) (View K)). enters {T = T} {K = K} (fits x.0.key) tag (step slots i 1 0 none) x found after) is h in
+  came_in slots i new me after last key owns mark found out is h ne slot put =
+      let g = subst (λ (x : Me (Option T) (View K)). enters {T = T} {K = K} (fits x.0.key) tag (step slots i new 0 none) x found after) is h in
       let t = g.1 ne in
       let same : t.0 ≡ out = ap (content_of t.0) (sym (ap (λ (m : Me (Option T) (View K)). m.1) t.5) ∙ slot) in
       let e : last ≡ (view key owns (i ∷ []) t.1 mark (tag_in tag t.0), (i, None) ∷ []) = put ∙ ap (λ (m : Me (Option T) (View K)). (m.0, (i, None) ∷ rest m.1)) t.5 in

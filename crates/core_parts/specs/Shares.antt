@@ -51,12 +51,12 @@ pub record Shares {T K : Type 0} (fits : ℕ → T → ℕ → Type 0) (tag : T 
     (s : State (Option T) (View K)) : Type 0 where
   pub slots : length s.words ≡ length s.homes
   pub inside : (i : ℕ) → i < length s.words
-      → inside_at i s.views ≡ cond (slice_index s.words i == 1) 1 0
+      → inside_at i s.views ≡ cond (slice_index s.words i == 0) 0 1
   pub knows : (seat : ℕ) (v : View K) → get_elem? s.views seat ≡ some v → (i : ℕ)
       → 0 < times i v.inside → v.knows ≡ shares_of_place i s.views
   pub tags : (seat : ℕ) (v : View K) → get_elem? s.views seat ≡ some v → (i : ℕ)
       → 0 < times i v.inside → AllTagged i v.found s.views
-  pub home : (i : ℕ) → i < length s.words → slice_index s.words i ≢ 1
+  pub home : (i : ℕ) → i < length s.words → slice_index s.words i ≡ 0
       → (content : Option T) × (get_elem? s.homes i ≡ some (some content))
       × FitsShares (fits i) content (shares_of_place i s.views)
       × AllTagged i (tag_in tag content) s.views
@@ -68,8 +68,8 @@ Play T K = Step (Option T) → Me (Option T) (View K) → ℕ → Me (Option T) 
 -- its own among them, which has the tag of what is there
 abbrev pub enters : {T K : Type 0} → (ℕ → T → ℕ → Type 0) → (T → ℕ) → Play T K
 enters {T} fits tag st me found after =
-    (found ≡ 1 → after ≡ me)
-    × (found ≢ 1 → (content : Option T) × (known : ℕ) × FitsShares (fits st.word) content known
+    (found ≢ 0 → after ≡ me)
+    × (found ≡ 0 → (content : Option T) × (known : ℕ) × FitsShares (fits st.word) content known
     × (times st.word me.0.owns ≤ known)
     × (0 < times st.word me.0.owns → me.0.tag ≡ tag_in tag content)
     × (after ≡ (

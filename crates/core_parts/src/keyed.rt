@@ -27,7 +27,7 @@ const AWAITED: u64 = 3;
 // How often a thread that found a value out looks at the word before it parks on it, a pause behind
 // each look: a microsecond, where a pause takes 11 nanoseconds. A value is out for a twentieth of
 // that, unless the thread that has it was interrupted, and then a longer look is in vain.
-const LOOKS: u32 = 100;
+pub(crate) const LOOKS: u32 = 100;
 
 /// While a word is `FREE` or `MARKED` its value is at home and fits the key.
 pub struct RowRule<K, T> {
@@ -104,6 +104,15 @@ impl<K, T: Keyed<K> + Drop> KeyedLocks<K, T> {
             Some(taken) => taken,
             None => self.take_later(rt, at),
         }
+    }
+
+    /// Takes a value out, if it is at home. No other thread may wait for it meanwhile: none is woken.
+    pub fn try_take(&self, at: usize) -> Option<(T, Held<K, T>)>
+        requires at { at < self.now.count }
+        ensures { IfSome result (λ taken. T.fits self.now.table.shared.key taken.0
+            × (taken.1.seat.table_id ≡ self.now.table.shared.table_id) × (taken.1.at ≡ at)) }
+    {
+        self.seize(at, TAKEN)
     }
 
     // Takes a value out, if it is at home. Else the word says what is asked for.

@@ -1,11 +1,11 @@
 //! The right to open a place.
-ghost use Rattle.std.specs.Prelude.{◌≡◌, ◌+◌, ℕ, [], ◌∷◌};
+ghost use Rattle.std.specs.Prelude.{◌≡◌, ◌≢◌, ◌+◌, ℕ, [], ◌∷◌};
 ghost use types.Keyed.{tickets_from};
 ghost use Rattle.core_parts.specs.PermitIds.{PermitId, permit_id_coded, permit_owns};
 
 use crate::place::{Open, Place};
 use crate::slot::PermitSlot;
-use std::marker::Model;
+use std::marker::{Model, PhantomData};
 
 /// Where permits come from. It has no bytes.
 pub struct Permits {
@@ -69,13 +69,25 @@ impl Permit {
         PermitSlot {}
     }
 
+    /// Keeps two permits, which never have one id. So things of which each has its permit out at once
+    /// are two.
+    #[inline]
+    pub fn beside(self, other: Permit) -> (Permit, Permit)
+        ensures { (result.0 ≡ self) × (result.1 ≡ other) × (self.id ≢ other.id) }
+    {
+        (self, other)
+    }
+
     #[inline]
     pub(crate) fn into_open<T>(self, place: &Place<T>) -> Open<'_, T>
         requires { self.id ≡ place.now }
         ensures { result.id ≡ place.now }
     {
         let Permit {} = self;
-        Open { place }
+        Open {
+            place,
+            here: PhantomData,
+        }
     }
 }
 

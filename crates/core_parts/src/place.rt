@@ -4,7 +4,7 @@ ghost use Rattle.core_parts.specs.Ownership.{place_shares, place_owns, open_owns
 ghost use Rattle.core_parts.specs.PermitIds.{PermitId, permit_id_coded};
 
 use crate::permit::{NamesPermit, Permit};
-use std::marker::{Model, Move, Owns};
+use std::marker::{Model, Move, Owns, PhantomData};
 
 /// A value that is touched by a thread that has the permit, or the place itself. In a clause it is
 /// the id of its permit.
@@ -24,9 +24,10 @@ impl<T> Move for Place<T> {
     ghost own_val = { λ _ vs. place_owns T.row (λ x. Fields.own_val (record { value = x }) vs) };
 }
 
-/// A place that is open. In a clause `value` is what stands there.
+/// A place that is open. In a clause `value` is what stands there. It stays in its thread, by its type.
 pub struct Open<'a, T> {
     pub(crate) place: &'a Place<T>,
+    pub(crate) here: PhantomData<*const ()>,
     pub ghost id: { PermitId } by { permit_id_coded },
     pub ghost value: { T },
 }
@@ -70,7 +71,7 @@ impl<T> Open<'_, T> {
     pub fn close(self) -> Permit
         ensures { result.id ≡ self.entry.id }
     {
-        let Open { place: _ } = self;
+        let Open { place: _, here: _ } = self;
         Permit {}
     }
 }

@@ -1,13 +1,14 @@
 //! The row, its shares, and entries to its places.
-ghost use Rattle.std.specs.Prelude.{◌≡◌, ℕ, ◌+◌, ◌-◌, ◌<◌, None, [], ◌∷◌, IfOk, IfSome, MatchResult};
+ghost use Rattle.std.specs.Prelude.{◌≡◌, ◌≢◌, ℕ, ◌+◌, ◌-◌, ◌<◌, None, [], ◌∷◌, IfOk, IfSome, MatchResult};
 ghost use Rattle.core_parts.specs.Shares.{FitsShares, Shares, begins, doubles, enters, gains, halved, loses, view};
 
+use crate::keyed::LOOKS;
 use crate::view::View;
 use atomic_table::{Play, Split, Table, TableRule};
 use std::alloc::{AllocError, Global};
+use std::hint::spin_loop;
 use std::marker::PhantomData;
 use std::sync::Wait;
-use std::thread::yield_now;
 
 /// Values that fit a key, a place and a number of shares, all of which have the value's tag.
 pub trait Shared<K> {
@@ -16,9 +17,13 @@ pub trait Shared<K> {
     ghost tag: { Self → ℕ };
 }
 
+// The states of a word. In the first nobody is inside. In the last, the thread that leaves is to wake a
+// thread that may be parked on the word.
 const FREE: u64 = 0;
 
 const TAKEN: u64 = 1;
+
+const AWAITED: u64 = 2;
 
 type Seat<K, T> = atomic_table::Seat<Option<T>, View<K>>;
 
@@ -46,7 +51,7 @@ impl<K, T> Play<Option<T>, View<K>> for Begins {
     ghost then = { begins };
 }
 
-/// A store that leaves with a share.
+/// A swap that leaves with a share.
 struct Gains<T> {
     marker: PhantomData<T>,
 }
@@ -55,7 +60,7 @@ impl<K, T: Shared<K>> Play<Option<T>, View<K>> for Gains<T> {
     ghost then = { gains T.tag };
 }
 
-/// A store that leaves with two shares.
+/// A swap that leaves with two shares.
 struct Doubles<T> {
     marker: PhantomData<T>,
 }
@@ -122,14 +127,16 @@ impl<K, T: Shared<K> + Drop> ShareRow<K, T> {
         }
     }
 
-    // Goes inside where nobody is. Else the seat is as it was.
+    // Goes inside where nobody is. Else the seat is as it was, and the word says what is asked for.
     #[inline]
     fn try_enter(
         &self,
         mut seat: Seat<K, T>,
         at: usize,
+        word: u64,
     ) -> Result<(Option<T>, Entered<K, T>), Seat<K, T>>
-        requires { (at < self.now.count) × IsOutside
+        requires taken { word ≢ 0 }
+        requires outside { (at < self.now.count) × IsOutside
             self.now.table.shared.table_id self.now.table.shared.key seat }
         ensures { MatchResult result
             (λ entered. HasEnteredPlace T.fits T.tag self.now.table.shared.table_id
@@ -138,14 +145,27 @@ impl<K, T: Shared<K> + Drop> ShareRow<K, T> {
             × (again.me ≡ seat.me)) }
     {
         let shared = &self.table.shared;
-        if shared.swap::<ShareRule<K, T>>(&mut seat, at, TAKEN) == TAKEN {
+        if shared.swap::<ShareRule<K, T>>(&mut seat, at, word) != FREE {
             return Err(seat);
         }
         let content = shared.exchange(&mut seat, at, None);
         Ok((content, Entered { seat, at }))
     }
 
-    // Waits until nobody is inside.
+    // Looks for a while, as long as somebody is inside.
+    fn watch(&self, at: usize)
+        requires { at < self.now.count }
+    {
+        for _ in 0..LOOKS {
+            if self.table.shared.peek(at) == FREE {
+                return;
+            }
+            spin_loop();
+        }
+    }
+
+    // Waits until nobody is inside. Others may be parked on the word, of which the first try left no
+    // trace. From here on the word says that a thread waits.
     #[cold]
     #[inline(never)]
     fn enter_later<W: Wait>(
@@ -160,11 +180,12 @@ impl<K, T: Shared<K> + Drop> ShareRow<K, T> {
             self.now.table.shared.key at seat.me.0.owns seat.me.0.tag result.0 result.1 }
     {
         for _ in rt.forever() {
-            yield_now();
-            match self.try_enter(seat, at) {
+            self.watch(at);
+            match self.try_enter(seat, at, AWAITED) {
                 Ok(entered) => return entered,
                 Err(again) => seat = again,
             }
+            self.table.shared.park(rt, at, AWAITED as u32);
         }
         unreachable!()
     }
@@ -176,9 +197,19 @@ impl<K, T: Shared<K> + Drop> ShareRow<K, T> {
         ensures { HasEnteredPlace T.fits T.tag self.now.table.shared.table_id
             self.now.table.shared.key at seat.me.0.owns seat.me.0.tag result.0 result.1 }
     {
-        match self.try_enter(seat, at) {
+        match self.try_enter(seat, at, TAKEN) {
             Ok(entered) => entered,
             Err(seat) => self.enter_later(rt, seat, at),
+        }
+    }
+
+    // Wakes a thread that may be parked on the word of a place that is left.
+    #[inline]
+    fn wake_next(&self, at: usize, found: u64)
+        requires { at < self.now.count }
+    {
+        if found == AWAITED {
+            self.table.shared.wake_one(at);
         }
     }
 
@@ -230,7 +261,8 @@ impl<K, T: Shared<K> + Drop> ShareRow<K, T> {
         let Entered { mut seat, at } = entered;
         let shared = &self.table.shared;
         drop(shared.exchange(&mut seat, at, Some(value)));
-        shared.store::<Gains<T>>(&mut seat, at, FREE);
+        let found = shared.swap::<Gains<T>>(&mut seat, at, FREE);
+        self.wake_next(at, found);
         Share { seat }
     }
 
@@ -247,7 +279,8 @@ impl<K, T: Shared<K> + Drop> ShareRow<K, T> {
         let Entered { mut seat, at } = entered;
         let shared = &self.table.shared;
         drop(shared.exchange(&mut seat, at, content));
-        shared.store::<Loses>(&mut seat, at, FREE);
+        let found = shared.swap::<Loses>(&mut seat, at, FREE);
+        self.wake_next(at, found);
     }
 
     /// Leaves a place with as many shares as it had, by one of them.
@@ -266,7 +299,8 @@ impl<K, T: Shared<K> + Drop> ShareRow<K, T> {
         let Entered { mut seat, at } = entered;
         let shared = &self.table.shared;
         drop(shared.exchange(&mut seat, at, Some(value)));
-        shared.store::<Gains<T>>(&mut seat, at, FREE);
+        let found = shared.swap::<Gains<T>>(&mut seat, at, FREE);
+        self.wake_next(at, found);
         Share { seat }
     }
 
@@ -288,7 +322,8 @@ impl<K, T: Shared<K> + Drop> ShareRow<K, T> {
         let Entered { mut seat, at } = entered;
         let shared = &self.table.shared;
         drop(shared.exchange(&mut seat, at, Some(value)));
-        shared.store::<Doubles<T>>(&mut seat, at, FREE);
+        let found = shared.swap::<Doubles<T>>(&mut seat, at, FREE);
+        self.wake_next(at, found);
         let another = shared.split_seat::<Halves>(&mut seat);
         (Share { seat }, Share { seat: another })
     }
@@ -307,6 +342,7 @@ impl<K, T: Shared<K> + Drop> ShareRow<K, T> {
         let Entered { mut seat, at } = entered;
         let shared = &self.table.shared;
         drop(shared.exchange(&mut seat, at, content));
-        shared.store::<Loses>(&mut seat, at, FREE);
+        let found = shared.swap::<Loses>(&mut seat, at, FREE);
+        self.wake_next(at, found);
     }
 }

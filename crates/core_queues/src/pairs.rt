@@ -1,5 +1,5 @@
 //! Calls on the queues of two buckets.
-ghost use Rattle.std.specs.Prelude.{◌≡◌, ◌≢◌, ◌+◌, ◌<◌, ◌≤◌, ◌↔◌, [], ◌∷◌, ◌++◌, IsTrue, MatchOption, length, if◌then◌else◌};
+ghost use Rattle.std.specs.Prelude.{◌≡◌, ◌≢◌, ◌+◌, ◌<◌, ◌≤◌, ◌↔◌, None, [], ◌∷◌, ◌++◌, IsTrue, MatchOption, length, if◌then◌else◌};
 ghost use Rattle.core_base.specs.Lines.{waiter, line, lines, without, queued_under};
 ghost use Rattle.core_base.specs.Requeues.{taken_by, moved_by, requeued};
 ghost use Rattle.core_base.specs.declared.requeues.Requeue.TheVariants.{One, All};
@@ -24,18 +24,19 @@ impl Queueing {
         bucket_among(bits, key) == number
     }
 
-    /// Whether nobody under a key stands in another bucket.
-    pub fn is_apart(&self, key: Key, other: &Queueing) -> bool
-        ensures { IsTrue result → AreApart key self.now.queues.waiters other.now.queues.waiters }
+    /// Finds the first thread under a key that stands in another bucket as well. None where nobody
+    /// does.
+    pub fn doubled(&self, key: Key, other: &Queueing) -> Option<usize>
+        ensures { result ≡ None → AreApart key self.now.queues.waiters other.now.queues.waiters }
     {
         let mut place = 0;
         while let Some((waiter, next)) = self.queues.find(key, place) {
             match other.queues.key_of(waiter.thread) {
-                Some(_) => return false,
+                Some(_) => return Some(waiter.thread),
                 None => place = next,
             }
         }
-        true
+        None
     }
 
     /// Puts a thread behind the last under a key of one of the buckets. One that stands in them leaves

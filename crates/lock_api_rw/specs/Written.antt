@@ -3,4 +3,4 @@ use Rattle.lock_values.specs.declared.place.Seen.{Seen}
 
 module _ {X : Type 0} where
   abbrev pub seen_with_value : Seen X → X → Seen X
-  seen_with_value it w = record { place = it.place; of = it.of; view = it.view; value = w }
+  seen_with_value it w = record { place = it.place; here = it.here; of = it.of; view = it.view; value = w }

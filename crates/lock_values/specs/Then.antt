@@ -1,6 +1,6 @@
 -- One look behind another.
 use Rattle.std.specs.Prelude.{◌≡◌, Result, Ok, Err, refl}
-use Rattle.std.proofs.Common.{ap, subst, sym, ◌∙◌}
+use Rattle.std.proofs.Common.{ap, ◌∙◌}
 use Rattle.lock_values.specs.declared.errors.ThenError.{ThenError}
 use Rattle.lock_values.specs.declared.errors.ThenError.TheVariants.{First, Second}
 

@@ -3,4 +3,4 @@ use Rattle.lock_values.specs.declared.place.Open.{Open}
 
 module _ {X : Type 0} where
   abbrev pub with_value : Open X → X → Open X
-  with_value it w = record { place = it.place; of = it.of; view = it.view; value = w }
+  with_value it w = record { place = it.place; here = it.here; of = it.of; view = it.view; value = w }

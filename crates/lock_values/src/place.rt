@@ -7,7 +7,7 @@ ghost use Rattle.lock_values.specs.Ownership.{PlaceId, place_id_coded, place_sha
 
 use atomic_table::{Badge, Shared, TableRule};
 use core_words::View;
-use std::marker::{Model, Move, Owns};
+use std::marker::{Model, Move, Owns, PhantomData};
 
 /// Names the word that guards the places that are made of it.
 pub trait NamesPlace {
@@ -33,8 +33,10 @@ impl<T> Move for Place<T> {
 }
 
 /// A place that is open to read, beside others. In a clause `value` is what stands there.
+/// It stays in its thread, by its type.
 pub struct Seen<'a, T> {
     pub(crate) place: &'a Place<T>,
+    pub(crate) here: PhantomData<*const ()>,
     pub ghost of: { PlaceId } by { place_id_coded },
     pub ghost view: { View },
     pub ghost value: { T },
@@ -46,9 +48,10 @@ impl<'a, T> Model for Seen<'a, T> {
     ghost also_shares = { λ o _ κ. open_shares 'a T.row o.place.ref_ptr o.value κ };
 }
 
-/// A place that is open to write.
+/// A place that is open to write. It stays in its thread, by its type.
 pub struct Open<'a, T> {
     pub(crate) place: &'a Place<T>,
+    pub(crate) here: PhantomData<*const ()>,
     pub ghost of: { PlaceId } by { place_id_coded },
     pub ghost view: { View },
     pub ghost value: { T },
@@ -88,7 +91,10 @@ impl<T> Place<T> {
         requires { (table.now.table_id ≡ self.now.table) × (badge.old.table_id ≡ self.now.table) × Excluded (P.holds table.now.key) (alone self.now.at) (among self.now.at) × ((v : View) × (badge.old.views ≡ v ∷ []) × among self.now.at v) }
         ensures { (result.of ≡ self.now) × (badge.old.views ≡ result.view ∷ []) × (badge.new.views ≡ []) }
     {
-        Seen { place: self }
+        Seen {
+            place: self,
+            here: PhantomData,
+        }
     }
 
     /// Opens the place to read, by a badge that is handed in.
@@ -114,7 +120,10 @@ impl<T> Place<T> {
         requires { (table.now.table_id ≡ self.now.table) × (badge.old.table_id ≡ self.now.table) × Excluded (P.holds table.now.key) (alone self.now.at) (among self.now.at) × ((v : View) × (badge.old.views ≡ v ∷ []) × alone self.now.at v) }
         ensures { (result.of ≡ self.now) × (badge.old.views ≡ result.view ∷ []) × (badge.new.views ≡ []) }
     {
-        Open { place: self }
+        Open {
+            place: self,
+            here: PhantomData,
+        }
     }
 
     /// Opens the place to write, by a badge that is handed in.
@@ -142,7 +151,7 @@ impl<T> Seen<'_, T> {
         requires { (table.now.table_id ≡ self.of.table) × Excluded (P.holds table.now.key) (alone self.of.at) (among self.of.at) }
         ensures { (badge.new.table_id ≡ self.entry.of.table) × (badge.new.views ≡ self.entry.view ∷ []) }
     {
-        let Seen { place: _ } = self;
+        let Seen { place: _, here: _ } = self;
     }
 
     /// Shuts a place that was read, and answers its badge.
@@ -168,7 +177,7 @@ impl<T> Open<'_, T> {
         requires { (table.now.table_id ≡ self.of.table) × Excluded (P.holds table.now.key) (alone self.of.at) (among self.of.at) }
         ensures { (badge.new.table_id ≡ self.entry.of.table) × (badge.new.views ≡ self.entry.view ∷ []) }
     {
-        let Open { place: _ } = self;
+        let Open { place: _, here: _ } = self;
     }
 
     /// Shuts a place that was written, and answers its badge.

@@ -1,8 +1,8 @@
 -- Counts of mutexes: an ownership is taken in, says another count, and is split off again.
-use Rattle.std.proofs.Common.{◌≡◌, ◌≢◌, ◌∙◌, ℕ, ◌+◌, List, ◌∷◌, ◌||◌, true, cond, eqb, eq-eqb, ne_eqb, ap, arith, refl, sym, subst}
+use Rattle.std.proofs.Common.{◌≡◌, ◌≢◌, ◌∙◌, ℕ, ◌+◌, List, ◌∷◌, inr, ◌<◌, ◌||◌, true, cond, eqb, eq-eqb, ne_eqb, ap, arith, refl, sym, subst}
 use Rattle.core_base.specs.declared.ops.Op.TheVariants.{Load, Store}
 use Rattle.core_words.proofs.Trades.{is_itself}
-use Rattle.core_words.specs.Codes.{exclusive}
+use Rattle.core_words.specs.Codes.{IsCountCode, exclusive}
 use Rattle.core_words.specs.Indices.{mutex_of_count, word_index}
 use Rattle.core_words.specs.Plays.{left_over, piece, stepping, takes_in}
 use Rattle.core_words.specs.Steps.{CodesWith, after_step, has, one_more_step, says_instead, without}
@@ -11,6 +11,7 @@ use Rattle.core_words.specs.declared.owners.Owner.TheVariants.{Exclusive}
 use Rattle.core_words.specs.declared.owners.Ownership.{Ownership}
 use Rattle.core_words.specs.declared.views.View.{View}
 use Rattle.core_words.specs.declared.words.WordKind.TheVariants.{Mutex, Count}
+use Rattle.parking_lot_core.specs.Counts.{first_said}
 
 has_first : (x : Ownership) (xs : List Ownership) → has x (x ∷ xs) ≡ true
 has_first x xs = ap (λ b. b || has x xs) (is_itself x)
@@ -62,6 +63,10 @@ module _ (m n said : ℕ) (v w u : View) (joined : w ≡ takes_in v (piece (owni
   pub splits_still : left_over kept u ≡ stepping v (word_index n Count) Load said
   splits_still = ap (λ (y : View). left_over kept y) heard_behind
       ∙ ap (λ os. view (one_more_step v (word_index n Count) Load said) os v.drawn v.saw) (without_first kept v.owns)
+
+-- the first count is one
+pub first_code : (thread first : ℕ) → first ≡ first_said thread → IsCountCode first × (0 < first)
+first_code thread first is = (inr (thread, 1, is, omega arith, omega arith), omega (arith, is))
 
 -- nobody owns a mutex twice
 pub owned_once : (i said n : ℕ) (rest owns : List Ownership) → owns ≡ owning_with i said ∷ owning i Exclusive ∷ rest → CodesWith Mutex i n owns → ⊥

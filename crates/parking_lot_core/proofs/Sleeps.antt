@@ -8,16 +8,16 @@ use Rattle.parking_lot_core.specs.declared.sleep.Slept.{Slept}
 use Rattle.parking_lot_core.specs.declared.sleep.Slept.TheVariants.{Woken, Handed, Late}
 
 pub woken_slept : (lot : ParkingLot) (thread : ℕ) (word : Word) (wanted : Want) (slept : Slept) → IsWoken lot word wanted slept → IsSlept lot thread word wanted slept
-woken_slept lot thread word wanted Woken woken = woken
+woken_slept lot thread word wanted (Woken note) woken = woken
 woken_slept lot thread word wanted (Handed right) woken = woken
 woken_slept lot thread word wanted (Late section key) woken = absurd woken
 
 pub woken_not_late : (lot : ParkingLot) (word : Word) (wanted : Want) (slept : Slept) → IsWoken lot word wanted slept → WasLate slept → ⊥
-woken_not_late lot word wanted Woken woken late = late
+woken_not_late lot word wanted (Woken note) woken late = late
 woken_not_late lot word wanted (Handed right) woken late = late
 woken_not_late lot word wanted (Late section key) woken late = woken
 
 pub late_slept : (lot : ParkingLot) (thread : ℕ) (word : Word) (wanted : Want) (slept : Slept) → IsLate lot thread slept → IsSlept lot thread word wanted slept
-late_slept lot thread word wanted Woken late = absurd late
+late_slept lot thread word wanted (Woken note) late = absurd late
 late_slept lot thread word wanted (Handed right) late = absurd late
 late_slept lot thread word wanted (Late section key) late = late

@@ -11,6 +11,10 @@ abbrev pub IsPair : Word → Word → Type 0
 IsPair mutex count = (mutex.kind ≡ Mutex) × (count.kind ≡ Count)
     × (count.number ≡ mutex.number + 1)
 
+-- what a thread says that locks a mutex for the first time: one more than its number, and once
+abbrev pub first_said : ℕ → ℕ
+first_said thread = (thread + 1) * 4294967296 + 1
+
 -- the mutex of this number is owned, and its count word names a thread with the number of guards
 abbrev pub IsKeptCount : LotWords → ℕ → Kept → ℕ → Type 0
 IsKeptCount lot number kept guards = IsCountedOf lot number kept.said kept.counted

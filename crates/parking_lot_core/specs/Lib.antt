@@ -1,5 +1,6 @@
 pub mod Tokens
 pub mod Keys
+pub mod Same
 pub mod Giving
 pub mod Pairs
 pub mod Sections

@@ -1,6 +1,7 @@
 -- How a sleep ends.
-use Rattle.std.specs.Prelude.{ℕ, ◌≡◌, Some}
+use Rattle.std.specs.Prelude.{ℕ, ◌≡◌, Option, Some, None}
 use Rattle.core_words.specs.RightsOf.{IsRightOf, IsFor}
+use Rattle.core_words.specs.declared.rights.Right.{Right}
 use Rattle.core_words.specs.declared.words.Word.{Word}
 use Rattle.core_base.specs.Lines.{queued_under}
 use Rattle.core_base.specs.declared.wants.Want.{Want}
@@ -12,24 +13,31 @@ use Rattle.parking_lot_core.specs.declared.sleep.Slept.TheVariants.{Woken, Hande
 
 -- the thing handed over is a right of the lot, for the word and the want
 abbrev pub IsWoken : ParkingLot → Word → Want → Slept → Type 0
-IsWoken _ _ _ Woken = Unit {0}
+IsWoken _ _ _ (Woken _) = Unit {0}
 IsWoken lot word wanted (Handed right) = IsRightOf lot.words right × IsFor word wanted right
 IsWoken _ _ _ (Late _ _) = ⊥
 
 -- a thread that gave up is inside the section of the key where it stands
 abbrev pub IsLate : ParkingLot → ℕ → Slept → Type 0
-IsLate _ _ Woken = ⊥
+IsLate _ _ (Woken _) = ⊥
 IsLate _ _ (Handed _) = ⊥
 IsLate lot thread (Late section key) =
     (section.lot.now ≡ lot) × (section.keys ≡ One key) × IsUntouched section
     × (queued_under thread (waiting_in section) ≡ Some key) × (section.thread ≡ thread)
 
 abbrev pub WasLate : Slept → Type 0
-WasLate Woken = ⊥
+WasLate (Woken _) = ⊥
 WasLate (Handed _) = ⊥
 WasLate (Late _ _) = Unit {0}
 
 abbrev pub IsSlept : ParkingLot → ℕ → Word → Want → Slept → Type 0
-IsSlept _ _ _ _ Woken = Unit {0}
+IsSlept _ _ _ _ (Woken _) = Unit {0}
 IsSlept lot _ word wanted (Handed right) = IsWoken lot word wanted (Handed right)
 IsSlept lot thread _ _ (Late section key) = IsLate lot thread (Late section key)
+
+-- what a thread was told, of the right that lay in its record: a note alone leaves it there, and else
+-- it is out, and for this word and want
+abbrev pub HasTold : Word → Want → Option Right → Option Right → Slept → Type 0
+HasTold _ _ old new (Woken _) = new ≡ old
+HasTold word wanted old new (Handed right) = (old ≡ Some right) × (new ≡ None) × IsFor word wanted right
+HasTold _ _ _ _ (Late _ _) = ⊥

@@ -38,7 +38,7 @@ impl Shared<LotWords> for Kept {
 }
 
 impl ParkingLot {
-    ghost use Rattle.parking_lot_core.specs.Counts.{IsPair};
+    ghost use Rattle.parking_lot_core.specs.Counts.{IsPair, first_said};
 
     /// The row in which mutexes are kept that their owners lock again, each at the place of its
     /// number.
@@ -83,8 +83,8 @@ impl ParkingLot {
         self.load(token, count);
     }
 
-    /// Begins to count a mutex whose guard is spent: stores its first count by one step, and splits
-    /// the ownership off that says so.
+    /// Begins to count a mutex whose guard is spent: stores its first count by one step, which names
+    /// the thread, and splits the ownership off that says so.
     #[inline]
     pub fn begin_count(
         &self,
@@ -100,7 +100,7 @@ impl ParkingLot {
         requires pair { IsPair mutex count }
         requires opened { IsOpenOf self.now.words mutex opened
             × (permit.id ≡ permit_of self.now.words mutex) }
-        requires code { IsCountCode first × (0 < first) }
+        requires code { first ≡ first_said token.old.number }
         ensures own { IsSameThread self.now token.old token.new × (last_of token.new ≡ None) }
         ensures stepped { view_of token.new
             ≡ stepping (view_of token.old) (word_index count.number Count) (Store first) 0 }
@@ -111,7 +111,7 @@ impl ParkingLot {
         self.words.split_counted(&mut token.seat, mutex, first)
     }
 
-    /// Stores another count of a counted mutex, by one step.
+    /// Stores another count of a counted mutex, by one step. It names the same thread.
     #[inline]
     pub fn change_count(
         &self,
@@ -126,6 +126,7 @@ impl ParkingLot {
         requires pair { IsPair mutex count }
         requires kept { IsCountedOf self.now.words mutex.number kept.said kept.counted }
         requires code { IsCountCode next × (kept.said ≢ next) }
+        requires named { next / 4294967296 ≡ kept.said / 4294967296 }
         ensures own { IsSameThread self.now token.old token.new × (last_of token.new ≡ None) }
         ensures stepped { view_of token.new
             ≡ stepping (view_of token.old) (word_index count.number Count) (Store next)

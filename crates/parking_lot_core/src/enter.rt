@@ -1,14 +1,16 @@
-//! How threads enter sections, and the threads that they wake as they leave.
+//! How threads enter sections.
 //!
 //! A section has the lock of its key's bucket, or those of two buckets. A thread that is inside one
 //! and enters another of the same bucket waits for itself.
 //!
 //! No two threads wait for one another here: the lock of a bucket is taken before that of a record,
 //! and that of a lower bucket before that of a higher one.
-ghost use Rattle.std.specs.Prelude.{ℕ, ◌≡◌, ◌≢◌, ◌⊎◌, ◌<◌, length};
+ghost use Rattle.std.specs.Prelude.{ℕ, ◌≡◌, ◌⊎◌, ◌<◌, None, length};
 ghost use Rattle.std.specs.Sync.Mutex.{mutex_guard_value};
 ghost use Rattle.core_base.specs.Lines.{line};
+ghost use Rattle.core_queues.specs.Buckets.{AreApart};
 ghost use Rattle.core_queues.specs.Chains.{bucket_of};
+ghost use Rattle.core_queues.specs.Places.{IsSameBucket};
 ghost use Rattle.parking_lot_core.specs.Keys.{AreKeys, IsKeyOf};
 ghost use Rattle.parking_lot_core.specs.Pairs.{IsBegun};
 ghost use Rattle.core_base.specs.declared.keys.Keys.TheVariants.{Two};
@@ -17,9 +19,8 @@ use crate::lot::ParkingLot;
 use crate::pauses::pause;
 use crate::sections::Section;
 use crate::tokens::{Did, Token};
-use core_base::{Key, Keys, Note};
+use core_base::{Key, Keys};
 use core_queues::{Queueing, bucket_among};
-use std::sync::atomic::Ordering::SeqCst;
 use std::sync::{Mutex, MutexGuard, Wait};
 
 // How often a thread tries to enter a section before it sleeps until it may, and for how many
@@ -48,6 +49,18 @@ fn try_queues(lock: &Mutex<Queueing>) -> Option<MutexGuard<'_, Queueing>> {
         pause(PAUSE);
     }
     None
+}
+
+// Finds a thread that stands under one of two keys and in the other's bucket as well.
+fn doubled(low: Key, high: Key, first: &Queueing, other: &Queueing) -> Option<usize>
+    ensures { result ≡ None
+        → AreApart low first.now.queues.waiters other.now.queues.waiters
+        × AreApart high other.now.queues.waiters first.now.queues.waiters }
+{
+    match first.doubled(low, other) {
+        Some(thread) => Some(thread),
+        None => other.doubled(high, first),
+    }
 }
 
 impl ParkingLot {
@@ -79,6 +92,55 @@ impl ParkingLot {
             never(rt)
         }
         queueing
+    }
+
+    // The queues of a bucket, for a thread that has those of a lower one.
+    fn queues_above<'a, R: Wait>(
+        &'a self,
+        rt: &R,
+        lower: &Queueing,
+        bucket: usize,
+    ) -> MutexGuard<'a, Queueing>
+        requires within { bucket < length self.now.buckets.items }
+        requires above { lower.now.number < bucket }
+        ensures place { ((mutex_guard_value result).number ≡ bucket)
+            × ((mutex_guard_value result).bits ≡ self.now.bits)
+            × ((mutex_guard_value result).seats ≡ self.now.records.count) }
+        ensures begun { IsBegun (mutex_guard_value result) }
+    {
+        let _ = lower;
+        self.queues(rt, bucket)
+    }
+
+    // Takes a thread that stands in two buckets out of the one where it stood before: the section that
+    // put it into the other hadn't this one.
+    fn leave_older(&self, thread: usize, first: &mut Queueing, other: &mut Queueing)
+        requires { IsBegun first.old × IsBegun other.old }
+        ensures same { IsSameBucket first.old first.new × IsSameBucket other.old other.new }
+        ensures begun { IsBegun first.new × IsBegun other.new }
+    {
+        if first.key_of(thread) == Some(self.stands.key(thread)) {
+            other.remove(thread);
+        } else {
+            first.remove(thread);
+        }
+    }
+
+    // Sees to it that nobody under one of two keys stands in both buckets.
+    fn part<R: Wait>(&self, rt: &R, keys: (Key, Key), first: &mut Queueing, other: &mut Queueing)
+        requires { IsBegun first.old × IsBegun other.old }
+        ensures same { IsSameBucket first.old first.new × IsSameBucket other.old other.new }
+        ensures begun { IsBegun first.new × IsBegun other.new }
+        ensures apart { AreApart keys.0 first.new.queues.waiters other.new.queues.waiters
+            × AreApart keys.1 other.new.queues.waiters first.new.queues.waiters }
+    {
+        for _ in rt.forever() {
+            match doubled(keys.0, keys.1, first, other) {
+                Some(thread) => self.leave_older(thread, first, other),
+                None => return,
+            }
+        }
+        unreachable!()
     }
 
     // The section of keys that have one bucket.
@@ -115,15 +177,13 @@ impl ParkingLot {
         high: Key,
     ) -> Section<'a>
         requires keys { (key : ℕ) → IsKeyOf keys key → (key ≡ low) ⊎ (key ≡ high) }
-        requires buckets { bucket_of self.now.bits low ≢ bucket_of self.now.bits high }
+        requires order { bucket_of self.now.bits low < bucket_of self.now.bits high }
         ensures { (result.lot.now ≡ self.now) × (result.keys ≡ keys) × IsUntouched result
             × (result.thread ≡ thread) }
     {
-        let first = self.queues(rt, self.bucket(low));
-        let other = self.queues(rt, self.bucket(high));
-        if !first.is_apart(low, &other) || !other.is_apart(high, &first) {
-            never(rt)
-        }
+        let mut first = self.queues(rt, self.bucket(low));
+        let mut other = self.queues_above(rt, &first, self.bucket(high));
+        self.part(rt, (low, high), &mut first, &mut other);
         Section {
             lot: self,
             first,
@@ -177,40 +237,5 @@ impl ParkingLot {
         let number = section.count(key);
         section.shut();
         number
-    }
-
-    // Ties those that were taken together, and gives the first.
-    pub(crate) fn tie(&self, taken: &[usize]) -> Option<usize> {
-        for pair in taken.windows(2) {
-            if let Some(next) = self.next_taken.get(pair[0]) {
-                next.store(pair[1], SeqCst);
-            }
-        }
-        taken.first().copied()
-    }
-
-    fn wake<R: Wait>(&self, rt: &R, thread: usize, note: Note) {
-        if thread < self.records.len() {
-            let (mut wake_record, held) = self.records.take(rt, thread);
-            wake_record.note = Some(note);
-            self.records.give_back_marked(wake_record, held);
-        }
-        if let Some(unparker) = self.unparkers.get(thread) {
-            unparker.unpark();
-        }
-    }
-
-    // Wakes so many threads that were taken one after the other. Each one's successor is read
-    // before its wake: once the thread runs, it may be taken again.
-    pub(crate) fn wake_tied<R: Wait>(&self, rt: &R, first: usize, number: usize, note: Note) {
-        let mut thread = first;
-        for _ in 0..number {
-            let next = match self.next_taken.get(thread) {
-                Some(next) => next.load(SeqCst),
-                None => thread,
-            };
-            self.wake(rt, thread, note);
-            thread = next;
-        }
     }
 }

@@ -7,11 +7,13 @@ pub mod enter;
 pub mod expected;
 pub mod lot;
 pub mod pauses;
+pub mod same;
 pub mod sections;
 pub mod sleep;
 pub mod team;
 pub mod tokens;
 pub mod waiters;
+pub mod wakes;
 pub mod words;
 
 pub use core_base::{
@@ -25,3 +27,4 @@ pub use sections::Section;
 pub use sleep::Slept;
 pub use team::DEFAULT_WORDS;
 pub use tokens::{Did, SectionRecord, Ticket, Token};
+pub use wakes::WakeNote;

@@ -2,14 +2,17 @@
 ghost use Rattle.std.specs.Prelude.{◌≡◌, ◌<◌, ◌≤◌, IfOk, IfErr, IsTrue, ◌↔◌, All, length, map, ◌^◌};
 ghost use Rattle.std.specs.List.{range_with_len};
 ghost use Rattle.std.specs.Arc.{arc_value};
+ghost use Rattle.core_queues.specs.Chains.{IsLeast};
 ghost use Rattle.core_words.specs.Indices.{most_words};
 
 use crate::counts::Kept;
+use crate::same::Probes;
 use crate::tokens::Ticket;
 use crate::waiters::WakeRecord;
+use crate::wakes::Wakers;
 use core_base::Fault;
 use core_parts::{KeyedLocks, ShareRow};
-use core_queues::{Queueing, Stands, bits_for};
+use core_queues::{Queueing, Stands, bits_for, bucket_among};
 use core_words::{LotWords, Seat};
 use crossbeam_utils::sync::{Parker, Unparker};
 use std::alloc::{AllocError, Global};
@@ -25,17 +28,18 @@ pub struct ParkingLot {
     pub(crate) buckets: Vec<Mutex<Queueing>>,
     pub(crate) bits: u32,
     pub(crate) records: KeyedLocks<LotWords, WakeRecord>,
-    pub(crate) unparkers: Vec<Unparker>,
+    pub(crate) wakers: Wakers,
     // For each thread that was taken, the one that was taken next with it.
     pub(crate) next_taken: Vec<AtomicUsize>,
     pub(crate) stands: Stands,
     // The mutexes that their owners lock again, by their numbers.
     pub(crate) holders: ShareRow<LotWords, Kept>,
+    pub(crate) probes: Probes,
     ghost hashed: { (length buckets.items ≡ 2 ^ bits) × (bits < 64) },
     ghost keyed: { records.table.shared.key ≡ words },
     ghost kept: { (holders.table.shared.key ≡ words) × (holders.count ≡ words.count) },
-    ghost for_each_seat: { (length unparkers.items ≡ records.count)
-        × (length next_taken.items ≡ records.count) },
+    ghost for_each_seat: { length next_taken.items ≡ records.count },
+    ghost enough: { IsLeast records.count bits },
     ghost few: { records.count ≤ 1024 },
 }
 
@@ -116,7 +120,7 @@ impl ParkingLot {
         bits: u32,
     ) -> Result<(Arc<ParkingLot>, Vec<Ticket>), AllocError>
         requires sizes { (0 < words) × (words ≤ most_words) × (seats ≤ 1024) }
-        requires hashed { (length buckets.items ≡ 2 ^ bits) × (bits < 64) }
+        requires hashed { (length buckets.items ≡ 2 ^ bits) × (bits < 64) × IsLeast seats bits }
         ensures lot { IfOk result (λ made. ((arc_value made.0).words.count ≡ words)
             × ((arc_value made.0).records.count ≡ seats)) }
         ensures tickets { IfOk result (λ made. (map number_of made.1.items ≡ range_with_len 0 seats)
@@ -127,16 +131,18 @@ impl ParkingLot {
         let holders = ShareRow::new(alloc, count, &words)?;
         let records = empty_records(alloc, &words, seats)?;
         let stands = Stands::new(alloc, seats)?;
+        let probes = Probes::new(alloc, bucket_among(63, count) + seats)?;
         let (tickets, unparkers) = ParkingLot::tickets(alloc, &words, first, seats)?;
         let lot = ParkingLot {
             words,
             buckets,
             bits,
             records,
-            unparkers,
+            wakers: Wakers::new(unparkers),
             next_taken: no_links(alloc, seats)?,
             stands,
             holders,
+            probes,
         };
         Ok((Arc::new(alloc, lot)?, tickets))
     }

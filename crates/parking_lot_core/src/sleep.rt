@@ -6,6 +6,8 @@ use crate::lot::ParkingLot;
 use crate::pauses::pause;
 use crate::sections::Section;
 use crate::tokens::Token;
+use crate::waiters::WakeRecord;
+use crate::wakes::WakeNote;
 use core_base::{Clock, Key, Keys, Note, Want};
 use core_words::{Right, Word};
 use std::sync::Wait;
@@ -21,12 +23,28 @@ const PAUSE: u32 = 6;
 
 /// How a sleep ended.
 pub enum Slept<'a> {
-    /// The thread was taken, and is to try again.
-    Woken,
+    /// The thread was taken, and is to try again. The note was made as it was woken.
+    Woken(WakeNote),
     /// The thread was taken, and has been handed what it waited for.
     Handed(Right),
     /// Its time is up, and it is inside the section of the key where it stands.
     Late(Section<'a>, Key),
+}
+
+impl WakeRecord {
+    ghost use Rattle.parking_lot_core.specs.Sleeps.{HasTold};
+
+    // Takes the note, and the right that goes with it. A right that is for another word or want stays.
+    fn told<'a>(&mut self, word: Word, want: Want) -> Option<Slept<'a>>
+        ensures told { IfSome result (HasTold word want self.old.right self.new.right) }
+        ensures none { result ≡ None → self.new.right ≡ self.old.right }
+    {
+        let note = self.note.take()?;
+        match note.kind() {
+            Note::Normal => Some(Slept::Woken(note)),
+            Note::HandOff => Some(Slept::Handed(self.take_right(word, want)?)),
+        }
+    }
 }
 
 impl ParkingLot {
@@ -59,14 +77,7 @@ impl ParkingLot {
         ensures { IfSome result (IsWoken self.now word want) }
     {
         let (mut wake_record, held) = self.records.take(rt, thread);
-        let told = match wake_record.note.take() {
-            Some(Note::Normal) => Some(Slept::Woken),
-            Some(Note::HandOff) => match wake_record.take_right(word, want) {
-                Some(right) => Some(Slept::Handed(right)),
-                None => None,
-            },
-            None => None,
-        };
+        let told = wake_record.told(word, want);
         self.records.give_back(wake_record, held);
         told
     }

@@ -3,19 +3,20 @@ ghost use Rattle.std.specs.Prelude.{◌≡◌, IfSome, None};
 ghost use Rattle.core_words.specs.RightsOf.{IsRightOf, IsFor};
 
 use crate::lot::ParkingLot;
-use core_base::{Note, Want};
+use crate::wakes::WakeNote;
+use core_base::Want;
 use core_parts::Keyed;
 use core_words::{LotWords, Right, Word};
 use std::sync::Wait;
 
 /// A waiter's record: its wake note, and a right that was handed to it.
 pub struct WakeRecord {
-    pub(crate) note: Option<Note>,
+    pub(crate) note: Option<WakeNote>,
     pub(crate) right: Option<Right>,
 }
 
 impl WakeRecord {
-    ghost use Rattle.std.specs.Prelude.{Some, ◌⊎◌};
+    ghost use Rattle.std.specs.Prelude.{Some, MatchOption};
 
     pub(crate) fn empty() -> WakeRecord
         ensures { result.right ≡ None }
@@ -30,7 +31,8 @@ impl WakeRecord {
     pub(crate) fn take_right(&mut self, word: Word, want: Want) -> Option<Right>
         ensures taken { IfSome result
             (λ right. (self.old.right ≡ Some right) × IsFor word want right) }
-        ensures left { (self.new.right ≡ None) ⊎ (self.new.right ≡ self.old.right) }
+        ensures left { MatchOption result (self.new.right ≡ self.old.right)
+            (λ _. self.new.right ≡ None) }
     {
         let right = self.right.take()?;
         if right.is_for(word, want) {

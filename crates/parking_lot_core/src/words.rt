@@ -137,24 +137,6 @@ impl ParkingLot {
         self.words.mutex_shown(&token.seat, condvar, seen)
     }
 
-    /// Counts once more how often the thread has locked a mutex that it owns. It answers the count
-    /// before, which the thread said.
-    pub fn raise_count(&self, token: &mut Token, mutex: Word, count: Word) -> u64
-        requires own { IsTokenOf self.now token.old × IsWordOf self.now.words count }
-        requires pair { (count.kind ≡ Count) × (count.number ≡ mutex.number + 1) }
-        requires owned { (said : ℕ) × OwnsWith mutex said (view_of token.old)
-            × IsCountCode (said + 1) }
-        ensures own { IsSameThread self.now token.old token.new × (last_of token.new ≡ None) }
-        ensures said { OwnsWith mutex result (view_of token.old) }
-        ensures says { OwnsWith mutex (result + 1) (view_of token.new) }
-        ensures stepped { view_of token.new
-            ≡ after_step Count (word_index count.number Count) (Add 1) result (view_of token.old) }
-    {
-        count_may_step();
-        let _pair = mutex;
-        self.word(token, count, Op::Add(1))
-    }
-
     /// The next word, of this kind. A number is never given twice.
     ///
     /// # Errors

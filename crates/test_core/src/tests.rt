@@ -224,7 +224,7 @@ fn sleep<R: Wait>(
 {
     match lot.sleep(rt, token, word, want, None::<(&TickClock, u64)>) {
         Slept::Handed(right) => Some(right),
-        Slept::Woken => None,
+        Slept::Woken(_) => None,
         Slept::Late(_section, _) => unreachable!(),
     }
 }

@@ -40,7 +40,7 @@ pub fn told_until<R: Wait, C: Clock>(
             right.forget();
             Ok(Note::HandOff)
         }
-        Slept::Woken => Ok(Note::Normal),
+        Slept::Woken(note) => Ok(note.kind()),
     }
 }
 

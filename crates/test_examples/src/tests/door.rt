@@ -62,7 +62,7 @@ impl Door {
         }
         let no_limit = None::<(&TickClock, u64)>;
         match self.lot.sleep(rt, token, self.word, Want::Wait, no_limit) {
-            Slept::Woken => {}
+            Slept::Woken(_) => {}
             Slept::Handed(right) => right.forget(),
             Slept::Late(_section, _) => unreachable!(),
         }

@@ -32,7 +32,7 @@ deref_mut_spec 𝓤 𝓛 𝓜 𝓡 wired X L =
     (λ κs. (mut_vals, tt)) (λ κs. (mut_Tells (named 0) κs.0 (guard.the_row (named_lft 3 1 tt κs) R), tt)) (λ κs qs bounds a gh are.
     let ℓ = named_lft 3 1 tt κs in let G : RattleType = guard.the_row ℓ R in let D : RattleType = Words ℓ R in let b : ℕ = a.0.ref_ptr.0 in let o : ℕ = a.0.ref_ptr.1 in let κ : Lft = κs.0 in let q : Share = qs.0 in let β : Lft = κs.1.0 in
     let h : G.Denot = a.0.now in let γ : GName = a.0.ghost_name in let p : ℕ × ℕ = h.place.ref_ptr in let x : X.Denot = h.value in let F : X.Denot → G.Denot = with_value h in let others : Fml = fsep (flft β qs.1.0) (fsep (flft κs.1.1.0 qs.1.1.0) ftrue) in
-    let pb : ℕ = p.0 in let e : ℕ = p.1 + offset R in let Had : X.Denot → Fml = open_owns β R h.id p in let Ws : Fml = part_at D full_share (h.place, tt) b o in
+    let pb : ℕ = p.0 in let e : ℕ = p.1 + offset R in let Had : X.Denot → Fml = open_owns β R h.id p in let Ws : Fml = part_at D full_share (h.place, (tt, tt)) b o in
     let y : (walk_of 𝓛 En hs c).Ghost = ((κs, qs, bounds, a, (vptr b o ∷ [], tt)), gh) in let Post : Val → SProp 𝓤 = (walk_of 𝓛 En hs c).post y in
     let cut : ent 𝓤 (sem 𝓛 (part_at G full_share h b o)) (base.Logic.ex 𝓤 (Opened 𝓛 G R F (λ v w. ap (λ (g : G.Denot). g.value)) (named 0) κ β bounds.0 q a.0 pb e x)) =
     let Back : Lft → X.Denot → SProp 𝓤 = λ α w. wand 𝓤 (sem 𝓛 (lent R pb e α w)) (sem 𝓛 (Had w)) in
@@ -46,13 +46,13 @@ deref_mut_spec 𝓤 𝓛 𝓜 𝓡 wired X L =
     split ! $ split ! $ move ! (2 ∷ []) $ fsplit ! $ fsplit3 ! $ keep ! (1 ∷ 2 ∷ 4 ∷ 5 ∷ []) $
     enter ! 𝓣.C 𝓣.Λ fn (vptr b o ∷ []) Post $ alloc_all ! (λ l. pass_all ! refl ((tt, tt), tt) $ let Ev = env fn.locals l in
     open_ref ! tt (mem G) $ use1 𝓛 (‵ Ws ⊛ ‵ (Had x)) (part_out 𝓛 (guard.the_type ℓ R) full_share h b o) $ split ! $
-    fpick ! (λ vs. fsplit ! $ move ! (1 ∷ []) $ peeks ! D (Is D) (shows 𝓛 D) (h.place, tt) vs (λ is_so.
+    fpick ! (λ vs. fsplit ! $ move ! (1 ∷ []) $ peeks ! D (Is D) (shows 𝓛 D) (h.place, (tt, tt)) vs (λ is_so.
     let ev : vs ≡ open_val p ∷ [] = told ℓ R h.place vs is_so in
     rewrite ! 1 (λ (us : List Val). ‵ (cell_at full_share D.mir us b o)) ev refl $ first ! $ blocks ! $
     sets ! (addr ! (through ! refl (fld ! refl (hop ! (look_in_raw ! 1 (sub ! 0 refl (whole !))) (fld ! refl (stop !)))))) refl (tt, tt) $
     sets_last ! (addr ! (through ! refl (stop !))) refl (tt, tt) $ exec ! 𝓣.C 𝓣.Λ Ev (tail fn.body) (at_ret Ev Post) $ sets ! (of_opd ! (get ! refl)) refl (tt, tt) $
     rewrite ! 1 (λ (us : List Val). ‵ (cell_at full_share D.mir us b o)) (sym ev) refl $ move ! (1 ∷ 0 ∷ []) $ fjoin ! $
-    fpack ! (List Val) (λ us. fsep (cell_at full_share D.mir us b o) (D.own_val (h.place, tt) us)) vs $
+    fpack ! (List Val) (λ us. fsep (cell_at full_share D.mir us b o) (D.own_val (h.place, (tt, tt)) us)) vs $
     use2 𝓛 (‵ (part_at G full_share h b o)) (part_in 𝓛 (guard.the_type ℓ R) full_share h b o) $ close_ref ! tt (mem G) h $
     use3 𝓛 (later (some (λ (δ : GName). ‵ ((MutRef (named 0) κ R).own_val (record { ref_ptr = (pb, e); ghost_name = δ; now = x }) (vptr pb e ∷ [])) ⊛ ‵ (flft κ q) ⊛ ‵ (follows G R γ δ F))))
     (through_before 𝓛 G R F (λ v w. ap (λ (g : G.Denot). g.value)) (named 0) κ β bounds.0 q a.0 pb e x cut) $ await ! tt $ pick ! (λ δ. split3 ! $

@@ -35,8 +35,8 @@ into_open_spec 𝓤 𝓛 𝓜 𝓡 wired X L =
     use1 𝓛 (‵ (hidden_shr Row κ id b o) ⊛ ‵ (hidden_shr Row κ id b o)) (contraction 𝓛 (shared_of Row id b o) (place_laws R id b o) κ) $ split ! $
     unhide ! $ move ! (2 ∷ []) $ rewrite ! 0 (λ (n : PermitId). ‵ (permit_owns n)) asked refl $ move ! (1 ∷ 0 ∷ 3 ∷ []) $
     use3 𝓛 (later (some (λ (x : X.Denot). ‵ (open_owns κ R id (b, o) x)) ⊛ ‵ (flft κ q))) (opened 𝓛 κ R id b o q) $ await ! tt $ split ! $ pick ! (λ x.
-    let at : Bor PermitId = record { ref_ptr = (b, o); now = id } in let r : Or.Denot = record { place = at; id = id; value = x } in move ! (2 ∷ []) $
-    use1 𝓛 (‵ ((Words ℓ R).own_val (at, tt) (open_val (b, o) ∷ []))) (made ℓ R 𝓛 at) $ fjoin ! $
-    sets ! (agg ! (and_then ! (get ! refl) (no_more !))) refl (tt, (tt, tt)) $
+    let at : Bor PermitId = record { ref_ptr = (b, o); now = id } in let r : Or.Denot = record { place = at; here = record {}; id = id; value = x } in move ! (2 ∷ []) $
+    use1 𝓛 (‵ ((Words ℓ R).own_val (at, (tt, tt)) (open_val (b, o) ∷ []))) (made ℓ R 𝓛 at) $ fjoin ! $
+    sets ! (agg ! (no_more !)) refl (tt, tt) $ sets ! (agg ! (and_then ! (get ! refl) (and_then ! (get ! refl) (no_more !)))) refl (tt, (tt, (tt, tt))) $
     use0 𝓛 (raw (fact 𝓤 (id ≡ id))) (fact_i 𝓤 (id ≡ id) (emp 𝓤) refl) $ move ! (2 ∷ 3 ∷ []) $ join ! $ nothing ! $ nothing ! $ fjoin ! $ nothing ! $ fjoin ! $
     returns ! (look_at ! 0 refl) $ free_all ! refl $ keep ! (1 ∷ 0 ∷ 3 ∷ 2 ∷ []) $ by ! (leaves 𝓛 En hs c y (open_val (b, o)) r (tt, (tt, tt)) (tt, (tt, tt)))))))

@@ -24,7 +24,7 @@ close_spec 𝓤 𝓛 𝓜 𝓡 wired X L =
     let y : (walk_of 𝓛 En hs c).Ghost = ((κs, qs, bounds, a, (open_val p ∷ [], tt)), gh) in let Post : Val → SProp 𝓤 = (walk_of 𝓛 En hs c).post y in
     qed 𝓛 (((‵ (flft κ q) ⊛ ‵ others) ⊛ ‵ (owns (types_at En.signature.params κs) a y.0.4)) ∷ raw ((c κs a).requires gh) ∷ []) ∵
     split ! $ split ! $ move ! (2 ∷ []) $ fsplit ! $ fsplit ! $ keep ! (1 ∷ 3 ∷ 4 ∷ []) $
-    enter ! 𝓣.C 𝓣.Λ fn (open_val p ∷ []) Post $ alloc_all ! (λ l. pass_all ! refl ((tt, (tt, tt)), tt) $
+    enter ! 𝓣.C 𝓣.Λ fn (open_val p ∷ []) Post $ alloc_all ! (λ l. pass_all ! refl ((tt, (tt, (tt, tt))), tt) $
     use2 𝓛 (later (‵ (permit_owns h.id) ⊛ ‵ (flft κ q))) (closed 𝓛 κ R h.id p h.value q) $ await ! tt $ split ! $
     let r : permit.the_row.Denot = record { id = h.id } in
     use0 𝓛 (‵ (Blank.own_val tt (permit_val ∷ []))) (blank_made 𝓛) $ fjoin ! $

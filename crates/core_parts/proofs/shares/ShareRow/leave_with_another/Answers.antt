@@ -3,8 +3,8 @@ use Rattle.core_parts.specs.Shares.{slot_in_hand, tag_in, times}
 use Rattle.core_parts.proofs.ShareKeeps.{halves, laid_down, leave_at, one_here, other_place, two_else}
 use Rattle.core_parts.proofs.shares.ShareRow.leave_with_another.Goals as goal
 
-pub store-requires : goal.store-requires
-store-requires g c = let row = c.args.self.now in let sized = row.sized in let words = sized.0 in let slots = sized.1 in
+pub swap-found-requires : goal.swap-found-requires
+swap-found-requires g c = let row = c.args.self.now in let sized = row.sized in let words = sized.0 in let slots = sized.1 in
     let at : ℕ = c.args.entered.at in let near = c.requires.inside.0 in
     let below : at < row.table.shared.table_id.words = omega arith in
     let within : at < row.table.shared.table_id.slots = omega arith in
@@ -22,8 +22,8 @@ store-requires g c = let row = c.args.self.now in let sized = row.sized in let w
 pub split_seat-another-requires : goal.split_seat-another-requires
 split_seat-another-requires g c = let row = c.args.self.now in let sized = row.sized in let words = sized.0 in let at : ℕ = c.args.entered.at in let near = c.requires.inside.0 in
     let some' : 0 < row.table.shared.table_id.words = omega arith in (
-      c.store.ensures.0 ∙ (c.exchange.ensures.0 ∙ c.requires.inside.1.0),
+      c.swap-found.ensures.0 ∙ (c.exchange.ensures.0 ∙ c.requires.inside.1.0),
       some',
-      halves (g.T.Shared.fits row.table.shared.key) g.T.Shared.tag c.store.new.seat.id at c.store.new.seat.me.0 c.exchange.new.seat.me.0.key (tag_in g.T.Shared.tag (slot_in_hand c.exchange.new.seat.me.1))
-          (ap (λ m. m.0) c.store.ensures.2),
+      halves (g.T.Shared.fits row.table.shared.key) g.T.Shared.tag c.swap-found.new.seat.id at c.swap-found.new.seat.me.0 c.exchange.new.seat.me.0.key (tag_in g.T.Shared.tag (slot_in_hand c.exchange.new.seat.me.1))
+          (ap (λ m. m.0) c.swap-found.ensures.2),
     )

@@ -3,8 +3,8 @@ use Rattle.core_parts.specs.Shares.{slot_in_hand, tag_in}
 use Rattle.core_parts.proofs.ShareKeeps.{laid_down, leave_at, other_place}
 use Rattle.core_parts.proofs.shares.ShareRow.leave_with_share.Goals as goal
 
-pub store-requires : goal.store-requires
-store-requires g c = let row = c.args.self.now in let sized = row.sized in let words = sized.0 in let slots = sized.1 in
+pub swap-found-requires : goal.swap-found-requires
+swap-found-requires g c = let row = c.args.self.now in let sized = row.sized in let words = sized.0 in let slots = sized.1 in
     let at : ℕ = c.args.entered.at in let near = c.requires.inside.0 in
     let below : at < row.table.shared.table_id.words = omega arith in
     let within : at < row.table.shared.table_id.slots = omega arith in

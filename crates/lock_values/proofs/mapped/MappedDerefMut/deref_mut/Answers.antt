@@ -1,4 +1,4 @@
-use Rattle.std.proofs.Common.{◌≡◌, ◌∙◌, ap, refl, sym}
+use Rattle.std.proofs.Common.{◌∙◌, ap, refl, sym}
 use Rattle.lock_values.proofs.MappedLemmas.{same_mapped}
 use Rattle.lock_values.proofs.mapped.MappedDerefMut.deref_mut.Goals as goal
 

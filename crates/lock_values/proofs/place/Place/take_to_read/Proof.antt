@@ -54,12 +54,12 @@ take_to_read_spec 𝓤 𝓛 𝓜 𝓡 wired X T Q P LX _ _ _ g d _ =
     move ! (0 ∷ 2 ∷ 9 ∷ 8 ∷ []) $ group ! 4 $
     use1 𝓛 (later (some (λ (x : X.Denot). ‵ (seen_owned R cv al am z κ (b, o) v x)) ⊛ ‵ (flft α s))) (opens_to_read 𝓛 R cv al am z S (g.holds t.key) w p s asked.2 κ v b o (param_laws 0 X LX).shr_laws asked.3.2 k.id) $ await ! tt $ split ! $ pick ! (λ x.
     move ! (7 ∷ 1 ∷ []) $ obor_close ! tt $ drop ! $
-    let k' : Br.Denot = record { marker = k.marker; table_id = k.table_id; id = k.id; views = [] } in let at : Bor PlaceId = record { ref_ptr = (b, o); now = d₀ } in let r : G.Denot = record { place = at; of = d₀; view = v; value = x } in
+    let k' : Br.Denot = record { marker = k.marker; table_id = k.table_id; id = k.id; views = [] } in let at : Bor PlaceId = record { ref_ptr = (b, o); now = d₀ } in let r : G.Denot = record { place = at; here = record {}; of = d₀; view = v; value = x } in
     let Told : Type 0 = (d₀ ≡ d₀) × (k.views ≡ v ∷ []) × (k'.views ≡ []) in
     nothing ! $ move ! (3 ∷ 0 ∷ []) $ fjoin ! $ move ! (3 ∷ 0 ∷ 4 ∷ 5 ∷ 6 ∷ []) $ closes ! tt Br k' ts₂ b₂ o₂ $ feq_i ! (List Val) (vptr b₂ o₂ ∷ []) (vptr b₂ o₂ ∷ []) refl $ fjoin3 ! $
     nothing ! $ move ! (1 ∷ 0 ∷ []) $ fjoin ! $ nothing ! $ fjoin ! $ nothing ! $ fjoin ! $ move ! (1 ∷ 6 ∷ []) $ join ! $ move ! (2 ∷ 0 ∷ []) $ join ! $ move ! (4 ∷ 0 ∷ []) $ join ! $
     rewrite ! 2 (λ (u : TableId). ‵ (seen_owned R cv al am u κ (b, o) v x)) asked.0 refl $ move ! (2 ∷ []) $
-    move ! (4 ∷ []) $ use1 𝓛 (‵ ((SeenWords ℓ R).own_val (at, tt) (open_val (b, o) ∷ []))) (seen_made ℓ R 𝓛 at) $ fjoin ! $
-    sets ! (agg ! (and_then ! (get ! refl) (no_more !))) refl (tt, (tt, tt)) $
+    move ! (4 ∷ []) $ use1 𝓛 (‵ ((SeenWords ℓ R).own_val (at, (tt, tt)) (open_val (b, o) ∷ []))) (seen_made ℓ R 𝓛 at) $ fjoin ! $
+    sets ! (agg ! (no_more !)) refl (tt, tt) $ sets ! (agg ! (and_then ! (get ! refl) (and_then ! (get ! refl) (no_more !)))) refl (tt, (tt, (tt, tt))) $
     use0 𝓛 (raw (fact 𝓤 Told)) (fact_i 𝓤 Told (emp 𝓤) (refl, asked.3.1, refl)) $
     returns ! (look_at ! 0 refl) $ free_all ! refl $ keep ! (2 ∷ 3 ∷ 1 ∷ 0 ∷ []) $ by ! (leaves 𝓛 En hs c y (open_val (b, o)) r (tt, (tt, (k', tt))) (tt, (tt, (tt, tt))))))))))

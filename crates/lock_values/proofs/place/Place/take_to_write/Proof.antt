@@ -53,12 +53,12 @@ take_to_write_spec 𝓤 𝓛 𝓜 𝓡 wired X T Q P LX _ _ _ g d _ =
     move ! (0 ∷ 2 ∷ 9 ∷ 8 ∷ 11 ∷ []) $ group ! 5 $
     use1 𝓛 (later (some (λ (x : X.Denot). ‵ (open_owned R cv al am z κ (b, o) v x)) ⊛ ‵ (flft α s) ⊛ ‵ (flft κ qs.0))) (opens_to_write 𝓛 R cv al am z S (g.holds t.key) w p s asked.2 κ v b o asked.3.2 k.id qs.0) $ await ! tt $ split3 ! $ pick ! (λ x.
     move ! (8 ∷ 1 ∷ []) $ obor_close ! tt $ drop ! $ move ! (0 ∷ 1 ∷ 3 ∷ 4 ∷ 5 ∷ 6 ∷ 7 ∷ 8 ∷ 2 ∷ []) $
-    let k' : Br.Denot = record { marker = k.marker; table_id = k.table_id; id = k.id; views = [] } in let at : Bor PlaceId = record { ref_ptr = (b, o); now = d₀ } in let r : G.Denot = record { place = at; of = d₀; view = v; value = x } in
+    let k' : Br.Denot = record { marker = k.marker; table_id = k.table_id; id = k.id; views = [] } in let at : Bor PlaceId = record { ref_ptr = (b, o); now = d₀ } in let r : G.Denot = record { place = at; here = record {}; of = d₀; view = v; value = x } in
     let Told : Type 0 = (d₀ ≡ d₀) × (k.views ≡ v ∷ []) × (k'.views ≡ []) in
     nothing ! $ move ! (3 ∷ 0 ∷ []) $ fjoin ! $ move ! (3 ∷ 0 ∷ 4 ∷ 5 ∷ 6 ∷ []) $ closes ! tt Br k' ts₂ b₂ o₂ $ feq_i ! (List Val) (vptr b₂ o₂ ∷ []) (vptr b₂ o₂ ∷ []) refl $ fjoin3 ! $
     nothing ! $ move ! (1 ∷ 0 ∷ []) $ fjoin ! $ nothing ! $ fjoin ! $ nothing ! $ fjoin ! $ move ! (1 ∷ 6 ∷ []) $ join ! $ move ! (2 ∷ 0 ∷ []) $ join ! $ move ! (4 ∷ 0 ∷ []) $ join ! $
     rewrite ! 2 (λ (u : TableId). ‵ (open_owned R cv al am u κ (b, o) v x)) asked.0 refl $ move ! (2 ∷ []) $
-    move ! (4 ∷ []) $ use1 𝓛 (‵ ((Words ℓ R).own_val (at, tt) (open_val (b, o) ∷ []))) (made ℓ R 𝓛 at) $ fjoin ! $
-    sets ! (agg ! (and_then ! (get ! refl) (no_more !))) refl (tt, (tt, tt)) $
+    move ! (4 ∷ []) $ use1 𝓛 (‵ ((Words ℓ R).own_val (at, (tt, tt)) (open_val (b, o) ∷ []))) (made ℓ R 𝓛 at) $ fjoin ! $
+    sets ! (agg ! (no_more !)) refl (tt, tt) $ sets ! (agg ! (and_then ! (get ! refl) (and_then ! (get ! refl) (no_more !)))) refl (tt, (tt, (tt, tt))) $
     use0 𝓛 (raw (fact 𝓤 Told)) (fact_i 𝓤 Told (emp 𝓤) (refl, asked.3.1, refl)) $
     returns ! (look_at ! 0 refl) $ free_all ! refl $ keep ! (2 ∷ 3 ∷ 1 ∷ 0 ∷ []) $ by ! (leaves 𝓛 En hs c y (open_val (b, o)) r (tt, (tt, (k', tt))) (tt, (tt, (tt, tt))))))))))

@@ -41,7 +41,7 @@ lay_back_spec 𝓤 𝓛 𝓜 𝓡 wired X T Q P LX _ _ _ g d _ =
     ∷ given ((z ≡ d₀.table) × Excluded (g.holds t.key) al am) (‵ ftrue) ∷ []) ∵
     keep ! (5 ∷ 1 ∷ 0 ∷ []) $ learn ! (λ asked. drop ! $ heard ! (τ ⊑ X.lives) (λ outlives. split ! $ split3 ! $ move ! (2 ∷ []) $ split ! $ move ! (4 ∷ []) $ fsplit3 ! $ fsplit ! $ move ! (2 ∷ []) $ fsplit ! $ move ! (4 ∷ []) $ fsplit ! $ fsplit3 ! $
     keep ! (5 ∷ 11 ∷ 10 ∷ 7 ∷ 9 ∷ 1 ∷ 2 ∷ 8 ∷ []) $
-    enter ! 𝓣.C 𝓣.Λ fn (open_val pp ∷ vptr b₁ o₁ ∷ vptr b₂ o₂ ∷ []) Post $ alloc_all ! (λ l. pass_all ! refl ((tt, (tt, tt)), ((tt, tt), ((tt, tt), tt))) $
+    enter ! 𝓣.C 𝓣.Λ fn (open_val pp ∷ vptr b₁ o₁ ∷ vptr b₂ o₂ ∷ []) Post $ alloc_all ! (λ l. pass_all ! refl ((tt, (tt, (tt, tt))), ((tt, tt), ((tt, tt), tt))) $
     use1 𝓛 (‵ (hidden_shr D κ₁ (w, (p, (tt, tt))) b₁ o₁) ⊛ ‵ (base.Fml.fhide (table.the_lent S W Kr Y g t (block_ptr b₁ o₁) κ₁))) (lent_out 𝓛 (table.struct S W Kr Y g) (table.the_codes T.Denot View Q.Denot P.Denot S.coded W.coded Kr.coded Y.coded (marker.the_row (Tuple (Y ∷ W ∷ Kr ∷ []))).coded) (table.the_heap S W Kr Y g) (table.the_lent S W Kr Y g) κ₁ t b₁ o₁) $
     split ! $ move ! (1 ∷ []) $ unhide ! $ fsplit ! $ move ! (0 ∷ 3 ∷ 1 ∷ []) $
     shr_bor-open ! tt (tokens_halve 𝓛 α) (λ s.

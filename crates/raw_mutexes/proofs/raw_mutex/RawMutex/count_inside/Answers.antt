@@ -1,4 +1,4 @@
-use Rattle.std.proofs.Common.{◌≡◌, ◌/◌, IfSome, subst}
+use Rattle.std.proofs.Common.{◌≡◌, ◌/◌, IfSome, refl, subst}
 use Rattle.parking_lot_core.specs.Counts.{IsKeptCount}
 use Rattle.core_parts.specs.Shares.{FitsShares}
 use Rattle.raw_mutexes.proofs.CountLemmas.{more_code, more_kept, more_named}
@@ -8,6 +8,10 @@ pub change_count-kept-requires-clause-code : goal.change_count-kept-requires-cla
 change_count-kept-requires-clause-code g c = let key = c.holders-holders.result.now.table.shared.key in let knows = c.enter-content.result.1.seat.me.0.knows in
     let there = subst (λ content. FitsShares (IsKeptCount key c.number.result) content knows) c.in-Some.is c.enter-content.ensures.fits in
     more_code key c.number.result c.in-Some.kept knows c.args.seen c.args.next there.1 c.if-content-seen.true c.requires.counted.0 c.requires.counted.1
+
+pub change_count-kept-requires-clause-named : goal.change_count-kept-requires-clause-named
+change_count-kept-requires-clause-named g c = let said = c.in-Some.kept.said in
+    more_named said c.args.seen c.args.next c.args.next (said / 4294967296) c.if-content-seen.true c.requires.counted.0 c.requires.counted.1 refl refl
 
 pub leave_with_more-share-requires-clause-fits : goal.leave_with_more-share-requires-clause-fits
 leave_with_more-share-requires-clause-fits g c = let key = c.holders-holders.result.now.table.shared.key in let entered = c.enter-content.result.1 in let knows = entered.seat.me.0.knows in
