@@ -50,10 +50,11 @@ impl Drop for ParkingLot {
             buckets: _buckets,
             bits: _bits,
             records: _records,
-            unparkers: _unparkers,
+            wakers: _wakers,
             next_taken: _next_taken,
             stands: _stands,
             holders: _holders,
+            probes: _probes,
         } = self;
     }
 }
