@@ -3,15 +3,13 @@ use Rattle.std.proofs.Common.{ℕ, Bool, true, false, Option, Some, None, if◌t
 use Rattle.core_base.specs.declared.ops.Op.{Op}
 use Rattle.spec_locks.specs.declared.calls.Access.TheVariants as access
 use Rattle.spec_locks.specs.declared.calls.Downgrade.{Downgrade}
-use Rattle.spec_locks.specs.declared.calls.Downgrade.TheVariants as downgrade
 use Rattle.spec_locks.specs.declared.calls.Patience.TheVariants.{Patient}
 use Rattle.spec_locks.specs.declared.calls.Step.{Step}
 use Rattle.spec_locks.specs.declared.calls.Turn.{Turn}
 use Rattle.spec_locks.specs.declared.calls.Turn as turn
 use Rattle.spec_locks.specs.declared.outcomes.Answer.TheVariants as answer
-use Rattle.spec_locks.specs.declared.outcomes.Outcome.{Outcome}
 use Rattle.spec_locks.specs.declared.outcomes.Outcome.TheVariants as told
-use Rattle.spec_locks.specs.Codes.{has_parked, parked_in}
+use Rattle.spec_locks.specs.Codes.{has_parked}
 use Rattle.spec_locks.specs.Locks.{Rights, Rules, rights_of}
 use Rattle.spec_locks.specs.Locks as locks
 use Rattle.spec_locks.specs.Sites.{Line, Main, Second, has_readers}
