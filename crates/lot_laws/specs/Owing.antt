@@ -6,7 +6,8 @@ use Rattle.core_base.specs.declared.wants.Want.TheVariants.{Exclusive, Shared}
 use Rattle.spec_locks.specs.declared.outcomes.Outcome.{Outcome}
 use Rattle.spec_locks.specs.declared.outcomes.Outcome.TheVariants as told
 use Rattle.core_base.specs.declared.keys.Keys.TheVariants.{One}
-use Rattle.steps_base.specs.declared.acts.Act.TheVariants.{Enter}
+use Rattle.core_base.specs.declared.ops.Op.{Op}
+use Rattle.steps_base.specs.declared.acts.Act.TheVariants.{Enter, Word}
 use Rattle.lot_steps.specs.Steps.{act_of, line_owed}
 use Rattle.lot_machine.specs.Machine.{State, place_at, word_at, section_at}
 use Rattle.lot_laws.specs.Refinement.{call_at}
@@ -85,9 +86,18 @@ SeesWaiters w t l m o v =
     × (OnlyLooks v t l → act_of (place_at v t) ≡ Enter (One (key_of l m)))
     × (IsWait (call_at w t).purpose → (call_at v t).released ≡ true)
 
+-- a downgrade, or a call that has given up, works on the word of a lock beside waiters in the main line
+pub record GivesWayBesideWaiters (w : State) (t l : ℕ) : Type 0 where
+  pub shared : has_readers (sort_at w l) ≡ true
+  pub lets_in : IsDowngrade (call_at w t).purpose l ⊎ HasGivenUp w t l
+  pub works : (op : Op) × (act_of (place_at w t) ≡ Word l op)
+  pub told : parked_in (sort_at w l) (word_at w l) ≡ true
+
 -- in a step from w to v its thread begins and ends to owe by what it sees and where it is, and no
 -- other thread does
 pub record OwesSince (w : State) (t : ℕ) (o : Outcome) (v : State) : Type 0 where
   pub own : (l : ℕ) (m : Line) → o ≢ told.NotNow → Owes v t l m
       ↔ (IsInside v t l m ⊎ SeesWaiters w t l m o v)
+  -- a conversion or a roll-back beside waiters doesn't end by that step, so that it owes their wake
+  pub goes_on : (l : ℕ) → o ≢ told.NotNow → GivesWayBesideWaiters w t l → o ≡ told.Step
   pub others : (u l : ℕ) → u ≢ t → line_owed (place_at v u) l ≡ line_owed (place_at w u) l

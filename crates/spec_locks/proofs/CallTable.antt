@@ -1,5 +1,5 @@
 -- The two tables of the first page say of a call what its purpose and its answer say.
-use Rattle.std.proofs.Common.{ℕ, Bool, true, false, Option, Some, None, if◌then◌else◌, ◌==◌, ◌≡◌, ◌⊎◌, inl, inr, refl, sym, ◌∙◌, ap, subst}
+use Rattle.std.proofs.Common.{ℕ, Bool, true, false, Option, Some, None, if◌then◌else◌, ◌==◌, ◌≡◌, inl, inr, refl, sym, ◌∙◌, ap}
 use Rattle.std.proofs.lemmas.Bool.{eqb-true}
 use Rattle.core_base.specs.declared.wants.Want.{Want}
 use Rattle.core_base.specs.declared.wants.Want.TheVariants as wants
@@ -22,10 +22,10 @@ use Rattle.spec_locks.specs.declared.kinds.Kind.TheVariants as kind
 use Rattle.spec_locks.specs.declared.outcomes.Answer.{Answer}
 use Rattle.spec_locks.specs.declared.outcomes.Answer.TheVariants.{Ok, Yes, No, Notified, TimedOut, Number, ReadersFull, Failed, Poisoned, TwoMutexes}
 use Rattle.spec_locks.specs.Kinds.{is_fair}
-use Rattle.spec_locks.specs.Locks.{Rights, putting, with_right}
+use Rattle.spec_locks.specs.Locks.{Rights, putting}
 use Rattle.spec_locks.specs.Purposes.{Purpose, Enters, Releases, Converts, Bumps, CallsOnce, Awaits, Waits, Notifies, Patience, Patient, Timed, Try, mutex_purpose, purpose_of, rwlock_purpose}
-use Rattle.spec_locks.specs.Runs.{LocksState, CallState, AnswerHolds, EntersAnswer, ConvertsAnswer, Gains, HasRight, Keeps, Loses, MayRefuse, purpose_at, rights_in, rules_at}
-use Rattle.spec_locks.specs.CallTable.{IsTrue, Trades, goal_of, one_more}
+use Rattle.spec_locks.specs.Runs.{LocksState, CallState, AnswerHolds, EntersAnswer, ConvertsAnswer, Gains, HasRight, Keeps, Loses, purpose_at, rights_in}
+use Rattle.spec_locks.specs.CallTable.{IsTrue, Trades, goal_of}
 
 -- ---------------------------------------------------------------- goals
 

@@ -1,9 +1,6 @@
 -- The calls of a fair mutex release it fairly, and what a step does to such a mutex while somebody waits.
-use Rattle.std.proofs.Common.{ℕ, Bool, true, false, Option, Some, None, if◌then◌else◌, ◌==◌, ◌≡◌, ◌≢◌, ◌≤◌, ◌+◌, ◌⊎◌, inl, inr, List, [], ◌∷◌, ◌++◌, length, refl, sym, ◌∙◌, ap, subst, arith}
-use Rattle.std.proofs.lemmas.Bool.{cases_eq, eqb-true}
-use Rattle.std.proofs.lemmas.Bool.Decides.{nat_tests}
-use Rattle.core_base.specs.declared.wants.Want.{Want}
-use Rattle.core_base.specs.declared.wants.Want.TheVariants.{Exclusive, Upgradable, Shared}
+use Rattle.std.proofs.Common.{ℕ, true, false, Some, ◌≡◌, ◌≢◌, ◌⊎◌, inl, inr, refl, sym, ◌∙◌, ap, subst}
+use Rattle.std.proofs.lemmas.Bool.{cases_eq}
 use Rattle.spec_locks.specs.declared.calls.Call.{Call}
 use Rattle.spec_locks.specs.declared.calls.Call.TheVariants as call
 use Rattle.spec_locks.specs.declared.calls.MutexCall.{MutexCall}
@@ -24,9 +21,8 @@ use Rattle.spec_locks.specs.declared.kinds.Kind.TheVariants as kind
 use Rattle.spec_locks.specs.declared.outcomes.Answer.{Answer}
 use Rattle.spec_locks.specs.declared.outcomes.Outcome.{Outcome}
 use Rattle.spec_locks.specs.declared.outcomes.Outcome as outcome
-use Rattle.spec_locks.specs.Calls.{lock_in}
 use Rattle.spec_locks.specs.Kinds.{is_plain_mutex}
-use Rattle.spec_locks.specs.Purposes.{Purpose, Enters, Releases, Converts, Bumps, CallsOnce, Awaits, Waits, Notifies, purpose_of, mutex_purpose, rwlock_purpose}
+use Rattle.spec_locks.specs.Purposes.{purpose_of, mutex_purpose, rwlock_purpose}
 use Rattle.spec_locks.specs.Runs.{LocksState, CallState, Does, HasRight, MayTurn, Turned, new_call, purpose_at, rights_in}
 use Rattle.spec_locks.specs.Bypass.{AllReleaseFairly, ReleasesFairly}
 use Rattle.spec_locks.proofs.Idle.{ends, goes_on, stay_own}

@@ -2,7 +2,6 @@
 -- from them.
 use Rattle.std.proofs.Common.{ℕ, zero, suc, Bool, true, false, Option, Some, None, if◌then◌else◌, ◌==◌, ◌≡◌, ◌≢◌, ◌≤◌, ◌+◌, ◌⊎◌, ◌↔◌, inl, inr, List, [], ◌∷◌, refl, sym, ◌∙◌, ap, subst, arith}
 use Rattle.std.proofs.lemmas.Bool.{cases_lt, eqb-true}
-use Rattle.std.specs.Prelude.{◌<◌}
 use Rattle.core_base.specs.declared.keys.Keys.{Keys}
 use Rattle.core_base.specs.declared.keys.Keys.TheVariants.{One, Two}
 use Rattle.core_base.specs.Keys.{key_of}
@@ -18,7 +17,7 @@ use Rattle.spec_locks.specs.Onces.{IsRunning, Phase, New, Poisoned, InProgress, 
 use Rattle.spec_locks.specs.Locks.{LockState, LockCase, Pending, Sort, Mutex, Normal, Recursive, Semaphore, Once, Condvar, Enter, Pend, Settle, Leave, Convert, Park, Aside, TakeFirst, TakeAside, TakePicked, Wake, HandOff, Late, Rollback, OfOnce, OfCondvar, SeeOwner, Look, Show, Hide, Taken, readers, has_caller, one_if_some, one_if_thread, standing, times}
 use Rattle.spec_locks.specs.Locks as locks
 use Rattle.spec_locks.specs.Purposes.{Purpose, Enters, Releases, Converts, Bumps, CallsOnce, Awaits, Waits, Notifies, Recall, Blank, Saw, SawOwner, HasMoved, WasMoved, WasNotified}
-use Rattle.spec_locks.specs.Sites.{Line, Main, Second, IsOpen, counts_some}
+use Rattle.spec_locks.specs.Sites.{Line, Main, Second, counts_some}
 use Rattle.spec_locks.specs.Runs.{LocksState, CallState, Event, Nothing, AtLock, Moves, AnswerHolds, Agrees, AreFree, Does, GoesOn, IsNotified, IsStep, IsTimely, MayBegin, MayDo, MayGo, MayHappen, MayTurn, MovedNobody, NotifiesAnswer, Turned, going_on, gives_up, new_call, rights_in, rules_at}
 use Rattle.spec_locks.specs.EachState.{IsQuiet, IsUp, Rests, WaitsForSome, full_by, sort_in}
 use Rattle.spec_locks.specs.EachStep.{Recalls, StepHolds}

@@ -1,5 +1,5 @@
 -- How long a thread waits for a mutex that is handed over: one that is k-th owns it after k others at most.
-use Rattle.std.specs.Prelude.{ℕ, zero, suc, Bool, true, Option, Some, None, if◌then◌else◌, ◌==◌, ◌+◌, ◌<◌, ◌≤◌, ◌≡◌, ◌≢◌, ◌⊎◌, List, [], ◌∷◌}
+use Rattle.std.specs.Prelude.{ℕ, zero, suc, true, Option, Some, None, if◌then◌else◌, ◌==◌, ◌+◌, ◌<◌, ◌≤◌, ◌≡◌, ◌≢◌, ◌⊎◌, List, [], ◌∷◌}
 use Rattle.spec_locks.specs.declared.calls.Step.{Step}
 use Rattle.spec_locks.specs.declared.outcomes.Outcome.{Outcome}
 use Rattle.spec_locks.specs.Locks.{LockState, Mutex, Queued, Taken, Owns, one_if_some, standing, times}

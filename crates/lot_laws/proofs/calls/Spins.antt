@@ -1,9 +1,7 @@
 -- In place of each exchange by which a waiting call sets a bit its thread may look at the word once more.
 use Rattle.std.proofs.Common.{ℕ, Bool, true, false, Option, Some, None, if◌then◌else◌, ◌==◌, ◌&&◌, not, ◌≡◌, ◌≢◌, ◌+◌, ◌-◌, ◌*◌, ◌%◌, ◌^◌, ◌⊎◌, is_some, inl, inr, refl, sym, ◌∙◌, ap, subst, arith}
-use Rattle.std.proofs.lemmas.Bool.{eqb-true}
 use Rattle.core_base.specs.declared.keys.Keys.TheVariants.{One}
 use Rattle.core_base.specs.declared.ops.Op.TheVariants as op
-use Rattle.core_base.specs.declared.wants.Want.TheVariants as want
 use Rattle.spec_locks.specs.declared.calls.Access.{Access}
 use Rattle.spec_locks.specs.declared.calls.Access.TheVariants as access
 use Rattle.spec_locks.specs.declared.calls.Downgrade.TheVariants as downgrade
@@ -50,7 +48,7 @@ use Rattle.steps_rwlock.specs.declared.purposes.RwLockPurpose.{RwLockPurpose}
 use Rattle.steps_rwlock.specs.declared.purposes.RwLockPurpose.TheVariants as purpose
 use Rattle.steps_rwlock.specs.declared.enter.Decision.{Decision}
 use Rattle.steps_rwlock.specs.declared.enter.Decision.TheVariants as decisions
-use Rattle.steps_rwlock.specs.RwLockSteps.{act_at, decided as decides, decided_act, give_op, park_act, plus, rollback_op, unparked, wake_act, want_at, word_taken}
+use Rattle.steps_rwlock.specs.RwLockSteps.{act_at, decided as decides, decided_act, give_op, park_act, plus, rollback_op, wake_act, want_at, word_taken}
 use Rattle.steps_rwlock.specs.RwLockProfiles.{gone_to, is_mark, looking_at}
 use Rattle.steps_rwlock_fair.specs.declared.places.RwLockCallPlace.{RwLockCallPlace}
 use Rattle.steps_rwlock_fair.specs.declared.places.RwLockCallPlace.TheVariants as fair
@@ -59,7 +57,6 @@ use Rattle.steps_rwlock_fair.specs.declared.hand_over.HandOverAt.TheVariants as 
 use Rattle.steps_rwlock_fair.specs.declared.handed.HandedAt.TheVariants as handed
 use Rattle.steps_rwlock_fair.specs.FairProfiles.{call_looking, in_call}
 use Rattle.steps_rwlock_fair.specs.FairSteps.{accept_act, call_act, hand_over_act}
-use Rattle.steps_condvar.specs.declared.places.CondvarPlace.{CondvarPlace}
 use Rattle.steps_condvar.specs.declared.places.CondvarPlace.TheVariants as condvar
 use Rattle.steps_condvar.specs.declared.wait.WaitAt.{WaitAt}
 use Rattle.steps_condvar.specs.declared.wait.WaitAt.TheVariants as wait

@@ -1,9 +1,7 @@
 -- A fair mutex is released fairly, is owned while somebody waits for it, and lets nobody be overtaken.
-use Rattle.std.proofs.Common.{ℕ, zero, suc, Bool, true, false, Option, Some, None, if◌then◌else◌, ◌==◌, ◌≡◌, ◌≢◌, ◌+◌, ◌≤◌, ◌<◌, ◌⊎◌, inl, inr, List, [], ◌∷◌, length, get_or-set_other, get_or-set_same, refl, sym, ◌∙◌, ap, subst, arith}
-use Rattle.std.proofs.lemmas.Bool.{cases_eq, cases_lt, eqb-true}
+use Rattle.std.proofs.Common.{ℕ, Bool, true, false, Option, Some, None, if◌then◌else◌, ◌==◌, ◌≡◌, ◌≢◌, ◌≤◌, ◌<◌, inl, inr, List, [], ◌∷◌, length, get_or-set_other, get_or-set_same, refl, sym, ◌∙◌, ap, subst, arith}
+use Rattle.std.proofs.lemmas.Bool.{cases_eq, eqb-true}
 use Rattle.std.proofs.lemmas.Bool.Decides.{nat_tests}
-use Rattle.core_base.specs.declared.wants.Want.{Want}
-use Rattle.core_base.specs.declared.wants.Want.TheVariants.{Exclusive}
 use Rattle.spec_locks.specs.declared.calls.Step.{Step}
 use Rattle.spec_locks.specs.declared.kinds.Kind.{Kind}
 use Rattle.spec_locks.specs.declared.kinds.Kind.TheVariants as kinds
@@ -17,7 +15,6 @@ use Rattle.spec_locks.specs.Runs.{IsOpening}
 use Rattle.spec_locks.specs.Sites.{Role, has_readers, idle}
 use Rattle.spec_locks.proofs.FairEvents.{FairlyGoes, fairly_goes}
 use Rattle.spec_locks.proofs.FairQueues.{fair_stays}
-use Rattle.steps_condvar.specs.declared.places.CondvarPlace.{CondvarPlace}
 use Rattle.steps_condvar.specs.CondvarSteps.{mutex_beside}
 use Rattle.steps_mutex.specs.declared.hand_off.HandOffAt.TheVariants as hand_off
 use Rattle.steps_mutex.specs.declared.lock.LockAt.TheVariants as lock
@@ -38,7 +35,6 @@ use Rattle.lot_laws.proofs.once.Marks.{opening_unmarked, unmarked_after}
 use Rattle.lot_laws.proofs.once.Runs.{opening_running, put_running, running_after}
 use Rattle.lot_laws.proofs.promises.Promises.{opening_is}
 use Rattle.lot_machine.specs.Machine.{State, after, kind_at, opening, place_at, put, runs_closure, step_outcome, word_at}
-use Rattle.lot_laws.specs.Fair.{HandsMutexOver, LetsMutexGo, OwnsOn}
 use Rattle.lot_laws.specs.Locations.{role_on}
 use Rattle.lot_laws.specs.Refinement.{call_at, call_on_both, call_state, lock_state, locks_of}
 use Rattle.lot_laws.specs.SitesOf.{AreFairMutexes, FitsItsLock, IsFairMutex, IsInductive, IsSettled, IsWorld, AreCondvars, AreCounted, is_mutex, rules_in}

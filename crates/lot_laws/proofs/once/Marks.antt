@@ -11,7 +11,6 @@ use Rattle.spec_locks.specs.declared.calls.Turn.{Turn}
 use Rattle.spec_locks.specs.declared.calls.Turn as turn
 use Rattle.spec_locks.specs.declared.kinds.Kind.{Kind}
 use Rattle.spec_locks.specs.declared.kinds.Kind.TheVariants as kinds
-use Rattle.spec_locks.specs.Codes.{code, is_marked}
 use Rattle.spec_locks.specs.Locks.{Sort}
 use Rattle.spec_locks.specs.Locks as locks
 use Rattle.spec_locks.specs.Onces.{Phase, New, Poisoned, InProgress, Done}
@@ -35,7 +34,7 @@ use Rattle.steps_once.specs.declared.places.OncePlace.{OncePlace}
 use Rattle.steps_once.specs.declared.places.OncePlace.TheVariants.{Look, Run, GiveUp}
 use Rattle.steps_once.specs.declared.places.TheConstants.{NOT_PARKED}
 use Rattle.steps_once.specs.declared.run.RunAt.TheVariants as run
-use Rattle.steps_once.specs.OnceSteps.{course_act, course_of, is_forced, marked, once_act, started, want_of, word_behind}
+use Rattle.steps_once.specs.OnceSteps.{course_act, course_of, is_forced, marked, once_act, started, want_of}
 use Rattle.steps_once.proofs.OnceWords.{MayGo, coded, marked_is, may_go, started_is, unmarked_is, word}
 use Rattle.steps_rwlock_fair.specs.FairSteps.{call_act}
 use Rattle.steps_semaphore.specs.SemaphoreSteps.{semaphore_act}
@@ -44,7 +43,7 @@ use Rattle.lot_steps.specs.declared.places.Place.TheVariants.{Idle, Mutex, RwLoc
 use Rattle.lot_steps.specs.Steps.{act_of, late_key, looking}
 use Rattle.lot_machine.specs.declared.locks.Lock.{Lock}
 use Rattle.lot_machine.specs.Fits.{IsWellFormed}
-use Rattle.lot_machine.specs.Machine.{State, after, can_turn, closed_place, is_possible, kind_at, opening, first_word, place_at, put, queue_at, queues_with_last, queues_without_first, state_after_act, state_after_close, state_after_go, state_after_hand_over_by, state_after_late_on, state_after_look, state_after_taking, state_after_turn, unlocked, word_at}
+use Rattle.lot_machine.specs.Machine.{State, after, can_turn, is_possible, kind_at, opening, first_word, place_at, put, queue_at, queues_with_last, queues_without_first, state_after_act, state_after_close, state_after_go, state_after_hand_over_by, state_after_late_on, state_after_look, state_after_taking, state_after_turn, unlocked, word_at}
 use Rattle.lot_machine.proofs.Closures.{IsOwn, call_own, mutex_own, semaphore_own}
 use Rattle.lot_machine.proofs.KindsStay.{set_all}
 use Rattle.lot_machine.proofs.Shape.{both}

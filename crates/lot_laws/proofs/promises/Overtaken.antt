@@ -1,29 +1,24 @@
 -- A run of the world passes a fair mutex on no more often than there were threads before one that waits.
-use Rattle.std.proofs.Common.{ℕ, zero, suc, Bool, true, false, Option, Some, None, if◌then◌else◌, ◌==◌, ◌≡◌, ◌≢◌, ◌+◌, ◌≤◌, ◌<◌, ◌⊎◌, inl, inr, List, [], ◌∷◌, length, refl, sym, ◌∙◌, ap, subst, arith}
+use Rattle.std.proofs.Common.{ℕ, zero, suc, true, false, Option, Some, None, ◌≡◌, ◌≢◌, ◌+◌, ◌≤◌, ◌<◌, ◌⊎◌, inl, inr, List, [], ◌∷◌, length, refl, sym, ◌∙◌, ap, subst, arith}
 use Rattle.std.proofs.lemmas.Bool.{cases_lt}
-use Rattle.std.proofs.lemmas.List.{get_or_past}
-use Rattle.core_base.specs.declared.wants.Want.{Want}
 use Rattle.spec_locks.specs.declared.calls.Step.{Step}
 use Rattle.spec_locks.specs.declared.kinds.Kind.{Kind}
 use Rattle.spec_locks.specs.declared.kinds.Kind.TheVariants as kinds
-use Rattle.spec_locks.specs.Bypass.{IsHandedOn, PassesOn, ahead, in_hands, passed, turns}
+use Rattle.spec_locks.specs.Bypass.{IsHandedOn, PassesOn, ahead, in_hands}
 use Rattle.spec_locks.specs.Locks.{LockState, Queued, Taken, one_if_some, standing, times}
 use Rattle.spec_locks.specs.Locks as locks
 use Rattle.spec_locks.specs.Purposes.{MayWait, rules_of}
 use Rattle.spec_locks.specs.Sites.{Line, Main, Second, has_readers}
 use Rattle.spec_locks.proofs.Bypass.{bypass_is_bounded}
-use Rattle.lot_steps.specs.declared.places.Place.{Place}
 use Rattle.lot_steps.specs.declared.places.Place.TheVariants.{Idle}
-use Rattle.lot_machine.specs.Fits.{SameSize}
-use Rattle.lot_machine.specs.Machine.{State, after, after_steps, kind_at, place_at, step_outcome, step_outcomes}
+use Rattle.lot_machine.specs.Machine.{State, after, after_steps, kind_at, place_at, step_outcomes}
 use Rattle.lot_machine.proofs.Shape.{after_size}
 use Rattle.lot_laws.specs.Promises.{IsKept, WaitsFor}
 use Rattle.lot_laws.specs.Owing.{IsInside}
 use Rattle.lot_laws.specs.Refinement.{call_at, call_state, lock_state, locks_of, taken_at}
-use Rattle.lot_laws.specs.SitesOf.{IsWorld, TakesOne, hand_at, key_of, rules_in}
+use Rattle.lot_laws.specs.SitesOf.{IsWorld, rules_in}
 use Rattle.lot_laws.specs.Overtaking.{NobodyIsOvertaken, StandsThroughout, passes}
 use Rattle.lot_laws.proofs.alone.WorldRuns.{step_is, world_after, world_kept}
-use Rattle.lot_laws.proofs.calls.SingleCalls.{call_none}
 use Rattle.lot_laws.proofs.machine.KindsStay.{after_kinds}
 use Rattle.lot_laws.proofs.machine.Parts.{past_all, taken_held}
 use Rattle.lot_laws.proofs.mutex.FairMutexes.{goes_fairly}

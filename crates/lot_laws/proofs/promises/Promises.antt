@@ -315,7 +315,7 @@ module _ (w : State) (steady : IsInductive w) where
       let free = (steady.sites.site l).state.unwritten (λ k. subst (λ x. sorts.Knows x Exclusive) sort k) in
       let found : Distinct (length (lock_state w l).shared) (λ u. debt (role_on (place_at w u) l)) ((rules_in w l).limit - readers (lock_state w l)) =
       distinct (length (lock_state w l).shared) (λ u. debt (role_on (place_at w u) l)) _ (λ u. few_debts w steady l sort u)
-          (let enough : (rules_in w l).limit ≤ readers (lock_state w l) + debts (site_of w l) = (steady.sites.permits l sort).0.enough some in omega arith) in record {
+      (let enough : (rules_in w l).limit ≤ readers (lock_state w l) + debts (site_of w l) = (steady.sites.permits l sort).0.enough some in omega arith) in record {
         debtor = found.thread;
         apart = found.apart;
         each = λ i lt. looked_by (found.thread i) l (subst (λ x. IsDebtorRole x (role_on (place_at w (found.thread i)) l)) (sym sort) (owing_role (role_on (place_at w (found.thread i)) l) (found.owes i lt)))
