@@ -16,6 +16,9 @@ abbrev pub StayedOut : {Token : Type 0} → Between Token → Between Token → 
 StayedOut {Token} saw_others failed old new =
     (looked : Token) × saw_others old looked × failed looked new
 
+abbrev pub Both : {Token : Type 0} → Between Token → Between Token → Between Token
+Both one other old new = one old new × other old new
+
 -- it counted once less, or it counted out, and gave the mutex up
 abbrev pub WentOff : {Token : Type 0} → Between Token → Between Token → Between Token → Token
     → Token → Type 0

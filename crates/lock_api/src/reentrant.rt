@@ -3,7 +3,7 @@ ghost use Rattle.std.specs.Prelude.{◌≡◌, ◌+◌, Err, IfOk, IfSome, IsOk,
 ghost use Rattle.std.specs.Arc.{arc_value};
 ghost use Rattle.lock_raw.specs.Answers.{IsRefusal};
 ghost use Rattle.lock_raw.specs.Counts.{CountedAgain, CountedLess, CountedMore, CountedOut, CountedOutAlone, SawFull, SawMore, SawOthers, first_count};
-ghost use Rattle.lock_api.specs.Reentrant.{Bumped, CameIn, StayedOut, WentOff};
+ghost use Rattle.lock_api.specs.Reentrant.{Both, Bumped, CameIn, StayedOut, WentOff};
 ghost use Rattle.core_base.specs.declared.faults.Fault.TheVariants.{LockCountFull};
 ghost use Rattle.spec_locks.specs.declared.calls.MutexCall.TheVariants.{Bump, Lock, TryLock, Unlock, UnlockFair};
 ghost use Rattle.spec_locks.specs.declared.outcomes.Answer.TheVariants as answers;
@@ -188,6 +188,16 @@ where
     }
 }
 
+impl<R: RawMutexCounted, G, T> ReentrantMutex<R, G, T> {
+    /// The raw mutex.
+    #[inline]
+    pub fn raw(&self) -> &R
+        ensures { result.now ≡ self.now.0 }
+    {
+        &self.raw
+    }
+}
+
 impl<R: RawMutexCounted, G, T> Deref for ReentrantMutexGuard<'_, R, G, T> {
     type Target = T;
 
@@ -201,7 +211,8 @@ impl<R: RawMutexCounted, G, T> Deref for ReentrantMutexGuard<'_, R, G, T> {
 }
 
 impl<R: RawMutexCounted, G, T> ReentrantMutexGuard<'_, R, G, T> {
-    /// Gives one share up. The last one gives the mutex up, and wakes the first that waits for it.
+    /// Gives one share up. The last one gives the mutex up, and wakes the first that waits for it: the
+    /// record of the section says whether there was one.
     #[inline]
     pub fn unlock<W: Wait>(self, rt: &W, token: &mut R::Token)
         requires { R.is_token_of (R.lot_of self.mutex.now.0) token.old }
@@ -209,7 +220,8 @@ impl<R: RawMutexCounted, G, T> ReentrantMutexGuard<'_, R, G, T> {
             × R.stays token.old token.new }
         ensures path { WentOff (CountedLess (R.stored_count self.entry.mutex.now.0))
             (CountedOut (R.stored_count self.entry.mutex.now.0))
-            (R.walked self.entry.mutex.now.0 Unlock answers.Ok) token.old token.new }
+            (Both (R.walked self.entry.mutex.now.0 Unlock answers.Ok)
+            (R.released self.entry.mutex.now.0 Unlock)) token.old token.new }
     {
         let ReentrantMutexGuard {
             mutex,
@@ -319,7 +331,8 @@ impl<R: RawMutexCounted + RawMutexFair, G, T> ReentrantMutexGuard<'_, R, G, T> {
             × R.stays token.old token.new }
         ensures path { WentOff (CountedLess (R.stored_count self.entry.mutex.now.0))
             (CountedOut (R.stored_count self.entry.mutex.now.0))
-            (R.walked self.entry.mutex.now.0 UnlockFair answers.Ok) token.old token.new }
+            (Both (R.walked self.entry.mutex.now.0 UnlockFair answers.Ok)
+            (R.released self.entry.mutex.now.0 UnlockFair)) token.old token.new }
     {
         let ReentrantMutexGuard {
             mutex,
@@ -361,7 +374,8 @@ impl<'a, R: RawMutexCounted, G, T> Unlocks for ReentrantMutexGuard<'a, R, G, T> 
         × R.stays old new
         × WentOff (CountedLess (R.stored_count guard.mutex.now.0))
         (CountedOut (R.stored_count guard.mutex.now.0))
-        (R.walked guard.mutex.now.0 Unlock answers.Ok) old new };
+        (Both (R.walked guard.mutex.now.0 Unlock answers.Ok)
+        (R.released guard.mutex.now.0 Unlock)) old new };
 
     #[inline]
     fn unlock<W: Wait>(self, rt: &W, token: &mut R::Token) {
@@ -374,7 +388,8 @@ impl<'a, R: RawMutexCounted + RawMutexFair, G, T> UnlocksFair for ReentrantMutex
         × R.stays old new
         × WentOff (CountedLess (R.stored_count guard.mutex.now.0))
         (CountedOut (R.stored_count guard.mutex.now.0))
-        (R.walked guard.mutex.now.0 UnlockFair answers.Ok) old new };
+        (Both (R.walked guard.mutex.now.0 UnlockFair answers.Ok)
+        (R.released guard.mutex.now.0 UnlockFair)) old new };
 
     #[inline]
     fn unlock_fair<W: Wait>(self, rt: &W, token: &mut R::Token) {

@@ -1,6 +1,10 @@
 //! Reader-writer locks that are shown.
-ghost use Rattle.std.specs.Prelude.{◌≡◌, IfSome};
+ghost use Rattle.std.specs.Prelude.{◌≡◌, ◌⊎◌, IfSome, MatchOption};
 ghost use Rattle.lock_api_rw.specs.Guards.{lock_of};
+ghost use Rattle.spec_locks.specs.declared.calls.Access.TheVariants as access;
+ghost use Rattle.spec_locks.specs.declared.calls.Patience.TheVariants.{Try};
+ghost use Rattle.spec_locks.specs.declared.calls.RwLockCall.TheVariants.{Enter};
+ghost use Rattle.spec_locks.specs.declared.outcomes.Answer.TheVariants as answers;
 
 use crate::guards::RwLockReadGuard;
 use crate::rwlock::RwLock;
@@ -16,11 +20,16 @@ impl<R: RawRwLock, T> RwLock<R, T> {
         requires { R.is_token_of (R.lot_of self.now) token.old }
         ensures token { R.is_token_of (R.lot_of self.now) token.new × R.stays token.old token.new }
         ensures guard { IfSome result.guard (λ guard. lock_of guard ≡ self.now) }
+        ensures path { MatchOption result.guard
+            ((R.walked self.now (Enter access.Shared Try) answers.No token.old token.new)
+            ⊎ (R.walked self.now (Enter access.Shared Try) answers.ReadersFull token.old token.new
+            × R.saw_full self.now access.Shared token.old token.new))
+            (λ _. R.walked self.now (Enter access.Shared Try) answers.Yes token.old token.new) }
     {
-        let guard = match self.try_read(rt, token) {
-            Ok(guard) => guard,
-            Err(_) => None,
-        };
-        Shown::new(LockName::RwLock, guard)
+        match self.try_read(rt, token) {
+            Ok(Some(guard)) => Shown::new(LockName::RwLock, Some(guard)),
+            Ok(None) => Shown::new(LockName::RwLock, None),
+            Err(_) => Shown::new(LockName::RwLock, None),
+        }
     }
 }

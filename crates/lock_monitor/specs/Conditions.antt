@@ -1,5 +1,7 @@
 -- One of several condition variables, and the steps of waits on it.
 use Rattle.std.specs.Prelude.{◌≡◌, ◌⊎◌, ℕ, List, slice_index_or}
+use Rattle.core_base.specs.declared.faults.Fault.{Fault}
+use Rattle.core_base.specs.declared.faults.Fault.TheVariants as faults
 use Rattle.lock_api.specs.Waits.{WaitsAnyTimes}
 use Rattle.spec_locks.specs.declared.outcomes.Answer.{Answer}
 use Rattle.spec_locks.specs.declared.outcomes.Answer.TheVariants.{Notified, TimedOut, TwoMutexes}
@@ -26,3 +28,14 @@ abbrev pub WaitsOftenInTime : {Token : Type 0} → (Answer → Token → Token �
 WaitsOftenInTime {Token = Token} waited old new = (last : Token)
     × WaitsOften waited Notified old last
     × ((new ≡ last) ⊎ WaitsAtLast waited TimedOut last new)
+
+-- a thread came in, waited, and went
+abbrev pub CameWaitedAndWent : {Token : Type 0} → (Token → Token → Type 0) → (Token → Token → Type 0)
+    → (Token → Token → Type 0) → Token → Token → Type 0
+CameWaitedAndWent {Token = Token} came waited went old new = (inside : Token) × (awake : Token)
+    × came old inside × waited inside awake × went awake new
+
+-- memory was refused, or the last thing that the thread did was to find the lot full
+abbrev pub IsRefusedAtLast : {Token : Type 0} → (Token → Token → Type 0) → Token → Fault → Type 0
+IsRefusedAtLast {Token = Token} found_full new fault = (fault ≡ faults.NoMemory)
+    ⊎ ((fault ≡ faults.LotFull) × ((before : Token) × found_full before new))

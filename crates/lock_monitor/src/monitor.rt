@@ -1,12 +1,12 @@
 //! The mutex with its condition variables.
-ghost use Rattle.std.specs.Prelude.{◌≡◌, ◌<◌, All, IfOk, MatchResult, false, length, slice_index_or, true};
+ghost use Rattle.std.specs.Prelude.{◌≡◌, ◌<◌, All, IfErr, IfOk, MatchResult, false, length, slice_index_or, true};
 ghost use Rattle.std.specs.Arc.{arc_value};
 ghost use Rattle.std.specs.Fn.{FnOnceReturnsAtMut};
 ghost use Rattle.lock_api.specs.Conditions.{WaitedOrNot};
 ghost use Rattle.lock_api.specs.Guards.{lock_of};
 ghost use Rattle.lock_api.specs.Visits.{CameAndWent};
 ghost use Rattle.lock_raw.specs.Answers.{moved_first, notifying_answer};
-ghost use Rattle.lock_monitor.specs.Conditions.{At};
+ghost use Rattle.lock_monitor.specs.Conditions.{At, IsRefusedAtLast};
 ghost use Rattle.spec_locks.specs.declared.calls.MutexCall.TheVariants.{Lock, Unlock};
 ghost use Rattle.spec_locks.specs.declared.outcomes.Answer.TheVariants as answers;
 
@@ -49,6 +49,8 @@ fn conditions<R: RawCondvar + Drop>(
         × WaitedOrNot R.RawMutex.stays token.old token.new }
     ensures made { IfOk result (λ made. (length made.items ≡ number)
         × All (λ condition. R.lot_of condition ≡ arc_value lot.now) made.items) }
+    ensures err { IfErr result
+        (IsRefusedAtLast (R.RawMutex.found_full (arc_value lot.now)) token.new) }
 {
     let mut made = Vec::with_capacity(alloc, number)?;
     for _ in 0..number {
@@ -76,7 +78,8 @@ impl<R: RawCondvar + Drop, T, const N: usize> Monitor<R, T, N> {
             × WaitedOrNot R.RawMutex.stays token.old token.new }
         ensures made { MatchResult result
             (λ monitor. R.RawMutex.lot_of monitor.0 ≡ arc_value lot.now)
-            (λ refused. refused.1 ≡ value) }
+            (λ refused. (refused.1 ≡ value) × IsRefusedAtLast
+            (R.RawMutex.found_full (arc_value lot.now)) token.new refused.0) }
     {
         match conditions(alloc, lot, token, N) {
             Ok(conditions) => match Mutex::new(lot, token, value) {

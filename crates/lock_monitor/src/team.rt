@@ -3,7 +3,7 @@ ghost use Rattle.std.specs.Prelude.{◌≡◌, ◌⊎◌, ◌↔◌, ◌+◌, Al
 ghost use Rattle.std.specs.Arc.{arc_value};
 ghost use Rattle.parking_lot_core.specs.Team.{AreSizes};
 ghost use Rattle.parking_lot_core.specs.Tokens.{IsTicketOf, IsTokenOf};
-ghost use Rattle.lock_monitor.specs.Calls.{MayAnswer, MayRun, GivesTokenBack};
+ghost use Rattle.lock_monitor.specs.Calls.{EachHasRun, GivesTokenBack, HasRun, MayAnswer, MayRun};
 
 use parking_lot_core::{DEFAULT_WORDS, Fault, ParkingLot, Ticket, Token};
 use std::alloc::Global;
@@ -55,7 +55,8 @@ fn run_one<U, F: Fn(&mut Token) -> U>(lot: &ParkingLot, ticket: Ticket, f: &F) -
 // Calls the closure so many times in between.
 fn run_times<F: Fn(&mut Token)>(lot: &ParkingLot, ticket: Ticket, times: u64, f: &F) -> Ticket
     requires { IsTicketOf lot.now ticket × MayRun F.Fn f.now lot.now × GivesTokenBack F.Fn f.now lot.now }
-    ensures { IsTicketOf lot.now result }
+    ensures ticket { IsTicketOf lot.now result }
+    ensures ran { HasRun F.Fn f.now lot.now times result }
 {
     let mut token = ticket.enter();
     for _ in 0..times {
@@ -152,6 +153,7 @@ impl Team {
         requires may { MayRun F.Fn f.now self }
         requires stays { GivesTokenBack F.Fn f.now self }
         ensures team { IfOk result (λ team. team ≡ self) }
+        ensures calls { IfOk result (λ _. EachHasRun F.Fn f.now self times) }
         ensures err { IfErr result (λ fault. fault ≡ Fault.NoMemory) }
     {
         let Team { lot, tickets } = self;
@@ -162,7 +164,8 @@ impl Team {
             &|ticket: Ticket| -> Ticket
                 requires { IsTicketOf shared.now ticket × MayRun F.Fn f.now shared.now
                     × GivesTokenBack F.Fn f.now shared.now }
-                ensures { IsTicketOf shared.entry.now result }
+                ensures { IsTicketOf shared.entry.now result
+                    × HasRun F.Fn f.entry.now shared.entry.now times.entry result }
             { run_times(shared, ticket, times, f) },
         )?;
         Ok(Team { lot, tickets })

@@ -7,7 +7,8 @@ ghost use Rattle.core_base.specs.Clocks.{HasPassed};
 ghost use Rattle.lock_raw.specs.Answers.{late_answer};
 ghost use Rattle.lock_api.specs.Conditions.{WaitedOrNot};
 ghost use Rattle.lock_api.specs.Guards.{lock_of, value_of};
-ghost use Rattle.lock_monitor.specs.Conditions.{At, WaitsAtLast, WaitsOften, WaitsOftenInTime};
+ghost use Rattle.lock_monitor.specs.Conditions.{At, CameWaitedAndWent, WaitsAtLast, WaitsOften, WaitsOftenInTime};
+ghost use Rattle.spec_locks.specs.declared.calls.MutexCall.TheVariants.{Lock, Unlock};
 ghost use Rattle.spec_locks.specs.declared.outcomes.Answer.TheVariants as answers;
 
 use crate::monitor::Monitor;
@@ -82,6 +83,11 @@ impl<R: RawCondvar, T, const N: usize> Monitor<R, T, N> {
         ensures ran { (found : T) × (left : T)
             × StoppedAt C.step (CallKeepsClosure C.FnMut condition) condition found
             × FnOnceReturnsAtMut F.FnOnce f found result left }
+        ensures path { CameWaitedAndWent (R.RawMutex.walked self.now.0 Lock answers.Ok)
+            (λ inside awake. At self.now.1 at (λ condvar. WaitsOften
+            (R.waited condvar self.now.0 false) answers.Ok inside awake))
+            (λ awake new. R.RawMutex.walked self.now.0 Unlock answers.Ok awake new
+            × R.RawMutex.released self.now.0 Unlock awake new) token.old token.new }
     {
         let guard = self.lock(rt, token);
         let mut guard = self.wait_while(rt, token, guard, at, condition);

@@ -270,7 +270,7 @@ pub(crate) fn sleep<'a, R: Wait, C: Clock>(
 {
     let limit = sleeper.late.and(limit);
     match lot.sleep(rt, token, word, sleeper.want, limit) {
-        Slept::Woken(note) => Reply::Woken(note.kind()),
+        Slept::Woken(_) => Reply::Woken(Note::Normal),
         Slept::Handed(right) if sleeper.takes_over => {
             lot.join_right(token, right);
             Reply::Woken(Note::HandOff)

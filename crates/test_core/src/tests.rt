@@ -1,6 +1,8 @@
 //! Each call of the lot once, and threads that meet in its queues.
 mod buckets;
 mod clocks;
+mod doubled;
+mod lots;
 mod many;
 mod mutexes;
 mod parts;

@@ -60,27 +60,35 @@ fn who_is_not_woken_is_late(rt: HostRuntime) {
     check_eq(&rt, clock.now(), 1006);
 }
 
-// A clock on which time passes by pauses alone.
+// A clock on which time passes by pauses alone. It counts them.
 #[derive(Drop)]
-struct PauseClock(AtomicU64);
+struct PauseClock {
+    time: AtomicU64,
+    pauses: AtomicU64,
+}
 
 impl Clock for PauseClock {
     ghost tells = { λ _ _. Unit {0} };
 
     fn now(&self) -> u64 {
-        self.0.load(SeqCst)
+        self.time.load(SeqCst)
     }
 
     fn pause(&self, left: u64) {
-        self.0.fetch_add(left, SeqCst);
+        self.time.fetch_add(left, SeqCst);
+        self.pauses.fetch_add(1, SeqCst);
     }
 }
 
 #[test]
 fn a_sleeper_pauses_for_what_is_left(rt: HostRuntime) {
-    let clock = PauseClock(AtomicU64::new(1000));
+    let clock = PauseClock {
+        time: AtomicU64::new(1000),
+        pauses: AtomicU64::new(0),
+    };
     is_late(&rt, rt.alloc(), (&clock, 1005));
     check_eq(&rt, clock.now(), 1005);
+    check_eq(&rt, clock.pauses.load(SeqCst), 1);
 }
 
 // A clock that notes that it was asked, past each deadline of 0.

@@ -3,6 +3,7 @@ use Rattle.std.specs.Arc.{arc_value}
 use Rattle.std.proofs.lemmas.List.{length-append}
 use Rattle.lock_api.proofs.Stays.{stays_behind}
 use Rattle.lock_monitor.proofs.More.{all_more}
+use Rattle.lock_monitor.proofs.Stays.{refused_at_last}
 use Rattle.lock_monitor.proofs.monitor.conditions.Goals as goal
 
 pub returns-in_err-new-clause-token : goal.returns-in_err-new-clause-token
@@ -20,3 +21,6 @@ loop-preserved g c = record {
   counted = ap length c.in_ok-push.ensures.items ∙ length-append _ _ ∙ ap (λ n. n + 1) c.loop.invariant.counted;
   together = all_more (λ condition. g.R.RawCondvar.lot_of condition ≡ arc_value c.args.lot.now) c.loop.made.items c.push.new.self.items c.in_ok-new.field-0 c.in_ok-push.ensures.items c.loop.invariant.together c.in_ok-new.ensures.made;
 }
+
+pub returns-in_err-new-clause-err : goal.returns-in_err-new-clause-err
+returns-in_err-new-clause-err g c = refused_at_last (g.R.RawMutex.RawMutex.found_full (arc_value c.args.lot.now)) _ _ _ c.in_err-new.ensures.made

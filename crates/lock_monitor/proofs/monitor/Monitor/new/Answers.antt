@@ -1,4 +1,6 @@
+use Rattle.std.specs.Arc.{arc_value}
 use Rattle.lock_api.proofs.Stays.{stays_behind}
+use Rattle.lock_monitor.proofs.Stays.{refused_at_last}
 use Rattle.lock_monitor.proofs.monitor.Monitor.new.Goals as goal
 
 pub returns-in-Ok-new-clause-token : goal.returns-in-Ok-new-clause-token
@@ -8,3 +10,6 @@ returns-in-Ok-new-clause-token g c =
 pub returns-in-Err-new-clause-token : goal.returns-in-Err-new-clause-token
 returns-in-Err-new-clause-token g c =
     (c.in-Err-new.ensures.token.0, stays_behind g.R.RawMutex.RawMutex.stays g.R.RawMutex.RawMutex.stays_on _ _ _ c.in-Ok.ensures.token.1 c.in-Err-new.ensures.token.1)
+
+pub returns-in-Err-new-clause-made : goal.returns-in-Err-new-clause-made
+returns-in-Err-new-clause-made g c = (c.in-Err-new.ensures.made.0, refused_at_last (g.R.RawMutex.RawMutex.found_full (arc_value c.args.lot.now)) _ _ _ c.in-Err-new.ensures.made.1)

@@ -1,5 +1,7 @@
 use Rattle.std.proofs.Common.{subst}
 use Rattle.std.specs.Fn.{FnOnceReturnsAtMut}
+use Rattle.spec_locks.specs.declared.calls.MutexCall.TheVariants.{Unlock}
+use Rattle.spec_locks.specs.declared.outcomes.Answer.TheVariants as answers
 use Rattle.lock_monitor.proofs.Stays.{stays_after}
 use Rattle.lock_monitor.proofs.monitor.Monitor.with_while.Goals as goal
 
@@ -15,4 +17,14 @@ returns-clause-ran g c = (
   _,
   c.wait_while-guard.ensures.ended,
   subst (λ found. FnOnceReturnsAtMut g.F.FnOnce c.args.f found c.run_on-answer.result c.run_on-answer.new.value) c.deref_mut.ensures.shows c.run_on-answer.ensures,
+)
+
+pub returns-clause-path : goal.returns-clause-path
+returns-clause-path g c = (
+  _,
+  _,
+  c.lock-guard.ensures.path,
+  c.wait_while-guard.ensures.path,
+  subst (λ mutex. g.R.RawMutex.RawMutex.walked mutex Unlock answers.Ok c.wait_while-guard.new.token c.unlock.new.token × g.R.RawMutex.RawMutex.released mutex Unlock c.wait_while-guard.new.token c.unlock.new.token)
+      c.wait_while-guard.ensures.guard (c.unlock.ensures.path, c.unlock.ensures.record),
 )
