@@ -1,5 +1,5 @@
 //! Programs of lock calls: for each thread a list of instructions.
-ghost use Rattle.std.specs.Prelude.{◌≡◌, length};
+ghost use Rattle.std.specs.Prelude.{◌≡◌, ◌<◌, ◌-◌, ◌^◌, IfSome, length};
 ghost use Rattle.lot_program.specs.Programs.{told_by, told_number, number_of, holds, compares, instruction_at};
 
 use lot_world::{Answer, Call, Kind};
@@ -157,7 +157,8 @@ impl Test {
         ensures { result ≡ holds variables.now self }
     {
         let first = variable_in(variables, self.variable);
-        self.comparison.compares(first, self.value.number(variables))
+        self.comparison
+            .compares(first, self.value.number(variables))
     }
 }
 
@@ -171,10 +172,15 @@ impl Program {
 
     /// The instruction of a thread with this number.
     pub fn instruction(&self, thread: usize, at: usize) -> Option<Instruction>
-        ensures { result ≡ instruction_at self.now thread at }
+        ensures instruction { result ≡ instruction_at self.now thread at }
+        ensures few { IfSome result (λ _. at < 2 ^ 64 - 1) }
     {
-        if thread < self.code.len() {
-            self.code[thread].get(at).copied()
+        if thread >= self.code.len() {
+            return None;
+        }
+        let code = self.code[thread].as_slice();
+        if at < code.len() {
+            Some(code[at])
         } else {
             None
         }
