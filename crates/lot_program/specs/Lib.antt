@@ -1,2 +1,3 @@
 pub mod Programs
 pub mod States
+pub mod Rows
