@@ -1,8 +1,9 @@
 -- Programs of lock calls: values, tests, and the instructions of a thread.
-use Rattle.std.specs.Prelude.{ℕ, Bool, Option, Some, None, List, [], map, length, not, ◌==◌, nat_lt, nat_le, slice_index, slice_index_or}
+use Rattle.std.specs.Prelude.{ℕ, Bool, Option, Some, None, List, [], map, length, not, ◌==◌, nat_lt, nat_le, slice_index, slice_index_or, true, ◌≡◌, ◌≤◌, All}
 use Rattle.std.specs.List.{slice_get}
 use Rattle.spec_locks.specs.declared.outcomes.Answer.{Answer}
 use Rattle.spec_locks.specs.declared.outcomes.Answer.TheVariants as answer
+use Rattle.spec_locks.specs.Kinds.{fits}
 use Rattle.lot_program.specs.declared.program.Value.{Value}
 use Rattle.lot_program.specs.declared.program.Value.TheVariants.{Number, Variable}
 use Rattle.lot_program.specs.declared.program.Comparison.{Comparison}
@@ -64,3 +65,11 @@ code_of p t = slice_index_or (map (λ code. code.items) p.code.items) t []
 -- the instruction of a thread with this number, if it is there
 abbrev pub instruction_at : Program → ℕ → ℕ → Option Instruction
 instruction_at p t i = slice_get (code_of p t) i
+
+-- there are some threads, few enough for a search, and locks that a world may have
+pub record IsFit (p : Program) : Type 0 where
+  pub some : 1 ≤ threads_of p
+  pub few : threads_of p ≤ 8
+  pub few_locks : length p.kinds.items ≤ 256
+  pub few_variables : length p.variables.items ≤ 4096
+  pub kinds : All (λ kind. fits kind (threads_of p) ≡ true) p.kinds.items

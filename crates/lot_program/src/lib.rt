@@ -4,7 +4,9 @@
 pub mod program;
 pub mod scenes;
 pub mod states;
+pub mod tables;
 
 pub use program::{Comparison, Instruction, Program, Test, Told, Value};
 pub use scenes::Scene;
 pub use states::{Fault, Local};
+pub use tables::Tables;

@@ -1,8 +1,11 @@
 //! Programs of lock calls: for each thread a list of instructions.
-ghost use Rattle.std.specs.Prelude.{◌≡◌, ◌<◌, ◌-◌, ◌^◌, IfSome, length};
-ghost use Rattle.lot_program.specs.Programs.{told_by, told_number, number_of, holds, compares, instruction_at};
+ghost use Rattle.std.specs.Prelude.{◌≡◌, ◌<◌, ◌-◌, ◌^◌, IfSome, All, true, length};
+ghost use Rattle.lot_program.specs.Programs.{told_by, told_number, number_of, holds, compares, instruction_at, IsFit};
+ghost use Rattle.spec_locks.specs.Kinds.{fits};
+ghost use Rattle.lot_program.specs.Runs.{step_by};
 
-use lot_world::{Answer, Call, Kind};
+use lot_parts::MOST;
+use lot_world::{Answer, Call, Kind, MOST_LOCKS, Step, Turn};
 
 /// A number, or what a variable has.
 #[derive(Clone, Copy, Debug, PartialEq, Eq)]
@@ -73,6 +76,25 @@ pub struct Program {
     pub kinds: Vec<Kind>,
     pub variables: Vec<u32>,
     pub code: Vec<Vec<Instruction>>,
+}
+
+impl Instruction {
+    /// The step of the world that it takes, if it takes one.
+    pub fn step(self, thread: usize) -> Option<Step>
+        ensures { result ≡ step_by self thread }
+    {
+        let turn = match self {
+            Instruction::Call(call) => Turn::Begin(call),
+            Instruction::Close { succeeded: true } => Turn::Ok,
+            Instruction::Close { succeeded: false } => Turn::Err,
+            Instruction::Set { .. } | Instruction::Add { .. } => return None,
+            Instruction::Jump { .. } | Instruction::JumpUnless { .. } => return None,
+            Instruction::JumpUnlessTold { .. } | Instruction::JumpUnlessRunning { .. } =>
+                return None,
+            Instruction::Assert(_) => return None,
+        };
+        Some(Step { thread, turn })
+    }
 }
 
 impl Told {
@@ -184,5 +206,26 @@ impl Program {
         } else {
             None
         }
+    }
+
+    /// Whether it can be searched: it has 1 to 8 threads, at most 4,096 variables, and locks that a
+    /// world may have.
+    pub fn is_fit(&self) -> bool
+        ensures { result ≡ true → IsFit self.now }
+    {
+        let threads = self.threads();
+        let are_few = threads <= MOST && self.kinds.len() <= MOST_LOCKS;
+        1 <= threads && are_few && self.variables.len() <= 4096 && self.kinds_fit(threads)
+    }
+
+    fn kinds_fit(&self, threads: usize) -> bool
+        ensures { result ≡ true → All (λ kind. fits kind threads ≡ true) self.now.kinds.items }
+    {
+        for kind in &self.kinds {
+            if !kind.fits(threads) {
+                return false;
+            }
+        }
+        true
     }
 }
