@@ -77,7 +77,7 @@ pub record IsLookedAfter (w : LocksState) (l : ℕ) (m : Line) : Type 0 where
   pub debt : IsDebtor w debtor l m
   pub awake : IsUp (w.stances debtor)
 
--- so many different threads are
+-- this many different threads are such debtors, and awake
 pub record AreLookedAfter (w : LocksState) (l number : ℕ) : Type 0 where
   pub debtor : ℕ → ℕ
   pub apart : (i j : ℕ) → i < number → j < number → debtor i ≡ debtor j → i ≡ j
@@ -142,7 +142,7 @@ pub record IsSafe (w : LocksState) (was_full : ℕ → Bool) : Type 0 where
   pub waiters : NobodyForgotten w was_full
   -- a condition variable shows the mutex with which all wait there
   pub shown : (c : ℕ) → sort_in w c ≡ Condvar → ShowsWaiters w c
-  -- who stands in a queue, stands aside or is in a hand is in a call that waits for the lock
+  -- a thread that stands in a queue, stands aside or is in a hand is in a call that waits for the lock
   pub waiting : (t l : ℕ) → 1 ≤ standing t (w.locks l) → MayWait (w.calls t).purpose l
   -- and whoever waits there and sleeps has let its mutex go
   pub let_go : (t : ℕ) → LetsGo w t
