@@ -86,8 +86,8 @@ SeesWaiters w t l m o v =
     × (OnlyLooks v t l → act_of (place_at v t) ≡ Enter (One (key_of l m)))
     × (IsWait (call_at w t).purpose → (call_at v t).released ≡ true)
 
--- a downgrade, or a call that has given up, works on the word of a lock beside waiters in the main line
-pub record GivesWayBesideWaiters (w : State) (t l : ℕ) : Type 0 where
+-- a downgrade, or a call that has given up, works on the word of a lock while threads wait in the main line
+pub record GivesWayWhileSomeWait (w : State) (t l : ℕ) : Type 0 where
   pub shared : has_readers (sort_at w l) ≡ true
   pub lets_in : IsDowngrade (call_at w t).purpose l ⊎ HasGivenUp w t l
   pub works : (op : Op) × (act_of (place_at w t) ≡ Word l op)
@@ -98,6 +98,6 @@ pub record GivesWayBesideWaiters (w : State) (t l : ℕ) : Type 0 where
 pub record OwesSince (w : State) (t : ℕ) (o : Outcome) (v : State) : Type 0 where
   pub own : (l : ℕ) (m : Line) → o ≢ told.NotNow → Owes v t l m
       ↔ (IsInside v t l m ⊎ SeesWaiters w t l m o v)
-  -- a conversion or a roll-back beside waiters doesn't end by that step, so that it owes their wake
-  pub goes_on : (l : ℕ) → o ≢ told.NotNow → GivesWayBesideWaiters w t l → o ≡ told.Step
+  -- a conversion or a roll-back doesn't end by that step, so that it owes those waiters their wake
+  pub goes_on : (l : ℕ) → o ≢ told.NotNow → GivesWayWhileSomeWait w t l → o ≡ told.Step
   pub others : (u l : ℕ) → u ≢ t → line_owed (place_at v u) l ≡ line_owed (place_at w u) l

@@ -92,7 +92,7 @@ pub record IsLookedAfterIn (w : State) (l : ℕ) (m : Line) : Type 0 where
   pub stands_nowhere : (k : ℕ) → (standing debtor (lock_state w k) ≡ 0)
       ⊎ (WaitHasReleased (call_at w debtor).purpose (call_at w debtor).released l m × Owes w debtor l m)
 
--- so many different threads are
+-- this many different threads look after the line
 pub record AreLookedAfterIn (w : State) (l number : ℕ) : Type 0 where
   pub debtor : ℕ → ℕ
   pub apart : (i j : ℕ) → i < number → j < number → debtor i ≡ debtor j → i ≡ j

@@ -1,4 +1,4 @@
--- What an event does to a fair mutex while somebody waits: it stays owned, unless a fair release lets it go beside a waiter, and nobody comes
+-- The effect of an event on a fair mutex while somebody waits: it stays owned, unless a fair release lets it go, and nobody comes
 -- into a hand but from its queue.
 use Rattle.std.proofs.Common.{ℕ, Bool, true, false, Option, Some, None, if◌then◌else◌, ◌==◌, ◌≡◌, ◌≢◌, ◌≤◌, ◌⊎◌, inl, inr, List, [], ◌∷◌, length, refl, sym, ◌∙◌, ap, subst, arith}
 use Rattle.std.proofs.lemmas.Bool.{cases_eq, eqb-true}
@@ -14,7 +14,7 @@ use Rattle.spec_locks.specs.Locks as locks
 use Rattle.spec_locks.specs.Locks.{LockState, LockCase, Mutex, Queued, Rules, Taken, Needs, Enter, Pend, Settle, Leave, Convert, Park, Aside, TakeFirst, TakeAside, TakePicked, Wake, HandOff, Late, Rollback, OfOnce, OfCondvar, SeeOwner, IsLockState, Owns, after_case, keep_from, left_behind, let_go, putting, taking, times}
 use Rattle.spec_locks.specs.Purposes.{Purpose, Enters, Releases, Converts, Bumps, CallsOnce, Awaits, Waits, Notifies, Recall, IsMadeOf}
 use Rattle.spec_locks.specs.Runs.{LocksState, AreLockStates, Event, Nothing, AtLock, Moves, Does, GoesOn, MayDo, MayHappen, Turned, is_among, joined_by, locks_after, rules_at}
-use Rattle.spec_locks.specs.Bypass.{AllReleaseFairly, IsFairRelease, LetsGoBesideWaiter, ReleasesFairly}
+use Rattle.spec_locks.specs.Bypass.{AllReleaseFairly, IsFairRelease, LetsGoWhileSomeWait, ReleasesFairly}
 use Rattle.spec_locks.proofs.Runs.{needs_of}
 
 -- ---------------------------------------------------------------- a case that gives the right up
@@ -100,7 +100,7 @@ module _ (r : Rules) (s : LockState) (t : ℕ) (state : IsLockState r s) (mutex 
   same : (case : LockCase) (v : LockState) → v.exclusive ≡ s.exclusive → s.exclusive ≢ None → Stays case v
   same case v e some = inl (λ f. some (sym e ∙ f))
 
-  -- where somebody stands behind the case
+  -- where somebody stands in the queue after the case
   owned : (case : LockCase) (u : ℕ) → Needs r case s t → 1 ≤ times u (after_case r case s t).queue → (s.queue ≢ [] → s.exclusive ≢ None)
       → Stays case (after_case r case s t)
   owned (Enter Exclusive) u needs stands had = inl (λ e. cc)
@@ -195,7 +195,7 @@ module _ (r : Rules) (s : LockState) (t : ℕ) (state : IsLockState r s) (mutex 
 -- tells what a step leads such a lock to
 pub record FairlyGoes (w v : LocksState) (t l : ℕ) : Type 0 where
   pub owned : (u : ℕ) → 1 ≤ times u (v.locks l).queue → ((w.locks l).queue ≢ [] → (w.locks l).exclusive ≢ None)
-      → ((v.locks l).exclusive ≢ None) ⊎ LetsGoBesideWaiter w v t l
+      → ((v.locks l).exclusive ≢ None) ⊎ LetsGoWhileSomeWait w v t l
   pub hands : FromQueue (w.locks l) (v.locks l)
 
 moved_some : (q : List Queued) (n : ℕ) → n ≢ 0 → n ≡ length q → (x : Queued) × (is_among x.thread q ≡ true)
@@ -306,7 +306,7 @@ module _ (w v : LocksState) (t l : ℕ) (o : Outcome) (all : AreLockStates w) (m
   }
     where
       by_owner : (IsFairRelease (w.calls t).purpose l × ((w.locks l).exclusive ≡ Some t) × ((w.locks l).queue ≢ [])) → (x : Option ℕ) → (v.locks l).exclusive ≡ x
-          → ((v.locks l).exclusive ≢ None) ⊎ LetsGoBesideWaiter w v t l
+          → ((v.locks l).exclusive ≢ None) ⊎ LetsGoWhileSomeWait w v t l
       by_owner h None e = inr (record { releases = h.0; owner = h.1; gone = e; waiter = h.2 })
       by_owner h (Some x) e = inl (λ f. let k : ◌≡◌ {A = Option ℕ} (Some x) None = sym e ∙ f in cc)
 

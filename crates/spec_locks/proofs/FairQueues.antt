@@ -132,7 +132,7 @@ is_end outcome.TheVariants.Step = inr (λ a e. cc)
 is_end outcome.TheVariants.Sleep = inr (λ a e. cc)
 is_end (outcome.TheVariants.Closure state) = inr (λ a e. cc)
 
--- calls of the mutex are fair ones behind it
+-- calls of the mutex are fair ones after it
 module _ (w v : LocksState) (s : Step) (o : Outcome) (l : ℕ) (fair : w.kinds l ≡ kind.Fair) (all : AllReleaseFairly w l) (turned : Turned w s.thread s.turn o v) where
   same_call : (c d : CallState) → d.purpose ≡ c.purpose → ReleasesFairly c.purpose l → ReleasesFairly d.purpose l
   same_call c d e h = subst (λ p. ReleasesFairly p l) (sym e) h

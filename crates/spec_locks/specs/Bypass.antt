@@ -87,8 +87,8 @@ IsFairRelease (Some (Releases l Exclusive fair)) k = (l ≡ k) × (fair ≡ true
 IsFairRelease (Some (Bumps l Exclusive)) k = l ≡ k
 IsFairRelease purpose k = ⊥
 
--- a fair release lets the mutex go beside a waiter
-pub record LetsGoBesideWaiter (w v : LocksState) (t l : ℕ) : Type 0 where
+-- a fair release lets the mutex go while somebody waits for it
+pub record LetsGoWhileSomeWait (w v : LocksState) (t l : ℕ) : Type 0 where
   pub releases : IsFairRelease (w.calls t).purpose l
   pub owner : Owns (w.locks l) t Exclusive
   pub gone : (v.locks l).exclusive ≡ None

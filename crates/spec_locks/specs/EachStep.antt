@@ -35,7 +35,7 @@ QueuesKeepOrder w v = (l : ℕ) → KeepsOrderOf (w.locks l).queue (v.locks l).q
 
 -- ---------------------------------------------------------------- calls
 
--- what a call recalls goes on: a thread gives up only where its time was up
+-- a call goes on as its thread recalls it: it gives up only where its time was up
 pub record CallGoesOn (before now : CallState) : Type 0 where
   pub purpose : now.purpose ≡ before.purpose
   pub former : now.former ≡ before.former
@@ -69,7 +69,7 @@ pub record StepHolds (w : LocksState) (step : Step) (o : Outcome) (v : LocksStat
       → v.calls step.thread ≡ record (w.calls step.thread) { late = true }
   pub ends : (a : Answer) → o ≡ End a → v.calls step.thread ≡ no_call
   pub goes_on : (u : ℕ) → (u ≡ step.thread → IsUnderWay step o) → CallGoesOn (w.calls u) (v.calls u)
-  -- a thread that is in no call owns what it owned
+  -- a thread in no call owns what it owned
   pub idle : (u : ℕ) → (w.calls u).purpose ≡ None → (l : ℕ) → rights_in v u l ≡ rights_in w u l
   -- no wait wakes by itself: another thread notifies it
   pub notified : NobodyWakesByItself w v

@@ -18,7 +18,7 @@ AllHold full w (step ∷ steps) (o ∷ told) v = StateHolds w full
 AllHold full w [] (o ∷ told) v = ⊥
 AllHold full w (step ∷ steps) [] v = ⊥
 
--- From their opening state on, threads over locks of these kinds were told this of these steps.
+-- From their opening state this many threads, over locks of these kinds, were told this of these steps.
 pub record IsGuaranteed (kinds : List Kind) (threads : ℕ) (steps : List Step)
     (told : List Outcome) : Type 0 where
   pub first : LocksState

@@ -6,7 +6,7 @@ use Rattle.spec_locks.specs.declared.calls.Step.{Step}
 use Rattle.spec_locks.specs.declared.kinds.Kind.{Kind}
 use Rattle.spec_locks.specs.declared.kinds.Kind.TheVariants as kinds
 use Rattle.spec_locks.specs.Kinds.{is_plain_mutex}
-use Rattle.spec_locks.specs.Bypass.{LetsGoBesideWaiter, ReleasesFairly}
+use Rattle.spec_locks.specs.Bypass.{LetsGoWhileSomeWait, ReleasesFairly}
 use Rattle.spec_locks.specs.Codes.{parked_in}
 use Rattle.spec_locks.specs.Locks.{LockState, Queued, Rights, rights_of, times}
 use Rattle.spec_locks.specs.Locks as locks
@@ -111,8 +111,8 @@ module _ (w : State) (s : Step) (h : IsWorld w) (l : ℕ) (fair : kind_at w l �
   turn_is : Rattle.lot_laws.proofs.calls.LockSteps.IsTurn (locks_of w) s (step_outcome w s) (locks_of v)
   turn_is = after_step w s h.shaped h.steady h.counted h.condvars
 
-  -- so each fair release hands it over where somebody waits
-  hands_over : LetsGoBesideWaiter (locks_of w) (locks_of v) s.thread l → ⊥
+  -- each fair release then hands it over where somebody waits
+  hands_over : LetsGoWhileSomeWait (locks_of w) (locks_of v) s.thread l → ⊥
   hands_over lets = elim ((is_fair w s h.shaped h.steady h.counted h.condvars).gives s.thread l (lets.releases, lets.owner, fair_mutex (kind_at w l) fair)) [
     | inl on ↦ (let e : ◌≡◌ {A = Option ℕ} None (Some s.thread) = sym lets.gone ∙ on.0 in cc)
     | inr other ↦ elim other [

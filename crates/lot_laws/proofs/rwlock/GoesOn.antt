@@ -1,4 +1,4 @@
--- A conversion or a roll-back that works on the word beside waiters does not end by that step.
+-- A conversion or a roll-back that works on the word while threads wait does not end by that step.
 use Rattle.std.proofs.Common.{ℕ, Bool, true, false, Option, Some, None, if◌then◌else◌, ◌≡◌, ◌≢◌, ◌⊎◌, is_some, inl, inr, length, nat_lt, refl, sym, ◌∙◌, ap, subst}
 use Rattle.core_base.specs.declared.ops.Op.{Op}
 use Rattle.spec_locks.specs.declared.calls.Access.TheVariants as access
@@ -50,7 +50,7 @@ use Rattle.lot_machine.proofs.Closures.{IsOwn, mutex_own, semaphore_own}
 use Rattle.lot_machine.proofs.Shape.{both}
 use Rattle.lot_steps.specs.Steps.{act_of, in_rwlock, looking, next_act, profile, rwlock_does}
 use Rattle.lot_machine.specs.Machine.{State, can_close, can_do, can_turn, closed_place, go_outcome, is_possible, kind_at, place_at, reply_to, runs_closure, step_outcome, turn_outcome, word_at}
-use Rattle.lot_laws.specs.Owing.{GivesWayBesideWaiters, sort_at}
+use Rattle.lot_laws.specs.Owing.{GivesWayWhileSomeWait, sort_at}
 use Rattle.lot_laws.specs.Refinement.{call_state, lock_state}
 use Rattle.lot_laws.specs.SitesOf.{FitsItsLock, IsInductive}
 use Rattle.lot_laws.proofs.calls.OwnPlace.{gone_told}
@@ -273,7 +273,7 @@ call_quiet k a (fair.Handed x how b to) stands r l lets = refl
 
 -- ---------------------------------------------------------------- each turn
 
-module _ (w : State) (t : ℕ) (steady : IsInductive w) (l : ℕ) (gives : GivesWayBesideWaiters w t l) where
+module _ (w : State) (t : ℕ) (steady : IsInductive w) (l : ℕ) (gives : GivesWayWhileSomeWait w t l) where
   abbrev rights : ℕ → Rights
   rights k = rights_of (lock_state w k) t
 
@@ -313,7 +313,7 @@ module _ (w : State) (t : ℕ) (steady : IsInductive w) (l : ℕ) (gives : Gives
   by_turn turn.TheVariants.Ok can = absurd (closes_not true can)
   by_turn turn.TheVariants.Err can = absurd (closes_not false can)
 
-pub goes_on_waking : (w : State) (s : Step) → IsInductive w → (l : ℕ) → step_outcome w s ≢ told.NotNow → GivesWayBesideWaiters w s.thread l → step_outcome w s ≡ told.Step
+pub goes_on_waking : (w : State) (s : Step) → IsInductive w → (l : ℕ) → step_outcome w s ≢ told.NotNow → GivesWayWhileSomeWait w s.thread l → step_outcome w s ≡ told.Step
 goes_on_waking w s steady l possible gives = either (is_possible w s) refl possible
   where
     either : (b : Bool) → is_possible w s ≡ b → (if b then turn_outcome w s.thread s.turn else told.NotNow) ≢ told.NotNow

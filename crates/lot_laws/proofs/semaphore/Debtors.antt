@@ -27,7 +27,7 @@ use Rattle.lot_laws.specs.SitesOf.{FitsItsLock, IsInductive, is_mutex, rules_in}
 
 -- ---------------------------------------------------------------- numbers
 
--- so many different threads of the first n owe 1 each
+-- this many different threads of the first n owe 1 each
 pub record Distinct (n : ℕ) (f : ℕ → ℕ) (m : ℕ) : Type 0 where
   pub thread : ℕ → ℕ
   pub within : (i : ℕ) → i < m → thread i < n
