@@ -45,3 +45,8 @@ abbrev pub steps_of : Program → ProgramState → List ℕ → List Step
 steps_of p s [] = []
 steps_of p s (k ∷ ks) =
     steps_in (step_taken p s k) ++ steps_of p (unwrap_or (program_next p s k) s) ks
+
+-- the state behind moves one after another, of which one that isn't possible changes nothing
+abbrev pub state_behind : Program → ProgramState → List ℕ → ProgramState
+state_behind p s [] = s
+state_behind p s (k ∷ ks) = state_behind p (unwrap_or (program_next p s k) s) ks

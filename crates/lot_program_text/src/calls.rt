@@ -50,25 +50,24 @@ fn calls_of(kind: Kind) -> &'static str {
     }
 }
 
-/// Returns the lock and its kind that a line `lock NAME KIND [NUMBER]` declares.
-pub(crate) fn declared(
-    alloc: Global,
-    line: u32,
-    words: &[&str],
-) -> Result<(Name, Kind), TextError> {
+/// Returns the kind of the lock that a line `lock NAME KIND [NUMBER]` declares.
+pub(crate) fn declared(alloc: Global, line: u32, words: &[&str]) -> Result<Kind, TextError> {
     let text = line_of(alloc, "", words)?;
-    if let Some(Command::Lock { name, kind }) = meaning(text.as_bytes()) {
-        if words.len() <= 4 {
-            return Ok((name, kind));
-        }
+    match meaning(text.as_bytes()) {
+        Some(Command::Lock { name: _, kind }) if words.len() <= 4 => Ok(kind),
+        _ => Err(misdeclared(alloc, line, words)),
     }
+}
+
+// Says what is wrong with the line of a lock.
+fn misdeclared(alloc: Global, line: u32, words: &[&str]) -> TextError {
     if Name::from_word(word_at(words, 1).as_bytes()).is_none() {
         let expected = "a lock's name, a lower-case letter and up to 15 letters or digits";
-        return Err(malformed(alloc, line, word_at(words, 1), expected));
+        return malformed(alloc, line, word_at(words, 1), expected);
     }
     let expected = "a kind: mutex, fair, condvar, once, rwlock [READERS], recursive [READERS] or \
                     semaphore PERMITS";
-    Err(malformed(alloc, line, word_at(words, 2), expected))
+    malformed(alloc, line, word_at(words, 2), expected)
 }
 
 /// Returns the call that a line `CALL NAME [MUTEX]` makes.

@@ -1,4 +1,7 @@
 //! A program's text, line by line.
+ghost use Rattle.std.specs.Prelude.{◌≡◌, None, IfOk};
+ghost use Rattle.lot_text.specs.Names.{lock_named};
+
 use crate::blocks::{Block, BlockSort, shifted};
 use crate::calls::{Locks, call, declared};
 use crate::malformed::{TextError, malformed};
@@ -124,11 +127,8 @@ impl Parser {
     }
 
     fn declare_lock(&mut self, line: u32, words: &[&str], threads: usize) -> Result<(), TextError> {
-        let (name, kind) = declared(self.alloc, line, words)?;
-        if self.is_named(name) {
-            let expected = "a name that no lock and no variable has yet";
-            return Err(self.wrong(line, word_at(words, 1), expected));
-        }
+        let kind = declared(self.alloc, line, words)?;
+        let name = self.new_name(line, word_at(words, 1))?;
         if !kind.fits(threads) {
             let expected = "a reader limit is at least the number of threads, at most 2^60 - 2; \
                             permits are 1 to 2^62";
@@ -142,19 +142,24 @@ impl Parser {
         Ok(())
     }
 
-    fn is_named(&self, name: Name) -> bool {
-        self.locks.names.find(name).is_some() || self.variables.find(name).is_some()
+    // The name that a word spells, which no lock and no variable has yet.
+    fn new_name(&self, line: u32, word: &str) -> Result<Name, TextError>
+        ensures { IfOk result (λ name. (lock_named self.now.locks.names name ≡ None)
+            × (lock_named self.now.variables name ≡ None)) }
+    {
+        let Some(name) = Name::from_word(word.as_bytes()) else {
+            let expected = "a name, which is a lower-case letter and up to 15 letters or digits";
+            return Err(self.wrong(line, word, expected));
+        };
+        if self.locks.names.find(name).is_some() || self.variables.find(name).is_some() {
+            let expected = "a name that no lock and no variable has yet";
+            return Err(self.wrong(line, word, expected));
+        }
+        Ok(name)
     }
 
     fn declare_variable(&mut self, line: u32, words: &[&str]) -> Result<(), TextError> {
-        let Some(name) = Name::from_word(word_at(words, 1).as_bytes()) else {
-            let expected = "a variable's name, a lower-case letter and up to 15 letters or digits";
-            return Err(self.wrong(line, word_at(words, 1), expected));
-        };
-        if self.is_named(name) {
-            let expected = "a name that no lock and no variable has yet";
-            return Err(self.wrong(line, word_at(words, 1), expected));
-        }
+        let name = self.new_name(line, word_at(words, 1))?;
         let first = match number(word_at(words, 2), MOST_NUMBER) {
             Some(first) if words.len() == 3 => first as u32,
             _ => {
@@ -199,8 +204,8 @@ impl Parser {
         if let Some(line) = self.section.first_open() {
             return Err(self.wrong(line, "", "the block that begins here has no `end`"));
         }
-        let section = core::mem::replace(&mut self.section, Section::new(self.alloc));
-        let runners = core::mem::replace(&mut self.runners, Vec::new(self.alloc));
+        let section = std::mem::replace(&mut self.section, Section::new(self.alloc));
+        let runners = std::mem::replace(&mut self.runners, Vec::new(self.alloc));
         for thread in runners.iter() {
             let (Some(code), Some(lines)) = (
                 self.code.get_mut(*thread),
@@ -246,22 +251,12 @@ impl Parser {
         match first {
             "set" => self.set(line, words),
             "add" => self.add(line, words),
-            "assert" => {
-                let test = self.test(line, words)?;
-                self.section
-                    .push(self.alloc, line, Instruction::Assert(test))
-            }
+            "assert" => self.assert(line, words),
             "while" => self.begin_while(line, words),
             "if" => self.begin_if(line, words),
             "else" => self.begin_else(line, words),
             "repeat" => self.begin_repeat(line, words),
-            "loop" => self.alone(
-                line,
-                words,
-                BlockSort::Loop {
-                    start: self.section.here(),
-                },
-            ),
+            "loop" => self.begin_loop(line, words),
             "end" => self.end_block(line, words),
             "ok" => self.end_closure(line, words, true),
             "err" => self.end_closure(line, words, false),
@@ -392,11 +387,19 @@ impl Parser {
         }
     }
 
-    fn alone(&mut self, line: u32, words: &[&str], sort: BlockSort) -> Result<(), TextError> {
+    fn begin_loop(&mut self, line: u32, words: &[&str]) -> Result<(), TextError> {
         if words.len() > 1 {
             return Err(self.wrong(line, word_at(words, 1), "the end of the line"));
         }
-        self.section.open(line, sort)
+        let start = self.section.here();
+        self.section.open(line, BlockSort::Loop { start })
+    }
+
+    // An assertion of a test.
+    fn assert(&mut self, line: u32, words: &[&str]) -> Result<(), TextError> {
+        let test = self.test(line, words)?;
+        self.section
+            .push(self.alloc, line, Instruction::Assert(test))
     }
 
     fn end_block(&mut self, line: u32, words: &[&str]) -> Result<(), TextError> {

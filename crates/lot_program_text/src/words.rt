@@ -1,4 +1,6 @@
 //! The words of a line, and the numbers, tests and answers that they spell.
+ghost use Rattle.std.specs.Prelude.{◌≤◌, IfSome};
+
 use lot_program::{Comparison, Told};
 use std::alloc::{AllocError, Global};
 
@@ -27,7 +29,9 @@ pub(crate) fn word_at<'w>(words: &[&'w str], at: usize) -> &'w str {
 }
 
 /// Returns the number that a word spells as it would be printed, up to a greatest one.
-pub(crate) fn number(word: &str, most: u64) -> Option<u64> {
+pub(crate) fn number(word: &str, most: u64) -> Option<u64>
+    ensures { IfSome result (λ number. number ≤ most) }
+{
     let plain = word == "0" || !word.starts_with('0');
     if !plain || word.starts_with('+') {
         return None;
