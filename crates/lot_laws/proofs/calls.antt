@@ -16,3 +16,4 @@ pub mod TriesPass
 pub mod LooksOnce
 pub mod Tries
 pub mod Spins
+pub mod Marked

@@ -18,7 +18,7 @@ ghost use Rattle.lot_laws.specs.Promises.{IsKept};
 ghost use Rattle.lot_laws.specs.Fair.{IsFair};
 ghost use Rattle.lot_laws.specs.Owing.{OwesSince};
 ghost use Rattle.lot_laws.specs.Overtaking.{NobodyIsOvertaken};
-ghost use Rattle.lot_laws.specs.WorldRuns.{IsWorldRun, Tells, SleepersStay, TouchesOnlyByGoing, TriesAtOnce};
+ghost use Rattle.lot_laws.specs.WorldRuns.{IsWorldRun, Tells, LooksNoMore, SleepersStay, TouchesOnlyByGoing, TriesAtOnce};
 ghost use Rattle.lot_laws.specs.Solo.{IsUnderWay, IsUnobstructed, HasWhatItReads, IsBarred, OnlyTries, Rests, EndsAlone, IsSoloRun};
 ghost use Rattle.lot_machine.specs.Views.{StandUnder, owners_of, queue_of, debts_of};
 ghost use Rattle.lot_world.specs.Drains.{IsDrainable, IsDrain};
@@ -128,6 +128,10 @@ impl<Q: Queues + Drop> World<Q> {
         // sections: with the mutex exactly where nobody owns it, and with a lock that is shared
         // exactly where the word is 0.
         ensures tries { step.turn ≡ Turn.Go → TriesAtOnce self.old step.thread result }
+
+        // A thread whose exchange set a bit, in place of which it might have looked at the word,
+        // looks at that no more before it goes into the section.
+        ensures looks_no_more { step.turn ≡ Turn.Go → LooksNoMore self.old step.thread self.new }
 
         // Another thread that sleeps does so on, unless this one has it in hand and wakes it.
         ensures sleepers { SleepersStay self.old step.thread self.new }

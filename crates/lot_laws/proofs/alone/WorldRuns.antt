@@ -23,6 +23,7 @@ use Rattle.lot_laws.proofs.promises.Promises.{kept}
 use Rattle.lot_laws.proofs.mutex.FairMutexes.{settled_after}
 use Rattle.lot_machine.proofs.Shape.{after_shaped}
 use Rattle.lot_laws.proofs.machine.Sleepers.{sleepers_stay}
+use Rattle.lot_laws.proofs.calls.Marked.{looks_no_more}
 use Rattle.lot_laws.proofs.calls.Tries.{tries_at_once}
 use Rattle.lot_laws.proofs.sites.TurnsKept.{after_steady}
 
@@ -51,6 +52,7 @@ world_step w s h = record {
   filled = filled_after w s (world_after w s h);
   sleepers = sleepers_stay w s;
   tries = tries_at_once w s h.steady;
+  looks_no_more = looks_no_more w s;
   owing = owes_since w s h.shaped h.steady h.counted h.condvars;
   fair = is_fair w s h.shaped h.steady h.counted h.condvars;
   kept = world_kept (after w s) (world_after w s h);
