@@ -6,14 +6,14 @@ use crate::blocks::{Block, BlockSort, shifted};
 use crate::calls::{Locks, call, declared};
 use crate::malformed::{TextError, malformed};
 use crate::sections::{MOST_CODE, Section};
-use crate::words::{comparison, number, told, word_at, words_of};
+use crate::words::{comparison, line_of, number, told, word_at, words_of};
 use lot_program::{Instruction, Program, Test, Value};
 use lot_text::{Name, Names};
 use spec_locks::{Call, OnceCall};
 use std::alloc::Global;
 
-/// The most threads of a program.
-pub const MOST_THREADS: u64 = 64;
+/// The most threads of a program: as many as a search knows.
+pub const MOST_THREADS: u64 = 8;
 
 /// The most locks of a program.
 const MOST_LOCKS: usize = 64;
@@ -30,6 +30,8 @@ pub struct ProgramText {
     pub program: Program,
     pub locks: Names,
     pub variables: Names,
+    /// The lines of the threads and the locks, as a schedule has them.
+    pub header: String,
     /// The line of each instruction, of each thread.
     pub lines: Vec<Vec<u32>>,
 }
@@ -42,6 +44,7 @@ struct Parser {
     threads: Option<usize>,
     locks: Locks,
     variables: Names,
+    header: String,
     firsts: Vec<u32>,
     // The threads that run the section, none before the first `thread` line.
     runners: Vec<usize>,
@@ -74,6 +77,7 @@ impl Parser {
             threads: None,
             locks: Locks::new(alloc),
             variables: Names::new(alloc),
+            header: String::new(alloc),
             firsts: Vec::new(alloc),
             runners: Vec::new(alloc),
             section: Section::new(alloc),
@@ -120,9 +124,9 @@ impl Parser {
                     self.lines.push(Vec::new(self.alloc))?;
                 }
                 self.threads = Some(threads);
-                Ok(())
+                self.head(words)
             }
-            _ => Err(self.wrong(line, word_at(words, 1), "a number of threads, 1 to 64")),
+            _ => Err(self.wrong(line, word_at(words, 1), "a number of threads, 1 to 8")),
         }
     }
 
@@ -139,6 +143,14 @@ impl Parser {
         }
         self.locks.kinds.push(kind)?;
         self.locks.names.push(self.alloc, name)?;
+        self.head(words)
+    }
+
+    // Adds a line to those that a schedule begins with.
+    fn head(&mut self, words: &[&str]) -> Result<(), TextError> {
+        let line = line_of(self.alloc, "", words)?;
+        self.header.push_str(line.as_str())?;
+        self.header.push('\n')?;
         Ok(())
     }
 
@@ -229,6 +241,7 @@ impl Parser {
             threads: _,
             locks: Locks { names, kinds },
             variables,
+            header,
             firsts,
             runners: _,
             section: _,
@@ -243,6 +256,7 @@ impl Parser {
             },
             locks: names,
             variables,
+            header,
             lines,
         })
     }
