@@ -15,5 +15,5 @@ pub use grammar::{Command, NamedCall, NamedTurn, meaning, numbers_are_decimal};
 pub use input::{LINE_LEN, Reading, read_line};
 pub use names::{Name, Names};
 pub use output::{Page, send_all};
-pub use steps::{print_drain_refused, print_drain_step, steps_are_read_back};
+pub use steps::{print_drain_refused, print_drain_step, print_step, steps_are_read_back};
 pub use turns::{Line, PlainTurn, ShownLine, first_line};

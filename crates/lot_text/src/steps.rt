@@ -30,7 +30,7 @@ pub fn print_drain_refused<W: Write>(page: &mut Page, writer: &mut W)
 }
 
 /// Prints a step as a schedule has it, of locks with these names.
-fn print_step<W: Write>(page: &mut Page, writer: &mut W, names: &[Name], step: Step)
+pub fn print_step<W: Write>(page: &mut Page, writer: &mut W, names: &[Name], step: Step)
     ensures { Puts (W.contents writer.old) (W.contents writer.new) page.old page.new
         (step_text names.now step) }
 {
