@@ -14,12 +14,21 @@ use std::thread::{Threads, map_vec};
 /// A lot, and the tickets of all its threads but the caller's. Each of them runs what the team is
 /// given, in a thread of its own. Where the system makes no more threads, calls run one after
 /// another: then those that wait for one another never end.
-#[derive(Drop)]
 pub struct Team {
     lot: Arc<ParkingLot>,
     tickets: Vec<Ticket>,
     ghost members: { All (IsTicketOf (arc_value lot)) tickets.items },
     ghost number: { length tickets.items + 1 ≡ (arc_value lot).records.count },
+}
+
+// The drop is written, and not derived, so that it is proved here and not in each program.
+impl Drop for Team {
+    fn drop(self) {
+        let Team {
+            lot: _lot,
+            tickets: _tickets,
+        } = self;
+    }
 }
 
 // In a clause a team is its lot.

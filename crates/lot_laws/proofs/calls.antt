@@ -15,3 +15,5 @@ pub mod EachLock
 pub mod TriesPass
 pub mod LooksOnce
 pub mod Tries
+pub mod Spins
+pub mod Marked

@@ -8,3 +8,4 @@ pub mod Words
 pub mod Steps
 pub mod Owing
 pub mod Promises
+pub mod FairMutexes

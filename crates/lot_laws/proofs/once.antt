@@ -5,3 +5,4 @@ pub mod Owing
 pub mod Rows
 pub mod Owes
 pub mod Runs
+pub mod Marks

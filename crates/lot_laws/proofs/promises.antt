@@ -11,3 +11,4 @@ pub mod Owing
 pub mod RowLaws
 pub mod Headline
 pub mod LeavesOthers
+pub mod Overtaken

@@ -7,3 +7,4 @@ pub mod Events
 pub mod Steps
 pub mod Late
 pub mod FairHands
+pub mod GoesOn

@@ -5,3 +5,4 @@ pub mod Kept
 pub mod Steps
 pub mod Owing
 pub mod Owes
+pub mod Debtors

@@ -1,7 +1,7 @@
 -- The promises of a fair release. It lets a mutex go only where nobody waits for it, and else the first
 -- waiter owns it in its place. At a lock that is shared each waiter that it takes has its right in that one
 -- step, or would pass the limit, and is woken.
-use Rattle.std.specs.Prelude.{ℕ, true, false, Option, Some, None, MatchOption, ◌≡◌, ◌≢◌, ◌⊎◌, []}
+use Rattle.std.specs.Prelude.{ℕ, true, false, Some, None, MatchOption, ◌≡◌, ◌≢◌, ◌⊎◌, []}
 use Rattle.core_base.specs.declared.wants.Want.{Want}
 use Rattle.core_base.specs.declared.wants.Want.TheVariants.{Exclusive, Shared}
 use Rattle.steps_mutex.specs.MutexSteps.{is_locked, is_parked}
@@ -9,16 +9,11 @@ use Rattle.lot_machine.specs.Machine.{State, kind_at, word_at}
 use Rattle.steps_rwlock_fair.specs.FairGives.{IsToGive, GivesToAll, LetsGo as LetsItGo, WakesThem}
 use Rattle.lot_laws.specs.SitesOf.{is_mutex, rules_in}
 use Rattle.spec_locks.specs.Locks.{LockState, Rules, Owns, IsTaken, HasTakenNobody, first_thread}
-use Rattle.spec_locks.specs.Purposes.{Purpose, Releases, Bumps, lock_for}
+pub use Rattle.spec_locks.specs.Bypass.{IsFairRelease}
+use Rattle.spec_locks.specs.Purposes.{lock_for}
 use Rattle.spec_locks.specs.Runs.{CallState}
 use Rattle.spec_locks.specs.Sites.{has_readers}
 use Rattle.lot_laws.specs.Refinement.{lock_state, call_at}
-
--- unlock_fair, the unlock of a fair mutex, or a bump
-abbrev pub IsFairRelease : Option Purpose → ℕ → Type 0
-IsFairRelease (Some (Releases l Exclusive fair)) k = (l ≡ k) × (fair ≡ true)
-IsFairRelease (Some (Bumps l Exclusive)) k = l ≡ k
-IsFairRelease purpose k = ⊥
 
 -- an owner that releases its mutex fairly
 abbrev pub OwnerReleasesFairly : State → ℕ → ℕ → Type 0

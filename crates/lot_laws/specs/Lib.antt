@@ -9,3 +9,4 @@ pub mod Locations
 pub mod MutexDeeds
 pub mod SitesOf
 pub mod Laws
+pub mod Overtaking

@@ -1,12 +1,15 @@
 -- A thread owes a wake on a line by its history: from the step that saw waiters, or from entering the
 -- section, until the section is left.
 use Rattle.steps_base.specs.Rows.{IsDowngrade}
-use Rattle.std.specs.Prelude.{ℕ, Bool, true, false, if◌then◌else◌, ◌==◌, ◌&&◌, ◌||◌, Option, Some, ◌≡◌, ◌≢◌, ◌⊎◌, ◌↔◌}
+use Rattle.std.specs.Prelude.{ℕ, Bool, true, false, if◌then◌else◌, ◌==◌, ◌&&◌, ◌||◌, Option, Some, None, ◌≡◌, ◌≢◌, ◌⊎◌, ◌↔◌}
 use Rattle.core_base.specs.declared.wants.Want.TheVariants.{Exclusive, Shared}
 use Rattle.spec_locks.specs.declared.outcomes.Outcome.{Outcome}
 use Rattle.spec_locks.specs.declared.outcomes.Outcome.TheVariants as told
 use Rattle.core_base.specs.declared.keys.Keys.TheVariants.{One}
-use Rattle.steps_base.specs.declared.acts.Act.TheVariants.{Enter}
+use Rattle.core_base.specs.declared.ops.Op.{Op}
+use Rattle.core_base.specs.declared.wants.Want.{Want}
+use Rattle.steps_base.specs.declared.acts.Act.TheVariants.{Enter, Take, Word}
+use Rattle.steps_base.specs.declared.acts.Whom.TheVariants.{Picked}
 use Rattle.lot_steps.specs.Steps.{act_of, line_owed}
 use Rattle.lot_machine.specs.Machine.{State, place_at, word_at, section_at}
 use Rattle.lot_laws.specs.Refinement.{call_at}
@@ -14,7 +17,7 @@ use Rattle.lot_laws.specs.SitesOf.{rules_in, key_of}
 use Rattle.spec_locks.specs.Codes.{parked_in, aside_in, count_in}
 use Rattle.spec_locks.specs.Locks.{Sort}
 use Rattle.spec_locks.specs.Sites.{Line, Main, Second, has_readers}
-use Rattle.spec_locks.specs.Purposes.{Purpose, Releases, Bumps, Waits, IsReleasing}
+use Rattle.spec_locks.specs.Purposes.{Purpose, Releases, Converts, Bumps, Waits, IsReleasing}
 
 abbrev pub sort_at : State → ℕ → Sort
 sort_at w l = (rules_in w l).sort
@@ -85,9 +88,37 @@ SeesWaiters w t l m o v =
     × (OnlyLooks v t l → act_of (place_at v t) ≡ Enter (One (key_of l m)))
     × (IsWait (call_at w t).purpose → (call_at v t).released ≡ true)
 
+-- it is a downgrade, or has given up
+abbrev pub LetsMoreIn : State → ℕ → ℕ → Type 0
+LetsMoreIn w t l = (has_readers (sort_at w l) ≡ true)
+    × (IsDowngrade (call_at w t).purpose l ⊎ HasGivenUp w t l)
+
+-- a conversion keeps this right while it wakes others: the lesser one, or that which it had
+abbrev pub kept_by : Option Purpose → Option Want
+kept_by (Some (Converts l x Exclusive how)) = Some x
+kept_by (Some (Converts l x y how)) = Some y
+kept_by purpose = None
+
+-- By its next act a thread takes the waiters of the main line that the lock lets in while this right is kept.
+abbrev pub TakesNext : State → ℕ → ℕ → Option Want → Type 0
+TakesNext w t l kept = (recursive : Bool)
+    × (act_of (place_at w t) ≡ Take (key_of l Main) (Picked kept recursive))
+
+-- a downgrade, or a call that has given up, works on the word of a lock while threads wait in the main line
+pub record GivesWayWhileSomeWait (w : State) (t l : ℕ) : Type 0 where
+  pub shared : has_readers (sort_at w l) ≡ true
+  pub lets_in : IsDowngrade (call_at w t).purpose l ⊎ HasGivenUp w t l
+  pub works : (op : Op) × (act_of (place_at w t) ≡ Word l op)
+  pub told : parked_in (sort_at w l) (word_at w l) ≡ true
+
 -- in a step from w to v its thread begins and ends to owe by what it sees and where it is, and no
 -- other thread does
 pub record OwesSince (w : State) (t : ℕ) (o : Outcome) (v : State) : Type 0 where
   pub own : (l : ℕ) (m : Line) → o ≢ told.NotNow → Owes v t l m
       ↔ (IsInside v t l m ⊎ SeesWaiters w t l m o v)
+  -- a conversion or a roll-back doesn't end by that step, so that it owes those waiters their wake
+  pub goes_on : (l : ℕ) → o ≢ told.NotNow → GivesWayWhileSomeWait w t l → o ≡ told.Step
+  -- As such a thread comes into the section it takes all that the lock lets in.
+  pub takes : (l : ℕ) → LetsMoreIn w t l → (IsInside w t l Main → ⊥) → IsInside v t l Main
+      → TakesNext v t l (kept_by (call_at w t).purpose)
   pub others : (u l : ℕ) → u ≢ t → line_owed (place_at v u) l ≡ line_owed (place_at w u) l

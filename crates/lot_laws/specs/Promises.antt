@@ -2,7 +2,7 @@
 -- sort of lock, so that it stays as it is for a further sort.
 use Rattle.steps_base.specs.Rows.{KnowsRights, WakesAside}
 use Rattle.spec_locks.specs.Locks as locks
-use Rattle.std.specs.Prelude.{ℕ, Bool, false, true, None, Option, ◌≡◌, ◌≢◌, ◌≤◌, ◌⊎◌, ◌↔◌, Some, ◌*◌, ◌+◌, []}
+use Rattle.std.specs.Prelude.{ℕ, Bool, false, true, None, Option, ◌≡◌, ◌≢◌, ◌≤◌, ◌<◌, ◌-◌, ◌⊎◌, ◌↔◌, Some, ◌*◌, ◌+◌, []}
 use Rattle.core_base.specs.declared.keys.Keys.TheVariants.{One}
 use Rattle.core_base.specs.declared.wants.Want.{Want}
 use Rattle.core_base.specs.declared.ops.Op.TheVariants.{Exchange}
@@ -17,10 +17,10 @@ use Rattle.spec_locks.specs.Onces.{InProgress, IsRunning}
 use Rattle.spec_locks.specs.Codes.{word_by, parked_in, aside_in, has_aside, is_running}
 use Rattle.steps_rwlock.specs.RwLockSteps.{plus}
 use Rattle.steps_once.specs.OnceSteps.{marked}
-use Rattle.spec_locks.specs.Runs.{AreLockStates, LetsGo, ShowsWaiters}
+use Rattle.spec_locks.specs.Runs.{AreLockStates, CallState, LetsGo, ShowsWaiters}
 use Rattle.spec_locks.specs.Sites.{Line, Main, Second, counts_some, has_readers}
 pub use Rattle.spec_locks.specs.Headline.{want_of, mutex_seen, WakesWaiters, IsOpenNow, HasOrPends, GoesFreely}
-use Rattle.spec_locks.specs.Purposes.{Purpose, Enters, Releases, Converts, Bumps, CallsOnce, Awaits, MayWait, Waits, Notifies}
+use Rattle.spec_locks.specs.Purposes.{Purpose, Enters, Releases, Converts, Bumps, CallsOnce, Awaits, IsReleasing, MayWait, Waits, Notifies}
 use Rattle.spec_locks.specs.declared.calls.Patience.TheVariants.{Try}
 use Rattle.lot_laws.specs.Refinement.{RunsClosure, lock_state, locks_of, call_at}
 use Rattle.lot_laws.specs.Locations.{role_on}
@@ -73,8 +73,8 @@ GoesToWake w t l m =
     ⊎ WaitHasReleased (call_at w t).purpose (call_at w t).released l m))
 
 -- it owes a wake on the main line, and its call wakes the threads that it takes; or it was woken, is about to
--- try again, and wants what passes the turn on (of a mutex anything, of a reader-writer lock more
--- than to share)
+-- try again, and wants what passes the turn on (of a mutex anything, of a reader-writer lock more than to
+-- share)
 abbrev pub IsDebtorOf : State → ℕ → ℕ → Line → Type 0
 IsDebtorOf w t l Main =
     (Owes w t l Main × WakesWaiters (sort_at w l) (call_at w t).purpose (call_at w t).gave_up
@@ -92,6 +92,12 @@ pub record IsLookedAfterIn (w : State) (l : ℕ) (m : Line) : Type 0 where
   pub stands_nowhere : (k : ℕ) → (standing debtor (lock_state w k) ≡ 0)
       ⊎ (WaitHasReleased (call_at w debtor).purpose (call_at w debtor).released l m × Owes w debtor l m)
 
+-- this many different threads look after the line
+pub record AreLookedAfterIn (w : State) (l number : ℕ) : Type 0 where
+  pub debtor : ℕ → ℕ
+  pub apart : (i j : ℕ) → i < number → j < number → debtor i ≡ debtor j → i ≡ j
+  pub each : (i : ℕ) → i < number → (h : IsLookedAfterIn w l Main) × (h.debtor ≡ debtor i)
+
 -- a lock that is shared was never at its limit
 abbrev pub WasNeverFull : State → ℕ → Type 0
 WasNeverFull w l = has_readers (sort_at w l) ≡ true → filled_at w l ≡ false
@@ -101,6 +107,10 @@ pub record NobodyForgottenIn (w : State) : Type 0 where
   pub main : (t l : ℕ) → WaitsFor w t l → IsOpenNow (rules_in w l) (lock_state w l)
       → WasNeverFull w l
       → IsLookedAfterIn w l Main
+  -- while a thread waits for a permit, as many different threads look after the line as permits
+  -- are free
+  pub permits : (t l : ℕ) → WaitsFor w t l → sort_at w l ≡ locks.Semaphore
+      → AreLookedAfterIn w l ((rules_in w l).limit - readers (lock_state w l))
   -- A writer aside is looked after once nobody shares the lock.
   pub second : (l : ℕ) → (lock_state w l).aside ≢ None → readers (lock_state w l) ≡ 0
       → IsLookedAfterIn w l Second
@@ -117,8 +127,8 @@ pub record IsOwedWake (w : State) (l : ℕ) : Type 0 where
 abbrev pub IsAsleepNowhere : State → ℕ → Type 0
 IsAsleepNowhere w t = (act_of (place_at w t) ≡ Sleep) × ((l : ℕ) → standing t (lock_state w l) ≡ 0)
 
--- it has what it waited for, and the thread inside the section has it in its hand, and wakes all
--- that it has there as it leaves
+-- it has what it waited for, and the thread inside the section has it in its hand, and wakes all that it has
+-- there as it leaves
 pub record IsHandedOverIn (w : State) (t : ℕ) : Type 0 where
   pub lock : ℕ
   pub by : ℕ
@@ -164,6 +174,10 @@ abbrev pub LeadsToSleep : Sort → ℕ → Act → Type 0
 LeadsToSleep sort l a =
     ((seen : ℕ) × (now : ℕ) × (a ≡ Word l (Exchange seen now)) × SetsBit sort seen now)
     ⊎ (a ≡ Enter (One (key_of l Second)))
+
+-- a call waits for the lock, or sets out to, and isn't about to release it
+abbrev pub IsWaitingCall : CallState → ℕ → Type 0
+IsWaitingCall c l = MayWait c.purpose l × (IsReleasing c.purpose c.released l → ⊥)
 
 -- a call that tries
 abbrev pub IsTry : Option Purpose → Type 0
@@ -220,14 +234,18 @@ pub record IsKept (w : State) : Type 0 where
   -- a thread may look at a word once more only in place of such an act
   pub looks : (t : ℕ) → ((locks_of w).stances t).may_spin ≡ true
       → (l : ℕ) × LeadsToSleep (sort_at w l) l (act_of (place_at w t))
+  -- A call that waits for a lock may look once more in place of each exchange that sets a parked bit.
+  pub spins : (t l seen now : ℕ) → IsWaitingCall (call_at w t) l
+      → act_of (place_at w t) ≡ Word l (Exchange seen now) → SetsBit (sort_at w l) seen now
+      → ((locks_of w).stances t).may_spin ≡ true
   -- a thread that is inside a section goes on freely: it is awake, and enters no other
   pub inside_goes : (t l : ℕ) (m : Line) → IsInside w t l m → GoesFreely ((locks_of w).stances t)
-  -- a try does so too, wherever it is
+  -- so does a try, wherever it is
   pub tries : (t : ℕ) → IsTry (call_at w t).purpose → GoesFreely ((locks_of w).stances t)
   -- a sleeper that stands nowhere was handed the lock that it waited for, by a thread that is inside the
   -- section and wakes it
   pub handing : (t : ℕ) → IsAsleepNowhere w t → IsHandedOverIn w t
-  -- each sleeper stands somewhere, or was handed its lock
+  -- so each sleeper stands somewhere, or was handed its lock
   pub sleeping : (t : ℕ) → act_of (place_at w t) ≡ Sleep
       → ((l : ℕ) × (1 ≤ standing t (lock_state w l))) ⊎ IsHandedOverIn w t
   -- a waiter implies the parked bit while nobody is inside the section: else the thread inside has

@@ -13,7 +13,8 @@ use Rattle.spec_locks.specs.Permits.{HasPermits}
 use Rattle.spec_locks.specs.Purposes.{rules_of}
 use Rattle.lot_machine.specs.Machine.{State, held, place_at, word_at, shares_at, sharers_in_hand, successor_from, want_of_successor, wants_more_in_hand, filled_at, kind_at, queue_at, section_at}
 use Rattle.lot_machine.specs.Fits.{IsWellFormed}
-use Rattle.lot_laws.specs.Refinement.{RunsClosure, lock_state}
+use Rattle.spec_locks.specs.Bypass.{AllReleaseFairly}
+use Rattle.lot_laws.specs.Refinement.{RunsClosure, lock_state, locks_of}
 use Rattle.spec_locks.specs.Onces.{InProgress}
 use Rattle.spec_locks.specs.Condvars.{CondvarSite, Inside, IsCondvar, NothingToDo, CondvarStage}
 use Rattle.lot_steps.specs.Steps.{profile_at}
@@ -224,13 +225,32 @@ AreCondvars w = (l : ℕ) → (rules_in w l).sort ≡ CondvarSort → IsCondvar 
 abbrev pub RunsInClosures : State → Type 0
 RunsInClosures w = (t l : ℕ) → (lock_state w l).phase ≡ InProgress t → RunsClosure w t l
 
+-- ---------------------------------------------------------------- a `Once` that is done, and fair mutexes
+
+-- the word of a `Once` that is done tells of no waiter
+abbrev pub AreUnmarked : State → Type 0
+AreUnmarked w = (l : ℕ) → kind_at w l ≡ kind.TheVariants.Once → word_at w l ≢ 9
+
+-- each call that releases a fair mutex does so fairly, and while somebody waits for it, it is owned
+pub record IsFairMutex (w : State) (l : ℕ) : Type 0 where
+  pub calls : AllReleaseFairly (locks_of w) l
+  pub owned : (lock_state w l).queue ≢ [] → (lock_state w l).exclusive ≢ None
+
+abbrev pub AreFairMutexes : State → Type 0
+AreFairMutexes w = (l : ℕ) → kind_at w l ≡ kind.TheVariants.Fair → IsFairMutex w l
+
+pub record IsSettled (w : State) : Type 0 where
+  pub runs : RunsInClosures w
+  pub unmarked : AreUnmarked w
+  pub fair : AreFairMutexes w
+
 -- a world keeps this from step to step
 pub record IsWorld (w : State) : Type 0 where
   pub shaped : IsWellFormed w
   pub steady : IsInductive w
   pub counted : AreCounted w
   pub condvars : AreCondvars w
-  pub running : RunsInClosures w
+  pub settled : IsSettled w
 
 -- a step changes no number of threads or locks
 pub record SameNumbers (w v : State) : Type 0 where

@@ -14,7 +14,8 @@ use Rattle.spec_locks.specs.declared.outcomes.Outcome.{Outcome}
 use Rattle.spec_locks.specs.declared.outcomes.Outcome as outcome
 use Rattle.spec_locks.specs.Runs.{IsStep}
 use Rattle.spec_locks.specs.Headline.{full_by}
-use Rattle.steps_base.specs.declared.acts.Act.TheVariants.{Sleep}
+use Rattle.core_base.specs.declared.ops.Op.TheVariants.{Exchange}
+use Rattle.steps_base.specs.declared.acts.Act.TheVariants.{Sleep, Word}
 use Rattle.lot_steps.specs.Steps.{act_of, first_place, taker}
 use Rattle.lot_machine.specs.Machine.{State, place_at, kind_at, word_at, queue_at, filled_at}
 use Rattle.lot_laws.specs.Refinement.{locks_of, lock_state, ChangesOneThing}
@@ -57,6 +58,12 @@ pub record TriesAtOnce (w : State) (t : ℕ) (o : Outcome) : Type 0 where
       ≡ first_place (kind_at w l) (call.TheVariants.RwLock l (rwlock_call.Enter Exclusive Try))
       → o ≡ tried (word_at w l == 0)
 
+-- after its own exchange, in place of which it might have looked at the word, a thread looks at that no more
+abbrev pub LooksNoMore : State → ℕ → State → Type 0
+LooksNoMore w t v = (l seen now : ℕ) → ((locks_of w).stances t).may_spin ≡ true
+    → act_of (place_at w t) ≡ Word l (Exchange seen now) → word_at w l ≡ seen
+    → ((locks_of v).stances t).may_spin ≡ false
+
 -- a step of the world, from w to v
 pub record IsWorldStep (w : State) (s : Step) (o : Outcome) (v : State) : Type 0 where
   -- it is a step of the abstract locks
@@ -68,6 +75,7 @@ pub record IsWorldStep (w : State) (s : Step) (o : Outcome) (v : State) : Type 0
   pub filled : (l : ℕ) → filled_at v l ≡ full_by (filled_at w) (locks_of v) l
   pub sleepers : SleepersStay w s.thread v
   pub tries : s.turn ≡ turn.TheVariants.Go → TriesAtOnce w s.thread o
+  pub looks_no_more : s.turn ≡ turn.TheVariants.Go → LooksNoMore w s.thread v
   -- its thread begins and ends to owe a wake by what it sees and where it is
   pub owing : OwesSince w s.thread o v
   -- a fair release gives to those that it has taken in one step: of a mutex to the first waiter, of

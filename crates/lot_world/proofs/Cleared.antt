@@ -115,7 +115,7 @@ module _ (k : Kind) (v : ℕ) (w : State) (f : Passes k w Idle v) (c : Call) (he
   pub owns : Drains (rules_of k).sort → Owns (lock_state ended 0) 0 Exclusive
   owns drains =
       let ends : EndsAlone w1 0 (purpose_at (locks_of w1) c) (solo 64 w1 0 outcome.NotNow).outcome ended =
-      ends_alone w1 0 g.alone.shape g.alone.steady g.alone.counted g.alone.condvars g.alone.running c (g.alone.place ∙ ap (λ j. first_place j c) (sym kind_there)) way in
+      ends_alone w1 0 g.alone.shape g.alone.steady g.alone.counted g.alone.condvars g.alone.settled c (g.alone.place ∙ ap (λ j. first_place j c) (sym kind_there)) way in
       let told : purpose_at (locks_of w1) c ≡ Some (Enters 0 Exclusive Patient) = ap (λ j. purpose_of j c) kind_there ∙ enters in
       let by_right : EndsBy (word_at w1) (locks_behind w1 0) (locks_of w1) 0 (Some (Enters 0 Exclusive Patient)) (solo 64 w1 0 outcome.NotNow).outcome (locks_of ended) =
       subst (λ q. EndsAlone w1 0 q (solo 64 w1 0 outcome.NotNow).outcome ended) told ends in
@@ -178,7 +178,7 @@ module _ (w : State) (d : Progress) (ready : IsReady d.state) (over : IsAllOver 
       steady = world.steady;
       counted = world.counted;
       condvars = world.condvars;
-      running = world.running;
+      settled = world.settled;
       thread = let a : 1 ≤ length s.places = some in omega arith;
       lock = let one : length s.locks ≡ 1 = ready.strict.ordered.lock.one in omega arith;
       place = over.idle 0;

@@ -119,7 +119,7 @@ module _ (w : State) (t : ℕ) (h : IsOrdered w) (second : section_at w 1 ≡ No
   main_left =
       let kept = solo_keeps (OnlyInside t) t (only_step t) 64 w outcome.NotNow (record { ordered_now = h; only = only }) in
       all_free (after_alone w t) t kept.ordered_now
-      (solo_rests_there t 64 w outcome.NotNow h (λ r. r) (rests_alone w t h.world.shaped h.world.steady h.world.counted h.world.condvars h.world.running under_way way))
+      (solo_rests_there t 64 w outcome.NotNow h (λ r. r) (rests_alone w t h.world.shaped h.world.steady h.world.counted h.world.condvars h.world.settled under_way way))
       kept.only
 
 then_main : (w : State) → Outside w → IsDraining (state_out_of_main w) × IsStrict (state_out_of_main w) × NobodyInside (state_out_of_main w)

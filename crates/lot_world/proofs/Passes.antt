@@ -37,7 +37,7 @@ use Rattle.lot_laws.proofs.machine.Parts.{IsSingle, nothing_at}
 use Rattle.lot_laws.proofs.machine.KindsStay.{after_kinds}
 use Rattle.lot_laws.proofs.alone.Leads.{LeadsSurely, surely_rest, surely_step}
 use Rattle.lot_laws.proofs.alone.TwoLines.{Comes, StepsAlone, enter_comes, hand_comes, leave_comes, take_comes, word_comes}
-use Rattle.lot_laws.proofs.once.Runs.{running_after}
+use Rattle.lot_laws.proofs.mutex.FairMutexes.{settled_after}
 use Rattle.lot_laws.proofs.sites.TurnsKept.{after_steady}
 use Rattle.lot_world.specs.Turns.{begin_of}
 
@@ -71,7 +71,7 @@ same_lines w p v q e f = record {
   steady = f.steady;
   counted = f.counted;
   condvars = f.condvars;
-  running = f.running;
+  settled = f.settled;
   thread = f.thread;
   lock = f.lock;
   place = f.place;
@@ -226,7 +226,7 @@ module _ (k : Kind) (w : State) (v : ℕ) (f : Passes k w Idle v) (c : Call) (ca
       steady = after_steady w (begin_of 0 c) f.alone.shape f.alone.steady f.alone.counted f.alone.condvars;
       counted = counted_after w (begin_of 0 c) f.alone.shape f.alone.steady f.alone.counted f.alone.condvars;
       condvars = after_condvars w (begin_of 0 c) f.alone.shape f.alone.steady f.alone.counted f.alone.condvars;
-      running = running_after w (begin_of 0 c) f.alone.shape f.alone.steady f.alone.counted f.alone.condvars f.alone.running;
+      settled = settled_after w (begin_of 0 c) f.alone.shape f.alone.steady f.alone.counted f.alone.condvars f.alone.settled;
       thread = let size : SameSize w (after w (begin_of 0 c)) = after_size w (begin_of 0 c) in rw size.threads f.alone.thread;
       lock = let size : SameSize w (after w (begin_of 0 c)) = after_size w (begin_of 0 c) in rw size.locks f.alone.lock;
       place = ap (λ (x : State). place_at x 0) led ∙ get_or-set_same w.places 0 first Idle f.alone.thread;

@@ -33,7 +33,7 @@ use Rattle.lot_laws.proofs.calls.LockSteps.{IsTurn, after_step}
 use Rattle.lot_laws.proofs.sites.Opening.{opening_condvars, opening_steady}
 use Rattle.lot_laws.proofs.machine.Possible.{turner_there}
 use Rattle.lot_laws.proofs.promises.Promises.{opening_is}
-use Rattle.lot_laws.proofs.once.Runs.{opening_running}
+use Rattle.lot_laws.proofs.mutex.FairMutexes.{opening_settled}
 use Rattle.lot_laws.proofs.alone.WorldRuns.{world_after, world_kept}
 use Rattle.lot_world.specs.Drained.{Drains}
 use Rattle.lot_world.specs.Few.{IsOfOneLock, PendsInCall}
@@ -201,7 +201,7 @@ module _ (k : Kind) (threads : ℕ) (drains : Drains (rules_of k).sort) (some : 
       steady = opening_steady (k ∷ []) threads some (one_fits k threads fit);
       counted = opening_counted (k ∷ []) threads;
       condvars = opening_condvars (k ∷ []) threads;
-      running = opening_running (k ∷ []) threads;
+      settled = opening_settled (k ∷ []) threads;
     };
     lock = record { one = refl; sort = drains };
     some = subst (λ n. 1 ≤ n) (sym (length-replicate threads Idle)) some;

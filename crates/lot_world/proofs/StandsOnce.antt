@@ -19,7 +19,7 @@ use Rattle.steps_condvar.specs.declared.wait.WaitAt.TheVariants as wait
 use Rattle.steps_condvar.specs.CondvarProfiles.{condvar_row, is_listed, is_moved, notify_row, wait_row}
 use Rattle.lot_steps.specs.declared.places.Place.{Place}
 use Rattle.lot_steps.specs.declared.places.Place.TheVariants as place
-use Rattle.lot_steps.specs.Steps.{beside_of, called_lock, calls, is_lock, profile, profile_beside}
+use Rattle.lot_steps.specs.Steps.{beside_of, called_lock, is_lock, profile_beside}
 use Rattle.lot_machine.specs.Copies.{StandOnce}
 use Rattle.lot_machine.specs.Machine.{State, place_at, queue_at}
 use Rattle.lot_machine.specs.Views.{StandUnder}

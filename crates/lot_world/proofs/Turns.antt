@@ -338,7 +338,7 @@ module _ (w : State) (t : ℕ) (h : IsOrdered w) (outside : NobodyInside w) (up 
   way l u m may has inside = absurd (let f = outside (key_of l m) in let g : ◌≡◌ {A = Option ℕ} None (Some u) = sym f ∙ inside in cc)
 
   pub rests : AtRest (place_at led t)
-  rests = solo_rests_there t 64 w outcome.NotNow h (λ r. r) (rests_alone w t h.world.shaped h.world.steady h.world.counted h.world.condvars h.world.running under_way way)
+  rests = solo_rests_there t 64 w outcome.NotNow h (λ r. r) (rests_alone w t h.world.shaped h.world.steady h.world.counted h.world.condvars h.world.settled under_way way)
 
   beside : Beside w t led
   beside = solo_keeps (Beside w t) t (beside_step w t) 64 w outcome.NotNow (record { ordered_now = h; waiting = λ u ne. refl; idle = λ u ne. refl; own = λ u ne e. refl })

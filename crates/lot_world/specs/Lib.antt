@@ -16,6 +16,7 @@ pub use Rattle.lot_laws.specs.Promises
 pub use Rattle.lot_laws.specs.MutexPromises
 pub use Rattle.lot_laws.specs.Fair
 pub use Rattle.lot_laws.specs.Owing
+pub use Rattle.lot_laws.specs.Overtaking
 pub use Rattle.lot_laws.specs.WorldRuns
 pub use Rattle.lot_laws.specs.Solo
 pub use Rattle.lot_laws.specs.Locations

@@ -7,7 +7,9 @@ ghost use Rattle.lot_machine.specs.Machine.{opening, place_at, lock_at, share_at
 ghost use Rattle.lot_machine.specs.Fits.{SameSize};
 ghost use Rattle.spec_locks.specs.Runs.{IsOpening, IsStep, IsRun, purpose_at};
 ghost use Rattle.spec_locks.specs.Headline.{Behaves, MayTell, Opens, full_by};
-ghost use Rattle.spec_locks.specs.Guarantees.{IsGuaranteed, StateHolds, StepHolds};
+ghost use Rattle.spec_locks.specs.Guarantees.{IsGuaranteed};
+ghost use Rattle.spec_locks.specs.EachState.{StateHolds};
+ghost use Rattle.spec_locks.specs.EachStep.{StepHolds};
 ghost use Rattle.spec_locks.specs.UserLaws.{ReadersStayOut, RereadersPass, UpgradesLetNobodyWrite, DowngradesOwn};
 ghost use Rattle.spec_locks.specs.CondvarLaws.{NobodyWakesByItself};
 ghost use Rattle.lot_laws.specs.SitesOf.{IsWorld};
@@ -15,7 +17,8 @@ ghost use Rattle.lot_laws.specs.Refinement.{locks_of, ChangesOneThing};
 ghost use Rattle.lot_laws.specs.Promises.{IsKept};
 ghost use Rattle.lot_laws.specs.Fair.{IsFair};
 ghost use Rattle.lot_laws.specs.Owing.{OwesSince};
-ghost use Rattle.lot_laws.specs.WorldRuns.{IsWorldRun, Tells, SleepersStay, TouchesOnlyByGoing, TriesAtOnce};
+ghost use Rattle.lot_laws.specs.Overtaking.{NobodyIsOvertaken};
+ghost use Rattle.lot_laws.specs.WorldRuns.{IsWorldRun, Tells, LooksNoMore, SleepersStay, TouchesOnlyByGoing, TriesAtOnce};
 ghost use Rattle.lot_laws.specs.Solo.{IsUnderWay, IsUnobstructed, HasWhatItReads, IsBarred, OnlyTries, Rests, EndsAlone, IsSoloRun};
 ghost use Rattle.lot_machine.specs.Views.{StandUnder, owners_of, queue_of, debts_of};
 ghost use Rattle.lot_world.specs.Drains.{IsDrainable, IsDrain};
@@ -126,6 +129,10 @@ impl<Q: Queues + Drop> World<Q> {
         // exactly where the word is 0.
         ensures tries { step.turn ≡ Turn.Go → TriesAtOnce self.old step.thread result }
 
+        // A thread whose exchange set a bit, in place of which it might have looked at the word,
+        // looks at that no more before it goes into the section.
+        ensures looks_no_more { step.turn ≡ Turn.Go → LooksNoMore self.old step.thread self.new }
+
         // Another thread that sleeps does so on, unless this one has it in hand and wakes it.
         ensures sleepers { SleepersStay self.old step.thread self.new }
 
@@ -230,6 +237,10 @@ impl<Q: Queues + Drop> World<Q> {
             (IsGuaranteed kinds threads steps.now)) }
         ensures holds { OnOk result (StateHolds (locks_of self.new) (filled_at self.new)) }
 
+        // A fair mutex lets nobody be overtaken: a thread that is k-th in its queue owns it after k
+        // releases at most.
+        ensures in_turn { OnOk result (NobodyIsOvertaken self.old steps.now self.new) }
+
         // The headline, from the opening state on: some run of the abstract locks tells these
         // outcomes, and in each of its states nobody is forgotten.
         ensures headline { (kinds : List Kind) (threads : ℕ) → self.old ≡ opening kinds threads
@@ -260,6 +271,8 @@ impl<Q: Queues + Drop> World<Q> {
             (locks_of self.new))) }
         ensures stopped_run { IfErr result (λ stopped. Tells outcomes.old.items outcomes.new.items
             (λ told. IsWorldRun self.old (take stopped.taken steps.now) told self.new)) }
+        ensures stopped_in_turn { IfErr result
+            (λ stopped. NobodyIsOvertaken self.old (take stopped.taken steps.now) self.new) }
         ensures stopped_headline { (kinds : List Kind) (threads : ℕ)
             → self.old ≡ opening kinds threads
             → IfErr result (λ stopped. Tells outcomes.old.items outcomes.new.items

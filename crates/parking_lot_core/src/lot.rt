@@ -21,7 +21,6 @@ use std::sync::{Arc, Mutex};
 
 /// The words that threads step on, the queues in which they stand, and the records by which they
 /// are woken.
-#[derive(Drop)]
 pub struct ParkingLot {
     pub(crate) words: LotWords,
     // The queues of each bucket of keys: 2 ^ bits of them.
@@ -41,6 +40,23 @@ pub struct ParkingLot {
     ghost for_each_seat: { length next_taken.items ≡ records.count },
     ghost enough: { IsLeast records.count bits },
     ghost few: { records.count ≤ 1024 },
+}
+
+// The drop is written, and not derived, so that it is proved here and not in each program.
+impl Drop for ParkingLot {
+    fn drop(self) {
+        let ParkingLot {
+            words: _words,
+            buckets: _buckets,
+            bits: _bits,
+            records: _records,
+            wakers: _wakers,
+            next_taken: _next_taken,
+            stands: _stands,
+            holders: _holders,
+            probes: _probes,
+        } = self;
+    }
 }
 
 // The queues of each bucket, with nobody in them.

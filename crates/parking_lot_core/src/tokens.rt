@@ -44,15 +44,24 @@ const NOTHING: SectionRecord = SectionRecord {
 };
 
 /// The place of a thread in a lot. It may go to another thread.
-#[derive(Drop)]
 pub struct Ticket {
     pub(crate) seat: Seat,
     pub(crate) number: usize,
     pub(crate) parker: Parker,
 }
 
+// The drop is written, and not derived, so that it is proved here and not in each program.
+impl Drop for Ticket {
+    fn drop(self) {
+        let Ticket {
+            seat: _seat,
+            number: _number,
+            parker: _parker,
+        } = self;
+    }
+}
+
 /// A thread in the lot. It stays in its thread, and goes with each call that steps.
-#[derive(Drop)]
 pub struct Token {
     pub(crate) seat: Seat,
     pub(crate) number: usize,
@@ -61,6 +70,20 @@ pub struct Token {
     pub(crate) record: SectionRecord,
     pub(crate) expected: Expected,
     here: PhantomData<*const ()>,
+}
+
+// The drop is written, and not derived, so that it is proved here and not in each program.
+impl Drop for Token {
+    fn drop(self) {
+        let Token {
+            seat: _seat,
+            number: _number,
+            parker: _parker,
+            record: _record,
+            expected: _expected,
+            here: _here,
+        } = self;
+    }
 }
 
 impl Ticket {

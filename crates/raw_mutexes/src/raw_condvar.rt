@@ -27,12 +27,21 @@ use std::time::Duration;
 
 /// A condition variable of a lot. Its word is 0 where nobody waits, and else shows the mutex with
 /// which threads wait.
-#[derive(Drop)]
 pub struct RawCondvar {
     lot: Arc<ParkingLot>,
     word: Word,
     ghost drawn: { IsWordOf (arc_value lot).words word × (word.kind ≡ Condvar)
         × (word.number < 9223372036854775808) },
+}
+
+// The drop is written, and not derived, so that it is proved here and not in each program.
+impl Drop for RawCondvar {
+    fn drop(self) {
+        let RawCondvar {
+            lot: _lot,
+            word: _word,
+        } = self;
+    }
 }
 
 fn given_back(answer: Answer, guard: RawGuard) -> Result<RawGuard, (Fault, RawGuard)>

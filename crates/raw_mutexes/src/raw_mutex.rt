@@ -36,12 +36,21 @@ use steps_mutex::{LOCKED, PARKED, is_locked, is_parked};
 
 /// A mutex of a lot. Its word is 1 where it is locked, and 2 where a thread may be parked, or the
 /// sum of these.
-#[derive(Drop)]
 pub struct RawMutex {
     pub(crate) lot: Arc<ParkingLot>,
     pub(crate) word: Word,
     ghost drawn: { IsWordOf (arc_value lot).words word × (word.kind ≡ Mutex)
         × (word.number < 9223372036854775808) },
+}
+
+// The drop is written, and not derived, so that it is proved here and not in each program.
+impl Drop for RawMutex {
+    fn drop(self) {
+        let RawMutex {
+            lot: _lot,
+            word: _word,
+        } = self;
+    }
 }
 
 impl RawMutex {

@@ -48,7 +48,6 @@ const ENTER: Op = Op::Exchange {
 };
 
 /// A reader-writer lock of a lot, as clauses see it.
-#[derive(Drop)]
 pub struct LotRwLock {
     lot: Arc<ParkingLot>,
     word: Word,
@@ -56,6 +55,17 @@ pub struct LotRwLock {
     ghost drawn: { IsWordOf (arc_value lot).words word × (word.kind ≡ RwLock)
         × (word.number < 9223372036854775808)
         × (settings.admission.limit < 2 ^ 60 - 1) },
+}
+
+// The drop is written, and not derived, so that it is proved here and not in each program.
+impl Drop for LotRwLock {
+    fn drop(self) {
+        let LotRwLock {
+            lot: _lot,
+            word: _word,
+            settings: _settings,
+        } = self;
+    }
 }
 
 impl LotRwLock {

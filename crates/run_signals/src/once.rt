@@ -57,12 +57,21 @@ enum Came {
 ///
 /// A closure that answers an error leaves it poisoned: then it runs a closure again for
 /// `call_once_force` alone.
-#[derive(Drop)]
 pub struct Once {
     lot: Arc<ParkingLot>,
     word: Word,
     ghost drawn: { IsWordOf (arc_value lot).words word × (word.kind ≡ kinds.Once)
         × (word.number < 9223372036854775808) },
+}
+
+// The drop is written, and not derived, so that it is proved here and not in each program.
+impl Drop for Once {
+    fn drop(self) {
+        let Once {
+            lot: _lot,
+            word: _word,
+        } = self;
+    }
 }
 
 fn came_by(answer: Answer) -> Came

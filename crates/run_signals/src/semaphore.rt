@@ -35,13 +35,23 @@ use steps_semaphore::free_permits;
 /// back.
 ///
 /// Its word counts the permits that are free.
-#[derive(Drop)]
 pub struct Semaphore {
     lot: Arc<ParkingLot>,
     word: Word,
     permits: u64,
     ghost drawn: { IsWordOf (arc_value lot).words word × (word.kind ≡ kinds.Semaphore permits)
         × (word.number < 9223372036854775808) },
+}
+
+// The drop is written, and not derived, so that it is proved here and not in each program.
+impl Drop for Semaphore {
+    fn drop(self) {
+        let Semaphore {
+            lot: _lot,
+            word: _word,
+            permits: _permits,
+        } = self;
+    }
 }
 
 /// A permit of a semaphore. It is spent by its release, and can't be dropped.

@@ -117,7 +117,7 @@ passed_few (Some a) (Some b) = either (a == b)
 record Goes (n t : ℕ) (s v : LockState) : Type 0 where
   pub waits : 1 ≤ times t v.queue
   pub owned : v.exclusive ≢ None
-  pub few : (u : ℕ) → v.exclusive ≡ Some u → u < n
+  pub few : (u : ℕ) → 1 ≤ standing u s → u < n
   pub hands : (u : ℕ) → v.taken u ≢ None → (s.taken u ≢ None) ⊎ (1 ≤ times u s.queue)
 
 abbrev Costs : ℕ → ℕ → LockState → LockState → Type 0
@@ -155,7 +155,8 @@ module _ (r : Rules) (s : LockState) (u n t : ℕ) (state : IsLockState r s) (mu
           → Costs n t s (if b then locks.with_owner y.thread Exclusive left else locks.pending_for y.thread false left)
       by_readers false g = absurd (g.owned refl)
       by_readers true g =
-          let few : y.thread < n = g.few y.thread refl in
+          let held : one_if_some (s.taken y.thread) ≡ 1 = ap one_if_some is in
+          let few : y.thread < n = g.few y.thread (omega arith) in
           let less = let_go_one n u y.thread s.taken y.want few is in
           let most = passed_few s.exclusive (Some y.thread) in
           omega arith

@@ -2,10 +2,10 @@
 -- from them.
 use Rattle.std.proofs.Common.{ℕ, zero, suc, Bool, true, false, Option, Some, None, if◌then◌else◌, ◌==◌, ◌≡◌, ◌≢◌, ◌≤◌, ◌+◌, ◌⊎◌, ◌↔◌, inl, inr, List, [], ◌∷◌, refl, sym, ◌∙◌, ap, subst, arith}
 use Rattle.std.proofs.lemmas.Bool.{cases_lt, eqb-true}
-use Rattle.std.specs.Prelude.{◌<◌}
 use Rattle.core_base.specs.declared.keys.Keys.{Keys}
 use Rattle.core_base.specs.declared.keys.Keys.TheVariants.{One, Two}
 use Rattle.core_base.specs.Keys.{key_of}
+use Rattle.spec_locks.specs.declared.calls.Call.{Call}
 use Rattle.spec_locks.specs.declared.calls.Turn.{Turn}
 use Rattle.spec_locks.specs.declared.calls.Turn as turn
 use Rattle.spec_locks.specs.declared.calls.Step.{Step}
@@ -17,11 +17,14 @@ use Rattle.spec_locks.specs.Onces.{IsRunning, Phase, New, Poisoned, InProgress, 
 use Rattle.spec_locks.specs.Locks.{LockState, LockCase, Pending, Sort, Mutex, Normal, Recursive, Semaphore, Once, Condvar, Enter, Pend, Settle, Leave, Convert, Park, Aside, TakeFirst, TakeAside, TakePicked, Wake, HandOff, Late, Rollback, OfOnce, OfCondvar, SeeOwner, Look, Show, Hide, Taken, readers, has_caller, one_if_some, one_if_thread, standing, times}
 use Rattle.spec_locks.specs.Locks as locks
 use Rattle.spec_locks.specs.Purposes.{Purpose, Enters, Releases, Converts, Bumps, CallsOnce, Awaits, Waits, Notifies, Recall, Blank, Saw, SawOwner, HasMoved, WasMoved, WasNotified}
-use Rattle.spec_locks.specs.Sites.{Line, Main, Second, IsOpen, counts_some}
-use Rattle.spec_locks.specs.Runs.{LocksState, CallState, Event, Nothing, AtLock, Moves, AnswerHolds, Agrees, AreFree, Does, GoesOn, IsNotified, IsStep, IsTimely, MayDo, MayGo, MayHappen, MayTurn, MovedNobody, NotifiesAnswer, Turned, going_on, gives_up, rules_at}
-use Rattle.spec_locks.specs.Guarantees.{AllHold, IsQuiet, IsUp, Recalls, Rests, StepHolds, WaitsForSome, full_by, sort_in}
+use Rattle.spec_locks.specs.Sites.{Line, Main, Second, counts_some}
+use Rattle.spec_locks.specs.Runs.{LocksState, CallState, Event, Nothing, AtLock, Moves, AnswerHolds, Agrees, AreFree, Does, GoesOn, IsNotified, IsStep, IsTimely, MayBegin, MayDo, MayGo, MayHappen, MayTurn, MovedNobody, NotifiesAnswer, Turned, going_on, gives_up, new_call, rights_in, rules_at}
+use Rattle.spec_locks.specs.EachState.{IsQuiet, IsUp, Rests, WaitsForSome, full_by, sort_in}
+use Rattle.spec_locks.specs.EachStep.{Recalls, StepHolds}
+use Rattle.spec_locks.specs.Guarantees.{AllHold}
+use Rattle.spec_locks.proofs.CallTable.{answer_is, goal_is}
 use Rattle.spec_locks.specs.GuaranteeLaws.{HeadlineGuarantees, NoNotificationIsLost, OwnersExcludeInRuns, QuietWorldsRest, SafeStatesHold, SomebodyGoes, TellsNobody}
-use Rattle.spec_locks.specs.Headline.{Behaves, GoesFreely, IsDebtor, IsLookedAfter, IsSafe, WakesWaiters, want_of}
+use Rattle.spec_locks.specs.Headline.{Behaves, GoesFreely, IsDebtor, IsLookedAfter, IsOpenNow, IsSafe, WakesWaiters, want_of}
 use Rattle.spec_locks.proofs.LockKeeps.{opening_is_state}
 use Rattle.spec_locks.proofs.Runs.{run_keeps}
 use Rattle.spec_locks.proofs.QueueOrder.{queues_keep_order}
@@ -46,7 +49,11 @@ key_is (suc key) = next (key_is key)
 
 -- ------------------------------------------------ what a state says
 
-some_writer : (s : LockState) (limit : ℕ) → ((IsOpen Normal s ⊎ ((Normal ≡ Semaphore) × (readers s < limit))) → ⊥) → (s.exclusive ≢ None) ⊎ ((s.pending ≢ None) ⊎ (s.upgradable ≢ None))
+-- nobody bars the way of the first waiter
+abbrev Way : Sort → ℕ → LockState → Type 0
+Way sort limit s = IsOpenNow (record { sort = sort; limit = limit }) s
+
+some_writer : (s : LockState) (limit : ℕ) → (Way Normal limit s → ⊥) → (s.exclusive ≢ None) ⊎ ((s.pending ≢ None) ⊎ (s.upgradable ≢ None))
 some_writer s limit closed = writers s.exclusive s.pending s.upgradable refl refl refl
   where
     writers : (a : Option ℕ) (b : Option Pending) (c : Option ℕ) → s.exclusive ≡ a → s.pending ≡ b → s.upgradable ≡ c → (s.exclusive ≢ None) ⊎ ((s.pending ≢ None) ⊎ (s.upgradable ≢ None))
@@ -55,9 +62,10 @@ some_writer s limit closed = writers s.exclusive s.pending s.upgradable refl ref
     writers None None (Some x) e f g = inr (inr (λ h. let k : ◌≡◌ {A = Option ℕ} (Some x) None = sym g ∙ h in cc))
     writers None None None e f g = absurd (closed (inl (e, f, g)))
 
-recursive_so : (limit : ℕ) (s : LockState) → (IsOpen Normal s ⊎ ((Normal ≡ Semaphore) × (readers s < limit))) → IsOpen Recursive s ⊎ ((Recursive ≡ Semaphore) × (readers s < limit))
+recursive_so : (limit : ℕ) (s : LockState) → Way Normal limit s → Way Recursive limit s
 recursive_so limit s (inl h) = inl h
-recursive_so limit s (inr h) = absurd (let e : Normal ≡ Semaphore = h.0 in cc)
+recursive_so limit s (inr (inl h)) = absurd (let e : Normal ≡ Semaphore = h.0 in cc)
+recursive_so limit s (inr (inr h)) = absurd (let e : Normal ≡ Once = h.0 in cc)
 
 module _ (w : LocksState) (full : ℕ → Bool) (safe : IsSafe w full) where
   inside_goes : (key u : ℕ) → w.inside key ≡ Some u → ((w.calls u).purpose ≢ None) × GoesFreely (w.stances u)
@@ -115,16 +123,16 @@ module _ (w : LocksState) (full : ℕ → Bool) (safe : IsSafe w full) where
     unattended : (l : ℕ) (m : Line) → IsLookedAfter w l m → ⊥
     unattended l m h = not_up h.debtor (called h.debtor l m h.debt) h.awake
 
-    owner_there : (sort : Sort) (limit : ℕ) (s : LockState) → ((IsOpen sort s ⊎ ((sort ≡ Semaphore) × (readers s < limit))) → ⊥) → (sort ≡ Condvar → s.shown ≢ None)
+    owner_there : (sort : Sort) (limit : ℕ) (s : LockState) → (Way sort limit s → ⊥) → (sort ≡ Condvar → s.shown ≢ None)
         → WaitsForSome sort limit s
     owner_there Mutex limit s closed shows = λ e. closed (inl e)
     owner_there Normal limit s closed shows = some_writer s limit closed
     owner_there Recursive limit s closed shows = some_writer s limit (λ h. closed (recursive_so limit s h))
     owner_there Semaphore limit s closed shows = elim (cases_lt (readers s) limit) [
-      | inl lt ↦ absurd (closed (inr (refl, lt)))
+      | inl lt ↦ absurd (closed (inr (inl (refl, lt))))
       | inr ge ↦ ge
     ]
-    owner_there Once limit s closed shows = runs s.phase refl
+    owner_there Once limit s closed shows = (λ e. closed (inr (inr (refl, e))), runs s.phase refl)
       where
         runs : (p : Phase) → s.phase ≡ p → has_caller s.queue ≡ true → IsRunning s.phase
         runs (InProgress t) e h = subst IsRunning (sym e) tt
@@ -269,8 +277,8 @@ module _ (w v : LocksState) (t : ℕ) where
 
 pub step_holds : (w v : LocksState) (s : Step) (o : Outcome) (full : ℕ → Bool) → IsSafe w full → IsStep w s o v → StepHolds w s o v
 step_holds w v s o full safe h = record {
-  answer = λ a e. (let g = ended w v s.thread o s.turn a e h.1 in (going_on g.event (w.calls s.thread), recalls w v s.thread g.event g.may, answered w v s.thread o a e g));
-  begins = begins w v s o h.1;
+  answer = λ a e. (let g = ended w v s.thread o s.turn a e h.1 in (going_on g.event (w.calls s.thread), recalls w v s.thread g.event g.may, answer_is (going_on g.event (w.calls s.thread)).purpose v s.thread (going_on g.event (w.calls s.thread)) a (answered w v s.thread o a e g)));
+  begins = λ begun e told. begins w v s o h.1 begun e told ∙ ap (λ p. new_call p (rights_in w s.thread)) (goal_is w s.thread begun (may_begin begun e told).right);
   is_late = is_late w v s o h.1;
   ends = ends w v s o h.1;
   goes_on = goes_on w v s o h.1;
@@ -281,6 +289,12 @@ step_holds w v s o full safe h = record {
   others = h.2.others;
   order = queues_keep_order w v s o h;
 }
+  where
+    may_begin : (begun : Call) → s.turn ≡ turn.TheVariants.Begin begun → o ≢ outcome.TheVariants.NotNow → MayBegin w s.thread begun
+    may_begin begun e told = elim h.1 [
+      | inl does ↦ subst (MayTurn w s.thread) e does.0
+      | inr refused ↦ absurd (told refused.1.0)
+    ]
 
 pub safe_holds : SafeStatesHold
 safe_holds w full safe = record {

@@ -18,7 +18,7 @@ use Rattle.spec_locks.specs.Locks as locks
 use Rattle.spec_locks.specs.Locks.{LockState, LockCase, Queued, Rights, Rules, Taken, Needs, Enter, Pend, Settle, Leave, Convert, Park, Aside, TakeFirst, TakeAside, TakePicked, Wake, HandOff, Late, Rollback, OfOnce, OfCondvar, SeeOwner, Look, Show, Hide, IsLockState, after_case, left_behind, one_if_some, putting, rights_of, sharing_from, standing}
 use Rattle.spec_locks.specs.Purposes.{MayWait, Purpose, Recall, Blank, Saw, SawOwner, HasMoved, WasMoved, WasNotified}
 use Rattle.spec_locks.specs.Runs.{LocksState, CallState, AreLockStates, Event, Nothing, AtLock, Moves, Does, GoesOn, MayDo, MayHappen, Stays, Turned, calls_after, gives_up, going_on, if_moved, is_among, is_taken_by, joined_by, locks_after, new_call, no_call, purpose_at, rights_in, rules_at, unless_ended, woken}
-use Rattle.spec_locks.specs.Guarantees.{CallGoesOn, IsUnderWay}
+use Rattle.spec_locks.specs.EachStep.{CallGoesOn, IsUnderWay}
 use Rattle.spec_locks.proofs.Rights.{others_keep, rights_are}
 use Rattle.spec_locks.proofs.Runs.{needs_of}
 

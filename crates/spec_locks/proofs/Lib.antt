@@ -31,3 +31,6 @@ pub mod Guarantees
 pub mod Bypass
 pub mod Idle
 pub mod Reach
+pub mod FairQueues
+pub mod FairEvents
+pub mod CallTable

@@ -16,7 +16,7 @@ use Rattle.spec_locks.specs.Condvars.{moved_of, line_of, wanting_mutex}
 use Rattle.spec_locks.specs.Locks as locks
 use Rattle.spec_locks.specs.Locks.{LockState, LockCase, Queued, Rules, Needs, OnceNeeds, Enter, Pend, Settle, Leave, Convert, Park, Aside, TakeFirst, TakeAside, TakePicked, Wake, HandOff, Late, Rollback, OfOnce, OfCondvar, SeeOwner, Look, Show, Hide, after_case, left_behind, putting, standing, times, wants_shared}
 use Rattle.spec_locks.specs.Runs.{LocksState, CallState, Event, Nothing, AtLock, Moves, GoesOn, Stays, Does, MayHappen, Turned, IsStep, is_among, joined_by, locks_after, rules_at}
-use Rattle.spec_locks.specs.Guarantees.{IsPartOf, KeepsOrderOf, QueuesKeepOrder}
+use Rattle.spec_locks.specs.EachStep.{IsPartOf, KeepsOrderOf, QueuesKeepOrder}
 use Rattle.spec_locks.proofs.Runs.{needs_of}
 
 -- ---------------------------------------------------------------- parts of a line

@@ -1,9 +1,10 @@
--- How long a thread waits for a mutex that is handed over: a thread that stands k-th owns it after k others
--- at most.
-use Rattle.std.specs.Prelude.{ℕ, zero, suc, Option, Some, None, if◌then◌else◌, ◌==◌, ◌+◌, ◌<◌, ◌≤◌, ◌≡◌, ◌≢◌, ◌⊎◌, List, [], ◌∷◌}
+-- How long a thread waits for a mutex that is handed over: one that is k-th owns it after k others at most.
+use Rattle.std.specs.Prelude.{ℕ, zero, suc, true, Option, Some, None, if◌then◌else◌, ◌==◌, ◌+◌, ◌<◌, ◌≤◌, ◌≡◌, ◌≢◌, ◌⊎◌, List, [], ◌∷◌}
 use Rattle.spec_locks.specs.declared.calls.Step.{Step}
 use Rattle.spec_locks.specs.declared.outcomes.Outcome.{Outcome}
-use Rattle.spec_locks.specs.Locks.{LockState, Mutex, Queued, Taken, one_if_some, times}
+use Rattle.spec_locks.specs.Locks.{LockState, Mutex, Queued, Taken, Owns, one_if_some, standing, times}
+use Rattle.core_base.specs.declared.wants.Want.TheVariants.{Exclusive}
+use Rattle.spec_locks.specs.Purposes.{Purpose, Enters, Releases, Converts, Bumps, CallsOnce, Awaits, Waits, Notifies}
 use Rattle.spec_locks.specs.Runs.{LocksState, AreLockStates, IsStep, rules_at}
 
 -- how many stand ahead of a thread in a line
@@ -26,15 +27,15 @@ passed (Some a) (Some b) = if a == b then 0 else 1
 passed before now = 0
 
 -- In a step, somebody waits for a mutex and goes on waiting. The mutex is owned, and isn't let go: a thread
--- that releases it hands it over. And nobody comes into a hand but from its queue.
+-- that releases it hands it over. Nobody comes into a hand but from its queue.
 pub record IsHandedOn (w v : LocksState) (n l t : ℕ) : Type 0 where
   pub mutex : (rules_at w l).sort ≡ Mutex
   pub waits : 1 ≤ times t (w.locks l).queue
   pub waits_on : 1 ≤ times t (v.locks l).queue
   pub owned : (w.locks l).exclusive ≢ None
   pub owned_on : (v.locks l).exclusive ≢ None
-  -- threads are so many
-  pub few : (u : ℕ) → (v.locks l).exclusive ≡ Some u → u < n
+  -- the threads that wait are among so many
+  pub few : (u : ℕ) → 1 ≤ standing u (w.locks l) → u < n
   pub hands : (u : ℕ) → (v.locks l).taken u ≢ None
       → ((w.locks l).taken u ≢ None) ⊎ (1 ≤ times u (w.locks l).queue)
 
@@ -62,3 +63,33 @@ BypassIsBounded =
     (n l t number : ℕ) (w v : LocksState) (steps : List Step) (told : List Outcome)
     → AreLockStates w → PassesOn n l t number w steps told v
     → turns n t (v.locks l) + number ≤ turns n t (w.locks l)
+
+-- ---------------------------------------------------------------- a fair mutex
+
+-- a call that would release the mutex does so fairly, and no wait names it
+abbrev pub ReleasesFairly : Option Purpose → ℕ → Type 0
+ReleasesFairly None l = Unit {0}
+ReleasesFairly (Some (Enters k x how)) l = Unit {0}
+ReleasesFairly (Some (Releases k x fair)) l = k ≡ l → fair ≡ true
+ReleasesFairly (Some (Converts k x y how)) l = Unit {0}
+ReleasesFairly (Some (Bumps k x)) l = Unit {0}
+ReleasesFairly (Some (CallsOnce k forced)) l = Unit {0}
+ReleasesFairly (Some (Awaits k forced timed)) l = Unit {0}
+ReleasesFairly (Some (Waits k m timed)) l = m ≢ l
+ReleasesFairly (Some (Notifies k all)) l = Unit {0}
+
+abbrev pub AllReleaseFairly : LocksState → ℕ → Type 0
+AllReleaseFairly w l = (t : ℕ) → ReleasesFairly (w.calls t).purpose l
+
+-- unlock_fair, the unlock of a fair mutex, or a bump
+abbrev pub IsFairRelease : Option Purpose → ℕ → Type 0
+IsFairRelease (Some (Releases l Exclusive fair)) k = (l ≡ k) × (fair ≡ true)
+IsFairRelease (Some (Bumps l Exclusive)) k = l ≡ k
+IsFairRelease purpose k = ⊥
+
+-- a fair release lets the mutex go while somebody waits for it
+pub record LetsGoWhileSomeWait (w v : LocksState) (t l : ℕ) : Type 0 where
+  pub releases : IsFairRelease (w.calls t).purpose l
+  pub owner : Owns (w.locks l) t Exclusive
+  pub gone : (v.locks l).exclusive ≡ None
+  pub waiter : (w.locks l).queue ≢ []

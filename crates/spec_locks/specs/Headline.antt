@@ -1,7 +1,7 @@
 -- The headline, the second page: what any list of steps comes to is a run of the abstract locks, and each waiter
 -- whose way nobody bars has a thread that looks after it. There is no word here, no place of a call, and no
 -- queue of the machine. The first page is Guarantees, which follows of this one.
-use Rattle.std.specs.Prelude.{ℕ, Bool, true, false, Option, Some, None, ◌≡◌, ◌≢◌, ◌≤◌, ◌<◌, ◌⊎◌, List, [], ◌∷◌}
+use Rattle.std.specs.Prelude.{ℕ, Bool, true, false, Option, Some, None, ◌≡◌, ◌≢◌, ◌≤◌, ◌<◌, ◌-◌, ◌⊎◌, List, [], ◌∷◌}
 use Rattle.core_base.specs.declared.keys.Keys.TheVariants.{One}
 use Rattle.core_base.specs.declared.wants.Want.{Want}
 use Rattle.core_base.specs.declared.wants.Want.TheVariants.{Exclusive, Upgradable}
@@ -9,11 +9,12 @@ use Rattle.core_base.specs.Keys.{key_of}
 use Rattle.spec_locks.specs.declared.calls.Step.{Step}
 use Rattle.spec_locks.specs.declared.kinds.Kind.{Kind}
 use Rattle.spec_locks.specs.declared.outcomes.Outcome.{Outcome}
-use Rattle.spec_locks.specs.Locks.{Sort, Semaphore, Condvar, LockState, Rules, Taken, Owns, IsSomePending, readers, standing, times}
+use Rattle.spec_locks.specs.Onces.{Done}
+use Rattle.spec_locks.specs.Locks.{Sort, Semaphore, Once, Condvar, LockState, Rules, Taken, Owns, IsSomePending, readers, standing, times}
 use Rattle.spec_locks.specs.Purposes.{Purpose, Enters, Releases, Converts, Bumps, CallsOnce, Awaits, Waits, Notifies, Recall, Blank, Saw, SawOwner, HasMoved, WasMoved, WasNotified, MayWait}
 use Rattle.spec_locks.specs.Sites.{Line, Main, Second, IsOpen, counts_some, has_readers}
 use Rattle.spec_locks.specs.Runs.{LocksState, Status, AreLockStates, IsStep, LetsGo, ShowsWaiters, rules_at}
-pub use Rattle.spec_locks.specs.Guarantees.{IsUp, Opens, full_by, sort_in}
+pub use Rattle.spec_locks.specs.EachState.{IsUp, Opens, full_by, sort_in}
 
 -- ---------------------------------------------------------------- threads that wake the next waiter
 
@@ -76,12 +77,19 @@ pub record IsLookedAfter (w : LocksState) (l : ℕ) (m : Line) : Type 0 where
   pub debt : IsDebtor w debtor l m
   pub awake : IsUp (w.stances debtor)
 
+-- this many different threads are such debtors, and awake
+pub record AreLookedAfter (w : LocksState) (l number : ℕ) : Type 0 where
+  pub debtor : ℕ → ℕ
+  pub apart : (i j : ℕ) → i < number → j < number → debtor i ≡ debtor j → i ≡ j
+  pub each : (i : ℕ) → i < number → IsDebtor w (debtor i) l Main × IsUp (w.stances (debtor i))
+
 -- ---------------------------------------------------------------- nobody is forgotten
 
 -- nobody bars the way of the first waiter of the main line: nobody owns the mutex, no writer is
--- there, nobody runs the `Once` for which a call waits, or a permit is free
+-- there, nobody runs the `Once` for which a call waits or it is done, or a permit is free
 abbrev pub IsOpenNow : Rules → LockState → Type 0
-IsOpenNow r s = IsOpen r.sort s ⊎ ((r.sort ≡ Semaphore) × (readers s < r.limit))
+IsOpenNow r s = IsOpen r.sort s
+    ⊎ (((r.sort ≡ Semaphore) × (readers s < r.limit)) ⊎ ((r.sort ≡ Once) × (s.phase ≡ Done)))
 
 -- it owns what it waited for; a writer of a lock that is shared may be pending
 abbrev pub HasOrPends : Sort → LockState → ℕ → Want → Type 0
@@ -108,6 +116,10 @@ pub record NobodyForgotten (w : LocksState) (was_full : ℕ → Bool) : Type 0 w
   pub main : (t l : ℕ) → 1 ≤ times t (w.locks l).queue → IsOpenNow (rules_at w l) (w.locks l)
       → (has_readers (sort_in w l) ≡ true → was_full l ≡ false)
       → IsLookedAfter w l Main
+  -- while a thread waits for a permit, as many different threads look after the line as permits
+  -- are free
+  pub permits : (t l : ℕ) → 1 ≤ times t (w.locks l).queue → sort_in w l ≡ Semaphore
+      → AreLookedAfter w l ((rules_at w l).limit - readers (w.locks l))
   -- A writer aside is looked after when the last reader has gone.
   pub second : (l : ℕ) → (w.locks l).aside ≢ None → readers (w.locks l) ≡ 0
       → IsLookedAfter w l Second

@@ -19,3 +19,6 @@ pub mod Calls
 pub mod Kinds
 pub mod States
 pub mod Bypass
+pub mod CallTable
+pub mod EachState
+pub mod EachStep

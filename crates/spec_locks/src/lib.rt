@@ -9,7 +9,7 @@ pub mod outcomes;
 ghost use Rattle.spec_locks.specs.Laws.{CallsTakeSteps, FairReleasesHandOver, FreeMutexIsGot, OwnersExclude, PossibleTurnsAreTaken};
 ghost use Rattle.spec_locks.specs.UserLaws.{DowngradesOwn, OfEachStep, ReadersStayOut, RereadersPass, UpgradesLetNobodyWrite};
 ghost use Rattle.spec_locks.specs.Bypass.{BypassIsBounded};
-ghost use Rattle.spec_locks.specs.Guarantees.{QueuesKeepOrder};
+ghost use Rattle.spec_locks.specs.EachStep.{QueuesKeepOrder};
 ghost use Rattle.spec_locks.specs.GuaranteeLaws.{HeadlineGuarantees, NoNotificationIsLost, NotificationsReach, OwnersExcludeInRuns, QuietWorldsRest, SafeStatesHold, SomebodyGoes};
 ghost use Rattle.spec_locks.specs.Picks.{PickersPickAsTheLocksSay};
 ghost use Rattle.spec_locks.specs.Sites.{EachDeedKeeps};

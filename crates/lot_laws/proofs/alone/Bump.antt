@@ -47,7 +47,7 @@ use Rattle.lot_machine.proofs.Shape.{after_shaped, after_size, performed_counts,
 use Rattle.lot_laws.proofs.calls.OwnPlace.{goes_from_there, told_from_there}
 use Rattle.lot_laws.specs.SitesOf.{AreCondvars, AreCounted, IsInductive, rules_in}
 use Rattle.lot_laws.proofs.calls.Closures.{call_runs_none}
-use Rattle.lot_laws.proofs.once.Runs.{put_running}
+use Rattle.lot_laws.proofs.mutex.FairMutexes.{put_settled}
 use Rattle.lot_laws.specs.Locations.{role_on, location}
 use Rattle.lot_laws.specs.Refinement.{lock_seen, lock_state, taken_at}
 use Rattle.lot_laws.specs.Solo.{IsBarred, Rests}
@@ -493,7 +493,7 @@ module _ (t l : ℕ) (a : Admission) where
     steady = plain_steady w p f.steady f.thread f.place shares may;
     counted = put_counted w t (RwLock l a (Plain p)) f.thread (sym (ap held f.place)) (λ k. nothing (l == k)) f.counted;
     condvars = put_condvars w t (RwLock l a (Plain p)) f.thread (λ k. (sym (ap (λ q. stage_of q k) f.place), sym (ap (λ q. names_of q k) f.place))) f.condvars;
-    running = put_running w t (RwLock l a (Plain p)) (ap (λ q. runs_closure (act_of q)) f.place ∙ call_runs_none l a (Bump p)) f.running;
+    settled = put_settled w t l a p f.thread shares.0 (ap (λ q. runs_closure (act_of q)) f.place ∙ call_runs_none l a (Bump p)) f.settled;
     thread = rw (length-set w.places t (RwLock l a (Plain p))) f.thread;
     lock = f.lock;
     place = get_or-set_same w.places t (RwLock l a (Plain p)) Idle f.thread;

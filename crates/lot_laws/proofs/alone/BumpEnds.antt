@@ -289,8 +289,8 @@ module _ (w : State) (t l : ℕ) (a : Admission) (x : Access) (holds : IsWorld w
 
     comes_back : ComesBack (locks_behind w t) (locks_of w) t l (wanted x) o (locks_of v2) ⊎ IsBarred v2 t
     comes_back = elim (enters_alone plain_w t l a x Patient e.room outcome.NotNow e.enough plain.steady e.shares plain.place
-        (record { shape = plain.shape; steady = plain.steady; counted = plain.counted; condvars = plain.condvars; running = plain.running; thread = plain.thread; lock = plain.lock; place = plain.place; single = plain.single; word = refl; queue = λ m. refl })
-        (runs_alone e.room plain_w t (record { shaped = plain.shape; steady = plain.steady; counted = plain.counted; condvars = plain.condvars; running = plain.running }))) [
+        (record { shape = plain.shape; steady = plain.steady; counted = plain.counted; condvars = plain.condvars; settled = plain.settled; thread = plain.thread; lock = plain.lock; place = plain.place; single = plain.single; word = refl; queue = λ m. refl })
+        (runs_alone e.room plain_w t (record { shaped = plain.shape; steady = plain.steady; counted = plain.counted; condvars = plain.condvars; settled = plain.settled }))) [
           | inl h ↦ inl (comes_so h)
           | inr barred ↦ inr (subst (λ (z : State). IsBarred z t) (ap (λ (r : Ran). r.state) from_there ∙ e.state) (same_ends.2 barred))
         ]
@@ -343,6 +343,6 @@ rwlock_alone w t l a c n last le steady admits is f run reads = by_call c is f r
         (hands_over_rest t l a access.Exclusive false (handing.Free 8) refl (word_at w l) w (λ m. queue_at w (key_of l m)) admits f n last (omega arith))
     by_call (call.Bump y) is f reads = elim (glance_rests t l a y (word_at w l) w (λ m. queue_at w (key_of l m)) admits f n last (omega arith)) [
       | inl h ↦ or_so (λ shared. ((λ mutex. no_mutex w t l a steady admits v2 x run mutex), λ readers. shared))
-          (bumps_shared w t l a y (record { shaped = f.shape; steady = f.steady; counted = f.counted; condvars = f.condvars; running = f.running }) admits is v2 x run reads h)
+          (bumps_shared w t l a y (record { shaped = f.shape; steady = f.steady; counted = f.counted; condvars = f.condvars; settled = f.settled }) admits is v2 x run reads h)
       | inr barred ↦ inr barred
     ]

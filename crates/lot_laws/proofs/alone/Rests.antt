@@ -37,7 +37,7 @@ use Rattle.lot_machine.specs.Machine.{State, place_at, word_at, kind_at, queue_a
 use Rattle.lot_machine.specs.Fits.{IsWellFormed, PlaceFits}
 use Rattle.spec_locks.specs.Sites.{Main, has_readers}
 use Rattle.lot_laws.specs.Locations.{location, location_at}
-use Rattle.lot_laws.specs.SitesOf.{AreCondvars, AreCounted, IsInductive, IsWorld, RunsInClosures, key_of, FitsItsLock, is_mutex, rules_in}
+use Rattle.lot_laws.specs.SitesOf.{AreCondvars, AreCounted, IsInductive, IsSettled, IsWorld, key_of, FitsItsLock, is_mutex, rules_in}
 use Rattle.spec_locks.specs.Locks.{readers, Rules, MayEnter, IsBlocked}
 use Rattle.spec_locks.specs.Locks as locks
 use Rattle.spec_locks.specs.Purposes.{Bumps, Purpose, Releases, mutex_purpose, purpose_of, rules_of, rwlock_purpose}
@@ -85,9 +85,9 @@ try_so true x h = rw h tt
 try_so false x h = rw h tt
 
 module _ (w : State) (t : ℕ) (shape : IsWellFormed w) (steady : IsInductive w) (counted : AreCounted w) (condvars : AreCondvars w)
-    (running : RunsInClosures w) (there : t < length w.places) where
+    (settled : IsSettled w) (there : t < length w.places) where
   world : IsWorld w
-  world = record { shaped = shape; steady = steady; counted = counted; condvars = condvars; running = running }
+  world = record { shaped = shape; steady = steady; counted = counted; condvars = condvars; settled = settled }
 
   -- a fact of a world holds after each step of the thread
   stays_world : (v : State) → IsWorld v → IsWorld (after v (go_of t))
@@ -124,7 +124,7 @@ module _ (w : State) (t : ℕ) (shape : IsWellFormed w) (steady : IsInductive w)
     steady = steady;
     counted = counted;
     condvars = condvars;
-    running = running;
+    settled = settled;
     thread = there;
     lock = lt;
     place = is;
@@ -333,22 +333,22 @@ module _ (w : State) (t : ℕ) (shape : IsWellFormed w) (steady : IsInductive w)
 -- ---------------------------------------------------------------- as the world is told them
 
 module _ (w : State) (t : ℕ) (shape : IsWellFormed w) (steady : IsInductive w) (counted : AreCounted w) (condvars : AreCondvars w)
-    (running : RunsInClosures w) where
+    (settled : IsSettled w) where
   pub rests_or_barred : IsUnderWay w t
       → Rests (solo 64 w t outcome.TheVariants.NotNow).outcome ⊎ IsBarred (solo 64 w t outcome.TheVariants.NotNow).state t
-  rests_or_barred up = solo_rests w t shape steady counted condvars running (stands_there w.places t up.0) up 64 outcome.TheVariants.NotNow (omega arith)
+  rests_or_barred up = solo_rests w t shape steady counted condvars settled (stands_there w.places t up.0) up 64 outcome.TheVariants.NotNow (omega arith)
 
   pub ends_or_barred : (c : Call) → place_at w t ≡ first_place (kind_at w (lock_in c)) c
       → HasWhatItReads w t (purpose_at (locks_of w) c)
       → EndsAlone w t (purpose_at (locks_of w) c) (solo 64 w t outcome.TheVariants.NotNow).outcome
       (solo 64 w t outcome.TheVariants.NotNow).state
       ⊎ IsBarred (solo 64 w t outcome.TheVariants.NotNow).state t
-  ends_or_barred c is reads = solo_ends w t shape steady counted condvars running (stands_there w.places t (first_busy (kind_at w (lock_in c)) c (place_at w t) is)) c is reads
+  ends_or_barred c is reads = solo_ends w t shape steady counted condvars settled (stands_there w.places t (first_busy (kind_at w (lock_in c)) c (place_at w t) is)) c is reads
 
   -- a thread that has its way isn't barred
   unless_barred : {A : Type 0} → IsUnobstructed w t → A ⊎ IsBarred (solo 64 w t outcome.TheVariants.NotNow).state t → A
   unless_barred way (inl a) = a
-  unless_barred way (inr b) = absurd (unbarred 64 w t outcome.TheVariants.NotNow (record { shaped = shape; steady = steady; counted = counted; condvars = condvars; running = running }) way b)
+  unless_barred way (inr b) = absurd (unbarred 64 w t outcome.TheVariants.NotNow (record { shaped = shape; steady = steady; counted = counted; condvars = condvars; settled = settled }) way b)
 
   pub rests_alone : IsUnderWay w t → IsUnobstructed w t → Rests (solo 64 w t outcome.TheVariants.NotNow).outcome
   rests_alone up way = unless_barred way (rests_or_barred up)
@@ -362,7 +362,7 @@ module _ (w : State) (t : ℕ) (shape : IsWellFormed w) (steady : IsInductive w)
   pub tries_alone : (c : Call) → place_at w t ≡ first_place (kind_at w (lock_in c)) c → OnlyTries (purpose_at (locks_of w) c)
       → EndsAlone w t (purpose_at (locks_of w) c) (solo 64 w t outcome.TheVariants.NotNow).outcome
       (solo 64 w t outcome.TheVariants.NotNow).state
-  tries_alone c is only = let free = tries_freely w t c (record { shaped = shape; steady = steady; counted = counted; condvars = condvars; running = running }) is only 64 outcome.TheVariants.NotNow in elim (ends_or_barred c is free.0) [
+  tries_alone c is only = let free = tries_freely w t c (record { shaped = shape; steady = steady; counted = counted; condvars = condvars; settled = settled }) is only 64 outcome.TheVariants.NotNow in elim (ends_or_barred c is free.0) [
     | inl ends ↦ ends
     | inr barred ↦ absurd (free.1 barred)
   ]

@@ -28,8 +28,8 @@ use Rattle.lot_machine.specs.Machine.{State, unlocked, place_at, word_at, sectio
 use Rattle.lot_machine.specs.Fits.{IsWellFormed, SameSize}
 use Rattle.lot_machine.proofs.Shape.{after_shaped, after_size, main_key_there, performed_counts}
 use Rattle.lot_laws.proofs.calls.OwnPlace.{goes_from_there, told_from_there}
-use Rattle.lot_laws.specs.SitesOf.{AreCondvars, AreCounted, IsInductive, RunsInClosures, key_of, stood_in}
-use Rattle.lot_laws.proofs.once.Runs.{running_after}
+use Rattle.lot_laws.specs.SitesOf.{AreCondvars, AreCounted, IsInductive, IsSettled, key_of, stood_in}
+use Rattle.lot_laws.proofs.mutex.FairMutexes.{settled_after}
 use Rattle.lot_laws.specs.Solo.{EntersSection, IsBarred}
 use Rattle.lot_laws.specs.Locations.{location, location_at}
 use Rattle.lot_laws.proofs.alone.Leads.{Leads, leads_barred, leads_step}
@@ -45,7 +45,7 @@ pub record StepsAlone (w : State) (t l : ℕ) (p : Place) (v : ℕ) (q : Line �
   pub steady : IsInductive w
   pub counted : AreCounted w
   pub condvars : AreCondvars w
-  pub running : RunsInClosures w
+  pub settled : IsSettled w
   pub thread : t < length w.places
   pub lock : l < length w.locks
   pub place : place_at w t ≡ p
@@ -84,7 +84,7 @@ module _ (w : State) (t l : ℕ) (p : Place) (v : ℕ) (q : Line → List Waiter
       steady = after_steady w (go_of t) f.shape f.steady f.counted f.condvars;
       counted = counted_after w (go_of t) f.shape f.steady f.counted f.condvars;
       condvars = after_condvars w (go_of t) f.shape f.steady f.counted f.condvars;
-      running = running_after w (go_of t) f.shape f.steady f.counted f.condvars f.running;
+      settled = settled_after w (go_of t) f.shape f.steady f.counted f.condvars f.settled;
       thread = let size : SameSize w (after w (go_of t)) = after_size w (go_of t) in rw size.threads f.thread;
       lock = let size : SameSize w (after w (go_of t)) = after_size w (go_of t) in rw size.locks f.lock;
       single = next_single p reply f.single;

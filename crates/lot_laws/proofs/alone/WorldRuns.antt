@@ -20,9 +20,10 @@ use Rattle.lot_laws.proofs.machine.OneChange.{one_thing, touches}
 use Rattle.lot_laws.specs.SitesOf.{IsWorld}
 use Rattle.lot_laws.proofs.promises.LeavesOthers.{leaves_others}
 use Rattle.lot_laws.proofs.promises.Promises.{kept}
-use Rattle.lot_laws.proofs.once.Runs.{running_after}
+use Rattle.lot_laws.proofs.mutex.FairMutexes.{settled_after}
 use Rattle.lot_machine.proofs.Shape.{after_shaped}
 use Rattle.lot_laws.proofs.machine.Sleepers.{sleepers_stay}
+use Rattle.lot_laws.proofs.calls.Marked.{looks_no_more}
 use Rattle.lot_laws.proofs.calls.Tries.{tries_at_once}
 use Rattle.lot_laws.proofs.sites.TurnsKept.{after_steady}
 
@@ -32,11 +33,11 @@ world_after w s h = record {
   steady = after_steady w s h.shaped h.steady h.counted h.condvars;
   counted = counted_after w s h.shaped h.steady h.counted h.condvars;
   condvars = after_condvars w s h.shaped h.steady h.counted h.condvars;
-  running = running_after w s h.shaped h.steady h.counted h.condvars h.running;
+  settled = settled_after w s h.shaped h.steady h.counted h.condvars h.settled;
 }
 
 pub world_kept : (w : State) → IsWorld w → IsKept w
-world_kept w h = kept w h.steady h.condvars h.running
+world_kept w h = kept w h.steady h.condvars h.settled
 
 -- each step is one of the abstract locks
 pub step_is : (w : State) (s : Step) → IsWorld w → IsStep (locks_of w) s (step_outcome w s) (locks_of (after w s))
@@ -51,6 +52,7 @@ world_step w s h = record {
   filled = filled_after w s (world_after w s h);
   sleepers = sleepers_stay w s;
   tries = tries_at_once w s h.steady;
+  looks_no_more = looks_no_more w s;
   owing = owes_since w s h.shaped h.steady h.counted h.condvars;
   fair = is_fair w s h.shaped h.steady h.counted h.condvars;
   kept = world_kept (after w s) (world_after w s h);

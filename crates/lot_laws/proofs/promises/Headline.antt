@@ -20,14 +20,16 @@ use Rattle.spec_locks.specs.Headline as headline
 use Rattle.spec_locks.specs.Headline.{MayTell, Behaves, Opens}
 use Rattle.lot_machine.specs.Machine.{State, opening, unlocked, place_at, filled_at, after, step_outcome, after_steps, step_outcomes}
 use Rattle.lot_laws.specs.Refinement.{call_at, call_on_both, call_state, keys_entered, lock_state, locks_of, runs_closure, sleeps}
-use Rattle.lot_laws.specs.Promises.{IsKept, IsDebtorOf, IsLookedAfterIn, IsHandedOverIn}
+use Rattle.lot_laws.specs.Promises.{AreLookedAfterIn, IsKept, IsDebtorOf, IsLookedAfterIn, IsHandedOverIn}
 use Rattle.lot_laws.specs.Owing.{Owes}
 use Rattle.lot_laws.specs.SitesOf.{IsWorld}
 use Rattle.lot_laws.specs.WorldRuns.{IsWorldRun, Tells}
 use Rattle.lot_laws.proofs.sites.Opening.{kind_is, unfilled_0}
 use Rattle.lot_laws.proofs.promises.Promises.{opening_is}
 use Rattle.lot_laws.proofs.alone.WorldRuns.{step_is, world_after, world_kept, world_run, world_step}
-use Rattle.spec_locks.specs.Guarantees.{IsGuaranteed, StateHolds, StepHolds}
+use Rattle.spec_locks.specs.EachState.{StateHolds}
+use Rattle.spec_locks.specs.EachStep.{StepHolds}
+use Rattle.spec_locks.specs.Guarantees.{IsGuaranteed}
 use Rattle.spec_locks.specs.Headline.{IsSafe}
 use Rattle.spec_locks.proofs.Guarantees.{headline_guarantees, safe_holds, step_holds}
 
@@ -94,6 +96,15 @@ module _ (w : State) (k : IsKept w) where
     awake = (awake_is (act_of (place_at w h.debtor)) h.awake, debt_awake h.debtor l m h.debt);
   }
 
+  looked_by : (l number : ℕ) → AreLookedAfterIn w l number → headline.AreLookedAfter (locks_of w) l number
+  looked_by l number many = record {
+    debtor = many.debtor;
+    apart = many.apart;
+    each = λ i lt. (let h = many.each i lt in
+        subst (λ t. headline.IsDebtor (locks_of w) t l Main × headline.IsUp ((locks_of w).stances t)) h.1
+        (debt_so h.0.debtor l Main h.0.debt, (awake_is (act_of (place_at w h.0.debtor)) h.0.awake, debt_awake h.0.debtor l Main h.0.debt)));
+  }
+
   handed_over : (t : ℕ) → IsHandedOverIn w t → headline.IsHandedOver (locks_of w) t
   handed_over t h = record {
     lock = h.lock;
@@ -110,6 +121,7 @@ module _ (w : State) (k : IsKept w) where
   pub nobody_forgotten : headline.NobodyForgotten (locks_of w) (filled_at w)
   nobody_forgotten = record {
     main = λ t l waits way full. looked_after l Main (k.nobody_forgotten.main t l waits way full);
+    permits = λ t l waits sort. looked_by l _ (k.nobody_forgotten.permits t l waits sort);
     second = λ l aside alone. looked_after l Second (k.nobody_forgotten.second l aside alone);
     in_hand = k.in_hand;
     asleep = λ t sleeping. sleeps_so t (asleep_is (act_of (place_at w t)) sleeping);

@@ -26,6 +26,7 @@ use Rattle.lot_steps.specs.Steps.{act_of, condvar_goes, next_place, first_place,
 use Rattle.lot_machine.specs.Machine.{State, place_at, word_at, state_after_go, state_after_going, go_reply, go_outcome, going_outcome, is_free_under, is_open_to, can_begin, state_after_begin, can_turn, turn_outcome, kind_at, put, state_after_look, look_outcome, state_after_late_on, state_after_turn, is_possible, after, step_outcome}
 use Rattle.lot_laws.proofs.machine.Befallen.{others_keep_it}
 use Rattle.spec_locks.specs.Locks.{Rights}
+use Rattle.lot_laws.proofs.rwlock.GoesOn.{goes_on_waking, takes_next}
 use Rattle.lot_laws.specs.Owing.{Owes, IsInside, IsWait, SeesWaiters, OwesSince, OnlyLooks, LooksFirst, LetsOthersIn, line_let_in, sort_at, tells_by}
 use Rattle.lot_machine.specs.Fits.{IsWellFormed}
 use Rattle.lot_laws.specs.Refinement.{call_at, call_state}
@@ -274,6 +275,8 @@ pub owes_since : (w : State) (s : Step) → IsWellFormed w → IsInductive w →
     → OwesSince w s.thread (step_outcome w s) (after w s)
 owes_since w s shape steady counted condvars = record {
   own = own (is_possible w s) refl (after_steady w s shape steady counted condvars);
+  goes_on = λ l possible gives. goes_on_waking w s steady l possible gives;
+  takes = λ l lets out inside. takes_next w s steady (after_steady w s shape steady counted condvars) l lets out inside;
   others = λ u l ne. others_owe w s u l ne;
 }
   where

@@ -1,5 +1,5 @@
 -- The promises between steps, as callers are told them.
-use Rattle.std.proofs.Common.{ℕ, Bool, true, false, Option, Some, None, if◌then◌else◌, ◌==◌, ◌&&◌, ◌≡◌, ◌≢◌, ◌+◌, ◌*◌, ◌≤◌, ◌<◌, ◌⊎◌, inl, inr, List, [], ◌∷◌, length, refl, ◌∙◌, ap, subst, arith, ◌↔◌, sym}
+use Rattle.std.proofs.Common.{ℕ, Bool, true, false, Option, Some, None, if◌then◌else◌, ◌==◌, ◌&&◌, ◌≡◌, ◌≢◌, ◌+◌, ◌-◌, ◌*◌, ◌≤◌, ◌<◌, ◌⊎◌, inl, inr, List, [], ◌∷◌, length, refl, ◌∙◌, ap, subst, arith, ◌↔◌, sym}
 use Rattle.core_base.specs.declared.wants.Want.{Want}
 use Rattle.core_base.specs.declared.wants.Want.TheVariants.{Exclusive}
 use Rattle.steps_base.specs.declared.acts.Act.TheVariants.{Leave, Rest, Sleep}
@@ -10,26 +10,29 @@ use Rattle.lot_steps.specs.declared.places.Place.TheVariants.{Condvar}
 use Rattle.lot_steps.specs.Steps.{act_of, calls, is_lock, called_lock, or_else, profile, retries_on, taker}
 use Rattle.lot_machine.specs.Machine.{State, opening, place_at, kind_at, filled_at, section_at}
 use Rattle.lot_laws.specs.Locations.{Location, location_at, role_on}
-use Rattle.lot_laws.specs.SitesOf.{AreCondvars, IsInductive, RunsInClosures, rules_in, site_of}
-use Rattle.spec_locks.specs.Permits.{HasPermits}
+use Rattle.lot_laws.specs.SitesOf.{AreCondvars, AreUnmarked, IsInductive, IsSettled, rules_in, site_of}
+use Rattle.spec_locks.specs.Permits.{HasPermits, debt, debts}
 use Rattle.steps_semaphore.specs.Tended.{IsTended, semaphore}
 use Rattle.steps_semaphore.proofs.TendedKept.{nobody_forgotten}
 use Rattle.spec_locks.specs.Runs.{CallState, IsOpening}
 use Rattle.spec_locks.specs.Locks.{LockState, Sort, Queued, Rights, opening_lock, Rules, IsSomePending, has_caller, rights_of, readers, count, standing}
-use Rattle.spec_locks.specs.Onces.{InProgress, IsRunning}
+use Rattle.spec_locks.specs.Onces.{Done, InProgress, IsRunning}
 use Rattle.spec_locks.specs.Locks as sorts
-use Rattle.spec_locks.specs.Sites.{Role, Line, Main, Second, Has, Pends, Runs, IsOpen, counts_some, has_readers, IsDebtorRole, IsSite}
+use Rattle.spec_locks.specs.Sites.{Role, Line, Main, Second, Has, Pends, Runs, IsOpen, counts_some, has_readers, IsDebtorRole, IsSite, LooksAfter}
 use Rattle.spec_locks.specs.Codes.{HasLimit}
 use Rattle.spec_locks.specs.Purposes.{Enters, Converts, Bumps, CallsOnce, Awaits, Purpose, MayWait, Waits}
 use Rattle.lot_laws.specs.Refinement.{RunsClosure, locks_of, lock_state, lock_seen, taken_at, call_at, call_on, call_state, stance_of}
 use Rattle.lot_laws.specs.Owing.{Owes, sort_at}
-use Rattle.lot_laws.specs.Promises.{IsKept, WaitsFor, WakesWaiters, IsDebtorOf, IsLookedAfterIn, IsOpenNow, WasNeverFull, HasOrPends, IsHandedOverIn, IsOwedWake, IsWithinLimit, want_of, WaitHasReleased}
+use Rattle.lot_laws.proofs.semaphore.Debtors.{Distinct, distinct, few_debts, owing_role}
+use Rattle.lot_laws.proofs.once.Marks.{marked_done, once_kind}
+use Rattle.lot_laws.specs.Promises.{AreLookedAfterIn, IsKept, WaitsFor, WakesWaiters, IsDebtorOf, IsLookedAfterIn, IsOpenNow, WasNeverFull, HasOrPends, IsHandedOverIn, IsOwedWake, IsWithinLimit, want_of, WaitHasReleased}
 use Rattle.steps_base.specs.Rows.{KnowsRights}
 use Rattle.lot_laws.proofs.calls.Closures.{runs_one}
 use Rattle.lot_laws.proofs.hands.Inside.{hands_inside, is_to_mark}
 use Rattle.lot_laws.proofs.sites.Held.{held}
 use Rattle.lot_laws.proofs.machine.InsideAwake.{inside_goes}
 use Rattle.lot_laws.proofs.calls.LooksOnce.{looks}
+use Rattle.lot_laws.proofs.calls.Spins.{spins}
 use Rattle.lot_laws.proofs.calls.TriesPass.{tries_go}
 use Rattle.lot_laws.proofs.condvar.ShownMutex.{shows_always, shows_waiters}
 use Rattle.lot_laws.proofs.condvar.LetsGo.{lets_go}
@@ -253,6 +256,12 @@ module _ (w : State) (steady : IsInductive w) where
       → (lock_state w l).exclusive ≢ Some t → IsLookedAfterIn w l m
   looked_after t l m debtor unowned = elim (single_or_two (place_at w t)) [ inl single ↦ looks_after t l m single debtor unowned | inr two ↦ looked_two t l two m debtor unowned ]
 
+  -- by that thread
+  looked_by : (t l : ℕ) → IsDebtorRole (sort_at w l) (role_on (place_at w t) l) → (lock_state w l).exclusive ≢ Some t
+      → (h : IsLookedAfterIn w l Main) × (h.debtor ≡ t)
+  unfolding looks_after looked_main looks_two
+  looked_by t l debtor unowned = elim (single_or_two (place_at w t)) [ inl single ↦ (looks_after t l Main single debtor unowned, refl) | inr two ↦ (looked_main t l two debtor unowned, refl) ]
+
   unfilled : (l : ℕ) → WasNeverFull w l → filled_at w l ≡ false
   unfilled l full = by_sort (has_readers (sort_at w l)) refl
     where
@@ -286,10 +295,40 @@ module _ (w : State) (steady : IsInductive w) where
         few = (steady.sites.site l).state.within sort;
       }
 
-  main : (t l : ℕ) → WaitsFor w t l → IsOpenNow (rules_in w l) (lock_state w l) → WasNeverFull w l → IsLookedAfterIn w l Main
-  main t l waiting open_now full =
+  -- A waiter is looked after at a `Once` that is done.
+  beside_done : AreUnmarked w → (l : ℕ) → sort_at w l ≡ sorts.Once → (lock_state w l).queue ≢ [] → (lock_state w l).phase ≡ Done
+      → IsLookedAfterIn w l Main
+  beside_done unmarked l sort some done = elim ((steady.sites.site l).parked some) [
+    | inl set ↦ absurd (unmarked l (once_kind (kind_at w l) sort) (marked_done w steady l sort done set))
+    | inr sets ↦ looked_after sets.0 l Main (debtor (role_on (place_at w sets.0) l) ((steady.sites.site l).setting sets.0 sets.1))
+        (λ own. let free = (steady.sites.site l).state.unwritten (λ k. subst (λ x. sorts.Knows x Exclusive) sort k) in let e : ◌≡◌ {A = Option ℕ} None (Some sets.0) = sym free ∙ own in cc)
+  ]
+    where
+      debtor : (d : Role) → LooksAfter (sort_at w l) d → IsDebtorRole (sort_at w l) d
+      debtor d (inl covers) = inr (inl covers)
+      debtor d (inr wakes) = inl wakes.1
+
+  -- as many look after a semaphore's line as permits are free
+  many_permits : (t l : ℕ) → WaitsFor w t l → sort_at w l ≡ sorts.Semaphore → AreLookedAfterIn w l ((rules_in w l).limit - readers (lock_state w l))
+  many_permits t l waiting sort =
       let some = not_empty t (lock_state w l).queue waiting in
-      elim open_now [ inl now ↦ in_line l some now (unfilled l full) | inr free ↦ beside_permit l free.0 some free.1 ]
+      let free = (steady.sites.site l).state.unwritten (λ k. subst (λ x. sorts.Knows x Exclusive) sort k) in
+      let found : Distinct (length (lock_state w l).shared) (λ u. debt (role_on (place_at w u) l)) ((rules_in w l).limit - readers (lock_state w l)) =
+      distinct (length (lock_state w l).shared) (λ u. debt (role_on (place_at w u) l)) _ (λ u. few_debts w steady l sort u)
+      (let enough : (rules_in w l).limit ≤ readers (lock_state w l) + debts (site_of w l) = (steady.sites.permits l sort).0.enough some in omega arith) in record {
+        debtor = found.thread;
+        apart = found.apart;
+        each = λ i lt. looked_by (found.thread i) l (subst (λ x. IsDebtorRole x (role_on (place_at w (found.thread i)) l)) (sym sort) (owing_role (role_on (place_at w (found.thread i)) l) (found.owes i lt)))
+            (λ own. let e : ◌≡◌ {A = Option ℕ} None (Some (found.thread i)) = sym free ∙ own in cc);
+      }
+
+  main : AreUnmarked w → (t l : ℕ) → WaitsFor w t l → IsOpenNow (rules_in w l) (lock_state w l) → WasNeverFull w l → IsLookedAfterIn w l Main
+  main unmarked t l waiting open_now full =
+      let some = not_empty t (lock_state w l).queue waiting in
+      elim open_now [
+        | inl now ↦ in_line l some now (unfilled l full)
+        | inr way ↦ elim way [ inl free ↦ beside_permit l free.0 some free.1 | inr done ↦ beside_done unmarked l done.0 some done.1 ]
+      ]
 
   -- nobody counts as one that passes the turn of a `Once` on but a thread that owes its waiters their wake
   callers : (l : ℕ) → sort_at w l ≡ sorts.Once → has_caller (lock_state w l).queue ≡ true → (IsRunning (lock_state w l).phase → ⊥)
@@ -418,8 +457,8 @@ module _ (w : State) (steady : IsInductive w) where
     | inr handed ↦ handed
   ]
 
-  pub kept : AreCondvars w → RunsInClosures w → IsKept w
-  kept condvars running = record {
+  pub kept : AreCondvars w → IsSettled w → IsKept w
+  kept condvars settled = record {
     state = λ l. (steady.sites.site l).state;
     one_place = one_place;
     in_hand = hands_inside w steady;
@@ -428,15 +467,16 @@ module _ (w : State) (steady : IsInductive w) where
     known = known;
     coded = λ l. steady.sites.word l;
     limited = limited;
-    nobody_forgotten = record { main = main; second = second };
+    nobody_forgotten = record { main = main settled.unmarked; permits = many_permits; second = second };
     callers = callers;
-    runs = λ t l. (running t l, closures t l);
+    runs = λ t l. (settled.runs t l, closures t l);
     owing = λ t. owing_so w t steady;
     inside_owes = λ t. inside_owes_so w t steady;
     going_owes = λ t. going_owes_so w t steady;
     second_line = second_line;
     retrying = retrying;
     looks = looks w steady;
+    spins = spins w steady;
     inside_goes = inside_goes w steady;
     tries = tries_go w steady;
     handing = λ t h. handed_over t h.0 h.1;

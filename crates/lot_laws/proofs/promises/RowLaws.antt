@@ -11,7 +11,7 @@ use Rattle.spec_locks.specs.Kinds.{fits}
 use Rattle.lot_laws.specs.SitesOf.{IsWorld}
 use Rattle.lot_laws.proofs.sites.Opening.{opening_condvars, opening_steady}
 use Rattle.lot_laws.proofs.hands.CountsPut.{opening_counted}
-use Rattle.lot_laws.proofs.once.Runs.{opening_running}
+use Rattle.lot_laws.proofs.mutex.FairMutexes.{opening_settled}
 use Rattle.lot_laws.proofs.alone.WorldRuns.{world_run, run_refines}
 
 three_hold : IsWorld three
@@ -20,7 +20,7 @@ three_hold = record {
   steady = opening_steady (kind.Mutex ∷ []) 3 (omega arith) (All-cons (λ k. fits k 3 ≡ true) kind.Mutex [] refl (All-nil (λ k. fits k 3 ≡ true)));
   counted = opening_counted (kind.Mutex ∷ []) 3;
   condvars = opening_condvars (kind.Mutex ∷ []) 3;
-  running = opening_running (kind.Mutex ∷ []) 3;
+  settled = opening_settled (kind.Mutex ∷ []) 3;
 }
 
 pub hands_over : FairUnlockHandsOver

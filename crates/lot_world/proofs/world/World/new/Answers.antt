@@ -3,7 +3,7 @@ use Rattle.lot_laws.proofs.hands.CountsPut.{opening_counted}
 use Rattle.lot_laws.proofs.promises.Headline.{opens}
 use Rattle.lot_laws.proofs.sites.Opening.{opening_condvars, opening_steady, unfilled_0}
 use Rattle.lot_laws.proofs.promises.Promises.{kept, opening_is}
-use Rattle.lot_laws.proofs.once.Runs.{opening_running}
+use Rattle.lot_laws.proofs.mutex.FairMutexes.{opening_settled}
 use Rattle.lot_world.proofs.world.World.new.Goals as goal
 
 pub invariant_of-result : goal.invariant_of-result
@@ -12,13 +12,13 @@ invariant_of-result g c = rw c.in_ok-new.ensures.ok (record {
   steady = opening_steady c.args.kinds.now c.args.threads c.requires.some c.requires.fit;
   counted = opening_counted c.args.kinds.now c.args.threads;
   condvars = opening_condvars c.args.kinds.now c.args.threads;
-  running = opening_running c.args.kinds.now c.args.threads;
+  settled = opening_settled c.args.kinds.now c.args.threads;
 })
 
 pub returns-clause-opening : goal.returns-clause-opening
 returns-clause-opening g c =
     let steady = opening_steady c.args.kinds.now c.args.threads c.requires.some c.requires.fit in
-    rw c.in_ok-new.ensures.ok (opening_is c.args.kinds.now c.args.threads, kept _ steady (opening_condvars c.args.kinds.now c.args.threads) (opening_running c.args.kinds.now c.args.threads))
+    rw c.in_ok-new.ensures.ok (opening_is c.args.kinds.now c.args.threads, kept _ steady (opening_condvars c.args.kinds.now c.args.threads) (opening_settled c.args.kinds.now c.args.threads))
 
 pub returns-clause-headline : goal.returns-clause-headline
 returns-clause-headline g c = rw c.in_ok-new.ensures.ok (opens c.args.kinds.now c.args.threads, unfilled_0 c.args.kinds.now)

@@ -8,6 +8,7 @@ use Rattle.std.proofs.Common.{◌≡◌, ap, ◌∙◌, ◌++◌, arith}
 use Rattle.lot_machine.specs.Machine.{after_steps, step_outcomes}
 use Rattle.lot_laws.proofs.alone.WorldRuns.{tells_run, tells_refines, world_kept}
 use Rattle.lot_laws.proofs.promises.Headline.{holds_after, tells_behaves, tells_guaranteed, tells_headline}
+use Rattle.lot_laws.proofs.promises.Overtaken.{nobody_is_overtaken}
 use Rattle.lot_world.proofs.world.World.run.Goals as goal
 
 pub loop-taken-preserved : goal.loop-taken-preserved
@@ -108,3 +109,16 @@ returns-then-is_err-clause-stopped_guaranteed g c kinds threads is =
     let before : IsWorld c.self.inside.machine = c.self.invariant in
     let holds : IsWorld c.args.self.now = rw (← c.self.view_is) before in
     rw c.reserve.ensures.items (tells_guaranteed c.args.self.now c.loop-taken.self (take c.loop-taken.taken c.args.steps.now) c.args.outcomes.now.items c.loop-taken.outcomes.items holds c.loop-taken.invariant.state c.loop-taken.invariant.outcomes kinds threads is)
+
+pub returns-clause-in_turn : goal.returns-clause-in_turn
+returns-clause-in_turn g c =
+    let before : IsWorld c.self.inside.machine = c.self.invariant in
+    let holds : IsWorld c.args.self.now = rw (← c.self.view_is) before in
+    let all : take c.loop-taken.taken c.args.steps.now ≡ c.args.steps.now = take_all c.loop-taken.taken c.args.steps.now (omega arith) in
+    nobody_is_overtaken c.args.self.now c.loop-taken.self c.args.steps.now holds (c.loop-taken.invariant.state ∙ ap (after_steps c.args.self.now) all)
+
+pub returns-then-is_err-clause-stopped_in_turn : goal.returns-then-is_err-clause-stopped_in_turn
+returns-then-is_err-clause-stopped_in_turn g c =
+    let before : IsWorld c.self.inside.machine = c.self.invariant in
+    let holds : IsWorld c.args.self.now = rw (← c.self.view_is) before in
+    nobody_is_overtaken c.args.self.now c.loop-taken.self (take c.loop-taken.taken c.args.steps.now) holds c.loop-taken.invariant.state

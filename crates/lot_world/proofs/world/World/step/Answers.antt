@@ -100,3 +100,8 @@ pub returns-clause-holds : goal.returns-clause-holds
 returns-clause-holds g c =
     let before : IsWorld c.self.inside.machine = c.self.invariant in
     rw (c.turn.ensures.outcome, c.turn.ensures.state, ← c.self.view_is) (step_guaranteed c.self.inside.machine c.args.step before)
+
+pub returns-clause-looks_no_more : goal.returns-clause-looks_no_more
+returns-clause-looks_no_more g c goes =
+    let before : IsWorld c.self.inside.machine = c.self.invariant in
+    rw (c.turn.ensures.state, ← c.self.view_is) ((world_step c.self.inside.machine c.args.step before).looks_no_more goes)

@@ -1,0 +1,3 @@
+pub mod RowLemmas
+pub mod Openings
+pub mod RunLemmas

@@ -1,0 +1,4 @@
+pub mod Programs
+pub mod States
+pub mod Rows
+pub mod Runs

@@ -1,0 +1,75 @@
+-- Programs of lock calls: values, tests, and the instructions of a thread.
+use Rattle.std.specs.Prelude.{ℕ, Bool, Option, Some, None, List, [], map, length, not, ◌==◌, nat_lt, nat_le, slice_index, slice_index_or, true, ◌≡◌, ◌≤◌, All}
+use Rattle.std.specs.List.{slice_get}
+use Rattle.spec_locks.specs.declared.outcomes.Answer.{Answer}
+use Rattle.spec_locks.specs.declared.outcomes.Answer.TheVariants as answer
+use Rattle.spec_locks.specs.Kinds.{fits}
+use Rattle.lot_program.specs.declared.program.Value.{Value}
+use Rattle.lot_program.specs.declared.program.Value.TheVariants.{Number, Variable}
+use Rattle.lot_program.specs.declared.program.Comparison.{Comparison}
+use Rattle.lot_program.specs.declared.program.Comparison.TheVariants.{Equal, Unequal, Less, AtMost, Greater, AtLeast}
+use Rattle.lot_program.specs.declared.program.Test.{Test}
+use Rattle.lot_program.specs.declared.program.Told.{Told}
+use Rattle.lot_program.specs.declared.program.Told.TheVariants as told
+use Rattle.lot_program.specs.declared.program.Instruction.{Instruction}
+use Rattle.lot_program.specs.declared.program.Program.{Program}
+
+-- what an answer tells
+abbrev pub told_by : Answer → Told
+told_by answer.Ok = told.Ok
+told_by answer.Yes = told.Yes
+told_by answer.No = told.No
+told_by answer.ReadersFull = told.ReadersFull
+told_by answer.Notified = told.Notified
+told_by answer.TimedOut = told.TimedOut
+told_by answer.TwoMutexes = told.TwoMutexes
+told_by answer.Poisoned = told.Poisoned
+told_by answer.Failed = told.Failed
+told_by (answer.Number n) = told.Number
+
+abbrev pub told_number : Told → ℕ
+told_number told.Nothing = 0
+told_number told.Ok = 1
+told_number told.Yes = 2
+told_number told.No = 3
+told_number told.ReadersFull = 4
+told_number told.Notified = 5
+told_number told.TimedOut = 6
+told_number told.TwoMutexes = 7
+told_number told.Poisoned = 8
+told_number told.Failed = 9
+told_number told.Number = 10
+
+abbrev pub number_of : List ℕ → Value → ℕ
+number_of variables (Number n) = n
+number_of variables (Variable v) = slice_index variables v
+
+abbrev pub compares : Comparison → ℕ → ℕ → Bool
+compares Equal a b = a == b
+compares Unequal a b = not (a == b)
+compares Less a b = nat_lt a b
+compares AtMost a b = nat_le a b
+compares Greater a b = nat_lt b a
+compares AtLeast a b = nat_le b a
+
+abbrev pub holds : List ℕ → Test → Bool
+holds variables test =
+    compares test.comparison (slice_index variables test.variable) (number_of variables test.value)
+
+abbrev pub threads_of : Program → ℕ
+threads_of p = length p.code.items
+
+abbrev pub code_of : Program → ℕ → List Instruction
+code_of p t = slice_index_or (map (λ code. code.items) p.code.items) t []
+
+-- the instruction of a thread with this number, if it is there
+abbrev pub instruction_at : Program → ℕ → ℕ → Option Instruction
+instruction_at p t i = slice_get (code_of p t) i
+
+-- there are some threads, few enough for a search, and locks that a world may have
+pub record IsFit (p : Program) : Type 0 where
+  pub some : 1 ≤ threads_of p
+  pub few : threads_of p ≤ 8
+  pub few_locks : length p.kinds.items ≤ 256
+  pub few_variables : length p.variables.items ≤ 4096
+  pub kinds : All (λ kind. fits kind (threads_of p) ≡ true) p.kinds.items

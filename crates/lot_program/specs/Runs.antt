@@ -1,0 +1,52 @@
+-- A run of a program as a run of the world: the steps that its moves take.
+use Rattle.std.specs.Prelude.{ℕ, zero, suc, Option, Some, None, if◌then◌else◌, ◌/◌, ◌%◌, List, [], ◌∷◌, ◌++◌}
+use Rattle.std.specs.Option.{unwrap_or}
+use Rattle.spec_locks.specs.declared.calls.Turn.TheVariants as turn
+use Rattle.spec_locks.specs.declared.calls.Step.{Step}
+use Rattle.lot_program.specs.declared.program.Instruction.{Instruction}
+use Rattle.lot_program.specs.declared.program.Instruction.TheVariants as instruction
+use Rattle.lot_program.specs.declared.program.Program.{Program}
+use Rattle.lot_program.specs.Programs.{instruction_at}
+use Rattle.lot_program.specs.States.{ProgramState, step_of, closing, is_own, local_at, program_next}
+
+-- an instruction that calls takes a step of the world, and any other takes none
+abbrev pub step_by : Instruction → ℕ → Option Step
+step_by (instruction.Call c) t = Some (step_of t (turn.Begin c))
+step_by (instruction.Close succeeded) t = Some (step_of t (closing succeeded))
+step_by (instruction.Set v x) t = None
+step_by (instruction.Add v n) t = None
+step_by (instruction.Jump n) t = None
+step_by (instruction.JumpUnless test n) t = None
+step_by (instruction.JumpUnlessTold x n) t = None
+step_by (instruction.JumpUnlessRunning n) t = None
+step_by (instruction.Assert test) t = None
+
+abbrev pub own_step : Option Instruction → ℕ → Option Step
+own_step None t = None
+own_step (Some i) t = step_by i t
+
+abbrev pub thread_step : Program → ProgramState → ℕ → ℕ → Option Step
+thread_step p s t zero =
+    if is_own s.world t then own_step (instruction_at p t (local_at s t).at) t
+    else Some (step_of t turn.Go)
+thread_step p s t (suc zero) = Some (step_of t turn.Spin)
+thread_step p s t (suc (suc n)) = Some (step_of t turn.Late)
+
+-- the step of a move
+abbrev pub step_taken : Program → ProgramState → ℕ → Option Step
+step_taken p s k = thread_step p s (k / 3) (k % 3)
+
+abbrev pub steps_in : Option Step → List Step
+steps_in None = []
+steps_in (Some step) = step ∷ []
+
+-- the steps of moves one after another
+abbrev pub steps_of : Program → ProgramState → List ℕ → List Step
+steps_of p s [] = []
+steps_of p s (k ∷ ks) =
+    steps_in (step_taken p s k) ++ steps_of p (unwrap_or (program_next p s k) s) ks
+
+-- the state behind moves one after another, of which one that isn't possible changes nothing
+abbrev pub state_behind : Program → ProgramState → List ℕ → ProgramState
+state_behind p s [] = s
+state_behind p s (k ∷ ks) = state_behind p (unwrap_or (program_next p s k) s) ks

@@ -1,0 +1,231 @@
+//! Programs of lock calls: for each thread a list of instructions.
+ghost use Rattle.std.specs.Prelude.{◌≡◌, ◌<◌, ◌-◌, ◌^◌, IfSome, All, true, length};
+ghost use Rattle.lot_program.specs.Programs.{told_by, told_number, number_of, holds, compares, instruction_at, IsFit};
+ghost use Rattle.spec_locks.specs.Kinds.{fits};
+ghost use Rattle.lot_program.specs.Runs.{step_by};
+
+use lot_parts::MOST;
+use lot_world::{Answer, Call, Kind, MOST_LOCKS, Step, Turn};
+
+/// A number, or what a variable has.
+#[derive(Clone, Copy, Debug, PartialEq, Eq)]
+pub enum Value {
+    Number(u32),
+    Variable(usize),
+}
+
+/// How two numbers are compared.
+#[derive(Clone, Copy, Debug, PartialEq, Eq)]
+pub enum Comparison {
+    Equal,
+    Unequal,
+    Less,
+    AtMost,
+    Greater,
+    AtLeast,
+}
+
+/// A test of a variable.
+#[derive(Clone, Copy, Debug, PartialEq, Eq)]
+pub struct Test {
+    pub variable: usize,
+    pub comparison: Comparison,
+    pub value: Value,
+}
+
+/// What a thread was told by its last call.
+#[derive(Clone, Copy, Debug, PartialEq, Eq)]
+pub enum Told {
+    Nothing,
+    Ok,
+    Yes,
+    No,
+    ReadersFull,
+    Notified,
+    TimedOut,
+    TwoMutexes,
+    Poisoned,
+    Failed,
+    /// A number of waiters.
+    Number,
+}
+
+/// One instruction of a thread. A target is the number of an instruction of its own.
+#[derive(Clone, Copy, Debug, PartialEq, Eq)]
+pub enum Instruction {
+    /// Begins a call.
+    Call(Call),
+    /// Lets the closure of the call answer.
+    Close { succeeded: bool },
+    Set { variable: usize, value: Value },
+    /// Adds a number, modulo 2 to the 32.
+    Add { variable: usize, number: u32 },
+    Jump { target: usize },
+    /// Jumps where the test fails.
+    JumpUnless { test: Test, target: usize },
+    /// Jumps where the last call told something else.
+    JumpUnlessTold { told: Told, target: usize },
+    /// Jumps where the thread runs no closure.
+    JumpUnlessRunning { target: usize },
+    Assert(Test),
+}
+
+/// The locks by their kinds, the first numbers of the variables, and the code of each thread.
+#[derive(Drop)]
+pub struct Program {
+    pub kinds: Vec<Kind>,
+    pub variables: Vec<u32>,
+    pub code: Vec<Vec<Instruction>>,
+}
+
+impl Instruction {
+    /// The step of the world that it takes, if it takes one.
+    pub fn step(self, thread: usize) -> Option<Step>
+        ensures { result ≡ step_by self thread }
+    {
+        let turn = match self {
+            Instruction::Call(call) => Turn::Begin(call),
+            Instruction::Close { succeeded: true } => Turn::Ok,
+            Instruction::Close { succeeded: false } => Turn::Err,
+            Instruction::Set { .. } | Instruction::Add { .. } => return None,
+            Instruction::Jump { .. } | Instruction::JumpUnless { .. } => return None,
+            Instruction::JumpUnlessTold { .. } | Instruction::JumpUnlessRunning { .. } =>
+                return None,
+            Instruction::Assert(_) => return None,
+        };
+        Some(Step { thread, turn })
+    }
+}
+
+impl Told {
+    /// What an answer tells.
+    pub fn by(answer: Answer) -> Told
+        ensures { result ≡ told_by answer }
+    {
+        match answer {
+            Answer::Ok => Told::Ok,
+            Answer::Yes => Told::Yes,
+            Answer::No => Told::No,
+            Answer::ReadersFull => Told::ReadersFull,
+            Answer::Notified => Told::Notified,
+            Answer::TimedOut => Told::TimedOut,
+            Answer::TwoMutexes => Told::TwoMutexes,
+            Answer::Poisoned => Told::Poisoned,
+            Answer::Failed => Told::Failed,
+            Answer::Number(_) => Told::Number,
+        }
+    }
+
+    /// A number for each.
+    pub fn number(self) -> u32
+        ensures { result ≡ told_number self }
+    {
+        match self {
+            Told::Nothing => 0,
+            Told::Ok => 1,
+            Told::Yes => 2,
+            Told::No => 3,
+            Told::ReadersFull => 4,
+            Told::Notified => 5,
+            Told::TimedOut => 6,
+            Told::TwoMutexes => 7,
+            Told::Poisoned => 8,
+            Told::Failed => 9,
+            Told::Number => 10,
+        }
+    }
+}
+
+impl Comparison {
+    /// Whether two numbers compare so.
+    pub fn compares(self, first: u32, second: u32) -> bool
+        ensures { result ≡ compares self first second }
+    {
+        match self {
+            Comparison::Equal => first == second,
+            Comparison::Unequal => first != second,
+            Comparison::Less => first < second,
+            Comparison::AtMost => first <= second,
+            Comparison::Greater => second < first,
+            Comparison::AtLeast => second <= first,
+        }
+    }
+}
+
+/// What a variable has. One that isn't there has 0.
+pub fn variable_in(variables: &[u32], variable: usize) -> u32
+    ensures { result ≡ number_of variables.now (Value.Variable variable) }
+{
+    if variable < variables.len() {
+        variables[variable]
+    } else {
+        0
+    }
+}
+
+impl Value {
+    pub fn number(self, variables: &[u32]) -> u32
+        ensures { result ≡ number_of variables.now self }
+    {
+        match self {
+            Value::Number(number) => number,
+            Value::Variable(variable) => variable_in(variables, variable),
+        }
+    }
+}
+
+impl Test {
+    pub fn holds(self, variables: &[u32]) -> bool
+        ensures { result ≡ holds variables.now self }
+    {
+        let first = variable_in(variables, self.variable);
+        self.comparison
+            .compares(first, self.value.number(variables))
+    }
+}
+
+impl Program {
+    /// How many threads there are.
+    pub fn threads(&self) -> usize
+        ensures { result ≡ length self.now.code.items }
+    {
+        self.code.len()
+    }
+
+    /// The instruction of a thread with this number.
+    pub fn instruction(&self, thread: usize, at: usize) -> Option<Instruction>
+        ensures instruction { result ≡ instruction_at self.now thread at }
+        ensures few { IfSome result (λ _. at < 2 ^ 64 - 1) }
+    {
+        if thread >= self.code.len() {
+            return None;
+        }
+        let code = self.code[thread].as_slice();
+        if at < code.len() {
+            Some(code[at])
+        } else {
+            None
+        }
+    }
+
+    /// Whether it can be searched: it has 1 to 8 threads, at most 4,096 variables, and locks that a
+    /// world may have.
+    pub fn is_fit(&self) -> bool
+        ensures { result ≡ true → IsFit self.now }
+    {
+        let threads = self.threads();
+        let are_few = threads <= MOST && self.kinds.len() <= MOST_LOCKS;
+        1 <= threads && are_few && self.variables.len() <= 4096 && self.kinds_fit(threads)
+    }
+
+    fn kinds_fit(&self, threads: usize) -> bool
+        ensures { result ≡ true → All (λ kind. fits kind threads ≡ true) self.now.kinds.items }
+    {
+        for kind in &self.kinds {
+            if !kind.fits(threads) {
+                return false;
+            }
+        }
+        true
+    }
+}

@@ -1,0 +1,12 @@
+//! The text of a program of lock calls.
+#![tactic(auto)]
+
+pub mod blocks;
+pub mod calls;
+pub mod malformed;
+pub mod parser;
+pub mod sections;
+pub mod words;
+
+pub use malformed::TextError;
+pub use parser::{ProgramText, parse};

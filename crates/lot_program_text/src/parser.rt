@@ -1,0 +1,495 @@
+//! A program's text, line by line.
+ghost use Rattle.std.specs.Prelude.{◌≡◌, None, IfOk};
+ghost use Rattle.lot_text.specs.Names.{lock_named};
+
+use crate::blocks::{Block, BlockSort, shifted};
+use crate::calls::{Locks, call, declared};
+use crate::malformed::{TextError, malformed};
+use crate::sections::{MOST_CODE, Section};
+use crate::words::{comparison, number, told, word_at, words_of};
+use lot_program::{Instruction, Program, Test, Value};
+use lot_text::{Name, Names};
+use spec_locks::{Call, OnceCall};
+use std::alloc::Global;
+
+/// The most threads of a program.
+pub const MOST_THREADS: u64 = 64;
+
+/// The most locks of a program.
+const MOST_LOCKS: usize = 64;
+
+/// The most shared variables of a program.
+const MOST_VARIABLES: usize = 64;
+
+/// The greatest number that a text has.
+const MOST_NUMBER: u64 = 4294967295;
+
+/// A program with the names and lines of its text.
+#[derive(Drop)]
+pub struct ProgramText {
+    pub program: Program,
+    pub locks: Names,
+    pub variables: Names,
+    /// The line of each instruction, of each thread.
+    pub lines: Vec<Vec<u32>>,
+}
+
+// A text that is read up to a line.
+#[derive(Drop)]
+struct Parser {
+    alloc: Global,
+    // None before the first line.
+    threads: Option<usize>,
+    locks: Locks,
+    variables: Names,
+    firsts: Vec<u32>,
+    // The threads that run the section, none before the first `thread` line.
+    runners: Vec<usize>,
+    section: Section,
+    code: Vec<Vec<Instruction>>,
+    lines: Vec<Vec<u32>>,
+}
+
+/// Reads a program.
+///
+/// # Errors
+///
+/// `Malformed`, which names the first line that is wrong, a word of it, and what is expected.
+/// `NoMemory`, where memory was refused.
+pub fn parse(alloc: Global, text: &str) -> Result<ProgramText, TextError> {
+    let mut parser = Parser::new(alloc);
+    let mut last = 1u32;
+    for line in text.split('\n') {
+        let words = words_of(alloc, line)?;
+        parser.line(last, words.as_slice())?;
+        last = last.wrapping_add(1);
+    }
+    parser.end(last.wrapping_sub(1))
+}
+
+impl Parser {
+    fn new(alloc: Global) -> Parser {
+        Parser {
+            alloc,
+            threads: None,
+            locks: Locks::new(alloc),
+            variables: Names::new(alloc),
+            firsts: Vec::new(alloc),
+            runners: Vec::new(alloc),
+            section: Section::new(alloc),
+            code: Vec::new(alloc),
+            lines: Vec::new(alloc),
+        }
+    }
+
+    fn wrong(&self, line: u32, word: &str, expected: &'static str) -> TextError {
+        malformed(self.alloc, line, word, expected)
+    }
+
+    fn line(&mut self, line: u32, words: &[&str]) -> Result<(), TextError> {
+        let first = word_at(words, 0);
+        if first.is_empty() {
+            return Ok(());
+        }
+        let Some(threads) = self.threads else {
+            return self.first_line(line, words);
+        };
+        match first {
+            "lock" if self.runners.is_empty() => self.declare_lock(line, words, threads),
+            "var" if self.runners.is_empty() => self.declare_variable(line, words),
+            "thread" => self.begin_section(line, words, threads),
+            _ if self.runners.is_empty() => Err(self.wrong(
+                line,
+                first,
+                "`lock NAME KIND`, `var NAME NUMBER` or `thread T` comes before instructions",
+            )),
+            _ => self.instruction(line, first, words),
+        }
+    }
+
+    fn first_line(&mut self, line: u32, words: &[&str]) -> Result<(), TextError> {
+        if word_at(words, 0) != "threads" {
+            let expected = "the first line is `threads N`, as in `threads 3`";
+            return Err(self.wrong(line, word_at(words, 0), expected));
+        }
+        match number(word_at(words, 1), MOST_THREADS) {
+            Some(threads) if threads != 0 && words.len() == 2 => {
+                let threads = threads as usize;
+                for _ in 0..threads {
+                    self.code.push(Vec::new(self.alloc))?;
+                    self.lines.push(Vec::new(self.alloc))?;
+                }
+                self.threads = Some(threads);
+                Ok(())
+            }
+            _ => Err(self.wrong(line, word_at(words, 1), "a number of threads, 1 to 64")),
+        }
+    }
+
+    fn declare_lock(&mut self, line: u32, words: &[&str], threads: usize) -> Result<(), TextError> {
+        let kind = declared(self.alloc, line, words)?;
+        let name = self.new_name(line, word_at(words, 1))?;
+        if !kind.fits(threads) {
+            let expected = "a reader limit is at least the number of threads, at most 2^60 - 2; \
+                            permits are 1 to 2^62";
+            return Err(self.wrong(line, word_at(words, 3), expected));
+        }
+        if self.locks.kinds.len() >= MOST_LOCKS {
+            return Err(self.wrong(line, word_at(words, 1), "at most 64 locks"));
+        }
+        self.locks.kinds.push(kind)?;
+        self.locks.names.push(self.alloc, name)?;
+        Ok(())
+    }
+
+    // The name that a word spells, which no lock and no variable has yet.
+    fn new_name(&self, line: u32, word: &str) -> Result<Name, TextError>
+        ensures { IfOk result (λ name. (lock_named self.now.locks.names name ≡ None)
+            × (lock_named self.now.variables name ≡ None)) }
+    {
+        let Some(name) = Name::from_word(word.as_bytes()) else {
+            let expected = "a name, which is a lower-case letter and up to 15 letters or digits";
+            return Err(self.wrong(line, word, expected));
+        };
+        if self.locks.names.find(name).is_some() || self.variables.find(name).is_some() {
+            let expected = "a name that no lock and no variable has yet";
+            return Err(self.wrong(line, word, expected));
+        }
+        Ok(name)
+    }
+
+    fn declare_variable(&mut self, line: u32, words: &[&str]) -> Result<(), TextError> {
+        let name = self.new_name(line, word_at(words, 1))?;
+        let first = match number(word_at(words, 2), MOST_NUMBER) {
+            Some(first) if words.len() == 3 => first as u32,
+            _ => {
+                let expected = "its first number, 0 to 4294967295, as in `var ready 0`";
+                return Err(self.wrong(line, word_at(words, 2), expected));
+            }
+        };
+        if self.firsts.len() >= MOST_VARIABLES {
+            return Err(self.wrong(line, word_at(words, 1), "at most 64 variables"));
+        }
+        self.firsts.push(first)?;
+        self.variables.push(self.alloc, name)?;
+        Ok(())
+    }
+
+    fn begin_section(
+        &mut self,
+        line: u32,
+        words: &[&str],
+        threads: usize,
+    ) -> Result<(), TextError> {
+        self.end_section()?;
+        if words.len() < 2 {
+            return Err(self.wrong(line, "thread", "a thread's number, as in `thread 0`"));
+        }
+        for word in words.iter().skip(1) {
+            match number(word, MOST_THREADS) {
+                Some(thread) if (thread as usize) < threads => {
+                    self.runners.push(thread as usize)?;
+                }
+                _ => {
+                    let expected = "no thread has this number: they count from 0";
+                    return Err(self.wrong(line, word, expected));
+                }
+            }
+        }
+        Ok(())
+    }
+
+    // Gives the section's instructions to the threads that run it.
+    fn end_section(&mut self) -> Result<(), TextError> {
+        if let Some(line) = self.section.first_open() {
+            return Err(self.wrong(line, "", "the block that begins here has no `end`"));
+        }
+        let section = std::mem::replace(&mut self.section, Section::new(self.alloc));
+        let runners = std::mem::replace(&mut self.runners, Vec::new(self.alloc));
+        for thread in runners.iter() {
+            let (Some(code), Some(lines)) = (
+                self.code.get_mut(*thread),
+                self.lines.get_mut(*thread),
+            ) else {
+                continue;
+            };
+            append(self.alloc, &section, code, lines)?;
+        }
+        Ok(())
+    }
+
+    fn end(mut self, last: u32) -> Result<ProgramText, TextError> {
+        if self.threads.is_none() {
+            let expected = "the first line is `threads N`, as in `threads 3`";
+            return Err(self.wrong(last, "", expected));
+        }
+        self.end_section()?;
+        let Parser {
+            alloc: _,
+            threads: _,
+            locks: Locks { names, kinds },
+            variables,
+            firsts,
+            runners: _,
+            section: _,
+            code,
+            lines,
+        } = self;
+        Ok(ProgramText {
+            program: Program {
+                kinds,
+                variables: firsts,
+                code,
+            },
+            locks: names,
+            variables,
+            lines,
+        })
+    }
+
+    fn instruction(&mut self, line: u32, first: &str, words: &[&str]) -> Result<(), TextError> {
+        match first {
+            "set" => self.set(line, words),
+            "add" => self.add(line, words),
+            "assert" => self.assert(line, words),
+            "while" => self.begin_while(line, words),
+            "if" => self.begin_if(line, words),
+            "else" => self.begin_else(line, words),
+            "repeat" => self.begin_repeat(line, words),
+            "loop" => self.begin_loop(line, words),
+            "end" => self.end_block(line, words),
+            "ok" => self.end_closure(line, words, true),
+            "err" => self.end_closure(line, words, false),
+            _ => self.call(line, words),
+        }
+    }
+
+    fn variable(&self, line: u32, word: &str) -> Result<usize, TextError> {
+        let name = Name::from_word(word.as_bytes());
+        match name.and_then(|name| self.variables.find(name)) {
+            Some(variable) => Ok(variable),
+            None => Err(self.wrong(line, word, "no variable has this name")),
+        }
+    }
+
+    fn value(&self, line: u32, word: &str) -> Result<Value, TextError> {
+        if let Some(number) = number(word, MOST_NUMBER) {
+            return Ok(Value::Number(number as u32));
+        }
+        let name = Name::from_word(word.as_bytes());
+        match name.and_then(|name| self.variables.find(name)) {
+            Some(variable) => Ok(Value::Variable(variable)),
+            None => Err(self.wrong(line, word, "a number, 0 to 4294967295, or a variable")),
+        }
+    }
+
+    // The test of three words after the first.
+    fn test(&self, line: u32, words: &[&str]) -> Result<Test, TextError> {
+        let variable = self.variable(line, word_at(words, 1))?;
+        let Some(comparison) = comparison(word_at(words, 2)) else {
+            let expected = "one of = /= < <= > >=, as in `while full = 1`";
+            return Err(self.wrong(line, word_at(words, 2), expected));
+        };
+        let value = self.value(line, word_at(words, 3))?;
+        if words.len() > 4 {
+            return Err(self.wrong(line, word_at(words, 4), "the end of the line"));
+        }
+        Ok(Test {
+            variable,
+            comparison,
+            value,
+        })
+    }
+
+    fn set(&mut self, line: u32, words: &[&str]) -> Result<(), TextError> {
+        let variable = self.variable(line, word_at(words, 1))?;
+        let value = self.value(line, word_at(words, 2))?;
+        if words.len() > 3 {
+            return Err(self.wrong(line, word_at(words, 3), "the end of the line"));
+        }
+        self.section
+            .push(self.alloc, line, Instruction::Set { variable, value })
+    }
+
+    fn add(&mut self, line: u32, words: &[&str]) -> Result<(), TextError> {
+        let variable = self.variable(line, word_at(words, 1))?;
+        match number(word_at(words, 2), MOST_NUMBER) {
+            Some(number) if words.len() == 3 => {
+                let number = number as u32;
+                self.section
+                    .push(self.alloc, line, Instruction::Add { variable, number })
+            }
+            _ => Err(self.wrong(line, word_at(words, 2), "a number, 0 to 4294967295")),
+        }
+    }
+
+    fn begin_while(&mut self, line: u32, words: &[&str]) -> Result<(), TextError> {
+        let test = self.test(line, words)?;
+        let place = self.section.here();
+        self.section.push(
+            self.alloc,
+            line,
+            Instruction::JumpUnless { test, target: 0 },
+        )?;
+        self.section.open(line, BlockSort::While { test: place })
+    }
+
+    fn begin_if(&mut self, line: u32, words: &[&str]) -> Result<(), TextError> {
+        let place = self.section.here();
+        let instruction = if words.len() > 3 {
+            let test = self.test(line, words)?;
+            Instruction::JumpUnless { test, target: 0 }
+        } else {
+            match told(word_at(words, 1), word_at(words, 2)) {
+                Some(told) => Instruction::JumpUnlessTold { told, target: 0 },
+                None => {
+                    let expected = "a test as in `full = 1`, or an answer: ok, yes, no, notified, \
+                                    timed out, readers full, two mutexes, poisoned, failed";
+                    return Err(self.wrong(line, word_at(words, 1), expected));
+                }
+            }
+        };
+        self.section.push(self.alloc, line, instruction)?;
+        self.section.open(line, BlockSort::If { test: place })
+    }
+
+    fn begin_else(&mut self, line: u32, words: &[&str]) -> Result<(), TextError> {
+        let block = self.section.close();
+        match block {
+            Some(
+                Block {
+                    line: first,
+                    sort: BlockSort::If { test },
+                },
+            ) if words.len() == 1 => {
+                let jump = self.section.here();
+                self.section
+                    .push(self.alloc, line, Instruction::Jump { target: 0 })?;
+                self.section.aim(test, self.section.here());
+                self.section.open(first, BlockSort::Else { jump })
+            }
+            _ => Err(self.wrong(
+                line,
+                "else",
+                "it is alone on its line, in a block that `if` began",
+            )),
+        }
+    }
+
+    fn begin_repeat(&mut self, line: u32, words: &[&str]) -> Result<(), TextError> {
+        match number(word_at(words, 1), MOST_CODE as u64) {
+            Some(times) if words.len() == 2 => {
+                let start = self.section.here();
+                let times = times as u32;
+                self.section.open(line, BlockSort::Repeat { start, times })
+            }
+            _ => Err(self.wrong(line, word_at(words, 1), "how often, 0 to 65536")),
+        }
+    }
+
+    fn begin_loop(&mut self, line: u32, words: &[&str]) -> Result<(), TextError> {
+        if words.len() > 1 {
+            return Err(self.wrong(line, word_at(words, 1), "the end of the line"));
+        }
+        let start = self.section.here();
+        self.section.open(line, BlockSort::Loop { start })
+    }
+
+    // An assertion of a test.
+    fn assert(&mut self, line: u32, words: &[&str]) -> Result<(), TextError> {
+        let test = self.test(line, words)?;
+        self.section
+            .push(self.alloc, line, Instruction::Assert(test))
+    }
+
+    fn end_block(&mut self, line: u32, words: &[&str]) -> Result<(), TextError> {
+        if words.len() > 1 {
+            return Err(self.wrong(line, word_at(words, 1), "the end of the line"));
+        }
+        let Some(Block { line: _, sort }) = self.section.close() else {
+            return Err(self.wrong(line, "end", "no block is open here"));
+        };
+        match sort {
+            BlockSort::While { test } => {
+                self.section
+                    .push(self.alloc, line, Instruction::Jump { target: test })?;
+                self.section.aim(test, self.section.here());
+            }
+            BlockSort::Loop { start } => {
+                self.section
+                    .push(self.alloc, line, Instruction::Jump { target: start })?;
+            }
+            BlockSort::If { test } => self.section.aim(test, self.section.here()),
+            BlockSort::Else { jump } => self.section.aim(jump, self.section.here()),
+            BlockSort::Repeat { start, times } => {
+                self.section.repeat(self.alloc, start, times)?;
+            }
+            BlockSort::Closure { jump: _ } => {
+                return Err(self.wrong(line, "end", "a closure ends by `ok` or `err`"));
+            }
+        }
+        Ok(())
+    }
+
+    fn call(&mut self, line: u32, words: &[&str]) -> Result<(), TextError> {
+        let call = call(self.alloc, line, words, &self.locks)?;
+        self.section
+            .push(self.alloc, line, Instruction::Call(call))?;
+        if matches!(
+            call,
+            Call::Once {
+                lock: _,
+                call: OnceCall::CallOnce { forced: _ }
+            }
+        ) {
+            let jump = self.section.here();
+            self.section.push(
+                self.alloc,
+                line,
+                Instruction::JumpUnlessRunning { target: 0 },
+            )?;
+            self.section.open(line, BlockSort::Closure { jump })?;
+        }
+        Ok(())
+    }
+
+    fn end_closure(&mut self, line: u32, words: &[&str], succeeded: bool) -> Result<(), TextError> {
+        let block = self.section.close();
+        match block {
+            Some(
+                Block {
+                    line: _,
+                    sort: BlockSort::Closure { jump },
+                },
+            ) if words.len() == 1 => {
+                self.section
+                    .push(self.alloc, line, Instruction::Close { succeeded })?;
+                self.section.aim(jump, self.section.here());
+                Ok(())
+            }
+            _ => {
+                let expected = "it is alone on its line, and ends the closure of a `call_once`";
+                Err(self.wrong(line, word_at(words, 0), expected))
+            }
+        }
+    }
+}
+
+// Adds a section's instructions to those of a thread.
+fn append(
+    alloc: Global,
+    section: &Section,
+    code: &mut Vec<Instruction>,
+    lines: &mut Vec<u32>,
+) -> Result<(), TextError> {
+    let by = code.len();
+    for (instruction, line) in section.code.iter().zip(section.lines.iter()) {
+        if code.len() >= MOST_CODE {
+            let expected = "a thread has at most 65536 instructions";
+            return Err(malformed(alloc, *line, "", expected));
+        }
+        code.push(shifted(*instruction, by))?;
+        lines.push(*line)?;
+    }
+    Ok(())
+}

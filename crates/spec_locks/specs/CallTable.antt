@@ -1,0 +1,120 @@
+-- The goal of each call, and what each answer says: two tables, of which the first page is made.
+use Rattle.std.specs.Prelude.{ℕ, Bool, true, false, Option, Some, None, ◌≡◌, ◌≢◌, ◌≤◌, ◌⊎◌}
+use Rattle.core_base.specs.declared.wants.Want.{Want}
+use Rattle.core_base.specs.declared.wants.Want.TheVariants.{Exclusive, Upgradable, Shared}
+use Rattle.spec_locks.specs.declared.calls.Access.TheVariants as to
+use Rattle.spec_locks.specs.declared.calls.Call.{Call}
+use Rattle.spec_locks.specs.declared.calls.Call.TheVariants as call
+use Rattle.spec_locks.specs.declared.calls.CondvarCall.TheVariants.{Wait, Notify}
+use Rattle.spec_locks.specs.declared.calls.Downgrade.TheVariants.{ToShared, ToUpgradable, UpgradableToShared}
+use Rattle.spec_locks.specs.declared.calls.MutexCall.TheVariants.{Lock, LockTimed, TryLock, Unlock, UnlockFair, Bump}
+use Rattle.spec_locks.specs.declared.calls.OnceCall.TheVariants as once
+use Rattle.spec_locks.specs.declared.calls.RwLockCall.TheVariants as rwlock
+use Rattle.spec_locks.specs.declared.calls.SemaphoreCall.TheVariants as semaphore
+use Rattle.spec_locks.specs.declared.outcomes.Answer.{Answer}
+use Rattle.spec_locks.specs.declared.outcomes.Answer.TheVariants.{Ok, Yes, No, Notified, TimedOut, Number, ReadersFull, Failed, Poisoned as IsPoisoned, TwoMutexes}
+use Rattle.spec_locks.specs.Onces.{Done, Poisoned}
+use Rattle.spec_locks.specs.Locks.{Mutex, Rights, IsBlocked, IsFree, Owns, count, putting, readers, with_right}
+use Rattle.spec_locks.specs.Purposes.{Purpose, Enters, Releases, Converts, Bumps, CallsOnce, Awaits, Waits, Notifies, HasMoved, Patient, Timed, Try}
+use Rattle.spec_locks.specs.Runs.{LocksState, CallState, IsNotified, MovedNobody, rights_in, rules_at}
+
+-- ---------------------------------------------------------------- goals
+
+-- the goal of a call of the lock l, where these mutexes are fair ones: it enters by a right, gives one up, turns
+-- one into another, gives it up for a while, runs a `Once` or waits for that, waits or notifies
+abbrev pub goal_of : (ℕ → Bool) → Call → Purpose
+goal_of fair (call.Mutex l Lock) = Enters l Exclusive Patient
+goal_of fair (call.Mutex l LockTimed) = Enters l Exclusive Timed
+goal_of fair (call.Mutex l TryLock) = Enters l Exclusive Try
+goal_of fair (call.Mutex l Unlock) = Releases l Exclusive (fair l)
+goal_of fair (call.Mutex l UnlockFair) = Releases l Exclusive true
+goal_of fair (call.Mutex l Bump) = Bumps l Exclusive
+goal_of fair (call.RwLock l (rwlock.Enter to.Shared how)) = Enters l Shared how
+goal_of fair (call.RwLock l (rwlock.Enter to.Upgradable how)) = Enters l Upgradable how
+goal_of fair (call.RwLock l (rwlock.Enter to.Exclusive how)) = Enters l Exclusive how
+goal_of fair (call.RwLock l (rwlock.Release to.Shared)) = Releases l Shared false
+goal_of fair (call.RwLock l (rwlock.Release to.Upgradable)) = Releases l Upgradable false
+goal_of fair (call.RwLock l (rwlock.Release to.Exclusive)) = Releases l Exclusive false
+goal_of fair (call.RwLock l (rwlock.ReleaseFair to.Shared)) = Releases l Shared false
+goal_of fair (call.RwLock l (rwlock.ReleaseFair to.Upgradable)) = Releases l Upgradable true
+goal_of fair (call.RwLock l (rwlock.ReleaseFair to.Exclusive)) = Releases l Exclusive true
+goal_of fair (call.RwLock l (rwlock.Downgrade ToShared)) = Converts l Exclusive Shared Patient
+goal_of fair (call.RwLock l (rwlock.Downgrade ToUpgradable)) = Converts l Exclusive Upgradable Patient
+goal_of fair (call.RwLock l (rwlock.Downgrade UpgradableToShared)) = Converts l Upgradable Shared Patient
+goal_of fair (call.RwLock l (rwlock.Upgrade how)) = Converts l Upgradable Exclusive how
+goal_of fair (call.RwLock l (rwlock.Bump to.Shared)) = Bumps l Shared
+goal_of fair (call.RwLock l (rwlock.Bump to.Upgradable)) = Bumps l Upgradable
+goal_of fair (call.RwLock l (rwlock.Bump to.Exclusive)) = Bumps l Exclusive
+goal_of fair (call.Once l (once.CallOnce forced)) = CallsOnce l forced
+goal_of fair (call.Once l (once.Wait forced)) = Awaits l forced false
+goal_of fair (call.Once l once.WaitTimed) = Awaits l false true
+goal_of fair (call.Condvar l (Wait m timed)) = Waits l m timed
+goal_of fair (call.Condvar l (Notify all)) = Notifies l all
+goal_of fair (call.Semaphore l (semaphore.Acquire how)) = Enters l Shared how
+goal_of fair (call.Semaphore l semaphore.Release) = Releases l Shared false
+
+-- ---------------------------------------------------------------- answers
+
+abbrev pub one_more : Option Want → Rights → Rights
+one_more None r = r
+one_more (Some x) r = with_right x r
+
+-- the thread owns what it owned as its call c began, but for a right to l that it lost and one that it got
+abbrev pub Trades : LocksState → ℕ → CallState → ℕ → (lost got : Option Want) → Type 0
+Trades v t c l lost got = (k : ℕ) → putting (rights_in v t) l (one_more lost (rights_in v t l)) k
+    ≡ putting c.former l (one_more got (c.former l)) k
+
+-- only the limit keeps it out
+abbrev pub IsFullFor : LocksState → ℕ → Want → Type 0
+IsFullFor v l x = (x ≢ Exclusive) × IsFree (rules_at v l) (v.locks l) x
+    × ((rules_at v l).limit ≤ count (v.locks l))
+
+-- an answer is true of the state v in which the thread t is given it; c is what its call recalls
+abbrev pub IsTrue : Option Purpose → Answer → LocksState → ℕ → CallState → Type 0
+IsTrue (Some (Enters l x Patient)) Ok v t c = Owns (v.locks l) t x × Trades v t c l None (Some x)
+IsTrue (Some (Enters l x Timed)) Yes v t c = Owns (v.locks l) t x × Trades v t c l None (Some x)
+IsTrue (Some (Enters l x Try)) Yes v t c = Owns (v.locks l) t x × Trades v t c l None (Some x)
+IsTrue (Some (Enters l x Timed)) No v t c = (c.gave_up ≡ Some l) × Trades v t c l None None
+IsTrue (Some (Enters l Exclusive Try)) No v t c =
+    ((rules_at v l).sort ≡ Mutex → IsBlocked (rules_at v l) (v.locks l) Exclusive)
+    × Trades v t c l None None
+IsTrue (Some (Enters l x Try)) No v t c =
+    IsBlocked (rules_at v l) (v.locks l) x × Trades v t c l None None
+IsTrue (Some (Enters l x how)) ReadersFull v t c = IsFullFor v l x × Trades v t c l None None
+IsTrue (Some (Releases l x fair)) Ok v t c = Trades v t c l (Some x) None
+IsTrue (Some (Converts l x y Patient)) Ok v t c = Trades v t c l (Some x) (Some y)
+IsTrue (Some (Converts l x y Timed)) Yes v t c = Trades v t c l (Some x) (Some y)
+IsTrue (Some (Converts l x y Try)) Yes v t c = Trades v t c l (Some x) (Some y)
+IsTrue (Some (Converts l x y Timed)) No v t c = (c.gave_up ≡ Some l) × Trades v t c l None None
+IsTrue (Some (Converts l x y Try)) No v t c = (1 ≤ readers (v.locks l)) × Trades v t c l None None
+IsTrue (Some (Bumps l x)) Ok v t c = Owns (v.locks l) t x × Trades v t c l None None
+IsTrue (Some (Bumps l x)) ReadersFull v t c = IsFullFor v l x × Trades v t c l (Some x) None
+IsTrue (Some (CallsOnce l forced)) Ok v t c = ((v.locks l).phase ≡ Done) × Trades v t c l None None
+IsTrue (Some (CallsOnce l forced)) IsPoisoned v t c =
+    ((v.locks l).phase ≡ Poisoned) × (forced ≡ false) × Trades v t c l None None
+IsTrue (Some (CallsOnce l forced)) Failed v t c = (c.failed ≡ true) × Trades v t c l None None
+IsTrue (Some (Awaits l forced false)) Ok v t c =
+    ((v.locks l).phase ≡ Done) × Trades v t c l None None
+IsTrue (Some (Awaits l forced true)) Yes v t c =
+    ((v.locks l).phase ≡ Done) × Trades v t c l None None
+IsTrue (Some (Awaits l forced true)) No v t c =
+    (c.gave_up ≡ Some l) × Trades v t c l None None
+IsTrue (Some (Awaits l forced timed)) IsPoisoned v t c =
+    ((v.locks l).phase ≡ Poisoned) × (forced ≡ false) × Trades v t c l None None
+IsTrue (Some (Waits l m false)) Ok v t c =
+    IsNotified c.recalls × (c.released ≡ true) × Trades v t c l None None
+IsTrue (Some (Waits l m true)) Notified v t c =
+    IsNotified c.recalls × (c.released ≡ true) × Trades v t c l None None
+IsTrue (Some (Waits l m true)) TimedOut v t c =
+    (c.gave_up ≡ Some l) × (c.released ≡ true) × Trades v t c l None None
+IsTrue (Some (Waits l m timed)) TwoMutexes v t c =
+    (c.released ≡ false) × (((v.locks l).shown ≢ None) × ((v.locks l).shown ≢ Some m))
+    × Trades v t c l None None
+IsTrue (Some (Notifies l false)) Yes v t c =
+    ((m : ℕ) × (c.recalls ≡ HasMoved m 1)) × Trades v t c l None None
+IsTrue (Some (Notifies l false)) No v t c =
+    MovedNobody (v.locks l) c.recalls × Trades v t c l None None
+IsTrue (Some (Notifies l true)) (Number n) v t c =
+    ((n ≡ 0) × MovedNobody (v.locks l) c.recalls × Trades v t c l None None)
+    ⊎ ((n ≢ 0) × ((m : ℕ) × (c.recalls ≡ HasMoved m n)) × Trades v t c l None None)
+IsTrue goal a v t c = ⊥

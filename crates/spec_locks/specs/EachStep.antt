@@ -1,0 +1,83 @@
+-- The guarantees of each step: true answers, calls that go on as they began, and queues that are first in, first
+-- out.
+use Rattle.std.specs.Prelude.{ℕ, true, None, Some, ◌≡◌, ◌≢◌, ◌≤◌, ◌⊎◌, ◌↔◌, List, [], ◌∷◌, ◌++◌}
+use Rattle.spec_locks.specs.declared.calls.Call.{Call}
+use Rattle.spec_locks.specs.declared.calls.Step.{Step}
+use Rattle.spec_locks.specs.declared.calls.Turn.TheVariants.{Begin, Go, Late}
+use Rattle.spec_locks.specs.declared.outcomes.Answer.{Answer}
+use Rattle.spec_locks.specs.declared.outcomes.Outcome.{Outcome}
+use Rattle.spec_locks.specs.declared.outcomes.Outcome.TheVariants.{NotNow, End}
+use Rattle.spec_locks.specs.Kinds.{is_fair}
+use Rattle.spec_locks.specs.Locks.{Queued, times}
+use Rattle.spec_locks.specs.Runs.{LocksState, CallState, IsNotified, MayGo, MayWake, new_call, no_call, rights_in}
+use Rattle.spec_locks.specs.CallTable.{IsTrue, goal_of}
+use Rattle.spec_locks.specs.CondvarLaws.{NobodyWakesByItself}
+
+-- ---------------------------------------------------------------- queues
+
+-- it is a part of the other, in its order
+abbrev pub IsPartOf : List Queued → List Queued → Type 0
+IsPartOf [] q = Unit {0}
+IsPartOf (x ∷ xs) [] = ⊥
+IsPartOf (x ∷ xs) (y ∷ q) = ((x ≡ y) × IsPartOf xs q) ⊎ IsPartOf (x ∷ xs) q
+
+-- those that stay in a line keep their order, and a thread that joins it stands behind them
+pub record KeepsOrderOf (before now : List Queued) : Type 0 where
+  pub left : List Queued
+  pub joined : List Queued
+  pub is : now ≡ left ++ joined
+  pub order : IsPartOf left before
+  pub anew : (t : ℕ) → 1 ≤ times t joined → times t before ≡ 0
+
+-- in the queue of each lock
+abbrev pub QueuesKeepOrder : LocksState → LocksState → Type 0
+QueuesKeepOrder w v = (l : ℕ) → KeepsOrderOf (w.locks l).queue (v.locks l).queue
+
+-- ---------------------------------------------------------------- calls
+
+-- a call goes on as its thread recalls it: it gives up only where its time was up
+pub record CallGoesOn (before now : CallState) : Type 0 where
+  pub purpose : now.purpose ≡ before.purpose
+  pub former : now.former ≡ before.former
+  pub gave_up : (now.gave_up ≡ before.gave_up) ⊎ (before.late ≡ true)
+  pub late : now.late ≡ true → before.late ≡ true
+
+-- the call of the step's thread neither begins nor ends, and its time isn't up by this step
+abbrev pub IsUnderWay : Step → Outcome → Type 0
+IsUnderWay step o = ((begun : Call) → step.turn ≢ Begin begun) × (step.turn ≢ Late)
+    × ((a : Answer) → o ≢ End a)
+
+-- a call as its thread recalls it where it ends: it has given up only where it had before, or its time was up
+pub record Recalls (w : LocksState) (t : ℕ) (now : CallState) : Type 0 where
+  pub purpose : now.purpose ≡ (w.calls t).purpose
+  pub former : now.former ≡ (w.calls t).former
+  pub gave_up : (now.gave_up ≡ (w.calls t).gave_up) ⊎ ((w.calls t).late ≡ true)
+  pub notified : IsNotified now.recalls → IsNotified (w.calls t).recalls
+
+-- ---------------------------------------------------------------- each step
+
+-- a step that leads from w to v, and of which this is told
+pub record StepHolds (w : LocksState) (step : Step) (o : Outcome) (v : LocksState) : Type 0 where
+  -- an answer is true of the state in which it is given
+  pub answer : (a : Answer) → o ≡ End a
+      → (now : CallState) × Recalls w step.thread now × IsTrue now.purpose a v step.thread now
+  -- a call begins, and its time is up, by these turns alone; it is forgotten as it ends, and else goes on
+  pub begins : (begun : Call) → step.turn ≡ Begin begun → o ≢ NotNow
+      → v.calls step.thread
+      ≡ new_call (Some (goal_of (λ l. is_fair (w.kinds l)) begun)) (rights_in w step.thread)
+  pub is_late : step.turn ≡ Late → o ≢ NotNow
+      → v.calls step.thread ≡ record (w.calls step.thread) { late = true }
+  pub ends : (a : Answer) → o ≡ End a → v.calls step.thread ≡ no_call
+  pub goes_on : (u : ℕ) → (u ≡ step.thread → IsUnderWay step o) → CallGoesOn (w.calls u) (v.calls u)
+  -- a thread in no call owns what it owned
+  pub idle : (u : ℕ) → (w.calls u).purpose ≡ None → (l : ℕ) → rights_in v u l ≡ rights_in w u l
+  -- no wait wakes by itself: another thread notifies it
+  pub notified : NobodyWakesByItself w v
+  -- a thread that may go on does, and a step that is refused changes nothing
+  pub goes : step.turn ≡ Go → (o ≡ NotNow) ↔ (MayGo w step.thread → ⊥)
+  pub refused : o ≡ NotNow → v ≡ w
+  -- another thread stands as it did, but for a sleeper that this one wakes
+  pub others : (u : ℕ) → u ≢ step.thread → (v.stances u ≡ w.stances u)
+      ⊎ (((w.stances u).asleep ≡ true) × MayWake w step.thread u)
+  -- queues are first in, first out
+  pub order : QueuesKeepOrder w v
