@@ -13,6 +13,24 @@ use lock_values::{LockName, Shown};
 use std::sync::Wait;
 
 impl<R: RawRwLock, T> RwLock<R, T> {
+    // One try to read, which a full lock refuses as a writer does.
+    fn look<W: Wait>(&self, rt: &W, token: &mut R::Token) -> Option<RwLockReadGuard<'_, R, T>>
+        requires { R.is_token_of (R.lot_of self.now) token.old }
+        ensures token { R.is_token_of (R.lot_of self.now) token.new × R.stays token.old token.new }
+        ensures guard { IfSome result (λ guard. lock_of guard ≡ self.now) }
+        ensures path { MatchOption result
+            ((R.walked self.now (Enter access.Shared Try) answers.No token.old token.new)
+            ⊎ (R.walked self.now (Enter access.Shared Try) answers.ReadersFull token.old token.new
+            × R.saw_full self.now access.Shared token.old token.new))
+            (λ _. R.walked self.now (Enter access.Shared Try) answers.Yes token.old token.new) }
+    {
+        match self.try_read(rt, token) {
+            Ok(Some(guard)) => Some(guard),
+            Ok(None) => None,
+            Err(_) => None,
+        }
+    }
+
     /// Shows the lock, by one try to read: its value where the try comes in, and else `<locked>`. A
     /// writer keeps the try out, and so do as many readers as there may be. The call `close` spends
     /// what is shown, and unlocks.
@@ -26,10 +44,7 @@ impl<R: RawRwLock, T> RwLock<R, T> {
             × R.saw_full self.now access.Shared token.old token.new))
             (λ _. R.walked self.now (Enter access.Shared Try) answers.Yes token.old token.new) }
     {
-        match self.try_read(rt, token) {
-            Ok(Some(guard)) => Shown::new(LockName::RwLock, Some(guard)),
-            Ok(None) => Shown::new(LockName::RwLock, None),
-            Err(_) => Shown::new(LockName::RwLock, None),
-        }
+        let guard = self.look(rt, token);
+        Shown::new(LockName::RwLock, guard)
     }
 }

@@ -54,7 +54,10 @@ fn conditions<R: RawCondvar + Drop>(
 {
     let mut made = Vec::with_capacity(alloc, number)?;
     for _ in 0..number {
-        made.push(Condvar::new(lot, token)?)?;
+        match Condvar::new(lot, token) {
+            Ok(condition) => made.push(condition)?,
+            Err(fault) => return Err(fault),
+        }
     }
     Ok(made)
 }

@@ -12,7 +12,8 @@ use std::sync::Arc;
 use std::thread::{Threads, map_vec};
 
 /// A lot, and the tickets of all its threads but the caller's. Each of them runs what the team is
-/// given, in a thread of its own.
+/// given, in a thread of its own. Where the system makes no more threads, calls run one after
+/// another: then those that wait for one another never end.
 pub struct Team {
     lot: Arc<ParkingLot>,
     tickets: Vec<Ticket>,
@@ -165,7 +166,7 @@ impl Team {
                 requires { IsTicketOf shared.now ticket × MayRun F.Fn f.now shared.now
                     × GivesTokenBack F.Fn f.now shared.now }
                 ensures { IsTicketOf shared.entry.now result
-                    × HasRun F.Fn f.entry.now shared.entry.now times.entry result }
+                    × HasRun F.Fn f.entry.now shared.entry.now times result }
             { run_times(shared, ticket, times, f) },
         )?;
         Ok(Team { lot, tickets })

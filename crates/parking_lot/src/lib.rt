@@ -11,7 +11,7 @@ pub use lock_values::{LockName, Mapped, Project, Shown, Then, ThenError};
 pub use lot_world;
 pub use parking_lot_core::{
     Clock, Did, Fault, Key, Keys, Note, Op, ParkingLot, Requeue, Right, Section, SectionRecord,
-    Slept, SystemClock, TickClock, Ticket, Token, Want, Word, WordKind, to_deadline,
+    Slept, SystemClock, TickClock, Ticket, Token, WakeNote, Want, Word, WordKind, to_deadline,
 };
 pub use raw_mutexes::{
     OpenGuard, RawCondvar, RawFairMutex, RawGuard, RawMutex, RawShare, RawThreadId,

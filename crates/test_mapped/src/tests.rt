@@ -1,4 +1,5 @@
 //! Guards of a part of a value, the texts of locks that are shown, and reentrant mutexes.
+mod aliases;
 mod parts;
 mod reentrant;
 mod texts;

@@ -132,6 +132,30 @@ fn stands(rt: &impl Abort, once: &Once, token: &mut Token, wanted: OnceState)
     check_eq(rt, once.is_completed(token), wanted == OnceState::Done);
 }
 
+// The text of a fault of a `Once`.
+fn text_of<A: Abort>(rt: &A, alloc: Global, fault: &OnceFault<u8>) -> String {
+    match format!(in alloc; "{fault}") {
+        Ok(text) => text,
+        Err(_) => panic!(rt; "no memory"),
+    }
+}
+
+#[test]
+fn faults_of_a_once_say_what_was(rt: HostRuntime) {
+    let refused = text_of(&rt, rt.alloc(), &OnceFault::Refused(Fault::Poisoned));
+    check_eq(
+        &rt,
+        refused.as_str(),
+        "Once instance has previously been poisoned",
+    );
+    let failed = text_of(&rt, rt.alloc(), &OnceFault::Failed(7));
+    check_eq(
+        &rt,
+        failed.as_str(),
+        "the closure failed, and the Once instance is poisoned",
+    );
+}
+
 #[test]
 fn who_calls_first_runs(rt: HostRuntime) {
     let (once, mut token) = once_alone(&rt, rt.alloc());

@@ -5,14 +5,16 @@ use super::buckets::is_told;
 use super::{Task, check, check_eq, in_section, lot_of, mutex_of, ticket_of, word_of};
 use core_base::TickClock;
 use parking_lot_core::{
-    Clock, Key, Keys, Note, ParkingLot, Slept, Ticket, Token, Want, Word, WordKind,
+    Clock, Key, Keys, Note, ParkingLot, Slept, SystemClock, Ticket, Token, Want, Word, WordKind,
 };
 use std::alloc::Global;
+use std::io;
 use std::process::Abort;
 use std::sync::Wait;
 use std::sync::atomic::Ordering::SeqCst;
 use std::sync::atomic::{AtomicBool, AtomicU64};
 use std::thread::join;
+use std::time::Duration;
 
 const KEY: Key = 4;
 
@@ -78,6 +80,27 @@ impl Clock for PauseClock {
         self.time.fetch_add(left, SeqCst);
         self.pauses.fetch_add(1, SeqCst);
     }
+}
+
+// A system whose clock can't be read.
+#[derive(Drop)]
+struct NoTime;
+
+impl std::time::Clock for NoTime {
+    fn monotonic(&self) -> io::Result<Duration> {
+        Err(io::Error::from(io::ErrorKind::Other))
+    }
+
+    fn since_1970(&self) -> io::Result<Duration> {
+        Err(io::Error::from(io::ErrorKind::Other))
+    }
+}
+
+#[test]
+fn a_clock_that_cannot_be_read_tells_the_last_time(rt: HostRuntime) {
+    let clock = SystemClock::new(NoTime);
+    check_eq(&rt, clock.now(), u64::MAX);
+    is_late(&rt, rt.alloc(), (&clock, u64::MAX));
 }
 
 #[test]
