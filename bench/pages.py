@@ -1,5 +1,5 @@
 #!/usr/bin/env python3
-"""Checks what a script can of the pages: that each block "```rust PATH" shows lines of that file, in their order; that
+"""Checks what a script can of the pages: that each block "```rust PATH" or "```text PATH" shows lines of that file; that
 each clause, test and must-fail edit that a page names is there; that lines keep to the width, and sentences and comments
 to the rules of CONTRIBUTING; that numbers which README takes from SPEED are SPEED's; and that pages written by a script
 are current. Usage: pages.py, at the top of the repository."""
@@ -39,7 +39,7 @@ def blocks(page):
     """Yields the first line's number, the path and the lines of each block of a page."""
     path, first, lines = None, 0, []
     for number, line in enumerate(text_of(page).split("\n"), 1):
-        if path is None and line.startswith("```rust"):
+        if path is None and re.match(r"```(rust|text)", line):
             path, first, lines = line[7:].strip(), number, []
         elif path is not None and line.startswith("```"):
             yield first, path, lines
