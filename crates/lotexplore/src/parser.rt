@@ -1,9 +1,9 @@
 //! The parser of a program's text.
 
 use crate::blocks::{Block, Condition, aim};
-use crate::words::{call_in, comparison, joined, name, told};
+use crate::words::{call_in, comparison, joined, kind_in, name, threads_in, told};
 use lot_program::{Instruction, Program, Test, Value};
-use lot_text::{Command, Name, Names, meaning};
+use lot_text::Names;
 use lot_world::{Call, Kind};
 use spec_locks::OnceCall;
 use std::alloc::{AllocError, AllocFailed, Global};
@@ -106,24 +106,32 @@ impl Parser {
             return self.add_variable(words[1], first);
         }
         let line = joined(self.alloc, "", words)?;
-        match meaning(line.as_bytes()) {
-            Some(Command::Threads(number)) if self.program.code.is_empty() => {
-                for _ in 0..number.min(9) {
-                    self.program.code.push(Vec::new(self.alloc))?;
-                }
-            }
-            Some(Command::Lock { name, kind }) => self.add_lock(name, kind)?,
-            _ => return Err(Reason::Order),
+        if let Some(number) = threads_in(line.as_str()) {
+            self.add_threads(number)?;
+        } else {
+            let kind = kind_in(line.as_str()).ok_or(Reason::Order)?;
+            self.add_lock(words, kind)?;
         }
         self.header.push_str(line.as_str())?;
         self.header.push_str("\n")?;
         Ok(())
     }
 
-    fn add_lock(&mut self, name: Name, kind: Kind) -> Result<(), Reason> {
-        if self.program.code.is_empty() {
+    fn add_threads(&mut self, number: usize) -> Result<(), Reason> {
+        if !self.program.code.is_empty() {
             return Err(Reason::Order);
         }
+        for _ in 0..number.min(9) {
+            self.program.code.push(Vec::new(self.alloc))?;
+        }
+        Ok(())
+    }
+
+    fn add_lock(&mut self, words: &[&str], kind: Kind) -> Result<(), Reason> {
+        if self.program.code.is_empty() || words.len() < 2 {
+            return Err(Reason::Order);
+        }
+        let name = name(words[1]).ok_or(Reason::Name)?;
         if let Some(_) = self.names.find(name) {
             return Err(Reason::Name);
         }

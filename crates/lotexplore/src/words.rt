@@ -2,7 +2,7 @@
 
 use lot_program::{Comparison, Told};
 use lot_text::{Command, Name, NamedCall, NamedTurn, Names, meaning};
-use lot_world::Call;
+use lot_world::{Call, Kind};
 use spec_locks::CondvarCall;
 use std::alloc::{AllocError, Global};
 
@@ -69,6 +69,22 @@ pub fn joined(alloc: Global, first: &str, words: &[&str]) -> Result<String, Allo
         line.push_str(word)?;
     }
     Ok(line)
+}
+
+/// How many threads a line of a schedule makes.
+pub fn threads_in(line: &str) -> Option<usize> {
+    match meaning(line.as_bytes()) {
+        Some(Command::Threads(number)) => Some(number),
+        _ => None,
+    }
+}
+
+/// The kind of the lock that a line of a schedule makes.
+pub fn kind_in(line: &str) -> Option<Kind> {
+    match meaning(line.as_bytes()) {
+        Some(Command::Lock { kind, .. }) => Some(kind),
+        _ => None,
+    }
 }
 
 /// The call that a line of a schedule begins, of locks with these names.
