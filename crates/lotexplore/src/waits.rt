@@ -91,13 +91,19 @@ fn print_waits_for(
         if lock < world.locks() && world.queue(lock).any(|waiter| waiter.thread == thread) {
             print!(rt; ", waits for ")?;
             print_name(rt, name.text())?;
-            print_holders(rt, world, lock)?;
+            print_holders(rt, world, lock, thread)?;
         }
     }
     Ok(())
 }
 
-fn print_holders(rt: &HostRuntime, world: &World<ListQueues>, lock: usize) -> io::Result<()> {
+// Prints which other threads have a lock that a thread waits for.
+fn print_holders(
+    rt: &HostRuntime,
+    world: &World<ListQueues>,
+    lock: usize,
+    thread: usize,
+) -> io::Result<()> {
     if lock >= world.locks() {
         return Ok(());
     }
@@ -105,12 +111,12 @@ fn print_holders(rt: &HostRuntime, world: &World<ListQueues>, lock: usize) -> io
         return print!(rt; " to be notified");
     }
     let mut mark = ", of thread ";
-    for (_, owner) in world.owners(lock) {
+    for (_, owner) in world.owners(lock).filter(|(_, owner)| *owner != thread) {
         print!(rt; "{mark}{owner}")?;
         mark = " and ";
     }
-    if mark == ", of thread " {
-        print!(rt; ", which nobody has")?;
+    if mark == ", of thread " && world.owners(lock).any(|(_, owner)| owner == thread) {
+        print!(rt; ", which it has itself")?;
     }
     Ok(())
 }
