@@ -3,7 +3,7 @@ use Rattle.lot_machine.specs.Machine.{opening}
 use Rattle.lot_machine.proofs.Shape.{opening_shaped}
 use Rattle.lot_laws.proofs.hands.CountsPut.{opening_counted}
 use Rattle.lot_laws.proofs.sites.Opening.{opening_condvars, opening_steady}
-use Rattle.lot_laws.proofs.once.Runs.{opening_running}
+use Rattle.lot_laws.proofs.mutex.FairMutexes.{opening_settled}
 use Rattle.lot_laws.specs.SitesOf.{IsWorld}
 use Rattle.lot_program.specs.Programs.{IsFit, threads_of}
 use Rattle.lot_program.specs.declared.program.Program.{Program}
@@ -14,5 +14,5 @@ opening_world p fit = record {
   steady = opening_steady p.kinds.items (threads_of p) fit.some fit.kinds;
   counted = opening_counted p.kinds.items (threads_of p);
   condvars = opening_condvars p.kinds.items (threads_of p);
-  running = opening_running p.kinds.items (threads_of p);
+  settled = opening_settled p.kinds.items (threads_of p);
 }
