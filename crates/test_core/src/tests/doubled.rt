@@ -33,3 +33,16 @@ fn queued_counts_those_of_a_key(rt: HostRuntime) {
     check_eq(&rt, lot.queued(&rt, &mut token, KEY), 2);
     check_eq(&rt, lot.queued(&rt, &mut token, OTHER), 0);
 }
+
+// A thread that stands under one key is put under another by a section that hasn't its bucket. The
+// next section of both keys finds it under the second alone, and doesn't wait for ever.
+#[test]
+fn a_thread_in_two_buckets_leaves_the_older(rt: HostRuntime) {
+    let (lot, mut token, _) = lot_of(&rt, rt.alloc(), 4, SEATS);
+    put(&rt, &lot, &mut token, KEY, 1);
+    put(&rt, &lot, &mut token, OTHER, 1);
+    let section = lot.enter(&rt, &mut token, Keys::Two(KEY, OTHER));
+    check_eq(&rt, section.key_of(1), Some(OTHER));
+    check_eq(&rt, section.count(KEY), 0);
+    section.leave(&rt, &mut token, Note::Normal);
+}
