@@ -1,2 +1,3 @@
 pub mod Kept
 pub mod Following
+pub mod Deadlocks

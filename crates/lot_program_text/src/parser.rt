@@ -116,8 +116,11 @@ impl Parser {
             let expected = "the first line is `threads N`, as in `threads 3`";
             return Err(self.wrong(line, word_at(words, 0), expected));
         }
+        if words.len() > 2 {
+            return Err(self.wrong(line, word_at(words, 2), "the end of the line"));
+        }
         match number(word_at(words, 1), MOST_THREADS) {
-            Some(threads) if threads != 0 && words.len() == 2 => {
+            Some(threads) if threads != 0 => {
                 let threads = threads as usize;
                 for _ in 0..threads {
                     self.code.push(Vec::new(self.alloc))?;
@@ -195,7 +198,7 @@ impl Parser {
     ) -> Result<(), TextError> {
         self.end_section()?;
         if words.len() < 2 {
-            return Err(self.wrong(line, "thread", "a thread's number, as in `thread 0`"));
+            return Err(self.wrong(line, "", "a thread's number, as in `thread 0`"));
         }
         for word in words.iter().skip(1) {
             match number(word, MOST_THREADS) {
