@@ -35,7 +35,7 @@ fn check_eq<T: PartialEq + Debug + Drop>(rt: &impl Abort, found: T, wanted: T) {
 }
 
 /// Returns what a search of a text finds, with room for so many states.
-fn found(alloc: Global, text: &str, most: u32) -> Found {
+fn search_of(alloc: Global, text: &str, most: u32) -> Found {
     let Ok(parsed) = parse(alloc, text) else {
         return Found::NoProgram;
     };

@@ -1,6 +1,6 @@
 //! Programs with what is found of them.
 
-use super::{Found, check_eq, found};
+use super::{Found, check_eq, search_of};
 use std::process::Abort;
 use std::test::Fail;
 
@@ -123,13 +123,13 @@ const PROGRAMS: &[(&str, Found)] = &[
 #[test]
 fn programs_go_wrong_as_they_do_or_not(rt: HostRuntime) {
     for (text, wanted) in PROGRAMS {
-        check_eq(&rt, found(rt.alloc(), text, ROOM), *wanted);
+        check_eq(&rt, search_of(rt.alloc(), text, ROOM), *wanted);
     }
 }
 
 #[test]
 fn a_search_stops_at_its_limit(rt: HostRuntime) {
     let text = "threads 2\nlock m mutex\nthread 0 1\nlock m\nunlock m\n";
-    check_eq(&rt, found(rt.alloc(), text, 10), Found::Limit(10));
-    check_eq(&rt, found(rt.alloc(), text, 0), Found::Limit(0));
+    check_eq(&rt, search_of(rt.alloc(), text, 10), Found::Limit(10));
+    check_eq(&rt, search_of(rt.alloc(), text, 0), Found::Limit(0));
 }
