@@ -1,8 +1,7 @@
 -- Each move of a program is a step of the world, or leaves it as it is.
-use Rattle.std.proofs.Common.{ℕ, zero, suc, ◌≡◌, ◌≢◌, ◌/◌, ◌%◌, Bool, true, false, Option, Some, None, List, [], ◌∷◌, ◌++◌, length, refl, sym, ap, subst, ◌∙◌, arith}
+use Rattle.std.proofs.Common.{ℕ, zero, suc, ◌≡◌, ◌≢◌, ◌/◌, ◌%◌, Bool, true, false, Option, Some, None, List, [], ◌∷◌, ◌++◌, refl, sym, ap, subst, ◌∙◌}
 use Rattle.std.specs.Prelude.{if◌then◌else◌, nat_lt}
 use Rattle.std.specs.Option.{unwrap_or}
-use Rattle.spec_locks.specs.declared.calls.Turn.{Turn}
 use Rattle.spec_locks.specs.declared.calls.Turn.TheVariants as turn
 use Rattle.spec_locks.specs.declared.calls.Call.{Call}
 use Rattle.spec_locks.specs.declared.calls.Step.{Step}
@@ -19,8 +18,8 @@ use Rattle.lot_program.specs.declared.states.Local.{Local}
 use Rattle.lot_program.specs.declared.program.Instruction.{Instruction}
 use Rattle.lot_program.specs.declared.program.Instruction.TheVariants as instruction
 use Rattle.lot_program.specs.declared.program.Program.{Program}
-use Rattle.lot_program.specs.Programs.{holds, threads_of, instruction_at}
-use Rattle.lot_program.specs.States.{ProgramState, step_of, stepped_by, with_step, or_refused, world_move, called, closed, closing, performed, going_on, asserted, is_own, own_move, local_at, thread_move, program_next, rules_of_program}
+use Rattle.lot_program.specs.Programs.{threads_of, instruction_at}
+use Rattle.lot_program.specs.States.{ProgramState, step_of, stepped_by, with_step, or_refused, world_move, closing, performed, going_on, asserted, is_own, own_move, local_at, thread_move, program_next, rules_of_program}
 use Rattle.lot_program.specs.Runs.{step_by, own_step, thread_step, step_taken, steps_in, steps_of}
 
 some_is : {S : Type 0} (s t : S) → Some s ≡ Some t → s ≡ t

@@ -1,5 +1,5 @@
 -- Programs of lock calls: values, tests, and the instructions of a thread.
-use Rattle.std.specs.Prelude.{ℕ, Bool, Option, Some, None, List, [], map, length, not, ◌==◌, nat_lt, nat_le, slice_index, slice_index_or, true, ◌≡◌, ◌≤◌, All}
+use Rattle.std.specs.Prelude.{ℕ, Bool, Option, List, [], map, length, not, ◌==◌, nat_lt, nat_le, slice_index, slice_index_or, true, ◌≡◌, ◌≤◌, All}
 use Rattle.std.specs.List.{slice_get}
 use Rattle.spec_locks.specs.declared.outcomes.Answer.{Answer}
 use Rattle.spec_locks.specs.declared.outcomes.Answer.TheVariants as answer
