@@ -1,5 +1,5 @@
 //! Programs of lock calls: for each thread a list of instructions.
-ghost use Rattle.std.specs.Prelude.{◌≡◌, ◌<◌, ◌-◌, ◌^◌, IfSome, All, true, length};
+ghost use Rattle.std.specs.Prelude.{◌≡◌, ◌<◌, ◌-◌, ◌^◌, IfSome, All, true, false, length};
 ghost use Rattle.lot_program.specs.Programs.{told_by, told_number, number_of, holds, compares, instruction_at, IsFit};
 ghost use Rattle.spec_locks.specs.Kinds.{fits};
 ghost use Rattle.lot_program.specs.Runs.{step_by};
@@ -211,7 +211,8 @@ impl Program {
     /// Whether it can be searched: it has 1 to 8 threads, at most 4,096 variables, and locks that a
     /// world may have.
     pub fn is_fit(&self) -> bool
-        ensures { result ≡ true → IsFit self.now }
+        ensures fit { result ≡ true → IsFit self.now }
+        ensures unfit { result ≡ false → IsFit self.now → ⊥ }
     {
         let threads = self.threads();
         let are_few = threads <= MOST && self.kinds.len() <= MOST_LOCKS;
@@ -219,7 +220,9 @@ impl Program {
     }
 
     fn kinds_fit(&self, threads: usize) -> bool
-        ensures { result ≡ true → All (λ kind. fits kind threads ≡ true) self.now.kinds.items }
+        ensures fit { result ≡ true → All (λ kind. fits kind threads ≡ true) self.now.kinds.items }
+        ensures unfit { result ≡ false
+            → All (λ kind. fits kind threads ≡ true) self.now.kinds.items → ⊥ }
     {
         for kind in &self.kinds {
             if !kind.fits(threads) {
