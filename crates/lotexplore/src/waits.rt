@@ -110,12 +110,13 @@ fn print_holders(
     if let Kind::Condvar = world.kind(lock) {
         return print!(rt; " to be notified");
     }
-    let mut mark = ", of thread ";
+    let mut others = 0usize;
     for (_, owner) in world.owners(lock).filter(|(_, owner)| *owner != thread) {
+        let mark = if others == 0 { ", of thread " } else { " and " };
         print!(rt; "{mark}{owner}")?;
-        mark = " and ";
+        others = others.wrapping_add(1);
     }
-    if mark == ", of thread " && world.owners(lock).any(|(_, owner)| owner == thread) {
+    if others == 0 && world.owners(lock).any(|(_, owner)| owner == thread) {
         print!(rt; ", which it has itself")?;
     }
     Ok(())
