@@ -12,6 +12,7 @@ pub mod reentrant;
 pub mod showing;
 pub mod shows;
 pub mod taken;
+mod values;
 pub mod waits;
 
 pub use condvar::Condvar;

@@ -15,7 +15,7 @@ mod visits;
 
 pub use guards::{RwLockReadGuard, RwLockUpgradableReadGuard, RwLockWriteGuard};
 pub use lock_raw::{
-    RawRwLock, RawRwLockDowngrade, RawRwLockFair, RawRwLockTimed, RawRwLockUpgrade,
+    RawRwLock, RawRwLockDowngrade, RawRwLockFair, RawRwLockHalves, RawRwLockTimed, RawRwLockUpgrade,
     RawRwLockUpgradeDowngrade, RawRwLockUpgradeFair, RawRwLockUpgradeTimed,
 };
 pub use mapped::{MappedRwLockReadGuard, MappedRwLockWriteGuard};

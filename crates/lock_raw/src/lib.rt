@@ -6,6 +6,7 @@ pub mod counted;
 pub mod counts;
 pub mod rwlock;
 pub mod rwlock_fair;
+pub mod rwlock_halves;
 pub mod rwlock_upgrade;
 
 ghost use Rattle.std.specs.Prelude.{◌≡◌, ℕ, Bool, MatchResult, IfErr, IfNone, IfOk, IfSome};
@@ -26,6 +27,7 @@ pub use counted::{GetThreadId, RawMutexCounted};
 pub use counts::advance_count;
 pub use rwlock::{RawRwLock, RawRwLockDowngrade, RawRwLockTimed};
 pub use rwlock_fair::{RawRwLockFair, RawRwLockUpgradeFair};
+pub use rwlock_halves::RawRwLockHalves;
 pub use rwlock_upgrade::{RawRwLockUpgrade, RawRwLockUpgradeDowngrade, RawRwLockUpgradeTimed};
 use std::sync::{Arc, Wait};
 use std::time::Duration;

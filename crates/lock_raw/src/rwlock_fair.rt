@@ -15,13 +15,13 @@ pub trait RawRwLockFair: RawRwLock {
     /// Gives a right to read up, and as the last reader wakes the writer that waits for it: that
     /// has the lock by then, so there is nothing to hand over. The guard is spent.
     fn unlock_shared_fair<R: Wait>(&self, rt: &R, token: &mut Self::Token, guard: Self::SharedGuard)
-        requires token { Self.is_token_of (Self.lot_of self.now) token.old }
-        requires guard { Self.is_shared_of self.now guard }
-        ensures token { Self.is_token_of (Self.lot_of self.now) token.new
-            × Self.stays token.old token.new }
-        ensures path { Self.walked self.now
+        requires token { Self.RawRwLockHalves.is_token_of (Self.RawRwLockHalves.lot_of self.now) token.old }
+        requires guard { Self.RawRwLockHalves.is_shared_of self.now guard }
+        ensures token { Self.RawRwLockHalves.is_token_of (Self.RawRwLockHalves.lot_of self.now) token.new
+            × Self.RawRwLockHalves.stays token.old token.new }
+        ensures path { Self.RawRwLockHalves.walked self.now
             (ReleaseFair access.Shared) answers.Ok token.old token.new }
-        ensures record { Self.woke self.now (ReleaseFair access.Shared) token.old token.new };
+        ensures record { Self.RawRwLockHalves.woke self.now (ReleaseFair access.Shared) token.old token.new };
 
     /// Hands the lock to those that wait for it and may have it together. Where nobody waits, gives
     /// it up. The guard is spent.
@@ -31,13 +31,13 @@ pub trait RawRwLockFair: RawRwLock {
         token: &mut Self::Token,
         guard: Self::ExclusiveGuard,
     )
-        requires token { Self.is_token_of (Self.lot_of self.now) token.old }
-        requires guard { Self.is_exclusive_of self.now guard }
-        ensures token { Self.is_token_of (Self.lot_of self.now) token.new
-            × Self.stays token.old token.new }
-        ensures path { Self.walked self.now
+        requires token { Self.RawRwLockHalves.is_token_of (Self.RawRwLockHalves.lot_of self.now) token.old }
+        requires guard { Self.RawRwLockHalves.is_exclusive_of self.now guard }
+        ensures token { Self.RawRwLockHalves.is_token_of (Self.RawRwLockHalves.lot_of self.now) token.new
+            × Self.RawRwLockHalves.stays token.old token.new }
+        ensures path { Self.RawRwLockHalves.walked self.now
             (ReleaseFair access.Exclusive) answers.Ok token.old token.new }
-        ensures record { Self.woke self.now (ReleaseFair access.Exclusive) token.old token.new };
+        ensures record { Self.RawRwLockHalves.woke self.now (ReleaseFair access.Exclusive) token.old token.new };
 
     /// Lets a writer in that waits for the last readers, and waits to read again. Where none does,
     /// keeps the right; on a recursive lock it is kept also beside other readers.
@@ -52,15 +52,15 @@ pub trait RawRwLockFair: RawRwLock {
         token: &mut Self::Token,
         guard: Self::SharedGuard,
     ) -> Result<Self::SharedGuard, Fault>
-        requires token { Self.is_token_of (Self.lot_of self.now) token.old }
-        requires guard { Self.is_shared_of self.now guard }
-        ensures token { Self.is_token_of (Self.lot_of self.now) token.new
-            × Self.stays token.old token.new }
-        ensures guard { MatchResult result (Self.is_shared_of self.now) IsReadersFull }
-        ensures path { Self.walked self.now (Bump access.Shared)
+        requires token { Self.RawRwLockHalves.is_token_of (Self.RawRwLockHalves.lot_of self.now) token.old }
+        requires guard { Self.RawRwLockHalves.is_shared_of self.now guard }
+        ensures token { Self.RawRwLockHalves.is_token_of (Self.RawRwLockHalves.lot_of self.now) token.new
+            × Self.RawRwLockHalves.stays token.old token.new }
+        ensures guard { MatchResult result (Self.RawRwLockHalves.is_shared_of self.now) IsReadersFull }
+        ensures path { Self.RawRwLockHalves.walked self.now (Bump access.Shared)
             (reading_answer result) token.old token.new }
         ensures full { IfErr result
-            (λ _. Self.saw_full self.now access.Shared token.old token.new) };
+            (λ _. Self.RawRwLockHalves.saw_full self.now access.Shared token.old token.new) };
 
     /// Hands the lock to those that wait for it, and waits to have it alone again. Where nobody
     /// waits, keeps it.
@@ -70,12 +70,12 @@ pub trait RawRwLockFair: RawRwLock {
         token: &mut Self::Token,
         guard: Self::ExclusiveGuard,
     ) -> Self::ExclusiveGuard
-        requires token { Self.is_token_of (Self.lot_of self.now) token.old }
-        requires guard { Self.is_exclusive_of self.now guard }
-        ensures token { Self.is_token_of (Self.lot_of self.now) token.new
-            × Self.stays token.old token.new }
-        ensures guard { Self.is_exclusive_of self.now result }
-        ensures path { Self.walked self.now
+        requires token { Self.RawRwLockHalves.is_token_of (Self.RawRwLockHalves.lot_of self.now) token.old }
+        requires guard { Self.RawRwLockHalves.is_exclusive_of self.now guard }
+        ensures token { Self.RawRwLockHalves.is_token_of (Self.RawRwLockHalves.lot_of self.now) token.new
+            × Self.RawRwLockHalves.stays token.old token.new }
+        ensures guard { Self.RawRwLockHalves.is_exclusive_of self.now result }
+        ensures path { Self.RawRwLockHalves.walked self.now
             (Bump access.Exclusive) answers.Ok token.old token.new };
 }
 
@@ -90,13 +90,13 @@ pub trait RawRwLockUpgradeFair: RawRwLockUpgrade {
         token: &mut Self::Token,
         guard: Self::UpgradableGuard,
     )
-        requires token { Self.RawRwLock.is_token_of (Self.RawRwLock.lot_of self.now) token.old }
+        requires token { Self.RawRwLockHalves.is_token_of (Self.RawRwLockHalves.lot_of self.now) token.old }
         requires guard { Self.RawRwLockUpgrade.is_upgradable_of self.now guard }
-        ensures token { Self.RawRwLock.is_token_of (Self.RawRwLock.lot_of self.now) token.new
-            × Self.RawRwLock.stays token.old token.new }
-        ensures path { Self.RawRwLock.walked self.now
+        ensures token { Self.RawRwLockHalves.is_token_of (Self.RawRwLockHalves.lot_of self.now) token.new
+            × Self.RawRwLockHalves.stays token.old token.new }
+        ensures path { Self.RawRwLockHalves.walked self.now
             (ReleaseFair access.Upgradable) answers.Ok token.old token.new }
-        ensures record { Self.RawRwLock.woke self.now
+        ensures record { Self.RawRwLockHalves.woke self.now
             (ReleaseFair access.Upgradable) token.old token.new };
 
     /// Hands the lock to those that wait for it, and waits for the upgradable right again. Where
@@ -112,14 +112,14 @@ pub trait RawRwLockUpgradeFair: RawRwLockUpgrade {
         token: &mut Self::Token,
         guard: Self::UpgradableGuard,
     ) -> Result<Self::UpgradableGuard, Fault>
-        requires token { Self.RawRwLock.is_token_of (Self.RawRwLock.lot_of self.now) token.old }
+        requires token { Self.RawRwLockHalves.is_token_of (Self.RawRwLockHalves.lot_of self.now) token.old }
         requires guard { Self.RawRwLockUpgrade.is_upgradable_of self.now guard }
-        ensures token { Self.RawRwLock.is_token_of (Self.RawRwLock.lot_of self.now) token.new
-            × Self.RawRwLock.stays token.old token.new }
+        ensures token { Self.RawRwLockHalves.is_token_of (Self.RawRwLockHalves.lot_of self.now) token.new
+            × Self.RawRwLockHalves.stays token.old token.new }
         ensures guard { MatchResult result
             (Self.RawRwLockUpgrade.is_upgradable_of self.now) IsReadersFull }
-        ensures path { Self.RawRwLock.walked self.now (Bump access.Upgradable)
+        ensures path { Self.RawRwLockHalves.walked self.now (Bump access.Upgradable)
             (reading_answer result) token.old token.new }
         ensures full { IfErr result
-            (λ _. Self.RawRwLock.saw_full self.now access.Upgradable token.old token.new) };
+            (λ _. Self.RawRwLockHalves.saw_full self.now access.Upgradable token.old token.new) };
 }

@@ -13,6 +13,7 @@ ghost use Rattle.lock_raw.specs.Answers.{IsReadersFull, TriesOrFull, counted_ans
 use crate::rwlock::RawRwLock;
 use core_base::{Clock, Fault};
 use lock_values::{Place, Seen};
+use spec_locks::Access;
 use std::sync::Wait;
 use std::time::Duration;
 
@@ -34,19 +35,26 @@ pub trait RawRwLockUpgrade: RawRwLock {
     /// # Errors
     ///
     /// `ReadersFull`, where as many share the lock as may.
+    #[inline(always)]
     fn lock_upgradable<R: Wait>(
         &self,
         rt: &R,
         token: &mut Self::Token,
     ) -> Result<Self::UpgradableGuard, Fault>
-        requires { Self.is_token_of (Self.lot_of self.now) token.old }
-        ensures token { Self.is_token_of (Self.lot_of self.now) token.new
-            × Self.stays token.old token.new }
+        requires { Self.RawRwLockHalves.is_token_of (Self.RawRwLockHalves.lot_of self.now) token.old }
+        ensures token { Self.RawRwLockHalves.is_token_of (Self.RawRwLockHalves.lot_of self.now) token.new
+            × Self.RawRwLockHalves.stays token.old token.new }
         ensures guard { MatchResult result (is_upgradable_of self.now) IsReadersFull }
-        ensures path { Self.walked self.now (Enter access.Upgradable Patient)
+        ensures path { Self.RawRwLockHalves.walked self.now (Enter access.Upgradable Patient)
             (reading_answer result) token.old token.new }
         ensures full { IfErr result
-            (λ _. Self.saw_full self.now access.Upgradable token.old token.new) };
+            (λ _. Self.RawRwLockHalves.saw_full self.now access.Upgradable token.old token.new) }
+    {
+        match self.lock_upgradable_fast(token) {
+            Ok(entered) => entered,
+            Err(rest) => self.lock_upgradable_slow(rt, token, rest),
+        }
+    }
 
     /// Comes in where nobody has the lock alone or with this right. It may have to try again where
     /// others come and go.
@@ -59,29 +67,35 @@ pub trait RawRwLockUpgrade: RawRwLock {
         rt: &R,
         token: &mut Self::Token,
     ) -> Result<Option<Self::UpgradableGuard>, Fault>
-        requires { Self.is_token_of (Self.lot_of self.now) token.old }
-        ensures token { Self.is_token_of (Self.lot_of self.now) token.new
-            × Self.stays token.old token.new }
+        requires { Self.RawRwLockHalves.is_token_of (Self.RawRwLockHalves.lot_of self.now) token.old }
+        ensures token { Self.RawRwLockHalves.is_token_of (Self.RawRwLockHalves.lot_of self.now) token.new
+            × Self.RawRwLockHalves.stays token.old token.new }
         ensures guard { TriesOrFull result (is_upgradable_of self.now) }
-        ensures path { Self.walked self.now (Enter access.Upgradable Try)
+        ensures path { Self.RawRwLockHalves.walked self.now (Enter access.Upgradable Try)
             (counted_answer result) token.old token.new }
         ensures full { IfErr result
-            (λ _. Self.saw_full self.now access.Upgradable token.old token.new) };
+            (λ _. Self.RawRwLockHalves.saw_full self.now access.Upgradable token.old token.new) };
 
     /// Gives the right up, and wakes the threads that this lets in.
+    #[inline]
     fn unlock_upgradable<R: Wait>(
         &self,
         rt: &R,
         token: &mut Self::Token,
         guard: Self::UpgradableGuard,
     )
-        requires token { Self.is_token_of (Self.lot_of self.now) token.old }
+        requires token { Self.RawRwLockHalves.is_token_of (Self.RawRwLockHalves.lot_of self.now) token.old }
         requires guard { is_upgradable_of self.now guard }
-        ensures token { Self.is_token_of (Self.lot_of self.now) token.new
-            × Self.stays token.old token.new }
-        ensures path { Self.walked self.now
+        ensures token { Self.RawRwLockHalves.is_token_of (Self.RawRwLockHalves.lot_of self.now) token.new
+            × Self.RawRwLockHalves.stays token.old token.new }
+        ensures path { Self.RawRwLockHalves.walked self.now
             (Release access.Upgradable) answers.Ok token.old token.new }
-        ensures record { Self.woke self.now (Release access.Upgradable) token.old token.new };
+        ensures record { Self.RawRwLockHalves.woke self.now (Release access.Upgradable) token.old token.new }
+    {
+        if let Some(rest) = self.unlock_upgradable_fast(token, guard) {
+            self.unlock_slow(rt, token, Access::Upgradable, rest);
+        }
+    }
 
     /// Takes the first steps of `lock_upgradable`, which are all of it where the thread meets nobody.
     ///
@@ -92,16 +106,16 @@ pub trait RawRwLockUpgrade: RawRwLock {
         &self,
         token: &mut Self::Token,
     ) -> Result<Result<Self::UpgradableGuard, Fault>, Self::Rest>
-        requires { Self.is_token_of (Self.lot_of self.now) token.old }
-        ensures token { Self.is_token_of (Self.lot_of self.now) token.new }
+        requires { Self.RawRwLockHalves.is_token_of (Self.RawRwLockHalves.lot_of self.now) token.old }
+        ensures token { Self.RawRwLockHalves.is_token_of (Self.RawRwLockHalves.lot_of self.now) token.new }
         ensures over { IfOk result
-            (λ entered. Self.stays token.old token.new
+            (λ entered. Self.RawRwLockHalves.stays token.old token.new
             × MatchResult entered (is_upgradable_of self.now) IsReadersFull
-            × Self.walked self.now (Enter access.Upgradable Patient) (reading_answer entered)
+            × Self.RawRwLockHalves.walked self.now (Enter access.Upgradable Patient) (reading_answer entered)
             token.old token.new
-            × IfErr entered (λ _. Self.saw_full self.now access.Upgradable token.old token.new)) }
+            × IfErr entered (λ _. Self.RawRwLockHalves.saw_full self.now access.Upgradable token.old token.new)) }
         ensures begun { IfErr result
-            (λ rest. Self.begun self.now (Enter access.Upgradable Patient) rest
+            (λ rest. Self.RawRwLockHalves.begun self.now (Enter access.Upgradable Patient) rest
             token.old token.new) };
 
     /// Ends a `lock_upgradable` of which this is left.
@@ -115,17 +129,17 @@ pub trait RawRwLockUpgrade: RawRwLock {
         token: &mut Self::Token,
         rest: Self::Rest,
     ) -> Result<Self::UpgradableGuard, Fault>
-        requires token { Self.is_token_of (Self.lot_of self.now) token.old }
+        requires token { Self.RawRwLockHalves.is_token_of (Self.RawRwLockHalves.lot_of self.now) token.old }
         requires begun { (before : Self.Token)
-            × Self.begun self.now (Enter access.Upgradable Patient) rest before token.old }
-        ensures token { Self.is_token_of (Self.lot_of self.now) token.new }
+            × Self.RawRwLockHalves.begun self.now (Enter access.Upgradable Patient) rest before token.old }
+        ensures token { Self.RawRwLockHalves.is_token_of (Self.RawRwLockHalves.lot_of self.now) token.new }
         ensures guard { MatchResult result (is_upgradable_of self.now) IsReadersFull }
         ensures over { (before : Self.Token)
-            → Self.begun self.now (Enter access.Upgradable Patient) rest before token.old
-            → Self.stays before token.new
-            × Self.walked self.now (Enter access.Upgradable Patient) (reading_answer result)
+            → Self.RawRwLockHalves.begun self.now (Enter access.Upgradable Patient) rest before token.old
+            → Self.RawRwLockHalves.stays before token.new
+            × Self.RawRwLockHalves.walked self.now (Enter access.Upgradable Patient) (reading_answer result)
             before token.new
-            × IfErr result (λ _. Self.saw_full self.now access.Upgradable before token.new) };
+            × IfErr result (λ _. Self.RawRwLockHalves.saw_full self.now access.Upgradable before token.new) };
 
     /// Takes the first steps of `unlock_upgradable`, which are all of it where it wakes nobody up.
     /// Spends the guard, and answers what is left, for `unlock_slow`.
@@ -134,15 +148,15 @@ pub trait RawRwLockUpgrade: RawRwLock {
         token: &mut Self::Token,
         guard: Self::UpgradableGuard,
     ) -> Option<Self::Rest>
-        requires token { Self.is_token_of (Self.lot_of self.now) token.old }
+        requires token { Self.RawRwLockHalves.is_token_of (Self.RawRwLockHalves.lot_of self.now) token.old }
         requires guard { is_upgradable_of self.now guard }
-        ensures token { Self.is_token_of (Self.lot_of self.now) token.new }
+        ensures token { Self.RawRwLockHalves.is_token_of (Self.RawRwLockHalves.lot_of self.now) token.new }
         ensures over { IfNone result
-            (Self.stays token.old token.new
-            × Self.walked self.now (Release access.Upgradable) answers.Ok token.old token.new
-            × Self.woke self.now (Release access.Upgradable) token.old token.new) }
+            (Self.RawRwLockHalves.stays token.old token.new
+            × Self.RawRwLockHalves.walked self.now (Release access.Upgradable) answers.Ok token.old token.new
+            × Self.RawRwLockHalves.woke self.now (Release access.Upgradable) token.old token.new) }
         ensures begun { IfSome result
-            (λ rest. Self.begun self.now (Release access.Upgradable) rest token.old token.new) };
+            (λ rest. Self.RawRwLockHalves.begun self.now (Release access.Upgradable) rest token.old token.new) };
 
     /// Turns the right into that of a thread that has the lock alone: further readers are kept out,
     /// and the others are waited for.
@@ -152,12 +166,12 @@ pub trait RawRwLockUpgrade: RawRwLock {
         token: &mut Self::Token,
         guard: Self::UpgradableGuard,
     ) -> Self::ExclusiveGuard
-        requires token { Self.is_token_of (Self.lot_of self.now) token.old }
+        requires token { Self.RawRwLockHalves.is_token_of (Self.RawRwLockHalves.lot_of self.now) token.old }
         requires guard { is_upgradable_of self.now guard }
-        ensures token { Self.is_token_of (Self.lot_of self.now) token.new
-            × Self.stays token.old token.new }
-        ensures guard { Self.is_exclusive_of self.now result }
-        ensures path { Self.walked self.now (Upgrade Patient) answers.Ok token.old token.new };
+        ensures token { Self.RawRwLockHalves.is_token_of (Self.RawRwLockHalves.lot_of self.now) token.new
+            × Self.RawRwLockHalves.stays token.old token.new }
+        ensures guard { Self.RawRwLockHalves.is_exclusive_of self.now result }
+        ensures path { Self.RawRwLockHalves.walked self.now (Upgrade Patient) answers.Ok token.old token.new };
 
     /// Upgrades where nobody else reads.
     ///
@@ -170,13 +184,13 @@ pub trait RawRwLockUpgrade: RawRwLock {
         token: &mut Self::Token,
         guard: Self::UpgradableGuard,
     ) -> Result<Self::ExclusiveGuard, Self::UpgradableGuard>
-        requires token { Self.is_token_of (Self.lot_of self.now) token.old }
+        requires token { Self.RawRwLockHalves.is_token_of (Self.RawRwLockHalves.lot_of self.now) token.old }
         requires guard { is_upgradable_of self.now guard }
-        ensures token { Self.is_token_of (Self.lot_of self.now) token.new
-            × Self.stays token.old token.new }
-        ensures guard { MatchResult result (Self.is_exclusive_of self.now)
+        ensures token { Self.RawRwLockHalves.is_token_of (Self.RawRwLockHalves.lot_of self.now) token.new
+            × Self.RawRwLockHalves.stays token.old token.new }
+        ensures guard { MatchResult result (Self.RawRwLockHalves.is_exclusive_of self.now)
             (is_upgradable_of self.now) }
-        ensures path { Self.walked self.now (Upgrade Try)
+        ensures path { Self.RawRwLockHalves.walked self.now (Upgrade Try)
             (upgrade_answer result) token.old token.new };
 
     /// Opens the value to read, by this right, which lies in the value's place meanwhile. It does
@@ -186,12 +200,12 @@ pub trait RawRwLockUpgrade: RawRwLock {
         place: &'a Place<T>,
         guard: Self::UpgradableGuard,
     ) -> Seen<'a, T>
-        requires { is_upgradable_of self.now guard × (place.now ≡ Self.place_of self.now) }
-        ensures { (result.of ≡ Self.place_of self.now) × (result.view ≡ upgradable_view self.now) };
+        requires { is_upgradable_of self.now guard × (place.now ≡ Self.RawRwLockHalves.place_of self.now) }
+        ensures { (result.of ≡ Self.RawRwLockHalves.place_of self.now) × (result.view ≡ upgradable_view self.now) };
 
     /// Shuts it, and gives the right back, as little at run time.
     fn shut_upgradable<T>(&self, seen: Seen<'_, T>) -> Self::UpgradableGuard
-        requires { (seen.of ≡ Self.place_of self.now) × (seen.view ≡ upgradable_view self.now) }
+        requires { (seen.of ≡ Self.RawRwLockHalves.place_of self.now) × (seen.view ≡ upgradable_view self.now) }
         ensures { is_upgradable_of self.now result };
 
     /// One thread at a time has this right, so this can't be called.
@@ -201,7 +215,7 @@ pub trait RawRwLockUpgrade: RawRwLock {
         one: Self::UpgradableGuard,
         other: Self::UpgradableGuard,
     ) -> !
-        requires token { Self.is_token_of (Self.lot_of self.now) token.old }
+        requires token { Self.RawRwLockHalves.is_token_of (Self.RawRwLockHalves.lot_of self.now) token.old }
         requires guards { is_upgradable_of self.now one × is_upgradable_of self.now other };
 
     /// Never runs: a thread that has the lock alone excludes an upgradable owner, so nobody ever
@@ -212,8 +226,8 @@ pub trait RawRwLockUpgrade: RawRwLock {
         writer: Self::ExclusiveGuard,
         reader: Self::UpgradableGuard,
     ) -> !
-        requires token { Self.is_token_of (Self.lot_of self.now) token.old }
-        requires guards { Self.is_exclusive_of self.now writer × is_upgradable_of self.now reader };
+        requires token { Self.RawRwLockHalves.is_token_of (Self.RawRwLockHalves.lot_of self.now) token.old }
+        requires guards { Self.RawRwLockHalves.is_exclusive_of self.now writer × is_upgradable_of self.now reader };
 }
 
 /// A lock whose upgradable right is turned into others without an upgrade.
@@ -226,14 +240,14 @@ pub trait RawRwLockUpgradeDowngrade: RawRwLockUpgrade {
         token: &mut Self::Token,
         guard: Self::UpgradableGuard,
     ) -> Self::SharedGuard
-        requires token { Self.RawRwLock.is_token_of (Self.RawRwLock.lot_of self.now) token.old }
+        requires token { Self.RawRwLockHalves.is_token_of (Self.RawRwLockHalves.lot_of self.now) token.old }
         requires guard { Self.RawRwLockUpgrade.is_upgradable_of self.now guard }
-        ensures token { Self.RawRwLock.is_token_of (Self.RawRwLock.lot_of self.now) token.new
-            × Self.RawRwLock.stays token.old token.new }
-        ensures guard { Self.RawRwLock.is_shared_of self.now result }
-        ensures path { Self.RawRwLock.walked self.now (Downgrade downgrades.UpgradableToShared)
+        ensures token { Self.RawRwLockHalves.is_token_of (Self.RawRwLockHalves.lot_of self.now) token.new
+            × Self.RawRwLockHalves.stays token.old token.new }
+        ensures guard { Self.RawRwLockHalves.is_shared_of self.now result }
+        ensures path { Self.RawRwLockHalves.walked self.now (Downgrade downgrades.UpgradableToShared)
             answers.Ok token.old token.new }
-        ensures record { Self.RawRwLock.woke self.now
+        ensures record { Self.RawRwLockHalves.woke self.now
             (Downgrade downgrades.UpgradableToShared) token.old token.new };
 
     /// Turns the right of a thread that has the lock alone into the upgradable one, in one step,
@@ -244,14 +258,14 @@ pub trait RawRwLockUpgradeDowngrade: RawRwLockUpgrade {
         token: &mut Self::Token,
         guard: Self::ExclusiveGuard,
     ) -> Self::UpgradableGuard
-        requires token { Self.RawRwLock.is_token_of (Self.RawRwLock.lot_of self.now) token.old }
-        requires guard { Self.RawRwLock.is_exclusive_of self.now guard }
-        ensures token { Self.RawRwLock.is_token_of (Self.RawRwLock.lot_of self.now) token.new
-            × Self.RawRwLock.stays token.old token.new }
+        requires token { Self.RawRwLockHalves.is_token_of (Self.RawRwLockHalves.lot_of self.now) token.old }
+        requires guard { Self.RawRwLockHalves.is_exclusive_of self.now guard }
+        ensures token { Self.RawRwLockHalves.is_token_of (Self.RawRwLockHalves.lot_of self.now) token.new
+            × Self.RawRwLockHalves.stays token.old token.new }
         ensures guard { Self.RawRwLockUpgrade.is_upgradable_of self.now result }
-        ensures path { Self.RawRwLock.walked self.now (Downgrade downgrades.ToUpgradable)
+        ensures path { Self.RawRwLockHalves.walked self.now (Downgrade downgrades.ToUpgradable)
             answers.Ok token.old token.new }
-        ensures record { Self.RawRwLock.woke self.now
+        ensures record { Self.RawRwLockHalves.woke self.now
             (Downgrade downgrades.ToUpgradable) token.old token.new };
 }
 
@@ -272,14 +286,14 @@ pub trait RawRwLockUpgradeTimed: RawRwLockUpgrade {
         clock: &C,
         timeout: Duration,
     ) -> Result<Option<Self::UpgradableGuard>, Fault>
-        requires { Self.RawRwLock.is_token_of (Self.RawRwLock.lot_of self.now) token.old }
-        ensures token { Self.RawRwLock.is_token_of (Self.RawRwLock.lot_of self.now) token.new
-            × Self.RawRwLock.stays token.old token.new }
+        requires { Self.RawRwLockHalves.is_token_of (Self.RawRwLockHalves.lot_of self.now) token.old }
+        ensures token { Self.RawRwLockHalves.is_token_of (Self.RawRwLockHalves.lot_of self.now) token.new
+            × Self.RawRwLockHalves.stays token.old token.new }
         ensures guard { TriesOrFull result (Self.RawRwLockUpgrade.is_upgradable_of self.now) }
-        ensures path { Self.RawRwLock.walked self.now (Enter access.Upgradable Timed)
+        ensures path { Self.RawRwLockHalves.walked self.now (Enter access.Upgradable Timed)
             (counted_answer result) token.old token.new }
         ensures full { IfErr result
-            (λ _. Self.RawRwLock.saw_full self.now access.Upgradable token.old token.new) }
+            (λ _. Self.RawRwLockHalves.saw_full self.now access.Upgradable token.old token.new) }
         ensures left { IfOk result
             (λ entered. IfNone entered
             (Self.RawRwLock.gave_up self.now (Enter access.Upgradable Timed) token.new)) }
@@ -298,14 +312,14 @@ pub trait RawRwLockUpgradeTimed: RawRwLockUpgrade {
         clock: &C,
         deadline: u64,
     ) -> Result<Option<Self::UpgradableGuard>, Fault>
-        requires { Self.RawRwLock.is_token_of (Self.RawRwLock.lot_of self.now) token.old }
-        ensures token { Self.RawRwLock.is_token_of (Self.RawRwLock.lot_of self.now) token.new
-            × Self.RawRwLock.stays token.old token.new }
+        requires { Self.RawRwLockHalves.is_token_of (Self.RawRwLockHalves.lot_of self.now) token.old }
+        ensures token { Self.RawRwLockHalves.is_token_of (Self.RawRwLockHalves.lot_of self.now) token.new
+            × Self.RawRwLockHalves.stays token.old token.new }
         ensures guard { TriesOrFull result (Self.RawRwLockUpgrade.is_upgradable_of self.now) }
-        ensures path { Self.RawRwLock.walked self.now (Enter access.Upgradable Timed)
+        ensures path { Self.RawRwLockHalves.walked self.now (Enter access.Upgradable Timed)
             (counted_answer result) token.old token.new }
         ensures full { IfErr result
-            (λ _. Self.RawRwLock.saw_full self.now access.Upgradable token.old token.new) }
+            (λ _. Self.RawRwLockHalves.saw_full self.now access.Upgradable token.old token.new) }
         ensures left { IfOk result
             (λ entered. IfNone entered
             (Self.RawRwLock.gave_up self.now (Enter access.Upgradable Timed) token.new)) }
@@ -326,13 +340,13 @@ pub trait RawRwLockUpgradeTimed: RawRwLockUpgrade {
         clock: &C,
         timeout: Duration,
     ) -> Result<Self::ExclusiveGuard, Self::UpgradableGuard>
-        requires token { Self.RawRwLock.is_token_of (Self.RawRwLock.lot_of self.now) token.old }
+        requires token { Self.RawRwLockHalves.is_token_of (Self.RawRwLockHalves.lot_of self.now) token.old }
         requires guard { Self.RawRwLockUpgrade.is_upgradable_of self.now guard }
-        ensures token { Self.RawRwLock.is_token_of (Self.RawRwLock.lot_of self.now) token.new
-            × Self.RawRwLock.stays token.old token.new }
-        ensures guard { MatchResult result (Self.RawRwLock.is_exclusive_of self.now)
+        ensures token { Self.RawRwLockHalves.is_token_of (Self.RawRwLockHalves.lot_of self.now) token.new
+            × Self.RawRwLockHalves.stays token.old token.new }
+        ensures guard { MatchResult result (Self.RawRwLockHalves.is_exclusive_of self.now)
             (Self.RawRwLockUpgrade.is_upgradable_of self.now) }
-        ensures path { Self.RawRwLock.walked self.now (Upgrade Timed)
+        ensures path { Self.RawRwLockHalves.walked self.now (Upgrade Timed)
             (upgrade_answer result) token.old token.new }
         ensures left { IfErr result
             (λ _. Self.RawRwLock.gave_up self.now (Upgrade Timed) token.new) }
@@ -351,13 +365,13 @@ pub trait RawRwLockUpgradeTimed: RawRwLockUpgrade {
         clock: &C,
         deadline: u64,
     ) -> Result<Self::ExclusiveGuard, Self::UpgradableGuard>
-        requires token { Self.RawRwLock.is_token_of (Self.RawRwLock.lot_of self.now) token.old }
+        requires token { Self.RawRwLockHalves.is_token_of (Self.RawRwLockHalves.lot_of self.now) token.old }
         requires guard { Self.RawRwLockUpgrade.is_upgradable_of self.now guard }
-        ensures token { Self.RawRwLock.is_token_of (Self.RawRwLock.lot_of self.now) token.new
-            × Self.RawRwLock.stays token.old token.new }
-        ensures guard { MatchResult result (Self.RawRwLock.is_exclusive_of self.now)
+        ensures token { Self.RawRwLockHalves.is_token_of (Self.RawRwLockHalves.lot_of self.now) token.new
+            × Self.RawRwLockHalves.stays token.old token.new }
+        ensures guard { MatchResult result (Self.RawRwLockHalves.is_exclusive_of self.now)
             (Self.RawRwLockUpgrade.is_upgradable_of self.now) }
-        ensures path { Self.RawRwLock.walked self.now (Upgrade Timed)
+        ensures path { Self.RawRwLockHalves.walked self.now (Upgrade Timed)
             (upgrade_answer result) token.old token.new }
         ensures left { IfErr result
             (λ _. Self.RawRwLock.gave_up self.now (Upgrade Timed) token.new) }

@@ -2,9 +2,16 @@
 //! simulated world runs.
 #![tactic(auto)]
 
+mod normal;
+mod normal_fair;
+mod normal_timed;
+mod normal_upgrade;
 pub mod raw_rwlock;
-mod raw_rwlock_fair;
 mod raw_rwlock_timed;
+mod recursive;
+mod recursive_fair;
+mod recursive_timed;
+mod recursive_upgrade;
 pub mod rwlock_guards;
 pub mod rwlock_rights;
 

@@ -1,10 +1,9 @@
 //! Calls of a reader-writer lock that give up in time.
 use crate::raw_rwlock::RawRwLock;
 use crate::rwlock_guards::{RawExclusiveGuard, RawSharedGuard, RawUpgradableGuard};
-use parking_lot_core::{Clock, Fault, Token, to_deadline};
+use parking_lot_core::{Clock, Fault, Token};
 use spec_locks::{Access, Patience};
 use std::sync::Wait;
-use std::time::Duration;
 
 impl<const RECURSIVE: bool> RawRwLock<RECURSIVE> {
     ghost use Rattle.std.specs.Prelude.{◌≡◌, IfErr, IfNone, IfOk, IfSome, MatchResult};
@@ -20,7 +19,7 @@ impl<const RECURSIVE: bool> RawRwLock<RECURSIVE> {
     ghost use Rattle.raw_rwlocks.specs.RwLockUsers.{admission_of, lot_of, word_of};
 
     #[inline]
-    fn read_in_time<R: Wait, C: Clock>(
+    pub(crate) fn read_in_time<R: Wait, C: Clock>(
         &self,
         rt: &R,
         token: &mut Token,
@@ -53,7 +52,7 @@ impl<const RECURSIVE: bool> RawRwLock<RECURSIVE> {
     }
 
     #[inline]
-    fn come_upgradable_in_time<R: Wait, C: Clock>(
+    pub(crate) fn come_upgradable_in_time<R: Wait, C: Clock>(
         &self,
         rt: &R,
         token: &mut Token,
@@ -86,7 +85,7 @@ impl<const RECURSIVE: bool> RawRwLock<RECURSIVE> {
     }
 
     #[inline]
-    fn write_in_time<R: Wait, C: Clock>(
+    pub(crate) fn write_in_time<R: Wait, C: Clock>(
         &self,
         rt: &R,
         token: &mut Token,
@@ -114,7 +113,7 @@ impl<const RECURSIVE: bool> RawRwLock<RECURSIVE> {
     }
 
     #[inline]
-    fn upgrade_in_time<R: Wait, C: Clock>(
+    pub(crate) fn upgrade_in_time<R: Wait, C: Clock>(
         &self,
         rt: &R,
         token: &mut Token,
@@ -139,99 +138,5 @@ impl<const RECURSIVE: bool> RawRwLock<RECURSIVE> {
             Ok(right) => Ok(RawExclusiveGuard { right }),
             Err(right) => Err(RawUpgradableGuard { right }),
         }
-    }
-}
-
-impl<const RECURSIVE: bool> lock_raw::RawRwLockTimed for RawRwLock<RECURSIVE> {
-    fn try_lock_shared_for<R: Wait, C: Clock>(
-        &self,
-        rt: &R,
-        token: &mut Token,
-        clock: &C,
-        timeout: Duration,
-    ) -> Result<Option<RawSharedGuard>, Fault> {
-        let limit = to_deadline(clock.now(), timeout);
-        self.read_in_time(rt, token, limit.map(|deadline| (clock, deadline)))
-    }
-
-    #[inline]
-    fn try_lock_shared_until<R: Wait, C: Clock>(
-        &self,
-        rt: &R,
-        token: &mut Token,
-        clock: &C,
-        deadline: u64,
-    ) -> Result<Option<RawSharedGuard>, Fault> {
-        self.read_in_time(rt, token, Some((clock, deadline)))
-    }
-
-    fn try_lock_exclusive_for<R: Wait, C: Clock>(
-        &self,
-        rt: &R,
-        token: &mut Token,
-        clock: &C,
-        timeout: Duration,
-    ) -> Option<RawExclusiveGuard> {
-        let limit = to_deadline(clock.now(), timeout);
-        self.write_in_time(rt, token, limit.map(|deadline| (clock, deadline)))
-    }
-
-    #[inline]
-    fn try_lock_exclusive_until<R: Wait, C: Clock>(
-        &self,
-        rt: &R,
-        token: &mut Token,
-        clock: &C,
-        deadline: u64,
-    ) -> Option<RawExclusiveGuard> {
-        self.write_in_time(rt, token, Some((clock, deadline)))
-    }
-}
-
-impl<const RECURSIVE: bool> lock_raw::RawRwLockUpgradeTimed for RawRwLock<RECURSIVE> {
-    fn try_lock_upgradable_for<R: Wait, C: Clock>(
-        &self,
-        rt: &R,
-        token: &mut Token,
-        clock: &C,
-        timeout: Duration,
-    ) -> Result<Option<RawUpgradableGuard>, Fault> {
-        let limit = to_deadline(clock.now(), timeout);
-        self.come_upgradable_in_time(rt, token, limit.map(|deadline| (clock, deadline)))
-    }
-
-    #[inline]
-    fn try_lock_upgradable_until<R: Wait, C: Clock>(
-        &self,
-        rt: &R,
-        token: &mut Token,
-        clock: &C,
-        deadline: u64,
-    ) -> Result<Option<RawUpgradableGuard>, Fault> {
-        self.come_upgradable_in_time(rt, token, Some((clock, deadline)))
-    }
-
-    fn try_upgrade_for<R: Wait, C: Clock>(
-        &self,
-        rt: &R,
-        token: &mut Token,
-        guard: RawUpgradableGuard,
-        clock: &C,
-        timeout: Duration,
-    ) -> Result<RawExclusiveGuard, RawUpgradableGuard> {
-        let limit = to_deadline(clock.now(), timeout);
-        self.upgrade_in_time(rt, token, limit.map(|deadline| (clock, deadline)), guard)
-    }
-
-    #[inline]
-    fn try_upgrade_until<R: Wait, C: Clock>(
-        &self,
-        rt: &R,
-        token: &mut Token,
-        guard: RawUpgradableGuard,
-        clock: &C,
-        deadline: u64,
-    ) -> Result<RawExclusiveGuard, RawUpgradableGuard> {
-        self.upgrade_in_time(rt, token, Some((clock, deadline)), guard)
     }
 }

@@ -7,13 +7,11 @@ mod timed;
 
 ghost use Rattle.std.specs.Prelude.{IfOk, IfSome, MatchResult};
 ghost use Rattle.parking_lot_core.specs.Tokens.{IsTokenOf};
-ghost use Rattle.parking_lot.specs.Names.{IsExclusiveOf, IsSharedOf, IsUpgradableOf, lot_of_rwlock, word_of_rwlock};
+ghost use Rattle.parking_lot.specs.Names.{IsExclusiveOf, IsSharedOf, IsUpgradableOf};
+ghost use Rattle.test_raw_rwlocks.specs.AnyLocks.{lot_of, word_of};
 
-use fixtures::lock_alone;
-use parking_lot::lock_api_rw::{
-    RawRwLock as RawLock, RawRwLockDowngrade, RawRwLockUpgrade, RawRwLockUpgradeDowngrade,
-};
-use parking_lot::{Fault, RawExclusiveGuard, RawRwLock, RawSharedGuard, RawUpgradableGuard, Token};
+use fixtures::{AnyRwLock, Sort, lock_alone};
+use parking_lot::{Fault, RawExclusiveGuard, RawSharedGuard, RawUpgradableGuard, Token};
 use std::alloc::Global;
 use std::process::Abort;
 use std::sync::Wait;
@@ -25,16 +23,16 @@ fn check(rt: &impl Abort, truth: bool) {
 }
 
 // Goes, where it came in to read. Whether it had, or nothing where it was refused.
-fn goes<const RECURSIVE: bool, R: Wait>(
+fn goes<R: Wait>(
     rt: &R,
-    lock: &RawRwLock<RECURSIVE>,
+    lock: &AnyRwLock,
     token: &mut Token,
     came: Result<Option<RawSharedGuard>, Fault>,
 ) -> Option<bool>
-    requires token { IsTokenOf (lot_of_rwlock lock.now) token.old }
+    requires token { IsTokenOf (lot_of lock.now) token.old }
     requires guard { IfOk came
-        (λ came. IfSome came (IsSharedOf (lot_of_rwlock lock.now) (word_of_rwlock lock.now))) }
-    ensures { IsTokenOf (lot_of_rwlock lock.now) token.new }
+        (λ came. IfSome came (IsSharedOf (lot_of lock.now) (word_of lock.now))) }
+    ensures { IsTokenOf (lot_of lock.now) token.new }
 {
     match came {
         Ok(Some(guard)) => {
@@ -47,16 +45,16 @@ fn goes<const RECURSIVE: bool, R: Wait>(
 }
 
 // Goes on with the upgradable right.
-fn goes_upgradable<const RECURSIVE: bool, R: Wait>(
+fn goes_upgradable<R: Wait>(
     rt: &R,
-    lock: &RawRwLock<RECURSIVE>,
+    lock: &AnyRwLock,
     token: &mut Token,
     came: Result<Option<RawUpgradableGuard>, Fault>,
 ) -> Option<bool>
-    requires token { IsTokenOf (lot_of_rwlock lock.now) token.old }
+    requires token { IsTokenOf (lot_of lock.now) token.old }
     requires guard { IfOk came
-        (λ came. IfSome came (IsUpgradableOf (lot_of_rwlock lock.now) (word_of_rwlock lock.now))) }
-    ensures { IsTokenOf (lot_of_rwlock lock.now) token.new }
+        (λ came. IfSome came (IsUpgradableOf (lot_of lock.now) (word_of lock.now))) }
+    ensures { IsTokenOf (lot_of lock.now) token.new }
 {
     match came {
         Ok(Some(guard)) => {
@@ -69,15 +67,15 @@ fn goes_upgradable<const RECURSIVE: bool, R: Wait>(
 }
 
 // Goes on as a writer.
-fn goes_writing<const RECURSIVE: bool, R: Wait>(
+fn goes_writing<R: Wait>(
     rt: &R,
-    lock: &RawRwLock<RECURSIVE>,
+    lock: &AnyRwLock,
     token: &mut Token,
     came: Option<RawExclusiveGuard>,
 ) -> bool
-    requires token { IsTokenOf (lot_of_rwlock lock.now) token.old }
-    requires guard { IfSome came (IsExclusiveOf (lot_of_rwlock lock.now) (word_of_rwlock lock.now)) }
-    ensures { IsTokenOf (lot_of_rwlock lock.now) token.new }
+    requires token { IsTokenOf (lot_of lock.now) token.old }
+    requires guard { IfSome came (IsExclusiveOf (lot_of lock.now) (word_of lock.now)) }
+    ensures { IsTokenOf (lot_of lock.now) token.new }
 {
     match came {
         Some(guard) => {
@@ -89,39 +87,27 @@ fn goes_writing<const RECURSIVE: bool, R: Wait>(
 }
 
 // Whether a try to read gets the lock.
-fn reads<const RECURSIVE: bool, R: Wait>(
-    rt: &R,
-    lock: &RawRwLock<RECURSIVE>,
-    token: &mut Token,
-) -> bool
-    requires { IsTokenOf (lot_of_rwlock lock.now) token.old }
-    ensures { IsTokenOf (lot_of_rwlock lock.now) token.new }
+fn reads<R: Wait>(rt: &R, lock: &AnyRwLock, token: &mut Token) -> bool
+    requires { IsTokenOf (lot_of lock.now) token.old }
+    ensures { IsTokenOf (lot_of lock.now) token.new }
 {
     let came = lock.try_lock_shared(rt, token);
     matches!(goes(rt, lock, token, came), Some(true))
 }
 
 // Whether a try to come in with the upgradable right gets it.
-fn comes_upgradable<const RECURSIVE: bool, R: Wait>(
-    rt: &R,
-    lock: &RawRwLock<RECURSIVE>,
-    token: &mut Token,
-) -> bool
-    requires { IsTokenOf (lot_of_rwlock lock.now) token.old }
-    ensures { IsTokenOf (lot_of_rwlock lock.now) token.new }
+fn comes_upgradable<R: Wait>(rt: &R, lock: &AnyRwLock, token: &mut Token) -> bool
+    requires { IsTokenOf (lot_of lock.now) token.old }
+    ensures { IsTokenOf (lot_of lock.now) token.new }
 {
     let came = lock.try_lock_upgradable(rt, token);
     matches!(goes_upgradable(rt, lock, token, came), Some(true))
 }
 
 // Whether a try to own the lock alone gets it.
-fn writes<const RECURSIVE: bool, R: Wait>(
-    rt: &R,
-    lock: &RawRwLock<RECURSIVE>,
-    token: &mut Token,
-) -> bool
-    requires { IsTokenOf (lot_of_rwlock lock.now) token.old }
-    ensures { IsTokenOf (lot_of_rwlock lock.now) token.new }
+fn writes<R: Wait>(rt: &R, lock: &AnyRwLock, token: &mut Token) -> bool
+    requires { IsTokenOf (lot_of lock.now) token.old }
+    ensures { IsTokenOf (lot_of lock.now) token.new }
 {
     let came = lock.try_lock_exclusive(token);
     goes_writing(rt, lock, token, came)
@@ -129,13 +115,9 @@ fn writes<const RECURSIVE: bool, R: Wait>(
 
 // Whether the lock is held, and is held alone, and which tries get it: to read, to read and
 // upgrade, to own alone.
-fn look<const RECURSIVE: bool, R: Wait>(
-    rt: &R,
-    lock: &RawRwLock<RECURSIVE>,
-    token: &mut Token,
-) -> [bool; 5]
-    requires { IsTokenOf (lot_of_rwlock lock.now) token.old }
-    ensures { IsTokenOf (lot_of_rwlock lock.now) token.new }
+fn look<R: Wait>(rt: &R, lock: &AnyRwLock, token: &mut Token) -> [bool; 5]
+    requires { IsTokenOf (lot_of lock.now) token.old }
+    ensures { IsTokenOf (lot_of lock.now) token.new }
 {
     [
         lock.is_locked(token),
@@ -155,13 +137,9 @@ const UPGRADABLE: [bool; 5] = [true, false, true, false, false];
 const WRITTEN: [bool; 5] = [true, true, false, false, false];
 
 // Checks all that is seen beside a reader, and behind it.
-fn sees_readers<const RECURSIVE: bool, R: Wait>(
-    rt: &R,
-    lock: &RawRwLock<RECURSIVE>,
-    token: &mut Token,
-) -> bool
-    requires { IsTokenOf (lot_of_rwlock lock.now) token.old }
-    ensures { IsTokenOf (lot_of_rwlock lock.now) token.new }
+fn sees_readers<R: Wait>(rt: &R, lock: &AnyRwLock, token: &mut Token) -> bool
+    requires { IsTokenOf (lot_of lock.now) token.old }
+    ensures { IsTokenOf (lot_of lock.now) token.new }
 {
     let Ok(guard) = lock.lock_shared(rt, token) else {
         return false;
@@ -172,13 +150,9 @@ fn sees_readers<const RECURSIVE: bool, R: Wait>(
 }
 
 // Sees upgradable owners, and becomes a reader.
-fn sees_upgradables<const RECURSIVE: bool, R: Wait>(
-    rt: &R,
-    lock: &RawRwLock<RECURSIVE>,
-    token: &mut Token,
-) -> bool
-    requires { IsTokenOf (lot_of_rwlock lock.now) token.old }
-    ensures { IsTokenOf (lot_of_rwlock lock.now) token.new }
+fn sees_upgradables<R: Wait>(rt: &R, lock: &AnyRwLock, token: &mut Token) -> bool
+    requires { IsTokenOf (lot_of lock.now) token.old }
+    ensures { IsTokenOf (lot_of lock.now) token.new }
 {
     let Ok(guard) = lock.lock_upgradable(rt, token) else {
         return false;
@@ -191,13 +165,9 @@ fn sees_upgradables<const RECURSIVE: bool, R: Wait>(
 }
 
 // Sees writers, and becomes a reader.
-fn sees_writers<const RECURSIVE: bool, R: Wait>(
-    rt: &R,
-    lock: &RawRwLock<RECURSIVE>,
-    token: &mut Token,
-) -> bool
-    requires { IsTokenOf (lot_of_rwlock lock.now) token.old }
-    ensures { IsTokenOf (lot_of_rwlock lock.now) token.new }
+fn sees_writers<R: Wait>(rt: &R, lock: &AnyRwLock, token: &mut Token) -> bool
+    requires { IsTokenOf (lot_of lock.now) token.old }
+    ensures { IsTokenOf (lot_of lock.now) token.new }
 {
     let guard = lock.lock_exclusive(rt, token);
     let beside = look(rt, lock, token);
@@ -208,13 +178,9 @@ fn sees_writers<const RECURSIVE: bool, R: Wait>(
 }
 
 // Sees a writer that has the upgradable right then, and is a writer again.
-fn sees_turns<const RECURSIVE: bool, R: Wait>(
-    rt: &R,
-    lock: &RawRwLock<RECURSIVE>,
-    token: &mut Token,
-) -> bool
-    requires { IsTokenOf (lot_of_rwlock lock.now) token.old }
-    ensures { IsTokenOf (lot_of_rwlock lock.now) token.new }
+fn sees_turns<R: Wait>(rt: &R, lock: &AnyRwLock, token: &mut Token) -> bool
+    requires { IsTokenOf (lot_of lock.now) token.old }
+    ensures { IsTokenOf (lot_of lock.now) token.new }
 {
     let guard = lock.lock_exclusive(rt, token);
     let guard = lock.downgrade_to_upgradable(rt, token, guard);
@@ -226,16 +192,16 @@ fn sees_turns<const RECURSIVE: bool, R: Wait>(
 }
 
 // Looks, and goes. Whether it had become a writer, and what was seen.
-fn look_and_go<const RECURSIVE: bool, R: Wait>(
+fn look_and_go<R: Wait>(
     rt: &R,
-    lock: &RawRwLock<RECURSIVE>,
+    lock: &AnyRwLock,
     token: &mut Token,
     turned: Result<RawExclusiveGuard, RawUpgradableGuard>,
 ) -> (bool, [bool; 5])
-    requires token { IsTokenOf (lot_of_rwlock lock.now) token.old }
-    requires guard { MatchResult turned (IsExclusiveOf (lot_of_rwlock lock.now) (word_of_rwlock lock.now))
-        (IsUpgradableOf (lot_of_rwlock lock.now) (word_of_rwlock lock.now)) }
-    ensures { IsTokenOf (lot_of_rwlock lock.now) token.new }
+    requires token { IsTokenOf (lot_of lock.now) token.old }
+    requires guard { MatchResult turned (IsExclusiveOf (lot_of lock.now) (word_of lock.now))
+        (IsUpgradableOf (lot_of lock.now) (word_of lock.now)) }
+    ensures { IsTokenOf (lot_of lock.now) token.new }
 {
     let seen = look(rt, lock, token);
     match turned {
@@ -251,13 +217,9 @@ fn look_and_go<const RECURSIVE: bool, R: Wait>(
 }
 
 // A try to upgrade: whether it succeeded, and what was seen then.
-fn try_to_upgrade<const RECURSIVE: bool, R: Wait>(
-    rt: &R,
-    lock: &RawRwLock<RECURSIVE>,
-    token: &mut Token,
-) -> (bool, [bool; 5])
-    requires { IsTokenOf (lot_of_rwlock lock.now) token.old }
-    ensures { IsTokenOf (lot_of_rwlock lock.now) token.new }
+fn try_to_upgrade<R: Wait>(rt: &R, lock: &AnyRwLock, token: &mut Token) -> (bool, [bool; 5])
+    requires { IsTokenOf (lot_of lock.now) token.old }
+    ensures { IsTokenOf (lot_of lock.now) token.new }
 {
     let Ok(guard) = lock.lock_upgradable(rt, token) else {
         return (false, FREE);
@@ -267,13 +229,9 @@ fn try_to_upgrade<const RECURSIVE: bool, R: Wait>(
 }
 
 // Whether a try to upgrade fails beside another reader, keeps its right, and succeeds alone.
-fn tries_to_upgrade<const RECURSIVE: bool, R: Wait>(
-    rt: &R,
-    lock: &RawRwLock<RECURSIVE>,
-    token: &mut Token,
-) -> bool
-    requires { IsTokenOf (lot_of_rwlock lock.now) token.old }
-    ensures { IsTokenOf (lot_of_rwlock lock.now) token.new }
+fn tries_to_upgrade<R: Wait>(rt: &R, lock: &AnyRwLock, token: &mut Token) -> bool
+    requires { IsTokenOf (lot_of lock.now) token.old }
+    ensures { IsTokenOf (lot_of lock.now) token.new }
 {
     let Ok(reader) = lock.lock_shared(rt, token) else {
         return false;
@@ -284,8 +242,8 @@ fn tries_to_upgrade<const RECURSIVE: bool, R: Wait>(
 }
 
 // Whether all rights of a lock keep out the threads that they are to.
-fn sees_all<const RECURSIVE: bool>(rt: &impl Wait, alloc: Global) -> Result<bool, Fault> {
-    let (lock, mut token) = lock_alone::<RECURSIVE>(alloc, 10)?;
+fn sees_all(sort: Sort, rt: &impl Wait, alloc: Global) -> Result<bool, Fault> {
+    let (lock, mut token) = lock_alone(sort, alloc, 10)?;
     let held = sees_readers(rt, &lock, &mut token)
         && sees_upgradables(rt, &lock, &mut token)
         && sees_writers(rt, &lock, &mut token);
@@ -295,15 +253,15 @@ fn sees_all<const RECURSIVE: bool>(rt: &impl Wait, alloc: Global) -> Result<bool
 
 #[test]
 fn rights_keep_out_whom_they_are_to(rt: HostRuntime) -> Result<(), Fail> {
-    check(&rt, sees_all::<false>(&rt, rt.alloc())?);
-    check(&rt, sees_all::<true>(&rt, rt.alloc())?);
+    check(&rt, sees_all(Sort::Normal, &rt, rt.alloc())?);
+    check(&rt, sees_all(Sort::Recursive, &rt, rt.alloc())?);
     Ok(())
 }
 
 // Whether the lock has as many readers as may share it.
-fn is_full<R: Wait>(rt: &R, lock: &RawRwLock<false>, token: &mut Token) -> bool
-    requires { IsTokenOf (lot_of_rwlock lock.now) token.old }
-    ensures { IsTokenOf (lot_of_rwlock lock.now) token.new }
+fn is_full<R: Wait>(rt: &R, lock: &AnyRwLock, token: &mut Token) -> bool
+    requires { IsTokenOf (lot_of lock.now) token.old }
+    ensures { IsTokenOf (lot_of lock.now) token.new }
 {
     match lock.lock_shared(rt, token) {
         Ok(guard) => {
@@ -315,9 +273,9 @@ fn is_full<R: Wait>(rt: &R, lock: &RawRwLock<false>, token: &mut Token) -> bool
 }
 
 // Whether two readers fill a lock, the second with the upgradable right, and one doesn't.
-fn fills<R: Wait>(rt: &R, lock: &RawRwLock<false>, token: &mut Token) -> bool
-    requires { IsTokenOf (lot_of_rwlock lock.now) token.old }
-    ensures { IsTokenOf (lot_of_rwlock lock.now) token.new }
+fn fills<R: Wait>(rt: &R, lock: &AnyRwLock, token: &mut Token) -> bool
+    requires { IsTokenOf (lot_of lock.now) token.old }
+    ensures { IsTokenOf (lot_of lock.now) token.new }
 {
     let Ok(first) = lock.lock_upgradable(rt, token) else {
         return false;

@@ -2,6 +2,7 @@
 mod crowds;
 mod fair;
 mod guards;
+mod recursive;
 mod timed;
 mod values;
 
@@ -12,35 +13,22 @@ ghost use Rattle.parking_lot_core.specs.Tokens.{IsTicketOf, IsTokenOf};
 ghost use Rattle.parking_lot.specs.Names.{lot_of_rwlock};
 
 use parking_lot::{
-    ParkingLot, RawRwLock, RecursiveRwLock, RwLock, TickClock, Ticket, Token, lock_api_rw,
+    ParkingLot, RwLock, RwLockReadGuard, RwLockUpgradableReadGuard, RwLockWriteGuard, Ticket, Token,
 };
 use std::alloc::Global;
 use std::fmt::Debug;
 use std::process::Abort;
 use std::sync::{Arc, Wait};
 
-// Locks and guards are of both kinds: whether a thread that shares a lock may read once more beside
-// a writer that waits. An act on a guard that several tests have is a function here, since a call
-// by the trait of a lock is dear to prove, and a call of such a function is not.
-type Lock<const RECURSIVE: bool> = lock_api_rw::RwLock<RawRwLock<RECURSIVE>, u64>;
+// An act on a guard that several tests have is a function here, since a call by the trait of a lock
+// is dear to prove, and a call of such a function is not.
+type Lock = RwLock<u64>;
 
-type Reader<'l, const RECURSIVE: bool> = lock_api_rw::RwLockReadGuard<
-    'l,
-    RawRwLock<RECURSIVE>,
-    u64,
->;
+type Reader<'l> = RwLockReadGuard<'l, u64>;
 
-type Upgradable<'l, const RECURSIVE: bool> = lock_api_rw::RwLockUpgradableReadGuard<
-    'l,
-    RawRwLock<RECURSIVE>,
-    u64,
->;
+type Upgradable<'l> = RwLockUpgradableReadGuard<'l, u64>;
 
-type Writer<'l, const RECURSIVE: bool> = lock_api_rw::RwLockWriteGuard<
-    'l,
-    RawRwLock<RECURSIVE>,
-    u64,
->;
+type Writer<'l> = RwLockWriteGuard<'l, u64>;
 
 // Asserts that the thing found is the thing wanted. All tests share this one assertion, since each
 // is proved where it stands.
@@ -63,22 +51,22 @@ fn next_of(lot: &ParkingLot, tickets: &mut Vec<Ticket>) -> Option<Ticket>
 
 // A lock, which only 1024 may share where it is limited. A maker of lots and locks gives up where
 // memory is refused, so that no test has anything to drop in its midst.
-fn lock_in<const RECURSIVE: bool, A: Abort>(
+fn lock_in<A: Abort>(
     rt: &A,
     lot: &Arc<ParkingLot>,
     token: &mut Token,
     value: u64,
     limited: bool,
-) -> Lock<RECURSIVE>
+) -> Lock
     requires { IsTokenOf (arc_value lot.now) token.old
         × ((arc_value lot.now).records.count ≤ 1024) }
     ensures token { IsTokenOf (arc_value lot.now) token.new }
     ensures lock { lot_of_rwlock result ≡ arc_value lot.now }
 {
     let made = if limited {
-        lock_api_rw::RwLock::with_limit(lot, token, value, 1024)
+        RwLock::with_limit(lot, token, value, 1024)
     } else {
-        lock_api_rw::RwLock::new(lot, token, value)
+        RwLock::new(lot, token, value)
     };
     match made {
         Ok(lock) => lock,
@@ -98,13 +86,13 @@ fn keep(lot: &ParkingLot, tickets: &mut Vec<Ticket>, number: usize)
 
 // A lock in a lot of so many threads and one more, with the token of this one and the tickets of
 // the others.
-fn seats<const RECURSIVE: bool, A: Abort>(
+fn seats<A: Abort>(
     rt: &A,
     alloc: Global,
     others: usize,
     value: u64,
     limited: bool,
-) -> (Arc<ParkingLot>, Lock<RECURSIVE>, Token, Vec<Ticket>)
+) -> (Arc<ParkingLot>, Lock, Token, Vec<Ticket>)
     requires { others < 100 }
     ensures { (lot_of_rwlock result.1 ≡ arc_value result.0) × IsTokenOf (arc_value result.0) result.2
         × All (IsTicketOf (arc_value result.0)) result.3.items }
@@ -121,12 +109,7 @@ fn seats<const RECURSIVE: bool, A: Abort>(
 }
 
 // A lock that one thread has for itself.
-fn lock_alone<const RECURSIVE: bool, A: Abort>(
-    rt: &A,
-    alloc: Global,
-    value: u64,
-    limited: bool,
-) -> (Lock<RECURSIVE>, Token)
+fn lock_alone<A: Abort>(rt: &A, alloc: Global, value: u64, limited: bool) -> (Lock, Token)
     ensures { IsTokenOf (lot_of_rwlock result.0) result.1 }
 {
     let (_lot, lock, token, _others) = seats(rt, alloc, 0, value, limited);
@@ -134,11 +117,7 @@ fn lock_alone<const RECURSIVE: bool, A: Abort>(
 }
 
 // A guard to read, or nothing where that was refused.
-fn read<'l, const RECURSIVE: bool, R: Wait>(
-    rt: &R,
-    lock: &'l Lock<RECURSIVE>,
-    token: &mut Token,
-) -> Option<Reader<'l, RECURSIVE>>
+fn read<'l, R: Wait>(rt: &R, lock: &'l Lock, token: &mut Token) -> Option<Reader<'l>>
     requires { IsTokenOf (lot_of_rwlock lock.now) token.old }
     ensures token { IsTokenOf (lot_of_rwlock lock.now) token.new }
     ensures guard { IfSome result (λ guard. lock_of guard ≡ lock.now) }
@@ -150,11 +129,7 @@ fn read<'l, const RECURSIVE: bool, R: Wait>(
 }
 
 // A guard to read and to write later.
-fn read_upgradable<'l, const RECURSIVE: bool, R: Wait>(
-    rt: &R,
-    lock: &'l Lock<RECURSIVE>,
-    token: &mut Token,
-) -> Option<Upgradable<'l, RECURSIVE>>
+fn read_upgradable<'l, R: Wait>(rt: &R, lock: &'l Lock, token: &mut Token) -> Option<Upgradable<'l>>
     requires { IsTokenOf (lot_of_rwlock lock.now) token.old }
     ensures token { IsTokenOf (lot_of_rwlock lock.now) token.new }
     ensures guard { IfSome result (λ guard. lock_of guard ≡ lock.now) }
@@ -165,11 +140,7 @@ fn read_upgradable<'l, const RECURSIVE: bool, R: Wait>(
     }
 }
 
-fn write<'l, const RECURSIVE: bool, R: Wait>(
-    rt: &R,
-    lock: &'l Lock<RECURSIVE>,
-    token: &mut Token,
-) -> Writer<'l, RECURSIVE>
+fn write<'l, R: Wait>(rt: &R, lock: &'l Lock, token: &mut Token) -> Writer<'l>
     requires { IsTokenOf (lot_of_rwlock lock.now) token.old }
     ensures token { IsTokenOf (lot_of_rwlock lock.now) token.new }
     ensures guard { lock_of result ≡ lock.now }
@@ -178,24 +149,20 @@ fn write<'l, const RECURSIVE: bool, R: Wait>(
 }
 
 // Returns the value that a guard shows. Each kind is dear to prove, and is asked here alone.
-fn read_value<const RECURSIVE: bool>(guard: &Reader<'_, RECURSIVE>) -> u64 {
+fn read_value(guard: &Reader<'_>) -> u64 {
     **guard
 }
 
-fn upgradable_value<const RECURSIVE: bool>(guard: &Upgradable<'_, RECURSIVE>) -> u64 {
+fn upgradable_value(guard: &Upgradable<'_>) -> u64 {
     **guard
 }
 
-fn written_value<const RECURSIVE: bool>(guard: &Writer<'_, RECURSIVE>) -> u64 {
+fn written_value(guard: &Writer<'_>) -> u64 {
     **guard
 }
 
 // Reads, and goes: what it found.
-fn end_reader<const RECURSIVE: bool, R: Wait>(
-    rt: &R,
-    token: &mut Token,
-    guard: Reader<'_, RECURSIVE>,
-) -> u64
+fn end_reader<R: Wait>(rt: &R, token: &mut Token, guard: Reader<'_>) -> u64
     requires { IsTokenOf (lot_of_rwlock (lock_of guard)) token.old }
     ensures { IsTokenOf (lot_of_rwlock (lock_of guard.entry)) token.new }
 {
@@ -204,11 +171,7 @@ fn end_reader<const RECURSIVE: bool, R: Wait>(
     found
 }
 
-fn end_upgradable<const RECURSIVE: bool, R: Wait>(
-    rt: &R,
-    token: &mut Token,
-    guard: Upgradable<'_, RECURSIVE>,
-) -> u64
+fn end_upgradable<R: Wait>(rt: &R, token: &mut Token, guard: Upgradable<'_>) -> u64
     requires { IsTokenOf (lot_of_rwlock (lock_of guard)) token.old }
     ensures { IsTokenOf (lot_of_rwlock (lock_of guard.entry)) token.new }
 {
@@ -217,11 +180,7 @@ fn end_upgradable<const RECURSIVE: bool, R: Wait>(
     found
 }
 
-fn end_writer<const RECURSIVE: bool, R: Wait>(
-    rt: &R,
-    token: &mut Token,
-    guard: Writer<'_, RECURSIVE>,
-) -> u64
+fn end_writer<R: Wait>(rt: &R, token: &mut Token, guard: Writer<'_>) -> u64
     requires { IsTokenOf (lot_of_rwlock (lock_of guard)) token.old }
     ensures { IsTokenOf (lot_of_rwlock (lock_of guard.entry)) token.new }
 {
@@ -231,11 +190,7 @@ fn end_writer<const RECURSIVE: bool, R: Wait>(
 }
 
 // Goes on with the right to read and to write later.
-fn to_upgradable<'l, const RECURSIVE: bool, R: Wait>(
-    rt: &R,
-    token: &mut Token,
-    guard: Writer<'l, RECURSIVE>,
-) -> Upgradable<'l, RECURSIVE>
+fn to_upgradable<'l, R: Wait>(rt: &R, token: &mut Token, guard: Writer<'l>) -> Upgradable<'l>
     requires { IsTokenOf (lot_of_rwlock (lock_of guard)) token.old }
     ensures token { IsTokenOf (lot_of_rwlock (lock_of guard.entry)) token.new }
     ensures guard { lock_of result ≡ lock_of guard.entry }
@@ -244,11 +199,7 @@ fn to_upgradable<'l, const RECURSIVE: bool, R: Wait>(
 }
 
 // Goes on as a reader.
-fn to_reader<'l, const RECURSIVE: bool, R: Wait>(
-    rt: &R,
-    token: &mut Token,
-    guard: Upgradable<'l, RECURSIVE>,
-) -> Reader<'l, RECURSIVE>
+fn to_reader<'l, R: Wait>(rt: &R, token: &mut Token, guard: Upgradable<'l>) -> Reader<'l>
     requires { IsTokenOf (lot_of_rwlock (lock_of guard)) token.old }
     ensures token { IsTokenOf (lot_of_rwlock (lock_of guard.entry)) token.new }
     ensures guard { lock_of result ≡ lock_of guard.entry }
@@ -257,11 +208,7 @@ fn to_reader<'l, const RECURSIVE: bool, R: Wait>(
 }
 
 // Returns the value that a closure reads.
-fn value_of<const RECURSIVE: bool, R: Wait>(
-    rt: &R,
-    lock: &Lock<RECURSIVE>,
-    token: &mut Token,
-) -> Option<u64>
+fn value_of<R: Wait>(rt: &R, lock: &Lock, token: &mut Token) -> Option<u64>
     requires { IsTokenOf (lot_of_rwlock lock.now) token.old }
     ensures { IsTokenOf (lot_of_rwlock lock.now) token.new }
 {
@@ -272,12 +219,7 @@ fn value_of<const RECURSIVE: bool, R: Wait>(
 }
 
 // Writes a value by a closure: what was there before.
-fn replace<const RECURSIVE: bool, R: Wait>(
-    rt: &R,
-    lock: &Lock<RECURSIVE>,
-    token: &mut Token,
-    new: u64,
-) -> u64
+fn replace<R: Wait>(rt: &R, lock: &Lock, token: &mut Token, new: u64) -> u64
     requires { IsTokenOf (lot_of_rwlock lock.now) token.old }
     ensures { IsTokenOf (lot_of_rwlock lock.now) token.new }
 {
@@ -290,7 +232,7 @@ fn replace<const RECURSIVE: bool, R: Wait>(
 
 #[test]
 fn what_was_written_is_read(rt: HostRuntime) {
-    let (lock, mut token) = lock_alone::<false, HostRuntime>(&rt, rt.alloc(), 5, false);
+    let (lock, mut token) = lock_alone(&rt, rt.alloc(), 5, false);
     // An `RwLock` is this one, by type.
     let mut lock: RwLock<u64> = lock;
     check_eq(&rt, replace(&rt, &lock, &mut token, 7), 5);
@@ -300,7 +242,7 @@ fn what_was_written_is_read(rt: HostRuntime) {
 }
 
 // Whether a try to read comes in.
-fn reads<const RECURSIVE: bool, R: Wait>(rt: &R, lock: &Lock<RECURSIVE>, token: &mut Token) -> bool
+fn reads<R: Wait>(rt: &R, lock: &Lock, token: &mut Token) -> bool
     requires { IsTokenOf (lot_of_rwlock lock.now) token.old }
     ensures { IsTokenOf (lot_of_rwlock lock.now) token.new }
 {
@@ -314,11 +256,7 @@ fn reads<const RECURSIVE: bool, R: Wait>(rt: &R, lock: &Lock<RECURSIVE>, token: 
 }
 
 // Whether a try to read and to write later does.
-fn comes_upgradable<const RECURSIVE: bool, R: Wait>(
-    rt: &R,
-    lock: &Lock<RECURSIVE>,
-    token: &mut Token,
-) -> bool
+fn comes_upgradable<R: Wait>(rt: &R, lock: &Lock, token: &mut Token) -> bool
     requires { IsTokenOf (lot_of_rwlock lock.now) token.old }
     ensures { IsTokenOf (lot_of_rwlock lock.now) token.new }
 {
@@ -332,7 +270,7 @@ fn comes_upgradable<const RECURSIVE: bool, R: Wait>(
 }
 
 // Whether a try to write does.
-fn writes<const RECURSIVE: bool, R: Wait>(rt: &R, lock: &Lock<RECURSIVE>, token: &mut Token) -> bool
+fn writes<R: Wait>(rt: &R, lock: &Lock, token: &mut Token) -> bool
     requires { IsTokenOf (lot_of_rwlock lock.now) token.old }
     ensures { IsTokenOf (lot_of_rwlock lock.now) token.new }
 {
@@ -343,43 +281,4 @@ fn writes<const RECURSIVE: bool, R: Wait>(rt: &R, lock: &Lock<RECURSIVE>, token:
         }
         None => false,
     }
-}
-
-// Waits to write beside a reader, whose guard comes back. It gives up in time: that a writer came
-// in beside a reader is refuted by their guards.
-fn give_up_beside<'l, R: Wait>(
-    rt: &R,
-    lock: &'l Lock<true>,
-    token: &mut Token,
-    guard: Reader<'l, true>,
-) -> Reader<'l, true>
-    requires token { IsTokenOf (lot_of_rwlock lock.now) token.old }
-    requires guard { lock_of guard ≡ lock.now }
-    ensures token { IsTokenOf (lot_of_rwlock lock.now) token.new }
-    ensures guard { lock_of result ≡ lock.now }
-{
-    match lock.try_write_until(rt, token, &TickClock::new(), 20) {
-        Some(writer) => writer.has_reader(token, guard),
-        None => guard,
-    }
-}
-
-// Whether a reader of a recursive lock reads again, behind a writer that gave up in time.
-fn reads_again<R: Wait>(rt: &R, lock: &Lock<true>, token: &mut Token) -> bool
-    requires { IsTokenOf (lot_of_rwlock lock.now) token.old }
-{
-    let Some(guard) = read(rt, lock, token) else {
-        return false;
-    };
-    let guard = give_up_beside(rt, lock, token, guard);
-    let again = value_of(rt, lock, token);
-    again == Some(end_reader(rt, token, guard))
-}
-
-#[test]
-fn a_reader_of_a_recursive_lock_reads_again(rt: HostRuntime) {
-    let (lock, mut token) = lock_alone::<true, HostRuntime>(&rt, rt.alloc(), 3, false);
-    // A `RecursiveRwLock` is this one, by type.
-    let lock: RecursiveRwLock<u64> = lock;
-    check(&rt, reads_again(&rt, &lock, &mut token));
 }

@@ -1,12 +1,12 @@
 //! Threads that meet at one reader-writer lock.
 ghost use Rattle.std.specs.Prelude.{◌≡◌, ◌<◌};
 ghost use Rattle.parking_lot_core.specs.Tokens.{IsTicketOf, IsTokenOf};
-ghost use Rattle.parking_lot.specs.Names.{lot_of_rwlock};
+ghost use Rattle.test_raw_rwlocks.specs.AnyLocks.{lot_of};
 
-use super::fixtures::{Inside, seats};
+use super::fixtures::{AnyRwLock, Inside, Sort, seats};
 use super::mixes::mix;
 use super::timed::{come_behind, give_up, read_on};
-use parking_lot::{Fault, ParkingLot, RawRwLock, Ticket, Token};
+use parking_lot::{Fault, ParkingLot, Ticket, Token};
 use std::alloc::Global;
 use std::sync::Wait;
 use std::sync::atomic::Ordering::SeqCst;
@@ -33,16 +33,16 @@ pub(super) struct Told {
 }
 
 // Does one thread's part. Whether the thread is content with it.
-fn take_part<const RECURSIVE: bool, R: Wait>(
+fn take_part<R: Wait>(
     rt: &R,
     lot: &ParkingLot,
-    lock: &RawRwLock<RECURSIVE>,
+    lock: &AnyRwLock,
     token: &mut Token,
     told: &Told,
     inside: &Inside,
     part: Part,
 ) -> bool
-    requires { IsTokenOf lot.now token.old × (lot_of_rwlock lock.now ≡ lot.now) }
+    requires { IsTokenOf lot.now token.old × (lot_of lock.now ≡ lot.now) }
     ensures { IsTokenOf lot.now token.new }
 {
     let place = told.parts.fetch_add(1, SeqCst);
@@ -57,7 +57,8 @@ fn take_part<const RECURSIVE: bool, R: Wait>(
 }
 
 // Whether all threads were content with their parts, and none found another where none may be.
-pub(super) fn play<const RECURSIVE: bool, R: Threads + Wait + Sync>(
+pub(super) fn play<R: Threads + Wait + Sync>(
+    sort: Sort,
     rt: &R,
     alloc: Global,
     threads: usize,
@@ -65,7 +66,7 @@ pub(super) fn play<const RECURSIVE: bool, R: Threads + Wait + Sync>(
 ) -> Result<bool, Fault>
     requires { threads < 1000 }
 {
-    let (lot, lock, tickets) = seats::<RECURSIVE>(alloc, threads, 1000)?;
+    let (lot, lock, tickets) = seats(sort, alloc, threads, 1000)?;
     let told = Told {
         parts: AtomicUsize::new(0),
         held: AtomicBool::new(false),
@@ -77,7 +78,7 @@ pub(super) fn play<const RECURSIVE: bool, R: Threads + Wait + Sync>(
         rt,
         tickets,
         &|ticket: Ticket|
-            requires { IsTicketOf (lot_of_rwlock lock.now) ticket × (lot_of_rwlock lock.now ≡ lot.now) }
+            requires { IsTicketOf (lot_of lock.now) ticket × (lot_of lock.now ≡ lot.now) }
         {
             let mut token = ticket.enter();
             let content = take_part(rt, lot, lock, &mut token, told, inside, part);

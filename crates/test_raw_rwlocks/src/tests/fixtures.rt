@@ -1,14 +1,15 @@
 //! A lock with the tickets of its threads, waits that end, and a count of the threads inside.
+pub(super) mod any_rwlock;
 mod inside;
 
 ghost use Rattle.std.specs.Prelude.{◌≡◌, ◌≤◌, ◌<◌, ◌↔◌, All, IfOk, IfSome, IsSome, length};
 ghost use Rattle.std.specs.Arc.{arc_value};
 ghost use Rattle.parking_lot_core.specs.Tokens.{IsTicketOf, IsTokenOf};
-ghost use Rattle.parking_lot.specs.Names.{admission_of, lot_of_rwlock};
+ghost use Rattle.test_raw_rwlocks.specs.AnyLocks.{limit_of, lot_of};
 
+pub(super) use any_rwlock::{AnyRwLock, Sort};
 pub(super) use inside::Inside;
-use parking_lot::lock_api_rw::RawRwLock as RawLock;
-use parking_lot::{Fault, ParkingLot, RawRwLock, Ticket, Token};
+use parking_lot::{Fault, ParkingLot, Ticket, Token};
 use std::alloc::Global;
 use std::sync::atomic::Ordering::SeqCst;
 use std::sync::atomic::{AtomicBool, AtomicUsize};
@@ -18,18 +19,19 @@ use std::thread::yield_now;
 /// How often a thread looks for what it waits for before it gives up.
 pub(super) const TURNS: usize = 1_000_000;
 
-fn lock_by<const RECURSIVE: bool>(
+fn lock_by(
+    sort: Sort,
     lot: &Arc<ParkingLot>,
     ticket: Ticket,
     limit: u64,
-) -> Result<RawRwLock<RECURSIVE>, Fault>
+) -> Result<AnyRwLock, Fault>
     requires { IsTicketOf (arc_value lot.now) ticket
         × ((arc_value lot.now).records.count ≤ limit) × (limit ≤ 1024) }
-    ensures lot { IfOk result (λ lock. lot_of_rwlock lock ≡ arc_value lot.now) }
-    ensures limit { IfOk result (λ lock. (admission_of lock).limit ≡ limit) }
+    ensures lot { IfOk result (λ lock. lot_of lock ≡ arc_value lot.now) }
+    ensures limit { IfOk result (λ lock. limit_of lock ≡ limit) }
 {
     let mut token = ticket.enter();
-    RawRwLock::<RECURSIVE>::with_limit(lot, &mut token, limit)
+    AnyRwLock::with_limit(sort, lot, &mut token, limit)
 }
 
 /// A lot, a lock of it that so many may share, and the tickets of so many threads.
@@ -39,21 +41,22 @@ fn lock_by<const RECURSIVE: bool>(
 /// # Errors
 ///
 /// Where memory was refused.
-pub(super) fn seats<const RECURSIVE: bool>(
+pub(super) fn seats(
+    sort: Sort,
     alloc: Global,
     threads: usize,
     limit: u64,
-) -> Result<(Arc<ParkingLot>, RawRwLock<RECURSIVE>, Vec<Ticket>), Fault>
+) -> Result<(Arc<ParkingLot>, AnyRwLock, Vec<Ticket>), Fault>
     requires { (threads < limit) × (limit ≤ 1024) }
-    ensures lot { IfOk result (λ made. lot_of_rwlock made.1 ≡ arc_value made.0) }
-    ensures limit { IfOk result (λ made. (admission_of made.1).limit ≡ limit) }
+    ensures lot { IfOk result (λ made. lot_of made.1 ≡ arc_value made.0) }
+    ensures limit { IfOk result (λ made. limit_of made.1 ≡ limit) }
     ensures tickets { IfOk result (λ made. All (IsTicketOf (arc_value made.0)) made.2.items) }
 {
     let (lot, mut tickets) = ParkingLot::new(alloc, 1, threads + 1)?;
     let Some(ticket) = next_of(&lot, &mut tickets) else {
         return Err(Fault::NoMemory);
     };
-    let lock = lock_by(&lot, ticket, limit)?;
+    let lock = lock_by(sort, &lot, ticket, limit)?;
     Ok((lot, lock, tickets))
 }
 
@@ -72,15 +75,12 @@ pub(super) fn next_of(lot: &ParkingLot, tickets: &mut Vec<Ticket>) -> Option<Tic
 /// # Errors
 ///
 /// Where memory was refused.
-pub(super) fn lock_alone<const RECURSIVE: bool>(
-    alloc: Global,
-    limit: u64,
-) -> Result<(RawRwLock<RECURSIVE>, Token), Fault>
+pub(super) fn lock_alone(sort: Sort, alloc: Global, limit: u64) -> Result<(AnyRwLock, Token), Fault>
     requires { (2 ≤ limit) × (limit ≤ 1024) }
-    ensures limit { IfOk result (λ made. (admission_of made.0).limit ≡ limit) }
-    ensures token { IfOk result (λ made. IsTokenOf (lot_of_rwlock made.0) made.1) }
+    ensures limit { IfOk result (λ made. limit_of made.0 ≡ limit) }
+    ensures token { IfOk result (λ made. IsTokenOf (lot_of made.0) made.1) }
 {
-    let (lot, lock, mut tickets) = seats(alloc, 1, limit)?;
+    let (lot, lock, mut tickets) = seats(sort, alloc, 1, limit)?;
     let Some(ticket) = next_of(&lot, &mut tickets) else {
         return Err(Fault::NoMemory);
     };
@@ -110,10 +110,10 @@ pub(super) fn comes_to(number: &AtomicUsize, least: usize) -> bool {
 
 /// Whether so many came to stand in the main queue of a lock, and in that of the writer that waits
 /// for the last readers.
-pub(super) fn queue_up<const RECURSIVE: bool, R: Wait>(
+pub(super) fn queue_up<R: Wait>(
     rt: &R,
     lot: &ParkingLot,
-    lock: &RawRwLock<RECURSIVE>,
+    lock: &AnyRwLock,
     token: &mut Token,
     main: usize,
     second: usize,

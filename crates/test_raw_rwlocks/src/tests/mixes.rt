@@ -1,35 +1,30 @@
 //! Threads that do all that a reader-writer lock has, each in an order of its own.
 ghost use Rattle.std.specs.Prelude.{IfOk, IfSome};
 ghost use Rattle.parking_lot_core.specs.Tokens.{IsTokenOf};
-ghost use Rattle.parking_lot.specs.Names.{IsExclusiveOf, IsSharedOf, IsUpgradableOf, lot_of_rwlock, word_of_rwlock};
+ghost use Rattle.parking_lot.specs.Names.{IsExclusiveOf, IsSharedOf, IsUpgradableOf};
+ghost use Rattle.test_raw_rwlocks.specs.AnyLocks.{lot_of, word_of};
 
 use super::check;
 use super::crowds::{Part, play};
-use super::fixtures::Inside;
-use parking_lot::lock_api_rw::{
-    RawRwLock as RawLock, RawRwLockDowngrade, RawRwLockFair, RawRwLockTimed, RawRwLockUpgrade,
-    RawRwLockUpgradeDowngrade, RawRwLockUpgradeFair, RawRwLockUpgradeTimed,
-};
-use parking_lot::{
-    Fault, RawExclusiveGuard, RawRwLock, RawSharedGuard, RawUpgradableGuard, TickClock, Token,
-};
+use super::fixtures::{AnyRwLock, Inside, Sort};
+use parking_lot::{Fault, RawExclusiveGuard, RawSharedGuard, RawUpgradableGuard, TickClock, Token};
 use std::sync::Wait;
 use std::test::Fail;
 
 const ROUNDS: usize = 300;
 
 // Reads where it came in, and goes.
-fn read_by<const RECURSIVE: bool, R: Wait>(
+fn read_by<R: Wait>(
     rt: &R,
-    lock: &RawRwLock<RECURSIVE>,
+    lock: &AnyRwLock,
     token: &mut Token,
     inside: &Inside,
     came: Result<Option<RawSharedGuard>, Fault>,
 )
-    requires token { IsTokenOf (lot_of_rwlock lock.now) token.old }
+    requires token { IsTokenOf (lot_of lock.now) token.old }
     requires guard { IfOk came
-        (λ came. IfSome came (IsSharedOf (lot_of_rwlock lock.now) (word_of_rwlock lock.now))) }
-    ensures { IsTokenOf (lot_of_rwlock lock.now) token.new }
+        (λ came. IfSome came (IsSharedOf (lot_of lock.now) (word_of lock.now))) }
+    ensures { IsTokenOf (lot_of lock.now) token.new }
 {
     match came {
         Ok(Some(guard)) => {
@@ -41,17 +36,17 @@ fn read_by<const RECURSIVE: bool, R: Wait>(
 }
 
 // Reads with the upgradable right.
-fn read_upgradable_by<const RECURSIVE: bool, R: Wait>(
+fn read_upgradable_by<R: Wait>(
     rt: &R,
-    lock: &RawRwLock<RECURSIVE>,
+    lock: &AnyRwLock,
     token: &mut Token,
     inside: &Inside,
     came: Result<Option<RawUpgradableGuard>, Fault>,
 )
-    requires token { IsTokenOf (lot_of_rwlock lock.now) token.old }
+    requires token { IsTokenOf (lot_of lock.now) token.old }
     requires guard { IfOk came
-        (λ came. IfSome came (IsUpgradableOf (lot_of_rwlock lock.now) (word_of_rwlock lock.now))) }
-    ensures { IsTokenOf (lot_of_rwlock lock.now) token.new }
+        (λ came. IfSome came (IsUpgradableOf (lot_of lock.now) (word_of lock.now))) }
+    ensures { IsTokenOf (lot_of lock.now) token.new }
 {
     match came {
         Ok(Some(guard)) => {
@@ -63,16 +58,16 @@ fn read_upgradable_by<const RECURSIVE: bool, R: Wait>(
 }
 
 // Writes.
-fn write_by<const RECURSIVE: bool, R: Wait>(
+fn write_by<R: Wait>(
     rt: &R,
-    lock: &RawRwLock<RECURSIVE>,
+    lock: &AnyRwLock,
     token: &mut Token,
     inside: &Inside,
     came: Option<RawExclusiveGuard>,
 )
-    requires token { IsTokenOf (lot_of_rwlock lock.now) token.old }
-    requires guard { IfSome came (IsExclusiveOf (lot_of_rwlock lock.now) (word_of_rwlock lock.now)) }
-    ensures { IsTokenOf (lot_of_rwlock lock.now) token.new }
+    requires token { IsTokenOf (lot_of lock.now) token.old }
+    requires guard { IfSome came (IsExclusiveOf (lot_of lock.now) (word_of lock.now)) }
+    ensures { IsTokenOf (lot_of lock.now) token.new }
 {
     match came {
         Some(guard) => {
@@ -83,14 +78,9 @@ fn write_by<const RECURSIVE: bool, R: Wait>(
     }
 }
 
-fn read<const RECURSIVE: bool, R: Wait>(
-    rt: &R,
-    lock: &RawRwLock<RECURSIVE>,
-    token: &mut Token,
-    inside: &Inside,
-)
-    requires { IsTokenOf (lot_of_rwlock lock.now) token.old }
-    ensures { IsTokenOf (lot_of_rwlock lock.now) token.new }
+fn read<R: Wait>(rt: &R, lock: &AnyRwLock, token: &mut Token, inside: &Inside)
+    requires { IsTokenOf (lot_of lock.now) token.old }
+    ensures { IsTokenOf (lot_of lock.now) token.new }
 {
     match lock.lock_shared(rt, token) {
         Ok(guard) => read_by(rt, lock, token, inside, Ok(Some(guard))),
@@ -98,28 +88,18 @@ fn read<const RECURSIVE: bool, R: Wait>(
     }
 }
 
-fn write<const RECURSIVE: bool, R: Wait>(
-    rt: &R,
-    lock: &RawRwLock<RECURSIVE>,
-    token: &mut Token,
-    inside: &Inside,
-)
-    requires { IsTokenOf (lot_of_rwlock lock.now) token.old }
-    ensures { IsTokenOf (lot_of_rwlock lock.now) token.new }
+fn write<R: Wait>(rt: &R, lock: &AnyRwLock, token: &mut Token, inside: &Inside)
+    requires { IsTokenOf (lot_of lock.now) token.old }
+    ensures { IsTokenOf (lot_of lock.now) token.new }
 {
     let guard = lock.lock_exclusive(rt, token);
     write_by(rt, lock, token, inside, Some(guard));
 }
 
 // Reads, writes by an upgrade, and reads again in lesser and lesser rights.
-fn go_up_and_down<const RECURSIVE: bool, R: Wait>(
-    rt: &R,
-    lock: &RawRwLock<RECURSIVE>,
-    token: &mut Token,
-    inside: &Inside,
-)
-    requires { IsTokenOf (lot_of_rwlock lock.now) token.old }
-    ensures { IsTokenOf (lot_of_rwlock lock.now) token.new }
+fn go_up_and_down<R: Wait>(rt: &R, lock: &AnyRwLock, token: &mut Token, inside: &Inside)
+    requires { IsTokenOf (lot_of lock.now) token.old }
+    ensures { IsTokenOf (lot_of lock.now) token.new }
 {
     let Ok(guard) = lock.lock_upgradable(rt, token) else {
         return;
@@ -134,14 +114,9 @@ fn go_up_and_down<const RECURSIVE: bool, R: Wait>(
 }
 
 // Writes, and reads.
-fn go_down<const RECURSIVE: bool, R: Wait>(
-    rt: &R,
-    lock: &RawRwLock<RECURSIVE>,
-    token: &mut Token,
-    inside: &Inside,
-)
-    requires { IsTokenOf (lot_of_rwlock lock.now) token.old }
-    ensures { IsTokenOf (lot_of_rwlock lock.now) token.new }
+fn go_down<R: Wait>(rt: &R, lock: &AnyRwLock, token: &mut Token, inside: &Inside)
+    requires { IsTokenOf (lot_of lock.now) token.old }
+    ensures { IsTokenOf (lot_of lock.now) token.new }
 {
     let guard = lock.lock_exclusive(rt, token);
     inside.write();
@@ -150,15 +125,15 @@ fn go_down<const RECURSIVE: bool, R: Wait>(
 }
 
 // Upgrades where that succeeds before a deadline, or at once where there is none.
-fn upgrade_soon<const RECURSIVE: bool, R: Wait>(
+fn upgrade_soon<R: Wait>(
     rt: &R,
-    lock: &RawRwLock<RECURSIVE>,
+    lock: &AnyRwLock,
     token: &mut Token,
     inside: &Inside,
     deadline: Option<u64>,
 )
-    requires { IsTokenOf (lot_of_rwlock lock.now) token.old }
-    ensures { IsTokenOf (lot_of_rwlock lock.now) token.new }
+    requires { IsTokenOf (lot_of lock.now) token.old }
+    ensures { IsTokenOf (lot_of lock.now) token.new }
 {
     let clock = TickClock::new();
     let Ok(guard) = lock.lock_upgradable(rt, token) else {
@@ -176,15 +151,9 @@ fn upgrade_soon<const RECURSIVE: bool, R: Wait>(
 }
 
 // All that may fail: within a time, and at once.
-fn try_all<const RECURSIVE: bool, R: Wait>(
-    rt: &R,
-    lock: &RawRwLock<RECURSIVE>,
-    token: &mut Token,
-    inside: &Inside,
-    deadline: u64,
-)
-    requires { IsTokenOf (lot_of_rwlock lock.now) token.old }
-    ensures { IsTokenOf (lot_of_rwlock lock.now) token.new }
+fn try_all<R: Wait>(rt: &R, lock: &AnyRwLock, token: &mut Token, inside: &Inside, deadline: u64)
+    requires { IsTokenOf (lot_of lock.now) token.old }
+    ensures { IsTokenOf (lot_of lock.now) token.new }
 {
     let clock = TickClock::new();
     let came = lock.try_lock_exclusive_until(rt, token, &clock, deadline);
@@ -205,14 +174,9 @@ fn try_all<const RECURSIVE: bool, R: Wait>(
 
 // Reads, bumps and gives its right up fairly: to read alone, with the upgradable right, and as a
 // writer.
-fn read_fairly<const RECURSIVE: bool, R: Wait>(
-    rt: &R,
-    lock: &RawRwLock<RECURSIVE>,
-    token: &mut Token,
-    inside: &Inside,
-)
-    requires { IsTokenOf (lot_of_rwlock lock.now) token.old }
-    ensures { IsTokenOf (lot_of_rwlock lock.now) token.new }
+fn read_fairly<R: Wait>(rt: &R, lock: &AnyRwLock, token: &mut Token, inside: &Inside)
+    requires { IsTokenOf (lot_of lock.now) token.old }
+    ensures { IsTokenOf (lot_of lock.now) token.new }
 {
     let Ok(guard) = lock.lock_shared(rt, token) else {
         return;
@@ -224,14 +188,9 @@ fn read_fairly<const RECURSIVE: bool, R: Wait>(
     }
 }
 
-fn read_upgradable_fairly<const RECURSIVE: bool, R: Wait>(
-    rt: &R,
-    lock: &RawRwLock<RECURSIVE>,
-    token: &mut Token,
-    inside: &Inside,
-)
-    requires { IsTokenOf (lot_of_rwlock lock.now) token.old }
-    ensures { IsTokenOf (lot_of_rwlock lock.now) token.new }
+fn read_upgradable_fairly<R: Wait>(rt: &R, lock: &AnyRwLock, token: &mut Token, inside: &Inside)
+    requires { IsTokenOf (lot_of lock.now) token.old }
+    ensures { IsTokenOf (lot_of lock.now) token.new }
 {
     let Ok(guard) = lock.lock_upgradable(rt, token) else {
         return;
@@ -243,14 +202,9 @@ fn read_upgradable_fairly<const RECURSIVE: bool, R: Wait>(
     }
 }
 
-fn write_fairly<const RECURSIVE: bool, R: Wait>(
-    rt: &R,
-    lock: &RawRwLock<RECURSIVE>,
-    token: &mut Token,
-    inside: &Inside,
-)
-    requires { IsTokenOf (lot_of_rwlock lock.now) token.old }
-    ensures { IsTokenOf (lot_of_rwlock lock.now) token.new }
+fn write_fairly<R: Wait>(rt: &R, lock: &AnyRwLock, token: &mut Token, inside: &Inside)
+    requires { IsTokenOf (lot_of lock.now) token.old }
+    ensures { IsTokenOf (lot_of lock.now) token.new }
 {
     let guard = lock.lock_exclusive(rt, token);
     inside.write();
@@ -260,15 +214,9 @@ fn write_fairly<const RECURSIVE: bool, R: Wait>(
 }
 
 // One turn of a thread, by a number.
-fn turn<const RECURSIVE: bool, R: Wait>(
-    rt: &R,
-    lock: &RawRwLock<RECURSIVE>,
-    token: &mut Token,
-    inside: &Inside,
-    number: usize,
-)
-    requires { IsTokenOf (lot_of_rwlock lock.now) token.old }
-    ensures { IsTokenOf (lot_of_rwlock lock.now) token.new }
+fn turn<R: Wait>(rt: &R, lock: &AnyRwLock, token: &mut Token, inside: &Inside, number: usize)
+    requires { IsTokenOf (lot_of lock.now) token.old }
+    ensures { IsTokenOf (lot_of lock.now) token.new }
 {
     match number % 10 {
         0 => write(rt, lock, token, inside),
@@ -285,15 +233,15 @@ fn turn<const RECURSIVE: bool, R: Wait>(
 }
 
 // Many turns of a thread, in an order of its own.
-pub(super) fn mix<const RECURSIVE: bool, R: Wait>(
+pub(super) fn mix<R: Wait>(
     rt: &R,
-    lock: &RawRwLock<RECURSIVE>,
+    lock: &AnyRwLock,
     token: &mut Token,
     inside: &Inside,
     start: usize,
 ) -> bool
-    requires { IsTokenOf (lot_of_rwlock lock.now) token.old }
-    ensures { IsTokenOf (lot_of_rwlock lock.now) token.new }
+    requires { IsTokenOf (lot_of lock.now) token.old }
+    ensures { IsTokenOf (lot_of lock.now) token.new }
 {
     for round in 0..ROUNDS {
         let number = start.wrapping_mul(round).wrapping_add(round / 5);
@@ -304,18 +252,12 @@ pub(super) fn mix<const RECURSIVE: bool, R: Wait>(
 
 #[test]
 fn six_threads_mix_all_calls(rt: HostRuntime) -> Result<(), Fail> {
-    check(
-        &rt,
-        play::<false, HostRuntime>(&rt, rt.alloc(), 6, Part::Mix)?,
-    );
+    check(&rt, play(Sort::Normal, &rt, rt.alloc(), 6, Part::Mix)?);
     Ok(())
 }
 
 #[test]
 fn six_threads_mix_all_calls_of_a_recursive_lock(rt: HostRuntime) -> Result<(), Fail> {
-    check(
-        &rt,
-        play::<true, HostRuntime>(&rt, rt.alloc(), 6, Part::Mix)?,
-    );
+    check(&rt, play(Sort::Recursive, &rt, rt.alloc(), 6, Part::Mix)?);
     Ok(())
 }

@@ -7,13 +7,13 @@ mod waits;
 
 ghost use Rattle.std.specs.Prelude.{◌≡◌, ◌≤◌};
 ghost use Rattle.parking_lot_core.specs.Tokens.{IsTicketOf, IsTokenOf};
-ghost use Rattle.parking_lot.specs.Names.{lot_of_rwlock};
+ghost use Rattle.test_raw_rwlocks.specs.AnyLocks.{lot_of};
 
 use super::check;
-use super::fixtures::seats;
+use super::fixtures::{AnyRwLock, Sort, seats};
 use comers::come_later;
 use holders::hold;
-use parking_lot::{ParkingLot, RawRwLock, Ticket, Token};
+use parking_lot::{ParkingLot, Ticket, Token};
 use scene::{Scene, Told};
 use std::alloc::Global;
 use std::fmt::Debug;
@@ -30,15 +30,15 @@ fn check_eq<T: PartialEq + Debug + Drop>(rt: &impl Abort, found: T, wanted: T) {
 
 // The first that comes holds the lock, and the others come to it then. Whether the thread is
 // content with what came of its part.
-fn take_part<const RECURSIVE: bool, R: Wait>(
+fn take_part<R: Wait>(
     rt: &R,
     lot: &ParkingLot,
-    lock: &RawRwLock<RECURSIVE>,
+    lock: &AnyRwLock,
     token: &mut Token,
     scene: &Scene,
     told: &Told,
 ) -> bool
-    requires { IsTokenOf lot.now token.old × (lot_of_rwlock lock.now ≡ lot.now) }
+    requires { IsTokenOf lot.now token.old × (lot_of lock.now ≡ lot.now) }
 {
     if told.comes_first() {
         hold(rt, lot, lock, token, scene, told)
@@ -49,16 +49,13 @@ fn take_part<const RECURSIVE: bool, R: Wait>(
 }
 
 // Plays a scene: all stand where they are to, and all come in, beside none that they exclude.
-fn play<const RECURSIVE: bool, R: Threads + Wait + Sync + Abort>(
-    rt: &R,
-    alloc: Global,
-    scene: Scene,
-) {
-    play_within::<RECURSIVE, R>(rt, alloc, scene, 1000);
+fn play<R: Threads + Wait + Sync + Abort>(sort: Sort, rt: &R, alloc: Global, scene: Scene) {
+    play_within(sort, rt, alloc, scene, 1000);
 }
 
 // Plays on a lock that at most `limit` threads may share. It gives up where memory is refused.
-fn play_within<const RECURSIVE: bool, R: Threads + Wait + Sync + Abort>(
+fn play_within<R: Threads + Wait + Sync + Abort>(
+    sort: Sort,
     rt: &R,
     alloc: Global,
     scene: Scene,
@@ -66,7 +63,7 @@ fn play_within<const RECURSIVE: bool, R: Threads + Wait + Sync + Abort>(
 )
     requires { (5 ≤ limit) × (limit ≤ 1024) }
 {
-    let Ok((lot, lock, tickets)) = seats::<RECURSIVE>(alloc, 4, limit) else {
+    let Ok((lot, lock, tickets)) = seats(sort, alloc, 4, limit) else {
         panic!(rt; "no seats");
     };
     let (lot, lock, scene, told) = (&*lot, &lock, &scene, &Told::new());
@@ -74,7 +71,7 @@ fn play_within<const RECURSIVE: bool, R: Threads + Wait + Sync + Abort>(
         rt,
         tickets,
         &|ticket: Ticket|
-            requires { IsTicketOf (lot_of_rwlock lock.now) ticket × (lot_of_rwlock lock.now ≡ lot.now) }
+            requires { IsTicketOf (lot_of lock.now) ticket × (lot_of lock.now ≡ lot.now) }
         {
             let mut token = ticket.enter();
             take_part(rt, lot, lock, &mut token, scene, told)

@@ -1,17 +1,15 @@
 //! Waits for a reader-writer lock that end in time.
 ghost use Rattle.std.specs.Prelude.{◌≡◌};
 ghost use Rattle.parking_lot_core.specs.Tokens.{IsTokenOf};
-ghost use Rattle.parking_lot.specs.Names.{IsSharedOf, lot_of_rwlock, word_of_rwlock};
+ghost use Rattle.parking_lot.specs.Names.{IsSharedOf};
+ghost use Rattle.test_raw_rwlocks.specs.AnyLocks.{lot_of, word_of};
 
 use super::crowds::{Part, Told, play};
-use super::fixtures::{await_flag, comes_to, lock_alone, queue_up};
+use super::fixtures::{AnyRwLock, Sort, await_flag, comes_to, lock_alone, queue_up};
 use super::{
     FREE, READ, UPGRADABLE, WRITTEN, check, goes, goes_upgradable, goes_writing, look, look_and_go,
 };
-use parking_lot::lock_api_rw::{
-    RawRwLock as RawLock, RawRwLockTimed, RawRwLockUpgrade, RawRwLockUpgradeTimed,
-};
-use parking_lot::{Clock, Fault, ParkingLot, RawRwLock, RawSharedGuard, TickClock, Token};
+use parking_lot::{Clock, Fault, ParkingLot, RawSharedGuard, TickClock, Token};
 use std::alloc::Global;
 use std::sync::Wait;
 use std::sync::atomic::Ordering::SeqCst;
@@ -34,14 +32,9 @@ fn gave_up_soon(clock: &TickClock) -> bool {
 }
 
 // Whether a reader that waits gives up, and soon.
-fn reads_in_vain<const RECURSIVE: bool, R: Wait>(
-    rt: &R,
-    lock: &RawRwLock<RECURSIVE>,
-    token: &mut Token,
-    until: bool,
-) -> bool
-    requires { IsTokenOf (lot_of_rwlock lock.now) token.old }
-    ensures { IsTokenOf (lot_of_rwlock lock.now) token.new }
+fn reads_in_vain<R: Wait>(rt: &R, lock: &AnyRwLock, token: &mut Token, until: bool) -> bool
+    requires { IsTokenOf (lot_of lock.now) token.old }
+    ensures { IsTokenOf (lot_of lock.now) token.new }
 {
     let clock = TickClock::new();
     let taken = if until {
@@ -53,14 +46,14 @@ fn reads_in_vain<const RECURSIVE: bool, R: Wait>(
 }
 
 // Comes as an upgradable reader, in vain.
-fn comes_upgradable_in_vain<const RECURSIVE: bool, R: Wait>(
+fn comes_upgradable_in_vain<R: Wait>(
     rt: &R,
-    lock: &RawRwLock<RECURSIVE>,
+    lock: &AnyRwLock,
     token: &mut Token,
     until: bool,
 ) -> bool
-    requires { IsTokenOf (lot_of_rwlock lock.now) token.old }
-    ensures { IsTokenOf (lot_of_rwlock lock.now) token.new }
+    requires { IsTokenOf (lot_of lock.now) token.old }
+    ensures { IsTokenOf (lot_of lock.now) token.new }
 {
     let clock = TickClock::new();
     let taken = if until {
@@ -72,14 +65,9 @@ fn comes_upgradable_in_vain<const RECURSIVE: bool, R: Wait>(
 }
 
 // Comes as a writer, in vain.
-fn writes_in_vain<const RECURSIVE: bool, R: Wait>(
-    rt: &R,
-    lock: &RawRwLock<RECURSIVE>,
-    token: &mut Token,
-    until: bool,
-) -> bool
-    requires { IsTokenOf (lot_of_rwlock lock.now) token.old }
-    ensures { IsTokenOf (lot_of_rwlock lock.now) token.new }
+fn writes_in_vain<R: Wait>(rt: &R, lock: &AnyRwLock, token: &mut Token, until: bool) -> bool
+    requires { IsTokenOf (lot_of lock.now) token.old }
+    ensures { IsTokenOf (lot_of lock.now) token.new }
 {
     let clock = TickClock::new();
     let taken = if until {
@@ -91,14 +79,9 @@ fn writes_in_vain<const RECURSIVE: bool, R: Wait>(
 }
 
 // Whether the waits for each right end without it, and soon.
-fn waits_in_vain<const RECURSIVE: bool, R: Wait>(
-    rt: &R,
-    lock: &RawRwLock<RECURSIVE>,
-    token: &mut Token,
-    until: bool,
-) -> bool
-    requires { IsTokenOf (lot_of_rwlock lock.now) token.old }
-    ensures { IsTokenOf (lot_of_rwlock lock.now) token.new }
+fn waits_in_vain<R: Wait>(rt: &R, lock: &AnyRwLock, token: &mut Token, until: bool) -> bool
+    requires { IsTokenOf (lot_of lock.now) token.old }
+    ensures { IsTokenOf (lot_of lock.now) token.new }
 {
     let read = reads_in_vain(rt, lock, token, until);
     let read_upgradable = comes_upgradable_in_vain(rt, lock, token, until);
@@ -107,13 +90,9 @@ fn waits_in_vain<const RECURSIVE: bool, R: Wait>(
 }
 
 // Whether a thread that waits beside a writer gives up, and leaves the lock as it is.
-fn gives_up_beside_a_writer<const RECURSIVE: bool, R: Wait>(
-    rt: &R,
-    lock: &RawRwLock<RECURSIVE>,
-    token: &mut Token,
-) -> bool
-    requires { IsTokenOf (lot_of_rwlock lock.now) token.old }
-    ensures { IsTokenOf (lot_of_rwlock lock.now) token.new }
+fn gives_up_beside_a_writer<R: Wait>(rt: &R, lock: &AnyRwLock, token: &mut Token) -> bool
+    requires { IsTokenOf (lot_of lock.now) token.old }
+    ensures { IsTokenOf (lot_of lock.now) token.new }
 {
     let guard = lock.lock_exclusive(rt, token);
     let in_vain = waits_in_vain(rt, lock, token, false);
@@ -125,16 +104,16 @@ fn gives_up_beside_a_writer<const RECURSIVE: bool, R: Wait>(
 
 // Waits to write beside a reader, whose guard comes back. It gives up in time: that a writer came
 // in beside a reader is refuted by their guards.
-fn give_up_beside<const RECURSIVE: bool, R: Wait>(
+fn give_up_beside<R: Wait>(
     rt: &R,
-    lock: &RawRwLock<RECURSIVE>,
+    lock: &AnyRwLock,
     token: &mut Token,
     guard: RawSharedGuard,
 ) -> RawSharedGuard
-    requires token { IsTokenOf (lot_of_rwlock lock.now) token.old }
-    requires guard { IsSharedOf (lot_of_rwlock lock.now) (word_of_rwlock lock.now) guard }
-    ensures token { IsTokenOf (lot_of_rwlock lock.now) token.new }
-    ensures guard { IsSharedOf (lot_of_rwlock lock.now) (word_of_rwlock lock.now) result }
+    requires token { IsTokenOf (lot_of lock.now) token.old }
+    requires guard { IsSharedOf (lot_of lock.now) (word_of lock.now) guard }
+    ensures token { IsTokenOf (lot_of lock.now) token.new }
+    ensures guard { IsSharedOf (lot_of lock.now) (word_of lock.now) result }
 {
     match lock.try_lock_exclusive_until(rt, token, &TickClock::new(), EARLY) {
         Some(writer) => lock.has_writer_and_reader(token, writer, guard),
@@ -143,13 +122,9 @@ fn give_up_beside<const RECURSIVE: bool, R: Wait>(
 }
 
 // Whether a writer that waits beside a reader gives up, and readers come in then.
-fn gives_up_beside_a_reader<const RECURSIVE: bool, R: Wait>(
-    rt: &R,
-    lock: &RawRwLock<RECURSIVE>,
-    token: &mut Token,
-) -> bool
-    requires { IsTokenOf (lot_of_rwlock lock.now) token.old }
-    ensures { IsTokenOf (lot_of_rwlock lock.now) token.new }
+fn gives_up_beside_a_reader<R: Wait>(rt: &R, lock: &AnyRwLock, token: &mut Token) -> bool
+    requires { IsTokenOf (lot_of lock.now) token.old }
+    ensures { IsTokenOf (lot_of lock.now) token.new }
 {
     let Ok(guard) = lock.lock_shared(rt, token) else {
         return false;
@@ -161,13 +136,9 @@ fn gives_up_beside_a_reader<const RECURSIVE: bool, R: Wait>(
 }
 
 // Whether an upgrade beside a reader gives up soon and keeps its right, and one alone doesn't.
-fn upgrades_in_time<const RECURSIVE: bool, R: Wait>(
-    rt: &R,
-    lock: &RawRwLock<RECURSIVE>,
-    token: &mut Token,
-) -> Option<[bool; 5]>
-    requires { IsTokenOf (lot_of_rwlock lock.now) token.old }
-    ensures { IsTokenOf (lot_of_rwlock lock.now) token.new }
+fn upgrades_in_time<R: Wait>(rt: &R, lock: &AnyRwLock, token: &mut Token) -> Option<[bool; 5]>
+    requires { IsTokenOf (lot_of lock.now) token.old }
+    ensures { IsTokenOf (lot_of lock.now) token.new }
 {
     let clock = TickClock::new();
     let Ok(guard) = lock.lock_upgradable(rt, token) else {
@@ -182,13 +153,9 @@ fn upgrades_in_time<const RECURSIVE: bool, R: Wait>(
     }
 }
 
-fn upgrades_beside_a_reader<const RECURSIVE: bool, R: Wait>(
-    rt: &R,
-    lock: &RawRwLock<RECURSIVE>,
-    token: &mut Token,
-) -> bool
-    requires { IsTokenOf (lot_of_rwlock lock.now) token.old }
-    ensures { IsTokenOf (lot_of_rwlock lock.now) token.new }
+fn upgrades_beside_a_reader<R: Wait>(rt: &R, lock: &AnyRwLock, token: &mut Token) -> bool
+    requires { IsTokenOf (lot_of lock.now) token.old }
+    ensures { IsTokenOf (lot_of lock.now) token.new }
 {
     let Ok(guard) = lock.lock_shared(rt, token) else {
         return false;
@@ -198,8 +165,8 @@ fn upgrades_beside_a_reader<const RECURSIVE: bool, R: Wait>(
     beside == Some(UPGRADABLE) && upgrades_in_time(rt, lock, token) == Some(WRITTEN)
 }
 
-fn all_give_up<const RECURSIVE: bool>(rt: &impl Wait, alloc: Global) -> Result<bool, Fault> {
-    let (lock, mut token) = lock_alone::<RECURSIVE>(alloc, 10)?;
+fn all_give_up(sort: Sort, rt: &impl Wait, alloc: Global) -> Result<bool, Fault> {
+    let (lock, mut token) = lock_alone(sort, alloc, 10)?;
     let given_up = gives_up_beside_a_writer(rt, &lock, &mut token)
         && gives_up_beside_a_reader(rt, &lock, &mut token);
     Ok(given_up && upgrades_beside_a_reader(rt, &lock, &mut token))
@@ -207,8 +174,8 @@ fn all_give_up<const RECURSIVE: bool>(rt: &impl Wait, alloc: Global) -> Result<b
 
 #[test]
 fn who_waits_gives_up_in_time(rt: HostRuntime) -> Result<(), Fail> {
-    check(&rt, all_give_up::<false>(&rt, rt.alloc())?);
-    check(&rt, all_give_up::<true>(&rt, rt.alloc())?);
+    check(&rt, all_give_up(Sort::Normal, &rt, rt.alloc())?);
+    check(&rt, all_give_up(Sort::Recursive, &rt, rt.alloc())?);
     Ok(())
 }
 
@@ -229,14 +196,14 @@ impl Clock for FlagClock<'_> {
 }
 
 // Waits beside a reader to own the lock alone, until the time is up. Whether it gave up.
-fn write_in_vain<const RECURSIVE: bool, R: Wait>(
+fn write_in_vain<R: Wait>(
     rt: &R,
-    lock: &RawRwLock<RECURSIVE>,
+    lock: &AnyRwLock,
     token: &mut Token,
     clock: &FlagClock<'_>,
 ) -> bool
-    requires { IsTokenOf (lot_of_rwlock lock.now) token.old }
-    ensures { IsTokenOf (lot_of_rwlock lock.now) token.new }
+    requires { IsTokenOf (lot_of lock.now) token.old }
+    ensures { IsTokenOf (lot_of lock.now) token.new }
 {
     let came = lock.try_lock_exclusive_until(rt, token, clock, 1);
     !goes_writing(rt, lock, token, came)
@@ -244,15 +211,15 @@ fn write_in_vain<const RECURSIVE: bool, R: Wait>(
 
 // Waits beside a reader to upgrade, until the time is up. Returns whether it gave up, and a reader came
 // in beside the upgradable right that it has still.
-fn upgrade_in_vain<const RECURSIVE: bool, R: Wait>(
+fn upgrade_in_vain<R: Wait>(
     rt: &R,
-    lock: &RawRwLock<RECURSIVE>,
+    lock: &AnyRwLock,
     token: &mut Token,
     clock: &FlagClock<'_>,
     came: &AtomicUsize,
 ) -> bool
-    requires { IsTokenOf (lot_of_rwlock lock.now) token.old }
-    ensures { IsTokenOf (lot_of_rwlock lock.now) token.new }
+    requires { IsTokenOf (lot_of lock.now) token.old }
+    ensures { IsTokenOf (lot_of lock.now) token.new }
 {
     let Ok(guard) = lock.lock_upgradable(rt, token) else {
         return false;
@@ -268,15 +235,15 @@ fn upgrade_in_vain<const RECURSIVE: bool, R: Wait>(
 }
 
 // Waits once a reader holds the lock. Whether it gave up.
-pub(super) fn give_up<const RECURSIVE: bool, R: Wait>(
+pub(super) fn give_up<R: Wait>(
     rt: &R,
-    lock: &RawRwLock<RECURSIVE>,
+    lock: &AnyRwLock,
     token: &mut Token,
     upgrades: bool,
     told: &Told,
 ) -> bool
-    requires { IsTokenOf (lot_of_rwlock lock.now) token.old }
-    ensures { IsTokenOf (lot_of_rwlock lock.now) token.new }
+    requires { IsTokenOf (lot_of lock.now) token.old }
+    ensures { IsTokenOf (lot_of lock.now) token.new }
 {
     await_flag(rt, &told.held);
     let clock = FlagClock(&told.up);
@@ -288,14 +255,14 @@ pub(super) fn give_up<const RECURSIVE: bool, R: Wait>(
 }
 
 // Reads once a writer waits, which keeps it out at first.
-pub(super) fn come_behind<const RECURSIVE: bool, R: Wait>(
+pub(super) fn come_behind<R: Wait>(
     rt: &R,
     lot: &ParkingLot,
-    lock: &RawRwLock<RECURSIVE>,
+    lock: &AnyRwLock,
     token: &mut Token,
     told: &Told,
 ) -> bool
-    requires { IsTokenOf lot.now token.old × (lot_of_rwlock lock.now ≡ lot.now) }
+    requires { IsTokenOf lot.now token.old × (lot_of lock.now ≡ lot.now) }
     ensures { IsTokenOf lot.now token.new }
 {
     let aside = queue_up(rt, lot, lock, token, 0, 1);
@@ -310,14 +277,14 @@ pub(super) fn come_behind<const RECURSIVE: bool, R: Wait>(
 }
 
 // Reads until the writer gave up, and another reader came in for that reason.
-pub(super) fn read_on<const RECURSIVE: bool, R: Wait>(
+pub(super) fn read_on<R: Wait>(
     rt: &R,
     lot: &ParkingLot,
-    lock: &RawRwLock<RECURSIVE>,
+    lock: &AnyRwLock,
     token: &mut Token,
     told: &Told,
 ) -> bool
-    requires { IsTokenOf lot.now token.old × (lot_of_rwlock lock.now ≡ lot.now) }
+    requires { IsTokenOf lot.now token.old × (lot_of lock.now ≡ lot.now) }
     ensures { IsTokenOf lot.now token.new }
 {
     let Ok(guard) = lock.lock_shared(rt, token) else {
@@ -335,7 +302,7 @@ pub(super) fn read_on<const RECURSIVE: bool, R: Wait>(
 fn a_writer_that_gives_up_lets_readers_in(rt: HostRuntime) -> Result<(), Fail> {
     check(
         &rt,
-        play::<false, HostRuntime>(&rt, rt.alloc(), 3, Part::LetIn(false))?,
+        play(Sort::Normal, &rt, rt.alloc(), 3, Part::LetIn(false))?,
     );
     Ok(())
 }
@@ -344,7 +311,7 @@ fn a_writer_that_gives_up_lets_readers_in(rt: HostRuntime) -> Result<(), Fail> {
 fn an_upgrade_that_gives_up_lets_readers_in(rt: HostRuntime) -> Result<(), Fail> {
     check(
         &rt,
-        play::<false, HostRuntime>(&rt, rt.alloc(), 3, Part::LetIn(true))?,
+        play(Sort::Normal, &rt, rt.alloc(), 3, Part::LetIn(true))?,
     );
     Ok(())
 }

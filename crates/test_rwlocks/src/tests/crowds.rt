@@ -38,9 +38,7 @@ fn add_torn(value: &mut u64) -> u64 {
 }
 
 // Adds under a guard, which stays that of its lock.
-pub(super) fn add_under<'l, const RECURSIVE: bool>(
-    mut guard: Writer<'l, RECURSIVE>,
-) -> (u64, Writer<'l, RECURSIVE>)
+pub(super) fn add_under<'l>(mut guard: Writer<'l>) -> (u64, Writer<'l>)
     ensures { lock_of result.1 ≡ lock_of guard.entry }
 {
     let before = add_torn(&mut *guard);
@@ -57,12 +55,7 @@ fn add_torn_often(value: &mut u64, times: usize) -> bool {
 }
 
 // Adds 1 so often, under one guard.
-fn add_at_once<const RECURSIVE: bool, R: Wait>(
-    rt: &R,
-    lock: &Lock<RECURSIVE>,
-    token: &mut Token,
-    times: usize,
-) -> bool
+fn add_at_once<R: Wait>(rt: &R, lock: &Lock, token: &mut Token, times: usize) -> bool
     requires { IsTokenOf (lot_of_rwlock lock.now) token.old }
     ensures { IsTokenOf (lot_of_rwlock lock.now) token.new }
 {
@@ -72,11 +65,7 @@ fn add_at_once<const RECURSIVE: bool, R: Wait>(
 }
 
 // Adds 1, goes on as a reader, and finds what it wrote.
-fn add_and_read<const RECURSIVE: bool, R: Wait>(
-    rt: &R,
-    lock: &Lock<RECURSIVE>,
-    token: &mut Token,
-) -> bool
+fn add_and_read<R: Wait>(rt: &R, lock: &Lock, token: &mut Token) -> bool
     requires { IsTokenOf (lot_of_rwlock lock.now) token.old }
     ensures { IsTokenOf (lot_of_rwlock lock.now) token.new }
 {
@@ -89,11 +78,7 @@ fn add_and_read<const RECURSIVE: bool, R: Wait>(
 
 // Reads, and adds 1 by an upgrade. Whether it found the value whole, and the same behind its
 // upgrade.
-fn add_by_upgrade<const RECURSIVE: bool, R: Wait>(
-    rt: &R,
-    lock: &Lock<RECURSIVE>,
-    token: &mut Token,
-) -> bool
+fn add_by_upgrade<R: Wait>(rt: &R, lock: &Lock, token: &mut Token) -> bool
     requires { IsTokenOf (lot_of_rwlock lock.now) token.old }
     ensures { IsTokenOf (lot_of_rwlock lock.now) token.new }
 {
@@ -116,13 +101,7 @@ pub(super) enum Way {
 }
 
 // Adds 1 so often, each time under a guard of its own. Whether all was well each time.
-fn add_often<const RECURSIVE: bool, R: Wait>(
-    rt: &R,
-    lock: &Lock<RECURSIVE>,
-    token: &mut Token,
-    way: Way,
-    times: usize,
-) -> bool
+fn add_often<R: Wait>(rt: &R, lock: &Lock, token: &mut Token, way: Way, times: usize) -> bool
     requires { IsTokenOf (lot_of_rwlock lock.now) token.old }
     ensures { IsTokenOf (lot_of_rwlock lock.now) token.new }
 {
@@ -147,12 +126,7 @@ fn writes_next(number: &mut u64) -> bool {
 }
 
 // Adds 1 or reads, many times, and tells how often it wrote.
-fn come_often<const RECURSIVE: bool, R: Wait>(
-    rt: &R,
-    lock: &Lock<RECURSIVE>,
-    token: &mut Token,
-    written: &AtomicU64,
-) -> bool
+fn come_often<R: Wait>(rt: &R, lock: &Lock, token: &mut Token, written: &AtomicU64) -> bool
     requires { IsTokenOf (lot_of_rwlock lock.now) token.old }
     ensures { IsTokenOf (lot_of_rwlock lock.now) token.new }
 {
@@ -170,11 +144,7 @@ fn come_often<const RECURSIVE: bool, R: Wait>(
 }
 
 // Whether a thread that reads finds the value whole.
-fn is_whole<const RECURSIVE: bool, R: Wait>(
-    rt: &R,
-    lock: &Lock<RECURSIVE>,
-    token: &mut Token,
-) -> bool
+fn is_whole<R: Wait>(rt: &R, lock: &Lock, token: &mut Token) -> bool
     requires { IsTokenOf (lot_of_rwlock lock.now) token.old }
     ensures { IsTokenOf (lot_of_rwlock lock.now) token.new }
 {
@@ -183,9 +153,9 @@ fn is_whole<const RECURSIVE: bool, R: Wait>(
 
 // The thread of place 0 writes, ten times or at once, the next upgrade, and the others read.
 // Whether this one found the value whole.
-fn tear_or_look<const RECURSIVE: bool, R: Wait>(
+fn tear_or_look<R: Wait>(
     rt: &R,
-    lock: &Lock<RECURSIVE>,
+    lock: &Lock,
     token: &mut Token,
     place: usize,
     upgraders: usize,
@@ -205,12 +175,7 @@ fn tear_or_look<const RECURSIVE: bool, R: Wait>(
 }
 
 // Writes once somebody has the lock.
-fn write_later<const RECURSIVE: bool, R: Wait>(
-    rt: &R,
-    lock: &Lock<RECURSIVE>,
-    token: &mut Token,
-    held: &AtomicBool,
-) -> bool
+fn write_later<R: Wait>(rt: &R, lock: &Lock, token: &mut Token, held: &AtomicBool) -> bool
     requires { IsTokenOf (lot_of_rwlock lock.now) token.old }
     ensures { IsTokenOf (lot_of_rwlock lock.now) token.new }
 {
@@ -249,10 +214,10 @@ struct Told {
 }
 
 // Does one thread's part. Whether the thread is content with it.
-fn take_part<const RECURSIVE: bool, R: Wait>(
+fn take_part<R: Wait>(
     rt: &R,
     lot: &ParkingLot,
-    lock: &Lock<RECURSIVE>,
+    lock: &Lock,
     token: &mut Token,
     told: &Told,
     part: Part<'_>,
@@ -275,7 +240,7 @@ fn take_part<const RECURSIVE: bool, R: Wait>(
 
 // Whether so many threads of a lot of so many seats were content with their part, and what the value
 // came to.
-pub(super) fn play<const RECURSIVE: bool, R: Threads + Wait + Abort + Sync>(
+pub(super) fn play<R: Threads + Wait + Abort + Sync>(
     rt: &R,
     alloc: Global,
     room: usize,
@@ -284,7 +249,7 @@ pub(super) fn play<const RECURSIVE: bool, R: Threads + Wait + Abort + Sync>(
 ) -> (bool, u64)
     requires { room < 100 }
 {
-    let (lot, lock, _token, mut tickets) = seats::<RECURSIVE, R>(rt, alloc, room, 0, false);
+    let (lot, lock, _token, mut tickets) = seats(rt, alloc, room, 0, false);
     keep(&lot, &mut tickets, threads);
     let told = Told {
         came: AtomicUsize::new(0),
@@ -309,45 +274,39 @@ pub(super) fn play<const RECURSIVE: bool, R: Threads + Wait + Abort + Sync>(
 
 #[test]
 fn eight_threads_read_what_they_wrote(rt: HostRuntime) {
-    let found = play::<false, HostRuntime>(&rt, rt.alloc(), 8, 8, Part::Add(Way::Downgrade));
+    let found = play(&rt, rt.alloc(), 8, 8, Part::Add(Way::Downgrade));
     check_eq(&rt, found, (true, 800));
-    let found = play::<false, HostRuntime>(&rt, rt.alloc(), 63, 8, Part::Add(Way::Downgrade));
+    let found = play(&rt, rt.alloc(), 63, 8, Part::Add(Way::Downgrade));
     check_eq(&rt, found, (true, 800));
 }
 
 #[test]
 fn upgrades_let_nobody_write_between(rt: HostRuntime) {
-    let found = play::<false, HostRuntime>(&rt, rt.alloc(), 6, 6, Part::Add(Way::Upgrade));
+    let found = play(&rt, rt.alloc(), 6, 6, Part::Add(Way::Upgrade));
     check_eq(&rt, found, (true, 600));
-}
-
-// Ten threads find what they wrote between them.
-fn all_come<const RECURSIVE: bool, R: Threads + Wait + Abort + Sync>(rt: &R, alloc: Global) {
-    let written = AtomicU64::new(0);
-    let found = play::<RECURSIVE, R>(rt, alloc, 10, 10, Part::Come(&written));
-    let times = written.load(SeqCst);
-    check(rt, 500 < times);
-    check_eq(rt, found, (true, times));
 }
 
 #[test]
 fn ten_threads_read_and_write(rt: HostRuntime) {
-    all_come::<false, HostRuntime>(&rt, rt.alloc());
-    all_come::<true, HostRuntime>(&rt, rt.alloc());
+    let written = AtomicU64::new(0);
+    let found = play(&rt, rt.alloc(), 10, 10, Part::Come(&written));
+    let times = written.load(SeqCst);
+    check(&rt, 500 < times);
+    check_eq(&rt, found, (true, times));
 }
 
 // A writer, and five readers beside it.
 #[test]
 fn readers_find_no_writer_in_the_act(rt: HostRuntime) {
-    let found = play::<false, HostRuntime>(&rt, rt.alloc(), 6, 6, Part::Tear(0));
+    let found = play(&rt, rt.alloc(), 6, 6, Part::Tear(0));
     check_eq(&rt, found, (true, 10));
 }
 
 // A writer, five upgraders and five readers.
 #[test]
 fn upgraders_find_no_writer_in_the_act(rt: HostRuntime) {
-    let found = play::<false, HostRuntime>(&rt, rt.alloc(), 11, 11, Part::Tear(5));
+    let found = play(&rt, rt.alloc(), 11, 11, Part::Tear(5));
     check_eq(&rt, found, (true, 15));
-    let found = play::<false, HostRuntime>(&rt, rt.alloc(), 63, 11, Part::Tear(5));
+    let found = play(&rt, rt.alloc(), 63, 11, Part::Tear(5));
     check_eq(&rt, found, (true, 15));
 }

@@ -16,10 +16,10 @@ use std::sync::atomic::AtomicBool;
 use std::thread::Threads;
 
 // Whether a reader saw a writer come for which it gave the lock up, or which it let in by a bump.
-fn give_as_reader<const RECURSIVE: bool, R: Wait>(
+fn give_as_reader<R: Wait>(
     rt: &R,
     lot: &ParkingLot,
-    lock: &Lock<RECURSIVE>,
+    lock: &Lock,
     token: &mut Token,
     held: &AtomicBool,
     bumps: bool,
@@ -42,10 +42,10 @@ fn give_as_reader<const RECURSIVE: bool, R: Wait>(
 }
 
 // Gives the lock up fairly with the upgradable right.
-fn give_as_upgradable<const RECURSIVE: bool, R: Wait>(
+fn give_as_upgradable<R: Wait>(
     rt: &R,
     lot: &ParkingLot,
-    lock: &Lock<RECURSIVE>,
+    lock: &Lock,
     token: &mut Token,
     held: &AtomicBool,
     bumps: bool,
@@ -68,10 +68,10 @@ fn give_as_upgradable<const RECURSIVE: bool, R: Wait>(
 }
 
 // Gives the lock up fairly as a writer.
-fn give_as_writer<const RECURSIVE: bool, R: Wait>(
+fn give_as_writer<R: Wait>(
     rt: &R,
     lot: &ParkingLot,
-    lock: &Lock<RECURSIVE>,
+    lock: &Lock,
     token: &mut Token,
     held: &AtomicBool,
     bumps: bool,
@@ -97,10 +97,10 @@ pub(super) enum Giver {
 }
 
 // Whether a writer waited, and had written by the time at which the giver read again.
-pub(super) fn give<const RECURSIVE: bool, R: Wait>(
+pub(super) fn give<R: Wait>(
     rt: &R,
     lot: &ParkingLot,
-    lock: &Lock<RECURSIVE>,
+    lock: &Lock,
     token: &mut Token,
     held: &AtomicBool,
     giver: Giver,
@@ -119,10 +119,7 @@ pub(super) fn give<const RECURSIVE: bool, R: Wait>(
 
 fn all_give<R: Threads + Wait + Abort + Sync>(rt: &R, alloc: Global, bumps: bool) {
     for giver in [Giver::Reader, Giver::Upgradable, Giver::Writer] {
-        check(
-            rt,
-            play::<false, R>(rt, alloc, 2, 2, Part::Give(giver, bumps)).0,
-        );
+        check(rt, play(rt, alloc, 2, 2, Part::Give(giver, bumps)).0);
     }
 }
 

@@ -107,10 +107,10 @@ fn guards_keep_tries_out(rt: HostRuntime) {
 
 // Tells that the thread has the lock. Whether somebody comes to wait then, for the lock or for its
 // last readers.
-pub(super) fn is_waited_for<const RECURSIVE: bool, R: Wait>(
+pub(super) fn is_waited_for<R: Wait>(
     rt: &R,
     lot: &ParkingLot,
-    lock: &Lock<RECURSIVE>,
+    lock: &Lock,
     token: &mut Token,
     held: &AtomicBool,
 ) -> bool
@@ -130,12 +130,11 @@ pub(super) fn is_waited_for<const RECURSIVE: bool, R: Wait>(
     false
 }
 
-// Reads until a writer waits. Whether one came, and a try to read once more came in beside it just
-// where the lock is recursive.
-pub(super) fn read_twice<const RECURSIVE: bool, R: Wait>(
+// Reads until a writer waits. Whether one came, and kept a try to read once more out.
+pub(super) fn read_twice<R: Wait>(
     rt: &R,
     lot: &ParkingLot,
-    lock: &Lock<RECURSIVE>,
+    lock: &Lock,
     token: &mut Token,
     held: &AtomicBool,
 ) -> bool
@@ -148,17 +147,11 @@ pub(super) fn read_twice<const RECURSIVE: bool, R: Wait>(
     let came = is_waited_for(rt, lot, lock, token, held);
     let again = reads(rt, lock, token);
     end_reader(rt, token, guard);
-    came && again == RECURSIVE
+    came && !again
 }
 
 #[test]
 fn a_waiting_writer_keeps_a_reader_out(rt: HostRuntime) {
-    let seen = play::<false, HostRuntime>(&rt, rt.alloc(), 2, 2, Part::ReadTwice);
-    check_eq(&rt, seen, (true, 7));
-}
-
-#[test]
-fn who_reads_a_recursive_lock_reads_again_beside_a_waiting_writer(rt: HostRuntime) {
-    let seen = play::<true, HostRuntime>(&rt, rt.alloc(), 2, 2, Part::ReadTwice);
+    let seen = play(&rt, rt.alloc(), 2, 2, Part::ReadTwice);
     check_eq(&rt, seen, (true, 7));
 }

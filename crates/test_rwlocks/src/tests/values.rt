@@ -29,9 +29,9 @@ fn wait_until<R: Wait>(rt: &R, came: &AtomicUsize, wanted: usize) {
 }
 
 // Reads until so many do at once. Whether the value was whole throughout.
-pub(super) fn read_together<const RECURSIVE: bool, R: Wait>(
+pub(super) fn read_together<R: Wait>(
     rt: &R,
-    lock: &Lock<RECURSIVE>,
+    lock: &Lock,
     token: &mut Token,
     inside: &AtomicUsize,
     wanted: usize,
@@ -51,7 +51,7 @@ pub(super) fn read_together<const RECURSIVE: bool, R: Wait>(
 #[test]
 fn four_threads_read_a_value_at_once(rt: HostRuntime) {
     let inside = AtomicUsize::new(0);
-    let found = play::<false, HostRuntime>(&rt, rt.alloc(), 4, 4, Part::Meet(&inside, 4));
+    let found = play(&rt, rt.alloc(), 4, 4, Part::Meet(&inside, 4));
     check_eq(&rt, found, (true, 0));
 }
 

@@ -1,13 +1,10 @@
 //! Threads that come to a lock that is held.
 ghost use Rattle.parking_lot_core.specs.Tokens.{IsTokenOf};
-ghost use Rattle.parking_lot.specs.Names.{lot_of_rwlock};
+ghost use Rattle.test_raw_rwlocks.specs.AnyLocks.{lot_of};
 
-use super::super::fixtures::await_flag;
+use super::super::fixtures::{AnyRwLock, await_flag};
 use super::scene::{Coming, Scene, Told};
-use parking_lot::lock_api_rw::{
-    RawRwLock as RawLock, RawRwLockTimed, RawRwLockUpgrade, RawRwLockUpgradeTimed,
-};
-use parking_lot::{RawRwLock, TickClock, Token};
+use parking_lot::{TickClock, Token};
 use std::sync::Wait;
 use std::sync::atomic::Ordering::SeqCst;
 
@@ -15,14 +12,8 @@ use std::sync::atomic::Ordering::SeqCst;
 const NEVER: u64 = 18446744073709551615;
 
 // Comes in, tells so, and goes.
-fn come<const RECURSIVE: bool, R: Wait>(
-    rt: &R,
-    lock: &RawRwLock<RECURSIVE>,
-    token: &mut Token,
-    coming: Coming,
-    told: &Told,
-)
-    requires { IsTokenOf (lot_of_rwlock lock.now) token.old }
+fn come<R: Wait>(rt: &R, lock: &AnyRwLock, token: &mut Token, coming: Coming, told: &Told)
+    requires { IsTokenOf (lot_of lock.now) token.old }
 {
     match coming {
         Coming::Reader => match lock.lock_shared(rt, token) {
@@ -52,14 +43,8 @@ fn come<const RECURSIVE: bool, R: Wait>(
 }
 
 // Comes in before a deadline that never comes, tells so, and goes.
-fn come_in_time<const RECURSIVE: bool, R: Wait>(
-    rt: &R,
-    lock: &RawRwLock<RECURSIVE>,
-    token: &mut Token,
-    coming: Coming,
-    told: &Told,
-)
-    requires { IsTokenOf (lot_of_rwlock lock.now) token.old }
+fn come_in_time<R: Wait>(rt: &R, lock: &AnyRwLock, token: &mut Token, coming: Coming, told: &Told)
+    requires { IsTokenOf (lot_of lock.now) token.old }
 {
     let clock = TickClock::new();
     match coming {
@@ -91,14 +76,14 @@ fn come_in_time<const RECURSIVE: bool, R: Wait>(
 }
 
 // Comes in its role, once the lock is held.
-pub(super) fn come_later<const RECURSIVE: bool, R: Wait>(
+pub(super) fn come_later<R: Wait>(
     rt: &R,
-    lock: &RawRwLock<RECURSIVE>,
+    lock: &AnyRwLock,
     token: &mut Token,
     scene: &Scene,
     told: &Told,
 )
-    requires { IsTokenOf (lot_of_rwlock lock.now) token.old }
+    requires { IsTokenOf (lot_of lock.now) token.old }
 {
     await_flag(rt, &told.held);
     let role = told.roles.fetch_add(1, SeqCst);

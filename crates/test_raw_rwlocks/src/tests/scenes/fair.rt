@@ -1,14 +1,11 @@
 //! Threads to which a reader-writer lock is handed over.
 ghost use Rattle.parking_lot_core.specs.Tokens.{IsTokenOf};
-ghost use Rattle.parking_lot.specs.Names.{lot_of_rwlock};
+ghost use Rattle.test_raw_rwlocks.specs.AnyLocks.{lot_of};
 
-use super::super::fixtures::lock_alone;
+use super::super::fixtures::{AnyRwLock, Sort, lock_alone};
 use super::scene::{ALL, Coming, Manner, READERS, Scene, WRITERS};
 use super::{check_eq, play, play_within};
-use parking_lot::lock_api_rw::{
-    RawRwLock as RawLock, RawRwLockFair, RawRwLockUpgrade, RawRwLockUpgradeFair,
-};
-use parking_lot::{RawRwLock, Token};
+use parking_lot::Token;
 use std::sync::Wait;
 use std::test::Fail;
 
@@ -25,15 +22,40 @@ fn scene(manner: Manner, coming: [Coming; 3], main: usize, second: usize) -> Sce
 
 #[test]
 fn a_writer_hands_the_lock_over(rt: HostRuntime) {
-    play::<false, HostRuntime>(&rt, rt.alloc(), scene(Manner::Handed, ALL, 3, 0));
-    play::<true, HostRuntime>(&rt, rt.alloc(), scene(Manner::Handed, ALL, 3, 0));
-    play::<false, HostRuntime>(&rt, rt.alloc(), scene(Manner::Handed, READERS, 3, 0));
+    play(
+        Sort::Normal,
+        &rt,
+        rt.alloc(),
+        scene(Manner::Handed, ALL, 3, 0),
+    );
+    play(
+        Sort::Recursive,
+        &rt,
+        rt.alloc(),
+        scene(Manner::Handed, ALL, 3, 0),
+    );
+    play(
+        Sort::Normal,
+        &rt,
+        rt.alloc(),
+        scene(Manner::Handed, READERS, 3, 0),
+    );
 }
 
 #[test]
 fn a_writer_that_bumps_lets_others_in(rt: HostRuntime) {
-    play::<false, HostRuntime>(&rt, rt.alloc(), scene(Manner::Bumped, ALL, 3, 0));
-    play::<true, HostRuntime>(&rt, rt.alloc(), scene(Manner::Bumped, READERS, 3, 0));
+    play(
+        Sort::Normal,
+        &rt,
+        rt.alloc(),
+        scene(Manner::Bumped, ALL, 3, 0),
+    );
+    play(
+        Sort::Recursive,
+        &rt,
+        rt.alloc(),
+        scene(Manner::Bumped, READERS, 3, 0),
+    );
 }
 
 const TIMED: [Coming; 3] = [
@@ -44,15 +66,25 @@ const TIMED: [Coming; 3] = [
 
 #[test]
 fn who_waits_with_a_deadline_is_handed_the_lock(rt: HostRuntime) {
-    play::<false, HostRuntime>(&rt, rt.alloc(), scene(Manner::Handed, TIMED, 3, 0));
-    play::<true, HostRuntime>(&rt, rt.alloc(), scene(Manner::Bumped, TIMED, 3, 0));
+    play(
+        Sort::Normal,
+        &rt,
+        rt.alloc(),
+        scene(Manner::Handed, TIMED, 3, 0),
+    );
+    play(
+        Sort::Recursive,
+        &rt,
+        rt.alloc(),
+        scene(Manner::Bumped, TIMED, 3, 0),
+    );
     let upgradables = [
         Coming::TimedUpgradable,
         Coming::TimedUpgradable,
         Coming::TimedWriter,
     ];
     let handed = scene(Manner::UpgradableHanded, upgradables, 3, 0);
-    play::<false, HostRuntime>(&rt, rt.alloc(), handed);
+    play(Sort::Normal, &rt, rt.alloc(), handed);
 }
 
 // An exclusive owner hands the lock to all that read, on a lock that no more may share than there
@@ -61,7 +93,7 @@ fn who_waits_with_a_deadline_is_handed_the_lock(rt: HostRuntime) {
 fn all_who_are_handed_the_lock_have_it(rt: HostRuntime) {
     let readers = [Coming::Reader, Coming::Reader, Coming::Reader];
     let handed = scene(Manner::Handed, readers, 3, 0);
-    play_within::<false, HostRuntime>(&rt, rt.alloc(), handed, 5);
+    play_within(Sort::Normal, &rt, rt.alloc(), handed, 5);
 }
 
 const UPGRADABLES: [Coming; 3] = [Coming::Upgradable, Coming::Upgradable, Coming::Writer];
@@ -69,25 +101,21 @@ const UPGRADABLES: [Coming; 3] = [Coming::Upgradable, Coming::Upgradable, Coming
 #[test]
 fn an_upgradable_owner_hands_the_lock_over(rt: HostRuntime) {
     let handed = scene(Manner::UpgradableHanded, UPGRADABLES, 3, 0);
-    play::<false, HostRuntime>(&rt, rt.alloc(), handed);
+    play(Sort::Normal, &rt, rt.alloc(), handed);
     let bumped = scene(Manner::UpgradableBumped, UPGRADABLES, 3, 0);
-    play::<false, HostRuntime>(&rt, rt.alloc(), bumped);
+    play(Sort::Normal, &rt, rt.alloc(), bumped);
 }
 
 #[test]
 fn a_reader_that_bumps_lets_a_writer_in(rt: HostRuntime) {
     let bumped = scene(Manner::ReaderBumped, WRITERS, 2, 1);
-    play::<false, HostRuntime>(&rt, rt.alloc(), bumped);
+    play(Sort::Normal, &rt, rt.alloc(), bumped);
 }
 
 // Checks a lock that one thread has to itself, where it bumps each right and releases it fairly.
-fn goes_alone<const RECURSIVE: bool, R: Wait>(
-    rt: &R,
-    lock: &RawRwLock<RECURSIVE>,
-    token: &mut Token,
-) -> [bool; 3]
-    requires { IsTokenOf (lot_of_rwlock lock.now) token.old }
-    ensures { IsTokenOf (lot_of_rwlock lock.now) token.new }
+fn goes_alone<R: Wait>(rt: &R, lock: &AnyRwLock, token: &mut Token) -> [bool; 3]
+    requires { IsTokenOf (lot_of lock.now) token.old }
+    ensures { IsTokenOf (lot_of lock.now) token.new }
 {
     let mut free = [false; 3];
     if let Ok(guard) = lock.lock_shared(rt, token)
@@ -112,7 +140,7 @@ fn goes_alone<const RECURSIVE: bool, R: Wait>(
 
 #[test]
 fn who_is_alone_keeps_its_right_as_it_bumps(rt: HostRuntime) -> Result<(), Fail> {
-    let (lock, mut token) = lock_alone::<false>(rt.alloc(), 2)?;
+    let (lock, mut token) = lock_alone(Sort::Normal, rt.alloc(), 2)?;
     check_eq(&rt, goes_alone(&rt, &lock, &mut token), [true, true, true]);
     Ok(())
 }

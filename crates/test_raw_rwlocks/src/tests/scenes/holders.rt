@@ -1,32 +1,27 @@
 //! Threads that hold a lock until others wait for it, and let them in.
 ghost use Rattle.std.specs.Prelude.{◌≡◌};
 ghost use Rattle.parking_lot_core.specs.Tokens.{IsTokenOf};
-ghost use Rattle.parking_lot.specs.Names.{IsExclusiveOf, IsSharedOf, IsUpgradableOf, lot_of_rwlock, word_of_rwlock};
+ghost use Rattle.parking_lot.specs.Names.{IsExclusiveOf, IsSharedOf, IsUpgradableOf};
+ghost use Rattle.test_raw_rwlocks.specs.AnyLocks.{lot_of, word_of};
 
-use super::super::fixtures::{comes_to, queue_up};
+use super::super::fixtures::{AnyRwLock, comes_to, queue_up};
 use super::scene::{Manner, Scene, Told};
-use parking_lot::lock_api_rw::{
-    RawRwLock as RawLock, RawRwLockDowngrade, RawRwLockFair, RawRwLockUpgrade,
-    RawRwLockUpgradeDowngrade, RawRwLockUpgradeFair,
-};
-use parking_lot::{
-    ParkingLot, RawExclusiveGuard, RawRwLock, RawSharedGuard, RawUpgradableGuard, Token,
-};
+use parking_lot::{ParkingLot, RawExclusiveGuard, RawSharedGuard, RawUpgradableGuard, Token};
 use std::sync::Wait;
 use std::sync::atomic::Ordering::SeqCst;
 
 // A writer goes for which others wait. Where it hands the lock over, whether somebody had it at
 // once; where it bumps, whether somebody came in before it had the lock again.
-fn go_alone<const RECURSIVE: bool, R: Wait>(
+fn go_alone<R: Wait>(
     rt: &R,
-    lock: &RawRwLock<RECURSIVE>,
+    lock: &AnyRwLock,
     token: &mut Token,
     manner: Manner,
     told: &Told,
     guard: RawExclusiveGuard,
 ) -> bool
-    requires token { IsTokenOf (lot_of_rwlock lock.now) token.old }
-    requires guard { IsExclusiveOf (lot_of_rwlock lock.now) (word_of_rwlock lock.now) guard }
+    requires token { IsTokenOf (lot_of lock.now) token.old }
+    requires guard { IsExclusiveOf (lot_of lock.now) (word_of lock.now) guard }
 {
     match manner {
         Manner::Handed => {
@@ -50,16 +45,16 @@ fn go_alone<const RECURSIVE: bool, R: Wait>(
 }
 
 // Goes on with the upgradable right.
-fn go_upgradable<const RECURSIVE: bool, R: Wait>(
+fn go_upgradable<R: Wait>(
     rt: &R,
-    lock: &RawRwLock<RECURSIVE>,
+    lock: &AnyRwLock,
     token: &mut Token,
     manner: Manner,
     told: &Told,
     guard: RawUpgradableGuard,
 ) -> bool
-    requires token { IsTokenOf (lot_of_rwlock lock.now) token.old }
-    requires guard { IsUpgradableOf (lot_of_rwlock lock.now) (word_of_rwlock lock.now) guard }
+    requires token { IsTokenOf (lot_of lock.now) token.old }
+    requires guard { IsUpgradableOf (lot_of lock.now) (word_of lock.now) guard }
 {
     match manner {
         Manner::UpgradableHanded => {
@@ -85,15 +80,15 @@ fn go_upgradable<const RECURSIVE: bool, R: Wait>(
 }
 
 // A reader bumps beside a writer that waits for it. Whether that came in.
-fn go_shared<const RECURSIVE: bool, R: Wait>(
+fn go_shared<R: Wait>(
     rt: &R,
-    lock: &RawRwLock<RECURSIVE>,
+    lock: &AnyRwLock,
     token: &mut Token,
     told: &Told,
     guard: RawSharedGuard,
 ) -> bool
-    requires token { IsTokenOf (lot_of_rwlock lock.now) token.old }
-    requires guard { IsSharedOf (lot_of_rwlock lock.now) (word_of_rwlock lock.now) guard }
+    requires token { IsTokenOf (lot_of lock.now) token.old }
+    requires guard { IsSharedOf (lot_of lock.now) (word_of lock.now) guard }
 {
     match lock.bump_shared(rt, token, guard) {
         Ok(guard) => {
@@ -107,15 +102,15 @@ fn go_shared<const RECURSIVE: bool, R: Wait>(
 
 // Holds the lock alone until all stand in its queues, and lets them in. Whether they stood, and
 // came beside it.
-fn hold_alone<const RECURSIVE: bool, R: Wait>(
+fn hold_alone<R: Wait>(
     rt: &R,
     lot: &ParkingLot,
-    lock: &RawRwLock<RECURSIVE>,
+    lock: &AnyRwLock,
     token: &mut Token,
     scene: &Scene,
     told: &Told,
 ) -> bool
-    requires { IsTokenOf lot.now token.old × (lot_of_rwlock lock.now ≡ lot.now) }
+    requires { IsTokenOf lot.now token.old × (lot_of lock.now ≡ lot.now) }
 {
     let guard = lock.lock_exclusive(rt, token);
     told.held.store(true, SeqCst);
@@ -139,15 +134,15 @@ fn hold_alone<const RECURSIVE: bool, R: Wait>(
 }
 
 // Holds the upgradable right.
-fn hold_upgradable<const RECURSIVE: bool, R: Wait>(
+fn hold_upgradable<R: Wait>(
     rt: &R,
     lot: &ParkingLot,
-    lock: &RawRwLock<RECURSIVE>,
+    lock: &AnyRwLock,
     token: &mut Token,
     scene: &Scene,
     told: &Told,
 ) -> bool
-    requires { IsTokenOf lot.now token.old × (lot_of_rwlock lock.now ≡ lot.now) }
+    requires { IsTokenOf lot.now token.old × (lot_of lock.now ≡ lot.now) }
 {
     let Ok(guard) = lock.lock_upgradable(rt, token) else {
         return false;
@@ -169,13 +164,9 @@ fn hold_upgradable<const RECURSIVE: bool, R: Wait>(
 }
 
 // Whether a reader comes in, which goes then.
-fn read<const RECURSIVE: bool, R: Wait>(
-    rt: &R,
-    lock: &RawRwLock<RECURSIVE>,
-    token: &mut Token,
-) -> bool
-    requires { IsTokenOf (lot_of_rwlock lock.now) token.old }
-    ensures { IsTokenOf (lot_of_rwlock lock.now) token.new }
+fn read<R: Wait>(rt: &R, lock: &AnyRwLock, token: &mut Token) -> bool
+    requires { IsTokenOf (lot_of lock.now) token.old }
+    ensures { IsTokenOf (lot_of lock.now) token.new }
 {
     match lock.lock_shared(rt, token) {
         Ok(guard) => {
@@ -188,15 +179,15 @@ fn read<const RECURSIVE: bool, R: Wait>(
 
 // Holds the lock as a reader until all stand in its queues, and lets them in. Whether they stood,
 // and came in where it bumps, or it came in again.
-fn hold_shared<const RECURSIVE: bool, R: Wait>(
+fn hold_shared<R: Wait>(
     rt: &R,
     lot: &ParkingLot,
-    lock: &RawRwLock<RECURSIVE>,
+    lock: &AnyRwLock,
     token: &mut Token,
     scene: &Scene,
     told: &Told,
 ) -> bool
-    requires { IsTokenOf lot.now token.old × (lot_of_rwlock lock.now ≡ lot.now) }
+    requires { IsTokenOf lot.now token.old × (lot_of lock.now ≡ lot.now) }
 {
     let Ok(guard) = lock.lock_shared(rt, token) else {
         return false;
@@ -218,15 +209,15 @@ fn hold_shared<const RECURSIVE: bool, R: Wait>(
     stood && went
 }
 
-pub(super) fn hold<const RECURSIVE: bool, R: Wait>(
+pub(super) fn hold<R: Wait>(
     rt: &R,
     lot: &ParkingLot,
-    lock: &RawRwLock<RECURSIVE>,
+    lock: &AnyRwLock,
     token: &mut Token,
     scene: &Scene,
     told: &Told,
 ) -> bool
-    requires { IsTokenOf lot.now token.old × (lot_of_rwlock lock.now ≡ lot.now) }
+    requires { IsTokenOf lot.now token.old × (lot_of lock.now ≡ lot.now) }
 {
     match scene.manner {
         Manner::Unlocked

@@ -1,12 +1,11 @@
 //! Threads that wait for a reader-writer lock until another lets them in.
 ghost use Rattle.parking_lot_core.specs.Tokens.{IsTicketOf};
-ghost use Rattle.parking_lot.specs.Names.{lot_of_rwlock};
+ghost use Rattle.test_raw_rwlocks.specs.AnyLocks.{lot_of};
 
-use super::super::fixtures::{comes_to, seats};
+use super::super::fixtures::{AnyRwLock, Sort, comes_to, seats};
 use super::scene::{ALL, Coming, Manner, READERS, Scene, WRITERS};
 use super::{check, play};
-use parking_lot::lock_api_rw::RawRwLock as RawLock;
-use parking_lot::{Fault, RawRwLock, Ticket};
+use parking_lot::{Fault, Ticket};
 use std::alloc::Global;
 use std::sync::Wait;
 use std::sync::atomic::AtomicUsize;
@@ -15,13 +14,8 @@ use std::test::Fail;
 use std::thread::{Threads, map_vec};
 
 // Reads until another reader has told that it does too. Whether it has.
-fn meet<const RECURSIVE: bool, R: Wait>(
-    rt: &R,
-    lock: &RawRwLock<RECURSIVE>,
-    ticket: Ticket,
-    met: &AtomicUsize,
-) -> bool
-    requires { IsTicketOf (lot_of_rwlock lock.now) ticket }
+fn meet<R: Wait>(rt: &R, lock: &AnyRwLock, ticket: Ticket, met: &AtomicUsize) -> bool
+    requires { IsTicketOf (lot_of lock.now) ticket }
 {
     let mut token = ticket.enter();
     let Ok(guard) = lock.lock_shared(rt, &mut token) else {
@@ -34,17 +28,14 @@ fn meet<const RECURSIVE: bool, R: Wait>(
 }
 
 // Whether all readers of these tickets met.
-fn all_meet<const RECURSIVE: bool, R: Threads + Wait + Sync>(
-    rt: &R,
-    alloc: Global,
-) -> Result<bool, Fault> {
-    let (_lot, lock, tickets) = seats::<RECURSIVE>(alloc, 2, 1000)?;
+fn all_meet<R: Threads + Wait + Sync>(sort: Sort, rt: &R, alloc: Global) -> Result<bool, Fault> {
+    let (_lot, lock, tickets) = seats(sort, alloc, 2, 1000)?;
     let (shared, met) = (&lock, &AtomicUsize::new(0));
     let seen = map_vec(
         rt,
         tickets,
         &|ticket: Ticket|
-            requires { IsTicketOf (lot_of_rwlock shared.now) ticket }
+            requires { IsTicketOf (lot_of shared.now) ticket }
         { meet(rt, shared, ticket, met) },
     );
     Ok(seen.is_ok_and(|seen| seen.iter().all(|seen| *seen)))
@@ -52,8 +43,8 @@ fn all_meet<const RECURSIVE: bool, R: Threads + Wait + Sync>(
 
 #[test]
 fn readers_meet(rt: HostRuntime) -> Result<(), Fail> {
-    check(&rt, all_meet::<false, HostRuntime>(&rt, rt.alloc())?);
-    check(&rt, all_meet::<true, HostRuntime>(&rt, rt.alloc())?);
+    check(&rt, all_meet(Sort::Normal, &rt, rt.alloc())?);
+    check(&rt, all_meet(Sort::Recursive, &rt, rt.alloc())?);
     Ok(())
 }
 
@@ -66,7 +57,7 @@ fn a_writer_that_goes_lets_all_in(rt: HostRuntime) {
         second: 0,
         beside: 0,
     };
-    play::<false, HostRuntime>(&rt, rt.alloc(), scene);
+    play(Sort::Normal, &rt, rt.alloc(), scene);
 }
 
 #[test]
@@ -78,7 +69,7 @@ fn a_writer_that_downgrades_lets_readers_in(rt: HostRuntime) {
         second: 0,
         beside: 3,
     };
-    play::<false, HostRuntime>(&rt, rt.alloc(), scene);
+    play(Sort::Normal, &rt, rt.alloc(), scene);
 }
 
 #[test]
@@ -90,7 +81,7 @@ fn a_writer_that_keeps_the_upgradable_right_lets_readers_in(rt: HostRuntime) {
         second: 0,
         beside: 2,
     };
-    play::<false, HostRuntime>(&rt, rt.alloc(), scene);
+    play(Sort::Normal, &rt, rt.alloc(), scene);
 }
 
 #[test]
@@ -102,7 +93,7 @@ fn who_downgrades_the_upgradable_right_lets_another_have_it(rt: HostRuntime) {
         second: 0,
         beside: 3,
     };
-    play::<false, HostRuntime>(&rt, rt.alloc(), scene);
+    play(Sort::Normal, &rt, rt.alloc(), scene);
 }
 
 #[test]
@@ -115,7 +106,7 @@ fn who_gives_the_upgradable_right_up_lets_another_have_it(rt: HostRuntime) {
         second: 0,
         beside: 0,
     };
-    play::<false, HostRuntime>(&rt, rt.alloc(), scene);
+    play(Sort::Normal, &rt, rt.alloc(), scene);
 }
 
 #[test]
@@ -127,7 +118,7 @@ fn the_last_reader_lets_the_writer_in(rt: HostRuntime) {
         second: 1,
         beside: 0,
     };
-    play::<false, HostRuntime>(&rt, rt.alloc(), scene);
+    play(Sort::Normal, &rt, rt.alloc(), scene);
     let scene = Scene {
         manner: Manner::ReaderGone,
         coming: WRITERS,
@@ -135,7 +126,7 @@ fn the_last_reader_lets_the_writer_in(rt: HostRuntime) {
         second: 1,
         beside: 0,
     };
-    play::<true, HostRuntime>(&rt, rt.alloc(), scene);
+    play(Sort::Recursive, &rt, rt.alloc(), scene);
 }
 
 #[test]
@@ -147,5 +138,5 @@ fn who_reads_a_recursive_lock_reads_again_beside_a_waiting_writer(rt: HostRuntim
         second: 1,
         beside: 0,
     };
-    play::<true, HostRuntime>(&rt, rt.alloc(), scene);
+    play(Sort::Recursive, &rt, rt.alloc(), scene);
 }

@@ -5,7 +5,7 @@ use Rattle.spec_locks.specs.declared.calls.Access.TheVariants.{Shared}
 use Rattle.spec_locks.specs.declared.calls.Patience.TheVariants.{Patient}
 use Rattle.core_words.specs.declared.rights.Held.{Held}
 use Rattle.raw_rwlocks.specs.RwLockHalves.{HasEntered}
-use Rattle.raw_rwlocks.proofs.raw_rwlock.RawRwLockRawRwLock.lock_shared_slow.Goals as goal
+use Rattle.raw_rwlocks.proofs.normal.RawRwLockfalseRawRwLockHalves.lock_shared_slow.Goals as goal
 
 pub returns-in-Ok-Some-clause-over : goal.returns-in-Ok-Some-clause-over
 returns-in-Ok-Some-clause-over g c = λ before begun. let is : c.enter_slow.result ≡ Ok (Some c.in-Ok-Some.right) = search rules in

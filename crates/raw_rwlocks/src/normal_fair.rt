@@ -1,16 +1,11 @@
-//! The reader-writer lock, handed over to those that wait.
-ghost use Rattle.std.specs.Prelude.{◌≡◌, ◌<◌, ◌-◌, ◌^◌};
-ghost use Rattle.std.specs.Arc.{arc_value};
-ghost use Rattle.core_words.specs.Lots.{IsWordOf};
-ghost use Rattle.core_words.specs.declared.words.WordKind.TheVariants.{RwLock};
-
+//! Fair releases of the reader-writer lock whose waiting writer keeps further readers out.
 use crate::raw_rwlock::RawRwLock;
 use crate::rwlock_guards::{RawExclusiveGuard, RawSharedGuard, RawUpgradableGuard};
 use parking_lot_core::{Fault, Token};
 use spec_locks::Access;
 use std::sync::Wait;
 
-impl<const RECURSIVE: bool> lock_raw::RawRwLockFair for RawRwLock<RECURSIVE> {
+impl lock_raw::RawRwLockFair for RawRwLock<false> {
     #[inline]
     fn unlock_shared_fair<R: Wait>(&self, rt: &R, token: &mut Token, guard: RawSharedGuard) {
         let RawSharedGuard { right } = guard;
@@ -52,7 +47,7 @@ impl<const RECURSIVE: bool> lock_raw::RawRwLockFair for RawRwLock<RECURSIVE> {
     }
 }
 
-impl<const RECURSIVE: bool> lock_raw::RawRwLockUpgradeFair for RawRwLock<RECURSIVE> {
+impl lock_raw::RawRwLockUpgradeFair for RawRwLock<false> {
     fn unlock_upgradable_fair<R: Wait>(
         &self,
         rt: &R,

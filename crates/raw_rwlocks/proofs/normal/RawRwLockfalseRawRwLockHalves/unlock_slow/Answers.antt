@@ -1,4 +1,4 @@
-use Rattle.raw_rwlocks.proofs.raw_rwlock.RawRwLockRawRwLock.unlock_slow.Goals as goal
+use Rattle.raw_rwlocks.proofs.normal.RawRwLockfalseRawRwLockHalves.unlock_slow.Goals as goal
 
 pub returns-clause-over : goal.returns-clause-over
 returns-clause-over g c = λ before begun. let released = c.release_slow.ensures.over before begun in
