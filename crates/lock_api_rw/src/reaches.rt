@@ -13,7 +13,7 @@ impl<R: RawRwLock, T> RwLock<R, T> {
     pub fn get_mut(&mut self) -> &mut T
         ensures* same { sem 𝓛
             (Lends (the_row R.row T.row R.Lot.row R.Token.row R.SharedGuard.row
-            R.ExclusiveGuard.row R.Rest.row R.RawRwLock)
+            R.ExclusiveGuard.row R.Rest.row R.RawRwLockHalves R.RawRwLock)
             T.row
             self.entry result (λ _. self.old)) }
     {
