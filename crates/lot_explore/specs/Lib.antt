@@ -1,2 +1,3 @@
+pub mod Counts
 pub mod Replays
 pub mod Deadlocks

@@ -1,3 +1,4 @@
 pub mod RowLemmas
 pub mod Openings
 pub mod RunLemmas
+pub mod VerdictLemmas

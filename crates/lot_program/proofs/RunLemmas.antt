@@ -14,6 +14,7 @@ use Rattle.lot_machine.specs.Machine.{State, after, after_steps, step_outcome, t
 use Rattle.lot_laws.specs.SitesOf.{IsWorld}
 use Rattle.lot_laws.proofs.alone.WorldRuns.{world_after}
 use Rattle.state_search.specs.Rules.{Leads}
+use Rattle.state_search.proofs.Lists.{none_some, some_same}
 use Rattle.lot_program.specs.declared.states.Local.{Local}
 use Rattle.lot_program.specs.declared.program.Instruction.{Instruction}
 use Rattle.lot_program.specs.declared.program.Instruction.TheVariants as instruction
@@ -21,12 +22,6 @@ use Rattle.lot_program.specs.declared.program.Program.{Program}
 use Rattle.lot_program.specs.Programs.{threads_of, instruction_at}
 use Rattle.lot_program.specs.States.{ProgramState, step_of, stepped_by, with_step, or_refused, world_move, closing, performed, going_on, asserted, is_own, own_move, local_at, thread_move, program_next, rules_of_program}
 use Rattle.lot_program.specs.Runs.{step_by, own_step, thread_step, step_taken, steps_in, steps_of}
-
-some_is : {S : Type 0} (s t : S) → Some s ≡ Some t → s ≡ t
-some_is s t e = cc
-
-none_some : {S : Type 0} (t : S) → None ≡ Some t → ⊥
-none_some t e = cc
 
 -- no act tells that it wasn't possible
 never_told : (a : Act) → outcome_of a ≢ outcome.NotNow
@@ -69,10 +64,10 @@ not_closed w t false e = unchanged w (step_of t turn.Err) (never_told _) e
 stepped_world : (o : Outcome) (s u : ProgramState) (step : Step) (l : Local) → stepped_by o s step l ≡ Some u
     → u.world ≡ after s.world step
 stepped_world outcome.NotNow s u step l e = absurd (none_some u e)
-stepped_world outcome.Step s u step l e = ap (λ (v : ProgramState). v.world) (sym (some_is (with_step outcome.Step s step l) u e))
-stepped_world outcome.Sleep s u step l e = ap (λ (v : ProgramState). v.world) (sym (some_is (with_step outcome.Sleep s step l) u e))
-stepped_world (outcome.Closure x) s u step l e = ap (λ (v : ProgramState). v.world) (sym (some_is (with_step (outcome.Closure x) s step l) u e))
-stepped_world (outcome.End a) s u step l e = ap (λ (v : ProgramState). v.world) (sym (some_is (with_step (outcome.End a) s step l) u e))
+stepped_world outcome.Step s u step l e = ap (λ (v : ProgramState). v.world) (sym (some_same (with_step outcome.Step s step l) u e))
+stepped_world outcome.Sleep s u step l e = ap (λ (v : ProgramState). v.world) (sym (some_same (with_step outcome.Sleep s step l) u e))
+stepped_world (outcome.Closure x) s u step l e = ap (λ (v : ProgramState). v.world) (sym (some_same (with_step (outcome.Closure x) s step l) u e))
+stepped_world (outcome.End a) s u step l e = ap (λ (v : ProgramState). v.world) (sym (some_same (with_step (outcome.End a) s step l) u e))
 
 refused_world : (o : Outcome) (s : ProgramState) (step : Step) (l : Local) (t : ℕ) → (o ≡ outcome.NotNow → after s.world step ≡ s.world)
     → (or_refused s t (stepped_by o s step l)).world ≡ after s.world step
@@ -104,7 +99,7 @@ performed_world (instruction.Assert test) s t = asserted_world s t _
 own_world : (s u : ProgramState) (t : ℕ) (i : Option Instruction) → own_move s t i ≡ Some u
     → u.world ≡ after_steps s.world (steps_in (own_step i t))
 own_world s u t None e = absurd (none_some u e)
-own_world s u t (Some i) e = ap (λ (v : ProgramState). v.world) (sym (some_is (performed i s t) u e)) ∙ performed_world i s t
+own_world s u t (Some i) e = ap (λ (v : ProgramState). v.world) (sym (some_same (performed i s t) u e)) ∙ performed_world i s t
 
 thread_world : (p : Program) (s u : ProgramState) (t n : ℕ) → thread_move p s t n ≡ Some u
     → u.world ≡ after_steps s.world (steps_in (thread_step p s t n))

@@ -24,6 +24,8 @@ enum Found {
     Assert(usize),
     /// The limit is reached after so many states.
     Limit(usize),
+    /// Memory is refused after so many states.
+    NoMemory(usize),
     /// The text is no program.
     NoProgram,
 }
@@ -41,7 +43,8 @@ fn search_of(alloc: Global, text: &str, most: u32) -> Found {
     };
     match explore(alloc, &parsed.program, most) {
         Ok(Verdict::Holds { states, depth: _ }) => Found::Nothing(states),
-        Ok(Verdict::Stopped { states, depth: _ }) => Found::Limit(states),
+        Ok(Verdict::Limited { states, depth: _ }) => Found::Limit(states),
+        Ok(Verdict::NoMemory { states, depth: _ }) => Found::NoMemory(states),
         Ok(Verdict::Broken { moves }) => broken(alloc, &parsed.program, moves.as_slice()),
         Err(_) => Found::NoProgram,
     }

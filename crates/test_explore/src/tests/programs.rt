@@ -116,6 +116,13 @@ const PROGRAMS: &[(&str, Found)] = &[
         "threads 2\nvar x 0\nthread 0 1\nadd x 1\n",
         Found::Nothing(4),
     ),
+    // A lock of a program's own, whose release wakes nobody, or one of those that wait.
+    (
+        "threads 3\nlock m mutex\nlock c condvar\nvar held 0\n\
+         thread 0 1 2\nlock m\nwhile held = 1\nwait c m\nend\nset held 1\nunlock m\n\
+         lock m\nset held 0\nunlock m\n",
+        Found::Deadlock(29),
+    ),
     // A loop without a call has two states.
     ("threads 1\nthread 0\nloop\nend\n", Found::Nothing(1)),
 ];
