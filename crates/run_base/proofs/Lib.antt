@@ -1,4 +1,6 @@
 pub mod Paths
+pub mod Queueing
+pub mod Queued
 pub mod Ending
 pub mod Leaving
 pub mod HandingOver
