@@ -6,9 +6,8 @@ use Rattle.core_base.specs.declared.notes.Note.TheVariants.{Normal, HandOff}
 use Rattle.core_base.specs.declared.wants.Want.{Want}
 use Rattle.spec_locks.specs.declared.calls.Access.{Access}
 use Rattle.spec_locks.specs.declared.calls.Access.TheVariants as access
-use Rattle.spec_locks.specs.declared.calls.MutexCall.{MutexCall}
-use Rattle.spec_locks.specs.declared.calls.MutexCall.TheVariants as calls
 use Rattle.spec_locks.specs.declared.calls.OnceCall.{OnceCall}
+use Rattle.spec_locks.specs.declared.calls.Patience.TheVariants.{Patient, Timed, Try}
 use Rattle.spec_locks.specs.Codes.{is_running, has_aside}
 use Rattle.steps_base.specs.declared.acts.Act.{Act}
 use Rattle.steps_base.specs.declared.acts.Act as act
@@ -17,7 +16,7 @@ use Rattle.steps_base.specs.declared.acts.Next.TheVariants.{At, End}
 use Rattle.steps_base.specs.declared.acts.Reply.{Reply}
 use Rattle.steps_base.specs.declared.acts.Reply.TheVariants.{Done, Value, Parked, Took, Requeued, Removed, TakenBy, MovedTo, HandedBy, Late, Woken}
 use Rattle.steps_base.specs.declared.acts.Whom.TheVariants as whom
-use Rattle.steps_mutex.specs.MutexSteps.{decided, hand_off_act, is_locked, lock_act, mutex_act, mutex_first, mutex_looking, mutex_next, unlock_act}
+use Rattle.steps_mutex.specs.MutexSteps.{decided, hand_off_act, is_locked, lock_act, mutex_act, mutex_looking, mutex_next, unlock_act}
 use Rattle.steps_mutex.specs.declared.places.MutexPlace.{MutexPlace}
 use Rattle.steps_mutex.specs.declared.places.MutexPlace.TheVariants.{Lock, TryLock, Unlock, UnlockFair, Bump, HandOff}
 use Rattle.steps_mutex.specs.declared.hand_off.HandOffAt.{HandOffAt}
@@ -126,7 +125,6 @@ module _ (up : Type 0) (kinds : ℕ → WordKind) (at' : ℕ → ℕ) (sleeper :
       woken (act.TheVariants.Take key whom.First) b = absurd b.0
       woken (act.TheVariants.Take key whom.All) b = absurd b.0
       woken (act.TheVariants.Take key (whom.Picked start recursive)) b = absurd b.0
-      woken (act.TheVariants.Take key who) b = absurd b.0
       woken a b = absurd b
 
   -- a thread that releases its mutex is told nothing of others
@@ -149,14 +147,24 @@ may_be_handed_at (purpose.Release access.Shared) again (at.Park parking.Asleep) 
 may_be_handed_at (purpose.Release access.Upgradable) again (at.Park parking.Asleep) (Woken HandOff) stands waits = absurd stands
 may_be_handed_at (purpose.Release access.Exclusive) again (at.Park parking.Asleep) (Woken HandOff) stands waits = absurd stands
 may_be_handed_at (purpose.Downgrade d) again (at.Park parking.Asleep) (Woken HandOff) stands waits = absurd stands
-may_be_handed_at (purpose.Upgrade how) again (at.Park parking.Asleep) (Woken HandOff) stands waits = absurd stands
+may_be_handed_at (purpose.Upgrade Patient) true (at.Park parking.Asleep) (Woken HandOff) stands waits = absurd stands
+may_be_handed_at (purpose.Upgrade Patient) false (at.Park parking.Asleep) (Woken HandOff) stands waits = absurd stands
+may_be_handed_at (purpose.Upgrade Timed) true (at.Park parking.Asleep) (Woken HandOff) stands waits = absurd stands
+may_be_handed_at (purpose.Upgrade Timed) false (at.Park parking.Asleep) (Woken HandOff) stands waits = absurd stands
+may_be_handed_at (purpose.Upgrade Try) true (at.Park parking.Asleep) (Woken HandOff) stands waits = absurd stands
+may_be_handed_at (purpose.Upgrade Try) false (at.Park parking.Asleep) (Woken HandOff) stands waits = absurd stands
 may_be_handed_at q again to (Woken HandOff) stands waits = absurd (false≢true (waits refl))
 may_be_handed_at q again to reply stands waits = tt
 
+gives_way_may : (q : RwLockPurpose) (reply : Reply) → reply ≢ Woken HandOff → MayBeHanded q at.GiveWay reply
+gives_way_may (purpose.Enter x how) (Woken HandOff) calm = absurd (calm refl)
+gives_way_may (purpose.Release x) (Woken HandOff) calm = absurd (calm refl)
+gives_way_may (purpose.Downgrade d) (Woken HandOff) calm = absurd (calm refl)
+gives_way_may (purpose.Upgrade how) (Woken HandOff) calm = absurd (calm refl)
+gives_way_may q reply calm = tt
+
 bump_stands : (up : Type 0) (l : ℕ) (base : List Ownership) (a : Admission) (p : RwLockPlace) (to : RwLockAt) (st : Stage) (reply : Reply) → FitsBump up l base a p to st → p.at ≡ to → (reply ≡ Woken HandOff → awaits_right to ≡ true) → MayBeHanded p.purpose to reply
-bump_stands up l base a p at.GiveWay st (Woken HandOff) fits e waits = absurd (false≢true (waits refl))
-bump_stands up l base a p at.GiveWay st (Woken Normal) fits e waits = tt
-bump_stands up l base a p at.GiveWay st reply fits e waits = tt
+bump_stands up l base a p at.GiveWay st reply fits e waits = gives_way_may p.purpose reply (λ is. false≢true (waits is))
 bump_stands up l base a p to st reply fits e waits = may_be_handed_at p.purpose p.retries to reply (subst (StandsAt p.purpose p.retries) e fits.stands.place) waits
 
 call_may : (up : Type 0) (l : ℕ) (base : List Ownership) (a : Admission) (c : RwLockCallPlace) (st : Stage) (reply : Reply) → FitsCall up l base a c st → (reply ≡ Woken HandOff → (sleeper_at (RwLock l a c)).takes_over ≡ true) → CallMayGo c reply
@@ -184,19 +192,19 @@ condvar_may up kinds at' base l (condvars.Notify all m at) st new reply fits b =
 
 -- ---------------------------------------------------------------- from place to place
 
-mutex_same : (l : ℕ) (n : Next MutexPlace) → is_queued (mutex_goes l n) ≡ after mutex_queued n
+pub mutex_same : (l : ℕ) (n : Next MutexPlace) → is_queued (mutex_goes l n) ≡ after mutex_queued n
 mutex_same l (At at) = refl
 mutex_same l (End answer) = refl
 
-call_same : (l : ℕ) (a : Admission) (n : Next RwLockCallPlace) → is_queued (rwlock_goes l a n) ≡ after (call_queued a) n
+pub call_same : (l : ℕ) (a : Admission) (n : Next RwLockCallPlace) → is_queued (rwlock_goes l a n) ≡ after (call_queued a) n
 call_same l a (At at) = refl
 call_same l a (End answer) = refl
 
-once_same : (l : ℕ) (n : Next OncePlace) → is_queued (once_goes l n) ≡ after once_queued n
+pub once_same : (l : ℕ) (n : Next OncePlace) → is_queued (once_goes l n) ≡ after once_queued n
 once_same l (At at) = refl
 once_same l (End answer) = refl
 
-condvar_same : (l : ℕ) (n : Next CondvarPlace) → is_queued (condvar_goes l n) ≡ after condvar_queued n
+pub condvar_same : (l : ℕ) (n : Next CondvarPlace) → is_queued (condvar_goes l n) ≡ after condvar_queued n
 condvar_same l (At at) = refl
 condvar_same l (End answer) = refl
 
@@ -439,14 +447,14 @@ queued_from p q (inr e) queued = none_needed (sym (ap (if_there is_queued) e) �
 
 -- a step on a word queues nobody
 pub unqueued_behind : (p : Place) (seen : ℕ) → (GoesOn (is_queued p) (is_queued (next_place p (Value seen))) (act_of p) (Value seen)) → is_queued p ≡ false → is_queued (next_place p (Value seen)) ≡ false
-unqueued_behind p seen goes calm = not_true (λ queued. by_goes (goes queued))
+unqueued_behind p seen goes calm = not_true (is_queued (next_place p (Value seen))) (λ queued. by_goes (goes queued))
   where
-    not_true : {b : Bool} → (b ≡ true → ⊥) → b ≡ false
-    not_true {true} h = absurd (h refl)
-    not_true {false} h = refl
+    not_true : (b : Bool) → (b ≡ true → ⊥) → b ≡ false
+    not_true true h = absurd (h refl)
+    not_true false h = refl
     gets_none : (a : Act) → gets_place a (Value seen) ≡ true → ⊥
-    gets_none (act.TheVariants.Park lock key check want) e = false≢true e
-    gets_none (act.TheVariants.Stand key want) e = false≢true e
+    gets_none (act.TheVariants.Park _ _ _ _) e = false≢true e
+    gets_none (act.TheVariants.Stand _ _) e = false≢true e
     gets_none a e = false≢true e
     by_goes : (gets_place (act_of p) (Value seen) ≡ true) ⊎ ((spends_place (act_of p) (Value seen) ≡ false) × (is_queued p ≡ true)) → ⊥
     by_goes (inl e) = gets_none (act_of p) e
@@ -459,15 +467,3 @@ keeps_on lot n a reply old new was is goes keeps had queued = by_goes (goes queu
     by_goes : (gets_place a reply ≡ true) ⊎ ((spends_place a reply ≡ false) × (was ≡ true)) → HasPlace lot n new
     by_goes (inl e) = keeps.0 e
     by_goes (inr e) = keeps.1 e.0 (had e.1)
-
--- nobody is queued after the first step of a mutex's call
-pub unqueued_mutex : (n : ℕ) (at : MutexPlace) (seen : ℕ) → MutexInNoHand at → mutex_queued at ≡ false → is_queued (next_place (Mutex n at) (Value seen)) ≡ false
-unqueued_mutex n at seen free calm = unqueued_behind (Mutex n at) seen (same _ _ _ _ _ _ refl (mutex_same n (mutex_next at (Value seen))) (mutex_on n at (Value seen) free)) calm
-
-pub unqueued_call : (n : ℕ) (call : MutexCall) (seen : ℕ) → is_queued (next_place (Mutex n (mutex_first false call)) (Value seen)) ≡ false
-unqueued_call n calls.Lock seen = unqueued_mutex n (mutex_first false calls.Lock) seen tt refl
-unqueued_call n calls.LockTimed seen = unqueued_mutex n (mutex_first false calls.LockTimed) seen tt refl
-unqueued_call n calls.TryLock seen = unqueued_mutex n (mutex_first false calls.TryLock) seen tt refl
-unqueued_call n calls.Unlock seen = unqueued_mutex n (mutex_first false calls.Unlock) seen tt refl
-unqueued_call n calls.UnlockFair seen = unqueued_mutex n (mutex_first false calls.UnlockFair) seen tt refl
-unqueued_call n calls.Bump seen = unqueued_mutex n (mutex_first false calls.Bump) seen tt refl

@@ -38,6 +38,7 @@ use Rattle.steps_semaphore.specs.declared.acquire.AcquireAt.{AcquireAt}
 use Rattle.steps_semaphore.specs.declared.acquire.AcquireAt.TheVariants as acquire
 use Rattle.steps_semaphore.specs.declared.tries.TryAt.{TryAt}
 use Rattle.steps_semaphore.specs.declared.release.ReleaseAt.{ReleaseAt}
+use Rattle.steps_semaphore.specs.declared.release.ReleaseAt.TheVariants as release
 use Rattle.steps_once.specs.OnceSteps as once
 use Rattle.steps_once.specs.OnceProfiles.{once_profile, look_row}
 use Rattle.steps_once.specs.declared.places.OncePlace.{OncePlace}
@@ -88,8 +89,9 @@ use Rattle.run_base.specs.Queued.{is_queued, gets_place, spends_place}
 abbrev pub GoesOn : Bool → Bool → Act → Reply → Type 0
 GoesOn was is a reply = is ≡ true → (gets_place a reply ≡ true) ⊎ ((spends_place a reply ≡ false) × (was ≡ true))
 
-off : (was is : Bool) (a : Act) (reply : Reply) → is ≡ false → GoesOn was is a reply
-off was is a reply none e = absurd (false≢true (sym none ∙ e))
+-- it is not queued after
+never : {A : Type 0} {is : Bool} → is ≡ false → is ≡ true → A
+never none e = absurd (false≢true (sym none ∙ e))
 
 pub same : (was was' is is' : Bool) (a : Act) (reply : Reply) → was ≡ was' → is ≡ is' → GoesOn was' is' a reply → GoesOn was is a reply
 same was was' is is' a reply e f goes = subst (λ (b : Bool). GoesOn b is a reply) (sym e) (subst (λ (b : Bool). GoesOn was' b a reply) (sym f) goes)
@@ -119,20 +121,26 @@ InNoHand (lock.Handed by) = ⊥
 InNoHand at = Unit {0}
 
 lock_on : (l : ℕ) (e : Entry) (at : LockAt) (reply : Reply) → InNoHand at → GoesOn (lock_queued at) (after lock_queued (next_lock e at reply)) (lock_act l at) reply
-lock_on l e lock.First (Value seen) free = off _ _ _ _ (either lock_queued (seen == 0) _ _ refl refl)
-lock_on l e (lock.Decide expected) (Value seen) free = off _ _ _ _ (either lock_queued (not (seen == expected)) _ _ refl (either lock_queued (is_locked seen) _ _ refl refl))
+lock_on l e lock.First (Value seen) free = never (either lock_queued (seen == 0) _ _ refl refl)
+lock_on l e (lock.Decide expected) (Value seen) free = never (either lock_queued (not (seen == expected)) _ _ refl (either lock_queued (is_locked seen) _ _ refl refl))
+lock_on l e lock.Load (Value seen) free = never refl
+lock_on l e (lock.Decide expected) Done free = never refl
+lock_on l e lock.Accept Done free = never refl
+lock_on l e lock.Clear (Value seen) free = never refl
+lock_on l e lock.GiveUp Done free = never refl
 lock_on l e lock.Check (Parked true) free = λ is. inl refl
-lock_on l e lock.Check (Parked false) free = off _ _ _ _ refl
+lock_on l e lock.Check (Parked false) free = never refl
 lock_on l e (lock.Leave true) reply free = λ is. inr (refl, refl)
-lock_on l e (lock.Leave false) reply free = off _ _ _ _ refl
-lock_on l e lock.Remove (Removed none_left) free = off _ _ _ _ (either lock_queued none_left _ _ refl refl)
-lock_on l e lock.Asleep (Woken Normal) free = off _ _ _ _ refl
-lock_on l e lock.Asleep (Woken HandOff) free = off _ _ _ _ refl
+lock_on l e (lock.Leave false) Done free = never refl
+lock_on l e (lock.Leave false) reply free = never refl
+lock_on l e lock.Remove (Removed none_left) free = never (either lock_queued none_left _ _ refl refl)
+lock_on l e lock.Asleep (Woken Normal) free = never refl
+lock_on l e lock.Asleep (Woken HandOff) free = never refl
 lock_on l e lock.Asleep reply free = λ is. inr (refl, refl)
 lock_on l e lock.Remove reply free = λ is. inr (refl, refl)
 lock_on l e (lock.Taken by) reply free = absurd free
 lock_on l e (lock.Handed by) reply free = absurd free
-lock_on l e at reply free = off _ _ _ _ refl
+lock_on l e at reply free = never refl
 
 -- how a call counts its tries says nothing of queues
 same_lock : (e : Entry) (retries : Bool) (at : LockAt) → mutex_queued (Lock e retries at) ≡ lock_queued at
@@ -162,14 +170,14 @@ MutexInNoHand at = Unit {0}
 
 pub mutex_on : (l : ℕ) (at : MutexPlace) (reply : Reply) → MutexInNoHand at → GoesOn (mutex_queued at) (after mutex_queued (mutex_next at reply)) (mutex_act l at) reply
 mutex_on l (Lock e retries at) reply free = same _ _ _ _ _ _ (same_lock e retries at) (same_next e (still_retries retries reply) (next_lock e at reply)) (lock_on l e at reply free)
-mutex_on l TryLock (Value seen) free = off _ _ _ _ (either mutex_queued (is_locked seen) _ _ refl refl)
-mutex_on l TryLock reply free = off _ _ _ _ refl
-mutex_on l (Unlock at) reply free = off _ _ _ _ (unlocks (next_unlock at reply))
-mutex_on l UnlockFair (Value seen) free = off _ _ _ _ (looks false (not (seen == 1)))
-mutex_on l UnlockFair reply free = off _ _ _ _ refl
-mutex_on l Bump (Value seen) free = off _ _ _ _ (looks true (is_parked seen))
-mutex_on l Bump reply free = off _ _ _ _ refl
-mutex_on l (HandOff bumps at) reply free = off _ _ _ _ (hands bumps (next_hand_off at reply))
+mutex_on l TryLock (Value seen) free = never (either mutex_queued (is_locked seen) _ _ refl refl)
+mutex_on l TryLock reply free = never refl
+mutex_on l (Unlock at) reply free = never (unlocks (next_unlock at reply))
+mutex_on l UnlockFair (Value seen) free = never (looks false (not (seen == 1)))
+mutex_on l UnlockFair reply free = never refl
+mutex_on l Bump (Value seen) free = never (looks true (is_parked seen))
+mutex_on l Bump reply free = never refl
+mutex_on l (HandOff bumps at) reply free = never (hands bumps (next_hand_off at reply))
 
 -- ---------------------------------------------------------------- semaphores
 
@@ -184,20 +192,26 @@ AcquireInNoHand (acquire.Taken by) = ⊥
 AcquireInNoHand at = Unit {0}
 
 acquire_on : (l : ℕ) (timed : Bool) (at : AcquireAt) (reply : Reply) → reply ≢ Woken HandOff → AcquireInNoHand at → GoesOn (acquire_queued at) (after acquire_queued (semaphores.next_acquire timed at reply)) (semaphores.acquire_act l at) reply
-acquire_on l timed (acquire.Decide expected) (Value seen) no free = off _ _ _ _ (either acquire_queued (not (seen == expected)) _ _ refl (either acquire_queued (semaphores.is_free seen) _ _ refl refl))
-acquire_on l timed acquire.Check (Parked true) no free = λ is. inl refl
-acquire_on l timed acquire.Check (Parked false) no free = off _ _ _ _ refl
-acquire_on l timed (acquire.Leave true) reply no free = λ is. inr (refl, refl)
-acquire_on l timed (acquire.Leave false) reply no free = off _ _ _ _ refl
-acquire_on l timed acquire.Remove (Removed none_left) no free = off _ _ _ _ (either acquire_queued none_left _ _ refl refl)
-acquire_on l timed acquire.Asleep (Woken Normal) no free = off _ _ _ _ refl
-acquire_on l timed acquire.Asleep (Woken HandOff) no free = absurd (no refl)
-acquire_on l timed acquire.Asleep reply no free = λ is. inr (refl, refl)
-acquire_on l timed acquire.Remove reply no free = λ is. inr (refl, refl)
-acquire_on l timed (acquire.Taken by) reply no free = absurd free
-acquire_on l timed at reply no free = off _ _ _ _ refl
+acquire_on l timed (acquire.Decide expected) (Value seen) calm free = never (either acquire_queued (not (seen == expected)) _ _ refl (either acquire_queued (semaphores.is_free seen) _ _ refl refl))
+acquire_on l timed acquire.Load (Value seen) calm free = never refl
+acquire_on l timed (acquire.Decide expected) Done calm free = never refl
+acquire_on l timed acquire.Clear (Value seen) calm free = never refl
+acquire_on l timed acquire.GiveUp Done calm free = never refl
+acquire_on l timed acquire.Check (Parked true) calm free = λ is. inl refl
+acquire_on l timed acquire.Check (Parked false) calm free = never refl
+acquire_on l timed (acquire.Leave true) reply calm free = λ is. inr (refl, refl)
+acquire_on l timed (acquire.Leave false) Done calm free = never refl
+acquire_on l timed (acquire.Leave false) reply calm free = never refl
+acquire_on l timed acquire.Remove (Removed none_left) calm free = never (either acquire_queued none_left _ _ refl refl)
+acquire_on l timed acquire.Asleep (Woken Normal) calm free = never refl
+acquire_on l timed acquire.Asleep (Woken HandOff) calm free = absurd (calm refl)
+acquire_on l timed acquire.Asleep reply calm free = λ is. inr (refl, refl)
+acquire_on l timed acquire.Remove reply calm free = λ is. inr (refl, refl)
+acquire_on l timed (acquire.Taken by) reply calm free = absurd free
+acquire_on l timed at reply calm free = never refl
 
 same_acquire : (timed retries : Bool) (at : AcquireAt) → semaphore_queued (semaphore.Acquire timed retries at) ≡ acquire_queued at
+same_acquire timed retries (acquire.Leave parked) = refl
 same_acquire timed retries at = refl
 
 same_acquiring : (timed retries : Bool) (n : Next AcquireAt) → after semaphore_queued (semaphores.in_acquire timed retries n) ≡ after acquire_queued n
@@ -209,7 +223,11 @@ tries (At at) = refl
 tries (End answer) = refl
 
 releases : (n : Next ReleaseAt) → after semaphore_queued (semaphores.in_release n) ≡ false
-releases (At at) = refl
+releases (At at) = release_off at
+  where
+    release_off : (at : ReleaseAt) → semaphore_queued (semaphore.Release at) ≡ false
+    release_off (release.Leave any) = refl
+    release_off at = refl
 releases (End answer) = refl
 
 abbrev pub SemaphoreInNoHand : SemaphorePlace → Type 0
@@ -217,9 +235,9 @@ SemaphoreInNoHand (semaphore.Acquire timed retries at) = AcquireInNoHand at
 SemaphoreInNoHand at = Unit {0}
 
 pub semaphore_on : (l : ℕ) (at : SemaphorePlace) (reply : Reply) → reply ≢ Woken HandOff → SemaphoreInNoHand at → GoesOn (semaphore_queued at) (after semaphore_queued (semaphores.semaphore_next at reply)) (semaphores.semaphore_act l at) reply
-semaphore_on l (semaphore.Acquire timed retries at) reply no free = same _ _ _ _ _ _ (same_acquire timed retries at) (same_acquiring timed (semaphores.still_retries retries reply) (semaphores.next_acquire timed at reply)) (acquire_on l timed at reply no free)
-semaphore_on l (semaphore.Try at) reply no free = off _ _ _ _ (tries (semaphores.next_try at reply))
-semaphore_on l (semaphore.Release at) reply no free = off _ _ _ _ (releases (semaphores.next_release at reply))
+semaphore_on l (semaphore.Acquire timed retries at) reply calm free = same _ _ _ _ _ _ (same_acquire timed retries at) (same_acquiring timed (semaphores.still_retries retries reply) (semaphores.next_acquire timed at reply)) (acquire_on l timed at reply calm free)
+semaphore_on l (semaphore.Try at) reply calm free = never (tries (semaphores.next_try at reply))
+semaphore_on l (semaphore.Release at) reply calm free = never (releases (semaphores.next_release at reply))
 
 -- ---------------------------------------------------------------- onces
 
@@ -248,17 +266,19 @@ looked_off v Marks = refl
 looked_off v Parks = refl
 
 look_on : (l : ℕ) (c : OnceCall) (at : LookAt) (reply : Reply) → reply ≢ Woken HandOff → LookInNoHand at → GoesOn (look_queued at) (after look_queued (once.next_look c at reply)) (once.look_act l c at) reply
-look_on l c look.Load (Value seen) no free = off _ _ _ _ (looked_off seen (once.course_of c seen))
-look_on l c (look.Decide expected) (Value seen) no free = off _ _ _ _ (either look_queued ((seen == expected) && once.is_mark (once.course_of c seen)) _ _ refl (looked_off seen (once.course_of c seen)))
-look_on l c look.Check (Parked true) no free = λ is. inl refl
-look_on l c look.Check (Parked false) no free = off _ _ _ _ refl
-look_on l c (look.Leave true) reply no free = λ is. inr (refl, refl)
-look_on l c (look.Leave false) reply no free = off _ _ _ _ refl
-look_on l c look.Asleep (Woken Normal) no free = off _ _ _ _ refl
-look_on l c look.Asleep (Woken HandOff) no free = absurd (no refl)
-look_on l c look.Asleep reply no free = λ is. inr (refl, refl)
-look_on l c (look.Taken by) reply no free = absurd free
-look_on l c at reply no free = off _ _ _ _ refl
+look_on l c look.Load (Value seen) calm free = never (looked_off seen (once.course_of c seen))
+look_on l c (look.Decide expected) (Value seen) calm free = never (either look_queued ((seen == expected) && once.is_mark (once.course_of c seen)) _ _ refl (looked_off seen (once.course_of c seen)))
+look_on l c (look.Decide expected) Done calm free = never refl
+look_on l c look.Check (Parked true) calm free = λ is. inl refl
+look_on l c look.Check (Parked false) calm free = never refl
+look_on l c (look.Leave true) reply calm free = λ is. inr (refl, refl)
+look_on l c (look.Leave false) Done calm free = never refl
+look_on l c (look.Leave false) reply calm free = never refl
+look_on l c look.Asleep (Woken Normal) calm free = never refl
+look_on l c look.Asleep (Woken HandOff) calm free = absurd (calm refl)
+look_on l c look.Asleep reply calm free = λ is. inr (refl, refl)
+look_on l c (look.Taken by) reply calm free = absurd free
+look_on l c at reply calm free = never refl
 
 runs : (forced : Bool) (n : Next RunAt) → after once_queued (once.in_run forced n) ≡ false
 runs forced (At at) = run_off at
@@ -279,7 +299,7 @@ begun_off forced reply = refl
 by_course : (l : ℕ) (c : OnceCall) (retries : Bool) (at : LookAt) (reply : Reply) (begins late : Bool) → (late ≡ true → (spends_place (once.look_act l c at) reply ≡ false) × (look_queued at ≡ true))
     → GoesOn (look_queued at) (after look_queued (once.next_look c at reply)) (once.look_act l c at) reply
     → GoesOn (look_queued at) (after once_queued (if begins then At (onces.Run (once.is_forced c) (once.closure_begun reply)) else if late then At (onces.GiveUp retries give_up.Remove) else once.in_look c (once.still_retries retries reply) (once.next_look c at reply))) (once.look_act l c at) reply
-by_course l c retries at reply true late stays goes = off _ _ _ _ (begun_off (once.is_forced c) reply)
+by_course l c retries at reply true late stays goes = never (begun_off (once.is_forced c) reply)
 by_course l c retries at reply false true stays goes = λ is. inr (stays refl)
 by_course l c retries at reply false false stays goes = same _ _ _ _ _ _ refl (same_looking c (once.still_retries retries reply) (once.next_look c at reply)) goes
 
@@ -288,20 +308,22 @@ late_stays l c look.Asleep Late e = (refl, refl)
 late_stays l c at reply e = absurd (false≢true e)
 
 give_up_on : (l : ℕ) (retries : Bool) (at : GiveUpAt) (reply : Reply) → GoesOn (once_queued (onces.GiveUp retries at)) (after once_queued (once.in_give_up retries (once.next_give_up at reply))) (once.give_up_act l at) reply
-give_up_on l retries give_up.Remove (Removed true) = off _ _ _ _ refl
-give_up_on l retries give_up.Remove (Removed false) = off _ _ _ _ refl
+give_up_on l retries give_up.Remove (Removed true) = never refl
+give_up_on l retries give_up.Remove (Removed false) = never refl
+give_up_on l retries give_up.Clear (Value seen) = never refl
+give_up_on l retries give_up.Leave Done = never refl
 give_up_on l retries give_up.Remove reply = λ is. inr (refl, refl)
-give_up_on l retries at reply = off _ _ _ _ refl
+give_up_on l retries at reply = never refl
 
 abbrev pub OnceInNoHand : OncePlace → Type 0
 OnceInNoHand (onces.Look c retries at) = LookInNoHand at
 OnceInNoHand at = Unit {0}
 
 pub once_on : (l : ℕ) (at : OncePlace) (reply : Reply) → reply ≢ Woken HandOff → OnceInNoHand at → GoesOn (once_queued at) (after once_queued (once.once_next at reply)) (once.once_act l at) reply
-once_on l (onces.Look c retries at) reply no free = same _ _ _ _ _ _ (same_look c retries at) refl
-    (by_course l c retries at reply (once.begins_run c at reply) (once.is_late_asleep c at reply) (late_stays l c at reply) (look_on l c at reply no free))
-once_on l (onces.Run forced at) reply no free = off _ _ _ _ (runs forced (once.next_run at reply))
-once_on l (onces.GiveUp retries at) reply no free = give_up_on l retries at reply
+once_on l (onces.Look c retries at) reply calm free = same _ _ _ _ _ _ (same_look c retries at) refl
+    (by_course l c retries at reply (once.begins_run c at reply) (once.is_late_asleep c at reply) (late_stays l c at reply) (look_on l c at reply calm free))
+once_on l (onces.Run forced at) reply calm free = never (runs forced (once.next_run at reply))
+once_on l (onces.GiveUp retries at) reply calm free = give_up_on l retries at reply
 
 -- ---------------------------------------------------------------- reader-writer locks
 
@@ -366,48 +388,57 @@ wake_off p m (waking.Leave any) Done = refl
 wake_off p m to reply = refl
 
 park_on : (l : ℕ) (a : Admission) (x : Want) (m : Line) (p : RwLockPlace) (to : ParkAt) (reply : Reply) → reply ≢ Woken HandOff → GoesOn (at_queued (rw.parks_at m to)) (after rw_queued (rw.park_next p m to reply)) (rw.park_act l a x m to) reply
-park_on l a x Main p parking.Check (Parked true) no = λ is. inl refl
-park_on l a x Main p parking.Check (Parked false) no = off _ _ _ _ refl
-park_on l a x Main p (parking.Leave true) Done no = λ is. inr (refl, refl)
-park_on l a x Main p (parking.Leave true) reply no = λ is. inr (refl, refl)
-park_on l a x Main p (parking.Leave false) reply no = off _ _ _ _ refl
-park_on l a x Main p parking.Asleep (Woken Normal) no = off _ _ _ _ refl
-park_on l a x Main p parking.Asleep (Woken HandOff) no = absurd (no refl)
-park_on l a x Main p parking.Asleep reply no = λ is. inr (refl, refl)
-park_on l a x Main p (parking.Taken by) (Woken Normal) no = off _ _ _ _ refl
-park_on l a x Main p (parking.Taken by) (Woken HandOff) no = absurd (no refl)
-park_on l a x Main p (parking.Taken by) reply no = λ is. inr (refl, refl)
-park_on l a x Main p parking.Remove (Removed true) no = off _ _ _ _ refl
-park_on l a x Main p parking.Remove (Removed false) no = off _ _ _ _ refl
-park_on l a x Main p parking.Remove reply no = λ is. inr (refl, refl)
-park_on l a x Main p to reply no = off _ _ _ _ refl
-park_on l a x Second p parking.Check (Parked true) no = λ is. inl refl
-park_on l a x Second p parking.Check (Parked false) no = off _ _ _ _ refl
-park_on l a x Second p (parking.Leave true) Done no = λ is. inr (refl, refl)
-park_on l a x Second p (parking.Leave true) reply no = λ is. inr (refl, refl)
-park_on l a x Second p (parking.Leave false) reply no = off _ _ _ _ refl
-park_on l a x Second p parking.Asleep (Woken Normal) no = off _ _ _ _ refl
-park_on l a x Second p parking.Asleep (Woken HandOff) no = absurd (no refl)
-park_on l a x Second p parking.Asleep reply no = λ is. inr (refl, refl)
-park_on l a x Second p (parking.Taken by) (Woken Normal) no = off _ _ _ _ refl
-park_on l a x Second p (parking.Taken by) (Woken HandOff) no = absurd (no refl)
-park_on l a x Second p (parking.Taken by) reply no = λ is. inr (refl, refl)
-park_on l a x Second p parking.Remove (Removed none_left) no = off _ _ _ _ refl
-park_on l a x Second p parking.Remove reply no = λ is. inr (refl, refl)
-park_on l a x Second p to reply no = off _ _ _ _ refl
+park_on l a x Main p parking.Check (Parked true) calm = λ is. inl refl
+park_on l a x Main p parking.Check (Parked false) calm = never refl
+park_on l a x Main p (parking.Leave true) Done calm = λ is. inr (refl, refl)
+park_on l a x Main p (parking.Leave true) reply calm = λ is. inr (refl, refl)
+park_on l a x Main p (parking.Leave false) Done calm = never refl
+park_on l a x Main p parking.Clear (Value seen) calm = never refl
+park_on l a x Main p parking.GiveUp Done calm = never refl
+park_on l a x Main p (parking.Leave false) reply calm = never refl
+park_on l a x Main p parking.Asleep (Woken Normal) calm = never refl
+park_on l a x Main p parking.Asleep (Woken HandOff) calm = absurd (calm refl)
+park_on l a x Main p parking.Asleep reply calm = λ is. inr (refl, refl)
+park_on l a x Main p (parking.Taken by) (Woken Normal) calm = never refl
+park_on l a x Main p (parking.Taken by) (Woken HandOff) calm = absurd (calm refl)
+park_on l a x Main p (parking.Taken by) reply calm = λ is. inr (refl, refl)
+park_on l a x Main p parking.Remove (Removed true) calm = never refl
+park_on l a x Main p parking.Remove (Removed false) calm = never refl
+park_on l a x Main p parking.Remove reply calm = λ is. inr (refl, refl)
+park_on l a x Main p to reply calm = never refl
+park_on l a x Second p parking.Check (Parked true) calm = λ is. inl refl
+park_on l a x Second p parking.Check (Parked false) calm = never refl
+park_on l a x Second p (parking.Leave true) Done calm = λ is. inr (refl, refl)
+park_on l a x Second p (parking.Leave true) reply calm = λ is. inr (refl, refl)
+park_on l a x Second p (parking.Leave false) Done calm = never refl
+park_on l a x Second p parking.Clear (Value seen) calm = never refl
+park_on l a x Second p parking.GiveUp Done calm = never refl
+park_on l a x Second p (parking.Leave false) reply calm = never refl
+park_on l a x Second p parking.Asleep (Woken Normal) calm = never refl
+park_on l a x Second p parking.Asleep (Woken HandOff) calm = absurd (calm refl)
+park_on l a x Second p parking.Asleep reply calm = λ is. inr (refl, refl)
+park_on l a x Second p (parking.Taken by) (Woken Normal) calm = never refl
+park_on l a x Second p (parking.Taken by) (Woken HandOff) calm = absurd (calm refl)
+park_on l a x Second p (parking.Taken by) reply calm = λ is. inr (refl, refl)
+park_on l a x Second p parking.Remove (Removed none_left) calm = never refl
+park_on l a x Second p parking.Remove reply calm = λ is. inr (refl, refl)
+park_on l a x Second p to reply calm = never refl
 
 rw_on : (l : ℕ) (a : Admission) (p : RwLockPlace) (to : RwLockAt) (reply : Reply) → reply ≢ Woken HandOff → GoesOn (at_queued to) (after rw_queued (rw.next_at a p to reply)) (rw.act_at l a p to) reply
-rw_on l a p at.First (Value seen) no = off _ _ _ _ (either rw_queued (seen == 0) _ _ refl (missed_off p (rw.patience_at p)))
-rw_on l a p at.Load (Value seen) no = off _ _ _ _ (looked_off_rw a p seen)
-rw_on l a p (at.Decide expected) (Value seen) no = off _ _ _ _ (exchanged_off a p expected seen (rw.decided a p expected))
-rw_on l a p (at.Park to) reply no = park_on l a (rw.want_at p) Main p to reply no
-rw_on l a p at.Look (Value seen) no = off _ _ _ _ (counted_off p seen)
-rw_on l a p (at.Count expected) (Value seen) no = off _ _ _ _ (either rw_queued (seen == expected) _ _ refl (counted_off p seen))
-rw_on l a p (at.Aside to) reply no = park_on l a (rw.want_at p) Second p to reply no
-rw_on l a p at.RollBack (Value seen) no = off _ _ _ _ (either rw_queued (has_parked seen) _ _ refl refl)
-rw_on l a p at.GiveWay (Value seen) no = off _ _ _ _ (gave_way_off p seen p.purpose)
-rw_on l a p (at.Wake m to) reply no = off _ _ _ _ (wake_off p m to reply)
-rw_on l a p to reply no = off _ _ _ _ refl
+rw_on l a p at.First (Value seen) calm = never (either rw_queued (seen == 0) _ _ refl (missed_off p (rw.patience_at p)))
+rw_on l a p at.Load (Value seen) calm = never (looked_off_rw a p seen)
+rw_on l a p (at.Decide expected) (Value seen) calm = never (exchanged_off a p expected seen (rw.decided a p expected))
+rw_on l a p (at.Decide expected) Done calm = never refl
+rw_on l a p (at.Park to) reply calm = park_on l a (rw.want_at p) Main p to reply calm
+rw_on l a p at.Look (Value seen) calm = never (counted_off p seen)
+rw_on l a p (at.Count expected) (Value seen) calm = never (either rw_queued (seen == expected) _ _ refl (counted_off p seen))
+rw_on l a p (at.Count expected) Done calm = never refl
+rw_on l a p at.Marked Done calm = never refl
+rw_on l a p (at.Aside to) reply calm = park_on l a (rw.want_at p) Second p to reply calm
+rw_on l a p at.RollBack (Value seen) calm = never (either rw_queued (has_parked seen) _ _ refl refl)
+rw_on l a p at.GiveWay (Value seen) calm = never (gave_way_off p seen p.purpose)
+rw_on l a p (at.Wake m to) reply calm = never (wake_off p m to reply)
+rw_on l a p to reply calm = never refl
 
 abbrev pub call_queued : Admission → RwLockCallPlace → Bool
 call_queued a c = is_some (call_profile a c).stands || is_some (hand_owner (call_profile a c).hand)
@@ -444,11 +475,8 @@ handed_on l a b p q to by alone n goes = goes
 
 woken_on : (l : ℕ) (a : Admission) (b : Bool) (p : RwLockPlace) (q : RwLockPurpose) (to : RwLockAt) (n : Next RwLockCallPlace) → MayBeHanded q to (Woken HandOff)
     → GoesOn (at_queued to) (after (call_queued a) (fair.unless_given (fair.woken_with b q to) n)) (rw.act_at l a p to) (Woken HandOff)
-woken_on l a b p (purpose.Enter x how) (at.Park parking.Asleep) n may = off _ _ _ _ (handed_off a x how b n)
+woken_on l a b p (purpose.Enter x how) (at.Park parking.Asleep) n may = never (handed_off a x how b n)
 woken_on l a b p q to n may = absurd may
-
-no_hand_off : {reply : Reply} → reply ≡ Woken HandOff → ⊥
-no_hand_off e = cc
 
 entering_on : (l : ℕ) (a : Admission) (b : Bool) (p : RwLockPlace) (reply : Reply) (n : Next RwLockPlace → Next RwLockCallPlace) → ((m : Next RwLockPlace) → after (call_queued a) (n m) ≡ after rw_queued m) → MayBeHanded p.purpose p.at reply
     → GoesOn (at_queued p.at) (after (call_queued a) (fair.unless_given (fair.given b p reply) (n (rw.rwlock_next a p reply)))) (rw.act_at l a p p.at) reply
@@ -479,7 +507,7 @@ hands_over_off a x b (handing.Store k) (Value seen) = refl
 hands_over_off a x b (handing.Look k) (Value seen) = refl
 hands_over_off a x b to reply = refl
 
-glance_off : (a : Admission) (x : Access) (b : Bool) → after (call_queued a) (if b then At (fair.gives_up_at x) else End Ok) ≡ false
+pub glance_off : (a : Admission) (x : Access) (b : Bool) → after (call_queued a) (if b then At (fair.gives_up_at x) else End Ok) ≡ false
 glance_off a access.Shared true = refl
 glance_off a access.Upgradable true = refl
 glance_off a access.Exclusive true = refl
@@ -494,13 +522,13 @@ CallMayGo c reply = Unit {0}
 pub call_on : (l : ℕ) (a : Admission) (c : RwLockCallPlace) (reply : Reply) → CallMayGo c reply → GoesOn (call_queued a c) (after (call_queued a) (fair.call_next a c reply)) (fair.call_act l a c) reply
 call_on l a (places.Plain p) reply may = entering_on l a false p reply fair.plain_next (plain_same a) may
 call_on l a (places.Bump p) reply may = entering_on l a true p reply (fair.bump_next p.purpose) (bump_same a p.purpose) may
-call_on l a (places.Glance x) (Value seen) may = off _ _ _ _ (glance_off a x (fair.gives_way a x seen))
-call_on l a (places.Glance x) reply may = off _ _ _ _ refl
-call_on l a (places.HandOver x b to) reply may = off _ _ _ _ (hands_over_off a x b to reply)
+call_on l a (places.Glance x) (Value seen) may = never (glance_off a x (fair.gives_way a x seen))
+call_on l a (places.Glance x) reply may = never refl
+call_on l a (places.HandOver x b to) reply may = never (hands_over_off a x b to reply)
 call_on l a (places.Handed x how b (handed.Asleep by alone)) reply may = absurd may
-call_on l a (places.Handed x how b handed.Accept) Done may = off _ _ _ _ refl
-call_on l a (places.Handed x how b handed.Accept) (Value seen) may = off _ _ _ _ refl
-call_on l a (places.Handed x how b handed.Accept) reply may = off _ _ _ _ refl
+call_on l a (places.Handed x how b handed.Accept) Done may = never refl
+call_on l a (places.Handed x how b handed.Accept) (Value seen) may = never refl
+call_on l a (places.Handed x how b handed.Accept) reply may = never refl
 
 -- ---------------------------------------------------------------- condition variables
 
@@ -540,29 +568,34 @@ unlock_keeps m (unlock.Clear any) reply = refl
 unlock_keeps m (unlock.Leave any) reply = refl
 
 wait_on : (c m : ℕ) (timed : Bool) (at : WaitAt) (reply : Reply) → WaitMayGo at reply → GoesOn (condvar_queued (condvars.Wait m timed at)) (after condvar_queued (condvar.in_wait m timed (condvar.next_wait m timed at reply))) (condvar.wait_act c m at) reply
-wait_on c m timed wait.Show (Value seen) may = off _ _ _ _ (shows ((seen == 0) || condvar.is_shown seen m))
+wait_on c m timed wait.Show (Value seen) may = never (shows ((seen == 0) || condvar.is_shown seen m))
   where
     shows : (b : Bool) → after condvar_queued (condvar.in_wait m timed (if b then At wait.Stand else At wait.Refuse)) ≡ false
     shows true = refl
     shows false = refl
+wait_on c m timed wait.Enter Done may = never refl
+wait_on c m timed wait.Refuse Done may = never refl
+wait_on c m timed wait.Hide (Value seen) may = never refl
+wait_on c m timed wait.GiveUp Done may = never refl
+wait_on c m timed (wait.GiveUpMoved none_left) Done may = never refl
 wait_on c m timed wait.Stand Done may = λ is. inl refl
 wait_on c m timed wait.Leave reply may = λ is. inr (refl, refl)
 wait_on c m timed (wait.Release stands.Listed (Unlock at)) reply may = λ is. inr (unlock_keeps m at reply, refl)
 wait_on c m timed (wait.Release s at) reply may = absurd may
-wait_on c m timed (wait.Asleep stands.Listed) (Woken Normal) may = off _ _ _ _ refl
-wait_on c m timed (wait.Asleep stands.Listed) (Woken HandOff) may = off _ _ _ _ refl
+wait_on c m timed (wait.Asleep stands.Listed) (Woken Normal) may = never refl
+wait_on c m timed (wait.Asleep stands.Listed) (Woken HandOff) may = never refl
 wait_on c m timed (wait.Asleep stands.Listed) reply may = λ is. inr (refl, refl)
-wait_on c m timed (wait.Asleep stands.Moved) (Woken Normal) may = off _ _ _ _ refl
-wait_on c m timed (wait.Asleep stands.Moved) (Woken HandOff) may = off _ _ _ _ refl
+wait_on c m timed (wait.Asleep stands.Moved) (Woken Normal) may = never refl
+wait_on c m timed (wait.Asleep stands.Moved) (Woken HandOff) may = never refl
 wait_on c m timed (wait.Asleep stands.Moved) reply may = λ is. inr (refl, refl)
 wait_on c m timed (wait.Asleep s) reply may = absurd may
-wait_on c m timed wait.Remove (Removed true) may = off _ _ _ _ refl
-wait_on c m timed wait.Remove (Removed false) may = off _ _ _ _ refl
+wait_on c m timed wait.Remove (Removed true) may = never refl
+wait_on c m timed wait.Remove (Removed false) may = never refl
 wait_on c m timed wait.Remove reply may = λ is. inr (refl, refl)
-wait_on c m timed wait.RemoveMoved (Removed none_left) may = off _ _ _ _ refl
+wait_on c m timed wait.RemoveMoved (Removed none_left) may = never refl
 wait_on c m timed wait.RemoveMoved reply may = λ is. inr (refl, refl)
 wait_on c m timed (wait.Lock late at) reply may = same _ _ _ _ _ _ (beside_same m timed late at) (relocks_same m timed late (mutex_next at reply)) (mutex_on m at reply may)
-wait_on c m timed at reply may = off _ _ _ _ refl
+wait_on c m timed at reply may = never refl
 
 notify_off : (all : Bool) (m : ℕ) (n : Next NotifyAt) → after condvar_queued (condvar.in_notify all m n) ≡ false
 notify_off all m (At at) = at_off at
@@ -587,4 +620,4 @@ CondvarMayGo (condvars.Notify all m at) reply = Unit {0}
 pub condvar_on : (c : ℕ) (at : CondvarPlace) (reply : Reply) → CondvarMayGo at reply → GoesOn (condvar_queued at) (after condvar_queued (condvar.condvar_next at reply)) (condvar.condvar_act c at) reply
 condvar_on c (condvars.Wait m timed at) reply may = wait_on c m timed at reply may
 condvar_on c (condvars.Look all) reply may = absurd may
-condvar_on c (condvars.Notify all m at) reply may = off _ _ _ _ (notify_off all m (condvar.next_notify all m at reply))
+condvar_on c (condvars.Notify all m at) reply may = never (notify_off all m (condvar.next_notify all m at reply))

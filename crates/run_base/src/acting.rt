@@ -1,5 +1,5 @@
 //! The acts of a thread in any call, whatever the lock is.
-ghost use Rattle.std.specs.Prelude.{◌≡◌, ◌++◌, ◌∷◌, ◌==◌, ℕ, [], None, Some, length, true, MatchBool};
+ghost use Rattle.std.specs.Prelude.{◌≡◌, ◌++◌, ◌∷◌, ◌==◌, ℕ, [], None, Some, false, length, true, MatchBool};
 ghost use Rattle.core_base.specs.Clocks.{IsUp};
 ghost use Rattle.core_base.specs.Lines.{queued_under, waiter, line, lines, without};
 ghost use Rattle.steps_base.specs.declared.acts.Act.TheVariants.{Sleep};
@@ -16,7 +16,7 @@ ghost use Rattle.parking_lot_core.specs.Tokens.{IsTokenOf, IsSameThread, view_of
 ghost use Rattle.run_base.specs.Fitting.{sleeper_at};
 ghost use Rattle.run_base.specs.Paths.{closure_of, step};
 ghost use Rattle.parking_lot_core.specs.Places.{IsPlaceOf, thread_of};
-ghost use Rattle.run_base.specs.Queued.{HasPlace, KeepsPlace, needs_place};
+ghost use Rattle.run_base.specs.Queued.{HasPlace, KeepsPlace, needs_place, spends_place};
 ghost use Rattle.run_base.specs.Telling.{AreQueued, HasStepped, MayFind, MayTakeStep, MayTakeAt, StandsLast, TellsQueues, TellsTake, index_of, is_empty_at, owns_of, steps_of};
 ghost use Rattle.run_base.specs.Words.{AreWordsOf, word_among, kind_in, at_in};
 ghost use Rattle.run_base.specs.Stages.{Adds, Awoke, AwokeLate, HandsEach, HasKey, IsFresh, IsUngiven, MayLeave, IsSectionOf, IsLeft, TookBy, stage_handed, note_of, section_view, stage_of, waiting_of, wanted_in, entered_now, ActNeeds, Became};
@@ -131,7 +131,7 @@ fn hand_over<R: Wait>(
 
 // The thread leaves the queue. Whether none is left there.
 fn remove(_lot: &ParkingLot, section: &mut Option<Section>, key: Key, place: QueuePlace) -> bool
-    requires { IsSectionOf _lot.now section.old × HasKey key (section_view section.old) }
+    requires own { IsSectionOf _lot.now section.old × HasKey key (section_view section.old) }
     requires place { IsPlaceOf _lot.now (thread_of place) place }
     ensures same { IsSectionOf _lot.now section.new × (section_view section.new ≡ section_view section.old) }
     ensures left { AreQueued (without (thread_of place.entry) (waiting_of section.old)) section.new
@@ -243,7 +243,8 @@ fn awake_late<'a, R: Wait>(
     ensures awoke { AwokeLate key sleeper (stage_of token.old section.old) result
         (stage_of token.new section.new) }
     ensures queues { TellsQueues Sleep result token.old.number section.old section.new }
-    ensures place { KeepsPlace inside.entry.lot.now token.old.number Sleep result queue.old queue.new }
+    ensures place { spends_place Sleep result ≡ false
+        → HasPlace inside.entry.lot.now token.old.number queue.new }
 {
     if sleeper.late == Some(key) {
         *queue = Some(place);

@@ -14,7 +14,7 @@ use Rattle.run_base.specs.Stages.{stage_of}
 use Rattle.run_base.specs.Words.{kind_in, at_in, single_word}
 use Rattle.run_base.specs.declared.words.Words.{Words}
 use Rattle.run_base.proofs.Behind.{fits_behind, over_behind, path_behind, words_behind, alone_at, never_pauses}
-use Rattle.run_base.proofs.Queued.{unqueued_call}
+use Rattle.run_base.proofs.Unqueued.{after_first}
 use Rattle.run_base.proofs.driver.call_slow.Goals as goal
 
 pub run-requires-clause-words : goal.run-requires-clause-words
@@ -24,7 +24,7 @@ run-requires-clause-words g c = let word = c.args.word in
     (words_behind word c.requires.own.2 c.args.call c.args.seen c.requires.own.3))
 
 pub run-requires-clause-unqueued : goal.run-requires-clause-unqueued
-run-requires-clause-unqueued g c = subst (λ (p : Place). is_queued p ≡ false) (sym c.place_behind-start.ensures) (unqueued_call c.args.word.number c.args.call c.args.seen)
+run-requires-clause-unqueued g c = subst (λ (p : Place). is_queued p ≡ false) (sym c.place_behind-start.ensures) (after_first c.args.word.number c.args.call c.args.seen)
 
 pub run-requires-clause-start : goal.run-requires-clause-start
 run-requires-clause-start g c = let v = view_of c.args.token.now in (

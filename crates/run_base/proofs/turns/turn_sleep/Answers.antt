@@ -21,6 +21,7 @@ sleep-requires g c = record {
     subst (IsWordOf c.args.lot.now.words) (sym c.of.ensures) (c.requires.at.1 c.sleeper_at-sleeper.result.lock),
     needs_by (IsUp g.C.Clock.tells c.args.limit) c.args.lot.now c.args.words c.args.place act.TheVariants.Sleep c.args.token.now c.args.section.now c.requires.at c.requires.act,
   );
+  queued = c.requires.queued;
 }
 
 pub returns : goal.returns
