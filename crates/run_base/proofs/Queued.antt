@@ -452,10 +452,12 @@ unqueued_behind p seen goes calm = not_true (is_queued (next_place p (Value seen
     not_true : (b : Bool) → (b ≡ true → ⊥) → b ≡ false
     not_true true h = absurd (h refl)
     not_true false h = refl
+
     gets_none : (a : Act) → gets_place a (Value seen) ≡ true → ⊥
     gets_none (act.TheVariants.Park _ _ _ _) e = false≢true e
     gets_none (act.TheVariants.Stand _ _) e = false≢true e
     gets_none a e = false≢true e
+
     by_goes : (gets_place (act_of p) (Value seen) ≡ true) ⊎ ((spends_place (act_of p) (Value seen) ≡ false) × (is_queued p ≡ true)) → ⊥
     by_goes (inl e) = gets_none (act_of p) e
     by_goes (inr e) = false≢true (sym calm ∙ e.1)

@@ -15,9 +15,7 @@ ghost use Rattle.run_locks.specs.MutexCourses.{taken_on};
 use crate::condvar_courses::{Pair, rest};
 use core_base::main_key;
 use lot_steps::{Reply, Wakes};
-use parking_lot_core::{
-    Clock, Keys, Note, Op, ParkingLot, QueuePlace, Section, Token, Want,
-};
+use parking_lot_core::{Clock, Keys, Note, Op, ParkingLot, QueuePlace, Section, Token, Want};
 use run_base::turns::{
     end, turn_enter, turn_leave, turn_sleep, turn_stand, turn_take_first, turn_word,
 };

@@ -6,7 +6,8 @@ use super::buckets::is_told;
 use super::{check, check_eq, line_up, lot_of, mutex_of, ticket_of, word_of};
 use core_base::TickClock;
 use parking_lot_core::{
-    Clock, Key, Keys, Note, ParkingLot, QueuePlace, Slept, SystemClock, Ticket, Token, Want, Word, WordKind,
+    Clock, Key, Keys, Note, ParkingLot, QueuePlace, Slept, SystemClock, Ticket, Token, Want, Word,
+    WordKind,
 };
 use std::alloc::Global;
 use std::io;

@@ -75,7 +75,11 @@ fn one_leave_wakes_1023_threads(rt: HostRuntime) {
     let (lot, mut server, others, word) = seats_of(&rt, rt.alloc(), 1, THREADS);
     let (queued, places) = take_all(&rt, rt.alloc(), &lot, &mut server, THREADS - 1);
     check_eq(&rt, queued, THREADS - 1);
-    check_eq(&rt, count_woken(&rt, &lot, others, places, word), THREADS - 1);
+    check_eq(
+        &rt,
+        count_woken(&rt, &lot, others, places, word),
+        THREADS - 1,
+    );
 }
 
 // Locks the mutex, and hands it over to a thread, which unlocks it. Whether it got the mutex.

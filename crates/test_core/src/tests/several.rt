@@ -184,7 +184,13 @@ fn notes_of_three<R: Wait>(
     let (given, [first, second, third]) = take_three(rt, alloc, lot, &mut token, way);
     drop(token.leave());
     [
-        told_to(rt, lot, three, first, given.first().copied().unwrap_or(word)),
+        told_to(
+            rt,
+            lot,
+            three,
+            first,
+            given.first().copied().unwrap_or(word),
+        ),
         told_to(rt, lot, two, second, given.get(1).copied().unwrap_or(word)),
         told_to(rt, lot, one, third, given.get(2).copied().unwrap_or(word)),
     ]

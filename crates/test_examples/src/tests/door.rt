@@ -1,11 +1,12 @@
 //! A primitive of one's own over a section: a door, at which threads wait until it is opened.
-ghost use Rattle.std.specs.Prelude.{◌≡◌, IfOk};
+ghost use Rattle.std.specs.Prelude.{◌≡◌, IfOk, IfSome};
 ghost use Rattle.std.specs.Arc.{arc_value};
-ghost use Rattle.parking_lot.specs.Names.{IsTokenOf};
+ghost use Rattle.parking_lot.specs.Names.{IsPlaceOf, IsTokenOf};
 
 use super::{all_are, check};
 use parking_lot::{
-    Fault, Key, Keys, Note, ParkingLot, Slept, Team, TickClock, Token, Want, Word, WordKind,
+    Fault, Key, Keys, Note, ParkingLot, QueuePlace, Slept, Team, TickClock, Token, Want, Word,
+    WordKind,
 };
 use std::sync::atomic::AtomicBool;
 use std::sync::atomic::Ordering::SeqCst;
@@ -40,7 +41,8 @@ impl Door {
     // None where it is open.
     fn line_up<'a, R: Wait>(&'a self, rt: &R, token: &mut Token) -> Option<QueuePlace<'a>>
         requires { IsTokenOf (arc_value self.now.lot) token.old }
-        ensures { IsTokenOf (arc_value self.now.lot) token.new }
+        ensures token { IsTokenOf (arc_value self.now.lot) token.new }
+        ensures place { IfSome result (IsPlaceOf (arc_value self.now.lot) token.new.number) }
     {
         let mut section = self.lot.enter(rt, token, Keys::One(self.key));
         if self.open.load(SeqCst) {
@@ -61,7 +63,10 @@ impl Door {
             return;
         };
         let no_limit = None::<(&TickClock, u64)>;
-        match self.lot.sleep(rt, token, place, self.word, Want::Wait, no_limit) {
+        match self
+            .lot
+            .sleep(rt, token, place, self.word, Want::Wait, no_limit)
+        {
             Slept::Woken(_) => {}
             Slept::Handed(right) => right.forget(),
             Slept::Late(_section, _, _) => unreachable!(),

@@ -85,6 +85,6 @@ returns g c = let pair = c.args.pair in let at = notify_at pair.condvar pair.mut
 
 pub rest-requires-clause-queued : goal.rest-requires-clause-queued
 rest-requires-clause-queued g c = let pair = c.args.pair in let found = c.turn_word-found.result in
-    let next = c.next_place-next.ensures ∙ ap (λ (q : Place). next_place q c.turn_word-found.result) c.notifies-place.ensures in
+    let next = c.next_place-next.ensures ∙ ap (λ (q : Place). next_place q (Value c.turn_word-found.result)) c.notifies-place.ensures in
     let calm = after_condvar pair.condvar (Notify c.args.all pair.mutex (notify.Set c.turn_word-seen.result)) found tt refl in
     λ queued. absurd (false≢true (sym calm ∙ ap is_queued (sym next) ∙ queued))

@@ -41,15 +41,15 @@ returns-then-none_left g c = let pair = c.args.pair in let at = wait_at pair.con
     (at (releases_at (unlock.Leave c.args.any))) (refl, refl) in
     cleared.ends c.wake_and_sleep.result c.wake_and_sleep.new.token c.wake_and_sleep.ensures
 
-pub wake_and_sleep-requires-clause-at-2 : goal.wake_and_sleep-requires-clause-at-2
-wake_and_sleep-requires-clause-at-2 g c = let pair = c.args.pair in let at = wait_at pair.condvar pair.mutex c.args.timed in
+pub wake_and_sleep-requires-2-clause-at : goal.wake_and_sleep-requires-2-clause-at
+wake_and_sleep-requires-2-clause-at g c = let pair = c.args.pair in let at = wait_at pair.condvar pair.mutex c.args.timed in
     let some : c.args.none_left ≡ false = search rules in
     let here = begins (IsUp g.C.Clock.tells c.args.limit) c.args.lot.now pair.words (at (releases_at (taken_on c.args.any c.args.none_left))) c.args.token.now c.args.section c.requires.at in
     let there = named here (ap (λ (b : Bool). at (releases_at (taken_on c.args.any b))) some) in
     there.at
 
-pub wake_and_sleep-requires-clause-queued-2 : goal.wake_and_sleep-requires-clause-queued-2
-wake_and_sleep-requires-clause-queued-2 g c = let pair = c.args.pair in let at = wait_at pair.condvar pair.mutex c.args.timed in
+pub wake_and_sleep-requires-2-clause-queued : goal.wake_and_sleep-requires-2-clause-queued
+wake_and_sleep-requires-2-clause-queued g c = let pair = c.args.pair in let at = wait_at pair.condvar pair.mutex c.args.timed in
     let some : c.args.none_left ≡ false = search rules in
     let here = begins (IsUp g.C.Clock.tells c.args.limit) c.args.lot.now pair.words (at (releases_at (taken_on c.args.any c.args.none_left))) c.args.token.now c.args.section c.requires.at in
     let there = named here (ap (λ (b : Bool). at (releases_at (taken_on c.args.any b))) some) in

@@ -1,4 +1,4 @@
-use Rattle.std.proofs.Common.{◌≡◌, None, refl, sym, ap, ◌∙◌, subst, rules}
+use Rattle.std.proofs.Common.{◌≡◌, true, None, refl, sym, ap, ◌∙◌, subst, rules}
 use Rattle.core_base.specs.Clocks.{IsUp}
 use Rattle.core_base.specs.declared.notes.Note.TheVariants.{Normal}
 use Rattle.steps_base.specs.declared.acts.Reply.TheVariants.{Woken}

@@ -56,6 +56,6 @@ returns g c = let pair = c.args.pair in let at = wait_at pair.condvar pair.mutex
 
 pub rest-requires-clause-queued : goal.rest-requires-clause-queued
 rest-requires-clause-queued g c = let pair = c.args.pair in let at = wait_at pair.condvar pair.mutex c.args.timed in let found = c.turn_word-found.result in
-    let next = c.next_place-next.ensures ∙ ap (λ (q : Place). next_place q c.turn_word-found.result) (c.waits-place.ensures ∙ ap (wait_at c.args.pair.condvar c.args.pair.mutex c.args.timed) c.locks.ensures) in
+    let next = c.next_place-next.ensures ∙ ap (λ (q : Place). next_place q (Value c.turn_word-found.result)) (c.waits-place.ensures ∙ ap (wait_at c.args.pair.condvar c.args.pair.mutex c.args.timed) c.locks.ensures) in
     let calm = after_condvar pair.condvar (Wait pair.mutex c.args.timed (locks_at (lock.Decide c.args.seen))) found tt refl in
     λ queued. absurd (false≢true (sym calm ∙ ap is_queued (sym next) ∙ queued))

@@ -93,7 +93,7 @@ release-requires-clause-queued g c = let pair = c.args.pair in let at = wait_at 
     (ap (λ (k : ℕ). Stand k Wait) (sym c.main_key-key.ensures)) (at wait.Leave) (refl, refl) in
     let left = comes stood Done c.turn_leave.new.token c.turn_leave.new.section c.turn_leave.ensures
     (leaves_one c.main_key-key.ensures refl) (at (releases_at unlock.Subtract)) (refl, refl) in
-    let placed = c.turn_stand-queue.ensures.place in (placed.0, placed.1 ∙ sym left.same)
+    let placed = c.turn_stand-queue.ensures.place in (placed.0, placed.1 ∙ stood.same ∙ sym left.same)
 
 pub returns : goal.returns
 returns g c = let pair = c.args.pair in let at = wait_at pair.condvar pair.mutex c.args.timed in let up = IsUp g.C.Clock.tells c.args.limit in
