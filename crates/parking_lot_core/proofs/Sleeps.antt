@@ -2,7 +2,7 @@
 use Rattle.std.proofs.Common.{ℕ}
 use Rattle.core_words.specs.declared.words.Word.{Word}
 use Rattle.core_base.specs.declared.wants.Want.{Want}
-use Rattle.parking_lot_core.specs.Sleeps.{IsWoken, IsLate, IsSlept, WasLate}
+use Rattle.parking_lot_core.specs.Sleeps.{IsWoken, IsSlept, WasLate}
 use Rattle.parking_lot_core.specs.declared.lot.ParkingLot.{ParkingLot}
 use Rattle.parking_lot_core.specs.declared.sleep.Slept.{Slept}
 use Rattle.parking_lot_core.specs.declared.sleep.Slept.TheVariants.{Woken, Handed, Late}
@@ -10,14 +10,9 @@ use Rattle.parking_lot_core.specs.declared.sleep.Slept.TheVariants.{Woken, Hande
 pub woken_slept : (lot : ParkingLot) (thread : ℕ) (word : Word) (wanted : Want) (slept : Slept) → IsWoken lot word wanted slept → IsSlept lot thread word wanted slept
 woken_slept lot thread word wanted (Woken note) woken = woken
 woken_slept lot thread word wanted (Handed right) woken = woken
-woken_slept lot thread word wanted (Late section key) woken = absurd woken
+woken_slept lot thread word wanted (Late section key place) woken = absurd woken
 
 pub woken_not_late : (lot : ParkingLot) (word : Word) (wanted : Want) (slept : Slept) → IsWoken lot word wanted slept → WasLate slept → ⊥
 woken_not_late lot word wanted (Woken note) woken late = late
 woken_not_late lot word wanted (Handed right) woken late = late
-woken_not_late lot word wanted (Late section key) woken late = woken
-
-pub late_slept : (lot : ParkingLot) (thread : ℕ) (word : Word) (wanted : Want) (slept : Slept) → IsLate lot thread slept → IsSlept lot thread word wanted slept
-late_slept lot thread word wanted (Woken note) late = absurd late
-late_slept lot thread word wanted (Handed right) late = absurd late
-late_slept lot thread word wanted (Late section key) late = late
+woken_not_late lot word wanted (Late section key place) woken late = woken

@@ -3,6 +3,7 @@ pub mod Keys
 pub mod Same
 pub mod Giving
 pub mod Pairs
+pub mod Places
 pub mod Sections
 pub mod Sleeps
 pub mod Counts

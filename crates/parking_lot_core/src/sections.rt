@@ -16,6 +16,7 @@ ghost use Rattle.parking_lot_core.specs.declared.tokens.Did.TheVariants.{Nothing
 use crate::enter::never;
 use crate::expected::Expected;
 use crate::lot::ParkingLot;
+use crate::places::QueuePlace;
 use crate::tokens::{Did, SectionRecord, Token};
 use core_base::{Key, Keys, Note, Requeue, Want};
 use core_queues::Queueing;
@@ -63,6 +64,7 @@ fn first_of_keys(keys: Keys) -> Key
 }
 
 impl<'a> Section<'a> {
+    ghost use Rattle.parking_lot_core.specs.Places.{IsPlaceOf, thread_of};
     ghost use Rattle.parking_lot_core.specs.Tokens.{IsTokenOf, IsSameThread, last_of};
     ghost use Rattle.parking_lot_core.specs.Sections.{others_in, IsUntouched};
     ghost use Rattle.parking_lot_core.specs.Sections.{waiting_in, taken_in, wants_in, rightless_in, moved_in, StaysIn, TookAs, MayNote};
@@ -132,13 +134,14 @@ impl<'a> Section<'a> {
         self.first.note_line(&self.lot.stands, key);
     }
 
-    /// Puts a thread behind the last under a key. One that stands somewhere in the buckets of the
-    /// section leaves that place first. A thread that parks stands nowhere else.
-    pub fn append(&mut self, key: Key, thread: usize, want: Want)
+    /// Puts a thread behind the last under a key, and gives the place. One that stands somewhere in
+    /// the buckets of the section leaves that place first. A thread that parks stands nowhere else.
+    pub fn append(&mut self, key: Key, thread: usize, want: Want) -> QueuePlace<'a>
         requires key { IsKeyOf self.old.keys key }
         requires thread { thread < self.old.lot.now.records.count }
         ensures lines { lines (waiting_in self.new)
             ≡ lines (without thread (waiting_in self.old) ++ waiter key thread want ∷ []) }
+        ensures place { IsPlaceOf self.old.lot.now thread result }
         ensures same { StaysIn self.old self.new × TookAs self.old self.new
             × (rightless_in self.new ≡ rightless_in self.old) }
     {
@@ -147,14 +150,18 @@ impl<'a> Section<'a> {
             None => self.first.append(key, thread, want),
         }
         self.lot.stands.note(thread, key);
+        QueuePlace::new(self.lot, thread)
     }
 
-    /// Removes a thread from where it stands.
-    pub fn remove(&mut self, thread: usize)
-        ensures lines { lines (waiting_in self.new) ≡ lines (without thread (waiting_in self.old)) }
+    /// Removes a thread from where it stands. Its place is spent.
+    pub fn remove(&mut self, place: QueuePlace)
+        requires place { IsPlaceOf self.old.lot.now (thread_of place) place }
+        ensures lines { lines (waiting_in self.new)
+            ≡ lines (without (thread_of place.entry) (waiting_in self.old)) }
         ensures same { StaysIn self.old self.new × TookAs self.old self.new
             × (rightless_in self.new ≡ rightless_in self.old) }
     {
+        let thread = place.thread();
         match &mut self.other {
             Some(other) => self.first.remove_beside(other, thread),
             None => self.first.remove(thread),

@@ -4,6 +4,7 @@ ghost use Rattle.core_base.specs.Clocks.{IsUp};
 
 use crate::lot::ParkingLot;
 use crate::pauses::pause;
+use crate::places::QueuePlace;
 use crate::sections::Section;
 use crate::tokens::Token;
 use crate::waiters::WakeRecord;
@@ -27,8 +28,8 @@ pub enum Slept<'a> {
     Woken(WakeNote),
     /// The thread was taken, and has been handed what it waited for.
     Handed(Right),
-    /// Its time is up, and it is inside the section of the key where it stands.
-    Late(Section<'a>, Key),
+    /// Its time is up, and it is inside the section of the key where it stands, with its place.
+    Late(Section<'a>, Key, QueuePlace<'a>),
 }
 
 impl WakeRecord {
@@ -48,8 +49,9 @@ impl WakeRecord {
 }
 
 impl ParkingLot {
+    ghost use Rattle.parking_lot_core.specs.Places.{IsPlaceOf};
     ghost use Rattle.parking_lot_core.specs.Tokens.{IsTokenOf, IsSameThread};
-    ghost use Rattle.parking_lot_core.specs.Sleeps.{IsWoken, IsLate, IsSlept, WasLate};
+    ghost use Rattle.parking_lot_core.specs.Sleeps.{GivesUpAt, IsWoken, IsSlept, WasLate};
 
     // Waits a while, or until the thread may have been told something.
     fn spin(&self, thread: usize)
@@ -85,14 +87,14 @@ impl ParkingLot {
     // The section of the key where the thread stands. None where it was taken meanwhile. Another thread
     // that moves it notes its new key inside both buckets. So the thread was taken where the key is the
     // same as before, read inside that key's bucket, and nobody of its number stands there.
-    fn give_up<'a, R: Wait>(&'a self, rt: &R, thread: usize) -> Option<Slept<'a>>
-        ensures { IfSome result (IsLate self.now thread) }
+    fn give_up<'a, R: Wait>(&'a self, rt: &R, thread: usize) -> Option<(Section<'a>, Key)>
+        ensures { IfSome result (λ late. GivesUpAt self.now thread late.0 late.1) }
     {
         for _ in rt.forever() {
             let key = self.stands.key(thread);
             let section = self.locked(rt, thread, Keys::One(key));
             if section.key_of(thread) == Some(key) {
-                return Some(Slept::Late(section, key));
+                return Some((section, key));
             }
             let taken = self.stands.key(thread) == key;
             section.shut();
@@ -103,7 +105,8 @@ impl ParkingLot {
         unreachable!()
     }
 
-    /// Sleeps until the thread is woken, or up to a deadline on a clock.
+    /// Sleeps until the thread is woken, or up to a deadline on a clock. A thread sleeps only in its
+    /// place in a queue.
     ///
     /// A right that was handed to the thread for another word or want stays where it is, and the
     /// thread sleeps on. A thread that was taken before it could give up is woken and not late, and
@@ -112,11 +115,13 @@ impl ParkingLot {
         &'a self,
         rt: &R,
         token: &mut Token,
+        place: QueuePlace<'a>,
         word: Word,
         want: Want,
         limit: Option<(&C, u64)>,
     ) -> Slept<'a>
-        requires { IsTokenOf self.now token.old }
+        requires own { IsTokenOf self.now token.old }
+        requires queued { IsPlaceOf self.now token.old.number place }
         ensures same { token.new ≡ token.old }
         ensures slept { IsSlept self.now token.old.number word want result }
         ensures unlimited { limit.entry ≡ None → IsWoken self.now word want result }
@@ -135,8 +140,8 @@ impl ParkingLot {
                     if now < deadline {
                         clock.pause(deadline - now);
                     } else {
-                        if let Some(late) = self.give_up(rt, token.number) {
-                            return late;
+                        if let Some((section, key)) = self.give_up(rt, token.number) {
+                            return Slept::Late(section, key, place);
                         }
                         // The thread that took this one is about to wake it.
                         limit = None;

@@ -1,4 +1,7 @@
 pub mod Paths
+pub mod Queueing
+pub mod Queued
+pub mod Unqueued
 pub mod Ending
 pub mod Leaving
 pub mod HandingOver

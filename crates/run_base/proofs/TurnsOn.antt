@@ -1,5 +1,5 @@
 -- Turns one behind another, up to the end of their call.
-use Rattle.std.proofs.Common.{ℕ, ◌≡◌, None, Some, List, Option, refl, sym, ap, ◌∙◌, subst}
+use Rattle.std.proofs.Common.{ℕ, ◌≡◌, true, None, Some, List, Option, refl, sym, ap, ◌∙◌, subst}
 use Rattle.core_base.specs.declared.ops.Op.{Op}
 use Rattle.steps_base.specs.declared.acts.Act.{Act}
 use Rattle.steps_base.specs.declared.acts.Act as act
@@ -19,6 +19,8 @@ use Rattle.parking_lot_core.specs.declared.sections.Section.{Section}
 use Rattle.parking_lot_core.specs.declared.tokens.Token.{Token}
 use Rattle.run_base.specs.Fitting.{CallPurpose, AreWordsFor, Fits, IsOver, ReachedBy, call_purpose, answer_of, sleeper_at}
 use Rattle.run_base.specs.Paths.{closure_of}
+use Rattle.parking_lot_core.specs.declared.places.QueuePlace.{QueuePlace}
+use Rattle.run_base.specs.Queued.{HasPlace, KeepsPlace, is_queued}
 use Rattle.run_base.specs.Stages.{ActNeeds, Adds, Became, IsSectionOf, section_view, stage_of}
 use Rattle.run_base.specs.Telling.{steps_of}
 use Rattle.run_base.specs.Turns.{HasEnded, HasTurned, IsAtPlace}
@@ -27,6 +29,8 @@ use Rattle.run_base.specs.declared.words.Words.{Words}
 use Rattle.run_base.proofs.Ending.{end_of, ended}
 use Rattle.run_base.proofs.Paths.{comes_here, comes_on, comes_to_end, walks_on}
 use Rattle.run_base.proofs.Leading.{places_lead}
+use Rattle.run_base.proofs.Queued.{keeps_on, queued_on}
+use Rattle.run_base.proofs.Queueing.{GoesOn}
 use Rattle.run_base.proofs.Turning.{by_stage, told, words_on}
 
 -- tells what the act of a place needs
@@ -43,6 +47,14 @@ module _ (up : Type 0) (lot : ParkingLot) (words : Words) (p : Place) (old new :
     λ base fits. (places_lead up (kind_in words) (at_in words) base p (stage_of old section) at.3 fits).2 reply (stage_of new now)
         (subst (λ (b : Act). Became up (kind_in words) (at_in words) (sleeper_at p) (stage_of old section) b reply (stage_of new now)) (sym is) became),
   )
+
+-- a sleeper has its place still where it is queued
+pub slept_on : (up : Type 0) (lot : ParkingLot) (words : Words) (p : Place) (old new : Token) (section now : Option Section) (reply : Reply) (queue then : Option QueuePlace) → IsAtPlace up lot words p old section → act_of p ≡ act.TheVariants.Sleep
+    → Became up (kind_in words) (at_in words) (sleeper_at p) (stage_of old section) act.TheVariants.Sleep reply (stage_of new now) → new.number ≡ old.number → KeepsPlace lot old.number act.TheVariants.Sleep reply queue then → HasPlace lot old.number queue → is_queued (next_place p reply) ≡ true → HasPlace lot new.number then
+slept_on up lot words p old new section now reply queue then at is became e keeps has queued =
+    let goes = queued_on up (kind_in words) (at_in words) at.4.0 (stage_of old section) (stage_of new now) reply p at.4.1 (subst (λ (b : Act). Became up (kind_in words) (at_in words) (sleeper_at p) (stage_of old section) b reply (stage_of new now)) (sym is) became) in
+    subst (λ (k : ℕ). HasPlace lot k then) (sym e)
+    (keeps_on lot old.number act.TheVariants.Sleep reply queue then (is_queued p) (is_queued (next_place p reply)) (subst (λ (b : Act). GoesOn (is_queued p) (is_queued (next_place p reply)) b reply) is goes) keeps (λ was. has) queued)
 
 -- a step on a word
 pub word_turned : (up : Type 0) (lot : ParkingLot) (words : Words) (p : Place) (old new : Token) (section : Option Section) (lock : ℕ) (op : Op) (seen : ℕ) (w : Word) → w ≡ word_among words lock → act_of p ≡ act.TheVariants.Word lock op → IsAtPlace up lot words p old section → IsSameThread lot old new

@@ -14,3 +14,4 @@ pub mod Turns
 pub mod Calls
 pub mod RwLockCalls
 pub mod Drawing
+pub mod Queued

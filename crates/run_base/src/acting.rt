@@ -1,5 +1,5 @@
 //! The acts of a thread in any call, whatever the lock is.
-ghost use Rattle.std.specs.Prelude.{◌≡◌, ◌++◌, ◌∷◌, ◌==◌, ℕ, [], None, Some, length, MatchBool};
+ghost use Rattle.std.specs.Prelude.{◌≡◌, ◌++◌, ◌∷◌, ◌==◌, ℕ, [], None, Some, false, length, true, MatchBool};
 ghost use Rattle.core_base.specs.Clocks.{IsUp};
 ghost use Rattle.core_base.specs.Lines.{queued_under, waiter, line, lines, without};
 ghost use Rattle.steps_base.specs.declared.acts.Act.TheVariants.{Sleep};
@@ -15,6 +15,8 @@ ghost use Rattle.parking_lot_core.specs.Sections.{waiting_in};
 ghost use Rattle.parking_lot_core.specs.Tokens.{IsTokenOf, IsSameThread, view_of, last_of};
 ghost use Rattle.run_base.specs.Fitting.{sleeper_at};
 ghost use Rattle.run_base.specs.Paths.{closure_of, step};
+ghost use Rattle.parking_lot_core.specs.Places.{IsPlaceOf, thread_of};
+ghost use Rattle.run_base.specs.Queued.{HasPlace, KeepsPlace, needs_place, spends_place};
 ghost use Rattle.run_base.specs.Telling.{AreQueued, HasStepped, MayFind, MayTakeStep, MayTakeAt, StandsLast, TellsQueues, TellsTake, index_of, is_empty_at, owns_of, steps_of};
 ghost use Rattle.run_base.specs.Words.{AreWordsOf, word_among, kind_in, at_in};
 ghost use Rattle.run_base.specs.Stages.{Adds, Awoke, AwokeLate, HandsEach, HasKey, IsFresh, IsUngiven, MayLeave, IsSectionOf, IsLeft, TookBy, stage_handed, note_of, section_view, stage_of, waiting_of, wanted_in, entered_now, ActNeeds, Became};
@@ -23,7 +25,9 @@ use crate::sleepers::{Sleeper, sleeper_at};
 use crate::taking::{requeue, take_all, take_first, take_picked, tell_wants};
 use crate::words::Words;
 use lot_steps::{Act, Check, Place, Reply, Wakes, Whom};
-use parking_lot_core::{Clock, Key, Keys, Note, Op, ParkingLot, Section, Slept, Token, Want, Word};
+use parking_lot_core::{
+    Clock, Key, Keys, Note, Op, ParkingLot, QueuePlace, Section, Slept, Token, Want, Word,
+};
 use std::sync::Wait;
 use steps_base::takes_effect;
 
@@ -37,11 +41,12 @@ pub(crate) fn note_of(wakes: Wakes) -> Note
 }
 
 // Loads the word inside the section, and where the check holds stands behind the last of the queue.
-fn park(
+fn park<'a>(
     lot: &ParkingLot,
     token: &mut Token,
     word: Word,
-    section: &mut Option<Section>,
+    section: &mut Option<Section<'a>>,
+    queue: &mut Option<QueuePlace<'a>>,
     key: Key,
     check: Check,
     want: Want,
@@ -55,12 +60,14 @@ fn park(
         × HasStepped word Load seen token.old token.new }
     ensures stands { MatchBool result (StandsLast key token.old.number want section.old section.new)
         (waiting_of section.new ≡ waiting_of section.old) }
+    ensures place { MatchBool result (HasPlace lot.now token.old.number queue.new)
+        (queue.new ≡ queue.old) }
 {
     match section {
         Some(inside) => {
             let parked = check.holds(lot.word(token, word, Op::Load));
             if parked {
-                inside.append(key, token.number(), want);
+                *queue = Some(inside.append(key, token.number(), want));
             }
             parked
         }
@@ -69,17 +76,18 @@ fn park(
 }
 
 // Stands behind the last of the queue.
-pub(crate) fn stand(
+pub(crate) fn stand<'a>(
     lot: &ParkingLot,
     token: &Token,
-    section: &mut Option<Section>,
+    section: &mut Option<Section<'a>>,
     key: Key,
     want: Want,
-)
+) -> QueuePlace<'a>
     requires { IsTokenOf lot.now token.now × IsSectionOf lot.now section.old
         × HasKey key (section_view section.old) }
     ensures same { IsSectionOf lot.now section.new × (section_view section.new ≡ section_view section.old) }
     ensures stands { StandsLast key token.now.number want section.old section.new }
+    ensures place { IsPlaceOf lot.now token.now.number result }
 {
     match section {
         Some(inside) => inside.append(key, token.number(), want),
@@ -122,15 +130,16 @@ fn hand_over<R: Wait>(
 }
 
 // The thread leaves the queue. Whether none is left there.
-fn remove(_lot: &ParkingLot, section: &mut Option<Section>, key: Key, thread: usize) -> bool
-    requires { IsSectionOf _lot.now section.old × HasKey key (section_view section.old) }
+fn remove(_lot: &ParkingLot, section: &mut Option<Section>, key: Key, place: QueuePlace) -> bool
+    requires own { IsSectionOf _lot.now section.old × HasKey key (section_view section.old) }
+    requires place { IsPlaceOf _lot.now (thread_of place) place }
     ensures same { IsSectionOf _lot.now section.new × (section_view section.new ≡ section_view section.old) }
-    ensures left { AreQueued (without thread (waiting_of section.old)) section.new
+    ensures left { AreQueued (without (thread_of place.entry) (waiting_of section.old)) section.new
         × (result ≡ is_empty_at key section.new) }
 {
     match section {
         Some(inside) => {
-            inside.remove(thread);
+            inside.remove(place);
             inside.count(key) == 0
         }
         None => unreachable!(),
@@ -219,10 +228,13 @@ fn awake_late<'a, R: Wait>(
     token: &mut Token,
     sleeper: Sleeper,
     section: &mut Option<Section<'a>>,
+    queue: &mut Option<QueuePlace<'a>>,
     mut inside: Section<'a>,
     key: Key,
+    place: QueuePlace<'a>,
 ) -> Reply
     requires own { IsTokenOf inside.lot.now token.old × (section_view section.old ≡ None) }
+    requires place { IsPlaceOf inside.lot.now token.old.number place }
     requires late { section_view (Some inside) ≡ entered_now (One key) }
     requires stands { queued_under token.old.number (waiting_in inside) ≡ Some key }
     ensures own { IsSameThread inside.entry.lot.now token.old token.new
@@ -231,20 +243,24 @@ fn awake_late<'a, R: Wait>(
     ensures awoke { AwokeLate key sleeper (stage_of token.old section.old) result
         (stage_of token.new section.new) }
     ensures queues { TellsQueues Sleep result token.old.number section.old section.new }
+    ensures place { spends_place Sleep result ≡ false
+        → HasPlace inside.entry.lot.now token.old.number queue.new }
 {
     if sleeper.late == Some(key) {
+        *queue = Some(place);
         match section.replace(inside) {
             None => return Reply::Late,
             Some(_) => unreachable!(),
         }
     }
     if sleeper.moved == Some(key) {
+        *queue = Some(place);
         // It may be late there too, and is so at once.
         inside.leave(rt, token, Note::Normal);
         return Reply::MovedTo(key);
     }
     // Somebody moved the thread to a queue where it does not wait. It leaves that, and tries again.
-    inside.remove(token.number());
+    inside.remove(place);
     inside.leave(rt, token, Note::Normal);
     Reply::Woken(Note::Normal)
 }
@@ -259,17 +275,23 @@ pub(crate) fn sleep<'a, R: Wait, C: Clock>(
     limit: Option<(&C, u64)>,
     sleeper: Sleeper,
     section: &mut Option<Section<'a>>,
+    queue: &mut Option<QueuePlace<'a>>,
 ) -> Reply
     requires own { IsTokenOf lot.now token.old × IsWordOf lot.now.words word
         × (section_view section.old ≡ None) }
+    requires queued { HasPlace lot.now token.old.number queue.old }
     ensures own { IsSameThread lot.now token.old token.new × IsSectionOf lot.now section.new
         × (steps_of token.new ≡ steps_of token.old) }
     ensures awoke { Awoke (IsUp C.tells limit.entry) word.kind (index_of word) sleeper
         (stage_of token.old section.old) result (stage_of token.new section.new) }
     ensures queues { TellsQueues Sleep result token.old.number section.old section.new }
+    ensures place { KeepsPlace lot.now token.old.number Sleep result queue.old queue.new }
 {
+    let Some(place) = queue.take() else {
+        unreachable!()
+    };
     let limit = sleeper.late.and(limit);
-    match lot.sleep(rt, token, word, sleeper.want, limit) {
+    match lot.sleep(rt, token, place, word, sleeper.want, limit) {
         Slept::Woken(_) => Reply::Woken(Note::Normal),
         Slept::Handed(right) if sleeper.takes_over => {
             lot.join_right(token, right);
@@ -280,7 +302,9 @@ pub(crate) fn sleep<'a, R: Wait, C: Clock>(
             right.forget();
             Reply::Woken(Note::Normal)
         }
-        Slept::Late(inside, key) => awake_late(rt, token, sleeper, section, inside, key),
+        Slept::Late(inside, key, place) => {
+            awake_late(rt, token, sleeper, section, queue, inside, key, place)
+        }
     }
 }
 
@@ -292,11 +316,13 @@ pub(crate) fn perform<'a, R: Wait, C: Clock>(
     words: Words,
     limit: Option<(&C, u64)>,
     section: &mut Option<Section<'a>>,
+    queue: &mut Option<QueuePlace<'a>>,
     place: Place,
     act: Act,
 ) -> Reply
     requires own { IsTokenOf lot.now token.old × AreWordsOf lot.now words
         × IsSectionOf lot.now section.old }
+    requires queued { needs_place act ≡ true → HasPlace lot.now token.old.number queue.old }
     requires keys { HasKeys place }
     requires needs { ActNeeds (kind_in words) (at_in words) (stage_of token.old section.old) act }
     requires no_closure { closure_of act ≡ None }
@@ -306,6 +332,7 @@ pub(crate) fn perform<'a, R: Wait, C: Clock>(
         (stage_of token.old section.old) act result (stage_of token.new section.new) }
     ensures adds { Adds (at_in words) act result (steps_of token.old) (steps_of token.new) }
     ensures queues { TellsQueues act result token.old.number section.old section.new }
+    ensures place { KeepsPlace lot.now token.old.number act result queue.old queue.new }
 {
     match act {
         Act::Word { lock, op } => Reply::Value(lot.word(token, words.of(lock), op)),
@@ -321,9 +348,12 @@ pub(crate) fn perform<'a, R: Wait, C: Clock>(
             key,
             check,
             want,
-        } => Reply::Parked(park(lot, token, words.of(lock), section, key, check, want)),
+        } => {
+            let word = words.of(lock);
+            Reply::Parked(park(lot, token, word, section, queue, key, check, want))
+        }
         Act::Stand { key, want } => {
-            stand(lot, token, section, key, want);
+            *queue = Some(stand(lot, token, section, key, want));
             Reply::Done
         }
         Act::Take { key, whom } => take(lot, section, key, whom),
@@ -331,8 +361,11 @@ pub(crate) fn perform<'a, R: Wait, C: Clock>(
             let (number, none_left) = requeue(lot, section, from, to, how);
             Reply::Requeued { number, none_left }
         }
-        Act::Remove(key) => Reply::Removed {
-            none_left: remove(lot, section, key, token.number()),
+        Act::Remove(key) => match queue.take() {
+            Some(place) => Reply::Removed {
+                none_left: remove(lot, section, key, place),
+            },
+            None => unreachable!(),
         },
         Act::Leave { wakes, .. } => {
             leave(rt, lot, token, section, note_of(wakes));
@@ -348,6 +381,7 @@ pub(crate) fn perform<'a, R: Wait, C: Clock>(
                 limit,
                 sleeper,
                 section,
+                queue,
             )
         }
         Act::Accept => Reply::Done,

@@ -1,5 +1,5 @@
 //! One driver for all calls: it does the act of a place on the real lot, and `advance` leads on.
-ghost use Rattle.std.specs.Prelude.{◌≡◌, ◌++◌, List, None};
+ghost use Rattle.std.specs.Prelude.{◌≡◌, ◌++◌, List, None, IsTrue, IsFalse};
 ghost use Rattle.core_base.specs.Clocks.{IsUp};
 ghost use Rattle.lot_steps.specs.Steps.{act_of, next_place};
 ghost use Rattle.steps_base.specs.declared.acts.Reply.TheVariants.{Value};
@@ -11,6 +11,7 @@ ghost use Rattle.parking_lot_core.specs.Tokens.{IsTokenOf, IsSameThread, view_of
 ghost use Rattle.run_base.specs.Calls.{MeetAt, beginning, purpose_in, IsUnfinished, WalksBehind};
 ghost use Rattle.run_base.specs.Fitting.{PlacesLead, AreWordsFor, AreWordsAfter, Fits, IsStopped, Reached, answer_of, call_purpose};
 ghost use Rattle.run_base.specs.MutexFitting.{IsMutexOver};
+ghost use Rattle.run_base.specs.Queued.{HasPlace, is_queued};
 ghost use Rattle.run_base.specs.Paths.{closure_of, mutex_at, GoesFrom, RunsTo, Told};
 ghost use Rattle.run_base.specs.Words.{AreWordsOf, kind_in, at_in};
 ghost use Rattle.run_base.specs.Stages.{IsSectionOf, stage_of};
@@ -20,7 +21,7 @@ use crate::acting::{end, perform};
 use crate::words::Words;
 use lot_steps::{Act, MutexPlace, Place, Reply};
 use parking_lot_core::pauses::{SHORT_PAUSE, pause};
-use parking_lot_core::{Clock, Op, ParkingLot, Section, Token, Word};
+use parking_lot_core::{Clock, Op, ParkingLot, QueuePlace, Section, Token, Word};
 use spec_locks::{Answer, MutexCall, OnceState};
 use std::sync::Wait;
 
@@ -137,11 +138,13 @@ fn turn<'a, R: Wait, C: Clock>(
     words: Words,
     limit: Option<(&C, u64)>,
     section: &mut Option<Section<'a>>,
+    queue: &mut Option<QueuePlace<'a>>,
     place: Place,
     act: Act,
 ) -> Reply
     requires own { IsTokenOf lot.now token.old × AreWordsOf lot.now words
         × IsSectionOf lot.now section.old }
+    requires queued { IsTrue (is_queued place) → HasPlace lot.now token.old.number queue.old }
     requires words { AreWordsFor place (kind_in words) (at_in words) }
     requires act { act ≡ act_of place }
     requires fits { (base : List Ownership)
@@ -150,15 +153,18 @@ fn turn<'a, R: Wait, C: Clock>(
     ensures own { IsSameThread lot.now token.old token.new × IsSectionOf lot.now section.new }
     ensures told { Told (at_in words) place result (steps_of token.old) (steps_of token.new) }
     ensures queues { TellsQueues act result token.old.number section.old section.new }
+    ensures queued { IsTrue (is_queued (next_place place result))
+        → HasPlace lot.now token.new.number queue.new }
     ensures reached { (base : List Ownership)
         → Fits (IsUp C.tells limit.entry) base place (stage_of token.old section.old)
         → Reached (IsUp C.tells limit.entry) base place result (stage_of token.new section.new) }
 {
-    perform(rt, lot, token, words, limit, section, place, act)
+    perform(rt, lot, token, words, limit, section, queue, place, act)
 }
 
 /// Runs a call from a place to its answer or its closure, up to a deadline where the call is timed:
-/// any other pays no heed to it. The thread may be inside a section there.
+/// any other pays no heed to it. The thread may be inside a section there. It brings its place in a
+/// queue where it is queued.
 ///
 /// The thread sleeps where its call waits, until another one wakes it. A closure is left to the
 /// caller to run.
@@ -171,9 +177,11 @@ pub fn run_from<'a, R: Wait, C: Clock>(
     words: Words,
     limit: Option<(&C, u64)>,
     inside: Option<Section<'a>>,
+    queued: Option<QueuePlace<'a>>,
     start: Place,
 ) -> Stop
     requires own { IsTokenOf lot.now token.old × AreWordsOf lot.now words × IsSectionOf lot.now inside }
+    requires queued { IsTrue (is_queued start) → HasPlace lot.now token.old.number queued }
     requires words { AreWordsFor start (kind_in words) (at_in words) }
     requires start { (base : List Ownership)
         × Fits (IsUp C.tells limit) base start (stage_of token.old inside) }
@@ -188,13 +196,24 @@ pub fn run_from<'a, R: Wait, C: Clock>(
     let mut place = start;
     let mut act = start.act();
     let mut section = inside;
+    let mut queue = queued;
     let mut loads = 0;
     for _ in rt.forever() {
         if let Some(state) = closure_of(act) {
             end(section);
             return Stop::Paused { place, state };
         }
-        let reply = turn(rt, lot, token, words, limit, &mut section, place, act);
+        let reply = turn(
+            rt,
+            lot,
+            token,
+            words,
+            limit,
+            &mut section,
+            &mut queue,
+            place,
+            act,
+        );
         act = place.advance_in_place(reply);
         if let Some(answer) = answer_of(act) {
             end(section);
@@ -217,6 +236,7 @@ pub fn run<R: Wait, C: Clock>(
     start: Place,
 ) -> Stop
     requires own { IsTokenOf lot.now token.old × AreWordsOf lot.now words }
+    requires unqueued { IsFalse (is_queued start) }
     requires words { AreWordsFor start (kind_in words) (at_in words) }
     requires start { (base : List Ownership)
         × Fits (IsUp C.tells limit) base start (stage_of token.old None) }
@@ -228,7 +248,7 @@ pub fn run<R: Wait, C: Clock>(
         (stage_of token.new None) }
     ensures words { AreWordsAfter result (kind_in words) (at_in words) }
 {
-    run_from(rt, lot, token, words, limit, None, start)
+    run_from(rt, lot, token, words, limit, None, None, start)
 }
 
 // Where a call goes on whose first step saw this.

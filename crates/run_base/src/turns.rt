@@ -4,8 +4,10 @@ ghost use Rattle.core_base.specs.Clocks.{IsUp};
 ghost use Rattle.steps_base.specs.declared.acts.Act.TheVariants as acts;
 ghost use Rattle.steps_base.specs.declared.acts.Reply.TheVariants.{Done, Requeued, Took, Value};
 ghost use Rattle.steps_base.specs.declared.acts.Whom.TheVariants as whom;
-ghost use Rattle.std.specs.Prelude.{◌≡◌};
-ghost use Rattle.lot_steps.specs.Steps.{act_of};
+ghost use Rattle.std.specs.Prelude.{◌≡◌, IsTrue};
+ghost use Rattle.lot_steps.specs.Steps.{act_of, next_place};
+ghost use Rattle.parking_lot_core.specs.Places.{IsPlaceOf};
+ghost use Rattle.run_base.specs.Queued.{HasPlace, is_queued};
 ghost use Rattle.run_base.specs.Telling.{StandsLast, TellsQueues, TellsRequeue, TellsTake};
 ghost use Rattle.run_base.specs.Turns.{HasActed, HasTurned, IsAtPlace, MayAct};
 
@@ -15,7 +17,9 @@ use crate::sleepers::sleeper_at;
 use crate::taking::{requeue, take_first};
 use crate::words::Words;
 use lot_steps::{Place, Reply, Wakes};
-use parking_lot_core::{Clock, Key, Keys, Op, ParkingLot, Requeue, Section, Token, Want};
+use parking_lot_core::{
+    Clock, Key, Keys, Op, ParkingLot, QueuePlace, Requeue, Section, Token, Want,
+};
 use std::sync::Wait;
 
 /// A turn with one operation on the word of a lock. It answers what the word was.
@@ -55,24 +59,25 @@ pub fn turn_enter<'a, R: Wait, C: Clock>(
     enter(rt, lot, token, section, keys);
 }
 
-/// A turn that stands behind the last of a queue.
+/// A turn that stands behind the last of a queue. It gives the thread's place there.
 #[inline]
-pub fn turn_stand<C: Clock>(
+pub fn turn_stand<'a, C: Clock>(
     lot: &ParkingLot,
     token: &Token,
     _words: Words,
     _limit: Option<(&C, u64)>,
-    section: &mut Option<Section>,
+    section: &mut Option<Section<'a>>,
     key: Key,
     want: Want,
-)
+) -> QueuePlace<'a>
     requires { MayAct (IsUp C.tells _limit) lot.now _words
         (acts.Stand key want) token.now section.old }
     ensures done { HasActed (IsUp C.tells _limit.entry) lot.now _words (acts.Stand key want) Done
         token.now section.old token.now section.new }
     ensures stands { StandsLast key token.now.number want section.old section.new }
+    ensures place { IsPlaceOf lot.now token.now.number result }
 {
-    stand(lot, token, section, key, want);
+    stand(lot, token, section, key, want)
 }
 
 /// A turn that takes the first of a queue. Whether there was any, and whether none is left.
@@ -147,13 +152,17 @@ pub fn turn_sleep<'a, R: Wait, C: Clock>(
     words: Words,
     limit: Option<(&C, u64)>,
     section: &mut Option<Section<'a>>,
+    queue: &mut Option<QueuePlace<'a>>,
     place: Place,
 ) -> Reply
     requires at { IsAtPlace (IsUp C.tells limit) lot.now words place token.old section.old }
     requires act { act_of place ≡ acts.Sleep }
+    requires queued { HasPlace lot.now token.old.number queue.old }
     ensures turned { HasTurned (IsUp C.tells limit.entry) lot.now words place result token.old
         section.old token.new section.new }
     ensures queues { TellsQueues acts.Sleep result token.old.number section.old section.new }
+    ensures queued { IsTrue (is_queued (next_place place result))
+        → HasPlace lot.now token.new.number queue.new }
 {
     let sleeper = sleeper_at(place);
     sleep(
@@ -164,5 +173,6 @@ pub fn turn_sleep<'a, R: Wait, C: Clock>(
         limit,
         sleeper,
         section,
+        queue,
     )
 }

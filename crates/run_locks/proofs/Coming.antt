@@ -1,5 +1,5 @@
 -- How a call comes from one place to another, turn by turn, and what its turns do by the keys that the code computes.
-use Rattle.std.proofs.Common.{ℕ, ◌≡◌, None, Some, Option, sym, subst}
+use Rattle.std.proofs.Common.{ℕ, ◌≡◌, ◌∙◌, None, Some, Option, refl, sym, subst}
 use Rattle.core_base.specs.declared.keys.Keys.TheVariants.{One, Two}
 use Rattle.core_base.specs.declared.requeues.Requeue.{Requeue as Moved}
 use Rattle.steps_base.specs.declared.acts.Act.{Act}
@@ -21,12 +21,13 @@ use Rattle.run_base.proofs.TurnsOn.{turn_ends, turn_leads, turn_then}
 -- a call has come from one place to another: what fits there the thread has, and whatever ends the call there ends it from where it began
 pub record HasCome (up : Type 0) (lot : ParkingLot) (words : Words) (p : Place) (old : Token) (section : Option Section) (q : Place) (new : Token) (now : Option Section) : Type 0 where
   pub at : IsAtPlace up lot words q new now
+  pub same : new.number ≡ old.number
   pub ends : (answer : Answer) (last : Token) → HasEnded up lot words q answer new now last → HasEnded up lot words p answer old section last
 
 -- it begins where it is
 pub begins : (up : Type 0) (lot : ParkingLot) (words : Words) (p : Place) (token : Token) (section : Option Section) → IsAtPlace up lot words p token section
     → HasCome up lot words p token section p token section
-begins up lot words p token section at = record { at = at; ends = λ answer last ended. ended }
+begins up lot words p token section at = record { at = at; same = refl; ends = λ answer last ended. ended }
 
 module _ {up : Type 0} {lot : ParkingLot} {words : Words} {p : Place} {old : Token} {section : Option Section} {q : Place} {mid : Token} {there : Option Section} (came : HasCome up lot words p old section q mid there) where
   -- the same place by another name
@@ -42,6 +43,7 @@ module _ {up : Type 0} {lot : ParkingLot} {words : Words} {p : Place} {old : Tok
       → (r : Place) → (next_place q reply ≡ r) × (answer_of (next_act q reply) ≡ None) → HasCome up lot words p old section r new now
   turns_to reply new now turned r leads = record {
     at = turn_leads up lot words q reply mid new there now turned came.at r leads.0 leads.1;
+    same = turned.0.1 ∙ came.same;
     ends = λ answer last rest. came.ends answer last (turn_then up lot words q reply mid new there now turned r leads.0 leads.1 answer last rest);
   }
 

@@ -1,12 +1,13 @@
 //! The straight courses of waits and of notifications, where nothing comes between. Anything else
 //! leads off them, to the driver, which goes on through the places one by one.
-ghost use Rattle.std.specs.Prelude.{◌≡◌};
+ghost use Rattle.std.specs.Prelude.{◌≡◌, IsTrue};
 ghost use Rattle.core_base.specs.Clocks.{IsUp};
+ghost use Rattle.run_base.specs.Queued.{HasPlace, is_queued};
 ghost use Rattle.run_base.specs.Turns.{HasEnded, IsAtPlace};
 ghost use Rattle.run_locks.specs.CondvarCourses.{IsOfCondvar, notify_at, wait_at};
 
 use lot_steps::Place;
-use parking_lot_core::{Clock, ParkingLot, Section, Token};
+use parking_lot_core::{Clock, ParkingLot, QueuePlace, Section, Token};
 use run_base::driver::{Stop, run_from};
 use run_base::words::Words;
 use spec_locks::Answer;
@@ -61,14 +62,16 @@ pub(crate) fn rest<'a, R: Wait, C: Clock>(
     words: Words,
     limit: Option<(&C, u64)>,
     section: Option<Section<'a>>,
+    queue: Option<QueuePlace<'a>>,
     place: Place,
 ) -> Answer
     requires at { IsAtPlace (IsUp C.tells limit) lot.now words place token.old section }
     requires call { IsOfCondvar place }
+    requires queued { IsTrue (is_queued place) → HasPlace lot.now token.old.number queue }
     ensures { HasEnded (IsUp C.tells limit.entry) lot.now words place result token.old section.entry
         token.new }
 {
-    match run_from(rt, lot, token, words, limit, section, place) {
+    match run_from(rt, lot, token, words, limit, section, queue, place) {
         Stop::Ended(answer) => answer,
         // No call of a condition variable runs a closure.
         Stop::Paused { .. } => unreachable!(),

@@ -193,7 +193,7 @@ fn mark_and_move<'a, R: Wait>(
     }
     let place = pair.notifies(all, NotifyAt::Set(seen));
     let next = place.next_place(Reply::Value(found));
-    rest(rt, lot, token, words, NO_LIMIT, section, next)
+    rest(rt, lot, token, words, NO_LIMIT, section, None, next)
 }
 
 /// A notification that has seen a mutex, from there to its answer.

@@ -1,5 +1,5 @@
 //! The calls of a reader-writer lock, each from its first step to its answer.
-ghost use Rattle.std.specs.Prelude.{◌≡◌, List, None, MatchResult};
+ghost use Rattle.std.specs.Prelude.{◌≡◌, List, None, MatchResult, IsFalse};
 ghost use Rattle.steps_base.specs.declared.acts.Reply.TheVariants.{Value};
 ghost use Rattle.core_base.specs.Clocks.{IsUp};
 ghost use Rattle.steps_rwlock.specs.declared.purposes.RwLockPurpose.TheVariants.{Enter};
@@ -14,6 +14,7 @@ ghost use Rattle.run_locks.specs.declared.rwlock_calls.Rest.TheVariants.{GoesOn,
 ghost use Rattle.run_base.specs.Fitting.{AreWordsFor, Fits, IsOver, Reached, call_purpose, of_rwlock};
 ghost use Rattle.run_base.specs.Paths.{WalksAfterReply, Walks, at_rwlock};
 ghost use Rattle.run_base.specs.RwLockCalls.{AnswersCall, BeginsWith, HasWalkedRwLock, MeetsAt, WakesBy, rwlock_begin, rwlock_deciding};
+ghost use Rattle.run_base.specs.Queued.{is_queued};
 ghost use Rattle.run_base.specs.Stages.{stage_of};
 ghost use Rattle.run_base.specs.Telling.{owns_of, steps_of};
 ghost use Rattle.run_base.specs.Words.{single_word, kind_in, at_in};
@@ -51,6 +52,7 @@ pub(crate) fn run_out<R: Wait, C: Clock>(
     requires own { IsTokenOf lot.now token.old × IsWordOf lot.now.words word }
     requires words { AreWordsFor start (kind_in (single_word word)) (at_in (single_word word)) }
     requires kind { word.kind ≡ RwLock }
+    requires unqueued { IsFalse (is_queued start) }
     requires fits { (base : List Ownership)
         × Fits (IsUp C.tells limit) base start (stage_of token.old None) }
     ensures own { IsSameThread lot.now token.old token.new }

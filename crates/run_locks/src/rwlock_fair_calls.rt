@@ -1,5 +1,5 @@
 //! Fair releases and bumps of a reader-writer lock.
-ghost use Rattle.std.specs.Prelude.{◌≡◌, List, None};
+ghost use Rattle.std.specs.Prelude.{◌≡◌, List, None, IsFalse};
 ghost use Rattle.core_base.specs.declared.ops.Op.TheVariants.{Exchange};
 ghost use Rattle.spec_locks.specs.declared.calls.Access.TheVariants.{Exclusive, Upgradable};
 ghost use Rattle.spec_locks.specs.declared.calls.Patience.TheVariants.{Patient};
@@ -14,6 +14,7 @@ ghost use Rattle.run_base.specs.Fitting.{Fits, IsOver, call_purpose};
 ghost use Rattle.run_base.specs.Paths.{Walks, at_rwlock};
 ghost use Rattle.run_base.specs.RwLockCalls.{HasWalkedCall, MeetsAt, ReleasesFairly};
 ghost use Rattle.run_base.specs.RwLockFitting.{Answers, IsBeside, OwnsRight};
+ghost use Rattle.run_base.specs.Queued.{is_queued};
 ghost use Rattle.run_base.specs.Stages.{stage_of};
 ghost use Rattle.run_base.specs.Telling.{owns_of, steps_of};
 
@@ -52,6 +53,7 @@ fn rest<R: Wait>(
     at: &RwLockCallPlace,
 ) -> Answer
     requires own { MeetsAt lot.now token.old word.now admission.now }
+    requires unqueued { IsFalse (is_queued (RwLock word.now.number admission.now at.now)) }
     requires fits { (base : List Ownership)
         × Fits ⊥ base (RwLock word.now.number admission.now at.now) (stage_of token.old None) }
     ensures own { IsSameThread lot.now token.old token.new }

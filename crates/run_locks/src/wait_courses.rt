@@ -4,6 +4,7 @@ ghost use Rattle.core_base.specs.Clocks.{IsUp};
 ghost use Rattle.steps_condvar.specs.CondvarSteps.{is_shown, waited};
 ghost use Rattle.steps_condvar.specs.declared.wait.Stands.TheVariants.{Listed};
 ghost use Rattle.steps_condvar.specs.declared.wait.WaitAt.TheVariants as wait;
+ghost use Rattle.parking_lot_core.specs.Places.{IsPlaceOf};
 ghost use Rattle.run_base.specs.Turns.{HasEnded, IsAtPlace};
 ghost use Rattle.steps_mutex.specs.MutexSteps.{is_locked};
 ghost use Rattle.steps_mutex.specs.declared.lock.LockAt.TheVariants as lock;
@@ -14,7 +15,7 @@ ghost use Rattle.run_locks.specs.MutexCourses.{taken_on};
 use crate::condvar_courses::{Pair, rest};
 use core_base::main_key;
 use lot_steps::{Reply, Wakes};
-use parking_lot_core::{Clock, Keys, Note, Op, ParkingLot, Section, Token, Want};
+use parking_lot_core::{Clock, Keys, Note, Op, ParkingLot, QueuePlace, Section, Token, Want};
 use run_base::turns::{
     end, turn_enter, turn_leave, turn_sleep, turn_stand, turn_take_first, turn_word,
 };
@@ -72,7 +73,7 @@ fn lock_free<'a, R: Wait, C: Clock>(
     }
     let place = pair.waits(timed, locks(LockAt::Decide(seen)));
     let next = place.next_place(Reply::Value(found));
-    rest(rt, lot, token, pair.words, limit, section, next)
+    rest(rt, lot, token, pair.words, limit, section, None, next)
 }
 
 // Looks which thread owns the mutex, whose word was not 0.
@@ -101,7 +102,7 @@ fn lock_seen<'a, R: Wait, C: Clock>(
     );
     if is_locked(seen) {
         let place = pair.waits(timed, locks(LockAt::Decide(seen)));
-        return rest(rt, lot, token, pair.words, limit, section, place);
+        return rest(rt, lot, token, pair.words, limit, section, None, place);
     }
     lock_free(rt, lot, token, pair, limit, section, timed, seen)
 }
@@ -141,21 +142,33 @@ fn fall_asleep<'a, R: Wait, C: Clock>(
     pair: Pair,
     limit: Option<(&C, u64)>,
     section: Option<Section<'a>>,
+    queue: QueuePlace<'a>,
     timed: bool,
 ) -> Answer
-    requires { IsAtPlace (IsUp C.tells limit) lot.now pair.words
+    requires at { IsAtPlace (IsUp C.tells limit) lot.now pair.words
         (wait_at pair.condvar pair.mutex timed (wait.Asleep Listed)) token.old section }
+    requires queued { IsPlaceOf lot.now token.old.number queue }
     ensures { HasEnded (IsUp C.tells limit.entry) lot.now pair.words
         (wait_at pair.condvar pair.mutex timed (wait.Asleep Listed)) result token.old section.entry token.new }
 {
     let mut section = section;
     let place = pair.waits(timed, WaitAt::Asleep(Stands::Listed));
-    let reply = turn_sleep(rt, lot, token, pair.words, limit, &mut section, place);
+    let mut queue = Some(queue);
+    let reply = turn_sleep(
+        rt,
+        lot,
+        token,
+        pair.words,
+        limit,
+        &mut section,
+        &mut queue,
+        place,
+    );
     if matches!(reply, Reply::Woken(Note::Normal)) {
         return lock_again(rt, lot, token, pair, limit, section, timed);
     }
     let next = place.next_place(reply);
-    rest(rt, lot, token, pair.words, limit, section, next)
+    rest(rt, lot, token, pair.words, limit, section, queue, next)
 }
 
 // Leaves the section of the mutex, wakes the one that it took there, if any, and sleeps.
@@ -166,11 +179,13 @@ fn wake_and_sleep<'a, R: Wait, C: Clock>(
     pair: Pair,
     limit: Option<(&C, u64)>,
     section: Option<Section<'a>>,
+    queue: QueuePlace<'a>,
     timed: bool,
     any: bool,
 ) -> Answer
-    requires { IsAtPlace (IsUp C.tells limit) lot.now pair.words
+    requires at { IsAtPlace (IsUp C.tells limit) lot.now pair.words
         (wait_at pair.condvar pair.mutex timed (releases_at (unlock.Leave any))) token.old section }
+    requires queued { IsPlaceOf lot.now token.old.number queue }
     ensures { HasEnded (IsUp C.tells limit.entry) lot.now pair.words
         (wait_at pair.condvar pair.mutex timed (releases_at (unlock.Leave any))) result token.old section.entry token.new }
 {
@@ -178,7 +193,7 @@ fn wake_and_sleep<'a, R: Wait, C: Clock>(
     let keys = Keys::One(main_key(pair.mutex));
     let wakes = Wakes::taken(any, Note::Normal);
     turn_leave(rt, lot, token, pair.words, limit, &mut section, keys, wakes);
-    fall_asleep(rt, lot, token, pair, limit, section, timed)
+    fall_asleep(rt, lot, token, pair, limit, section, queue, timed)
 }
 
 // Goes on from its take: where none is left, nobody waits for the mutex any more.
@@ -189,21 +204,23 @@ fn clear_and_sleep<'a, R: Wait, C: Clock>(
     pair: Pair,
     limit: Option<(&C, u64)>,
     section: Option<Section<'a>>,
+    queue: QueuePlace<'a>,
     timed: bool,
     any: bool,
     none_left: bool,
 ) -> Answer
-    requires { IsAtPlace (IsUp C.tells limit) lot.now pair.words
+    requires at { IsAtPlace (IsUp C.tells limit) lot.now pair.words
         (wait_at pair.condvar pair.mutex timed (releases_at (taken_on any none_left))) token.old section }
+    requires queued { IsPlaceOf lot.now token.old.number queue }
     ensures { HasEnded (IsUp C.tells limit.entry) lot.now pair.words
         (wait_at pair.condvar pair.mutex timed (releases_at (taken_on any none_left))) result token.old section.entry token.new }
 {
     if none_left {
         let op = Op::And(!PARKED);
         turn_word(lot, token, pair.words, limit, &section, pair.mutex, op);
-        return wake_and_sleep(rt, lot, token, pair, limit, section, timed, any);
+        return wake_and_sleep(rt, lot, token, pair, limit, section, queue, timed, any);
     }
-    wake_and_sleep(rt, lot, token, pair, limit, section, timed, any)
+    wake_and_sleep(rt, lot, token, pair, limit, section, queue, timed, any)
 }
 
 // Wakes the first that waits for the mutex, which it has released, and sleeps.
@@ -214,10 +231,12 @@ fn wake_first_and_sleep<'a, R: Wait, C: Clock>(
     pair: Pair,
     limit: Option<(&C, u64)>,
     section: Option<Section<'a>>,
+    queue: QueuePlace<'a>,
     timed: bool,
 ) -> Answer
-    requires { IsAtPlace (IsUp C.tells limit) lot.now pair.words
+    requires at { IsAtPlace (IsUp C.tells limit) lot.now pair.words
         (wait_at pair.condvar pair.mutex timed (releases_at unlock.Enter)) token.old section }
+    requires queued { IsPlaceOf lot.now token.old.number queue }
     ensures { HasEnded (IsUp C.tells limit.entry) lot.now pair.words
         (wait_at pair.condvar pair.mutex timed (releases_at unlock.Enter)) result token.old section.entry token.new }
 {
@@ -226,7 +245,9 @@ fn wake_first_and_sleep<'a, R: Wait, C: Clock>(
     let key = main_key(pair.mutex);
     turn_enter(rt, lot, token, words, limit, &mut section, Keys::One(key));
     let (any, none_left) = turn_take_first(lot, token, words, limit, &mut section, key);
-    clear_and_sleep(rt, lot, token, pair, limit, section, timed, any, none_left)
+    clear_and_sleep(
+        rt, lot, token, pair, limit, section, queue, timed, any, none_left,
+    )
 }
 
 // Releases the mutex, and sleeps.
@@ -237,19 +258,21 @@ fn release<'a, R: Wait, C: Clock>(
     pair: Pair,
     limit: Option<(&C, u64)>,
     section: Option<Section<'a>>,
+    queue: QueuePlace<'a>,
     timed: bool,
 ) -> Answer
-    requires { IsAtPlace (IsUp C.tells limit) lot.now pair.words
+    requires at { IsAtPlace (IsUp C.tells limit) lot.now pair.words
         (wait_at pair.condvar pair.mutex timed (releases_at unlock.Subtract)) token.old section }
+    requires queued { IsPlaceOf lot.now token.old.number queue }
     ensures { HasEnded (IsUp C.tells limit.entry) lot.now pair.words
         (wait_at pair.condvar pair.mutex timed (releases_at unlock.Subtract)) result token.old section.entry token.new }
 {
     let op = Op::Sub(LOCKED);
     let seen = turn_word(lot, token, pair.words, limit, &section, pair.mutex, op);
     if !is_parked(seen) {
-        return fall_asleep(rt, lot, token, pair, limit, section, timed);
+        return fall_asleep(rt, lot, token, pair, limit, section, queue, timed);
     }
-    wake_first_and_sleep(rt, lot, token, pair, limit, section, timed)
+    wake_first_and_sleep(rt, lot, token, pair, limit, section, queue, timed)
 }
 
 // Whether a condition variable with this word may show the mutex.
@@ -285,9 +308,9 @@ pub(crate) fn wait_through<R: Wait, C: Clock>(
     let seen = turn_word(lot, token, words, limit, &section, pair.condvar, op);
     if !may_show(seen, pair.mutex) {
         let place = pair.waits(timed, WaitAt::Refuse);
-        return rest(rt, lot, token, words, limit, section, place);
+        return rest(rt, lot, token, words, limit, section, None, place);
     }
-    turn_stand(lot, token, words, limit, &mut section, key, Want::Wait);
+    let queue = turn_stand(lot, token, words, limit, &mut section, key, Want::Wait);
     let keys = Keys::One(key);
     turn_leave(
         rt,
@@ -299,5 +322,5 @@ pub(crate) fn wait_through<R: Wait, C: Clock>(
         keys,
         Wakes::Nobody,
     );
-    release(rt, lot, token, pair, limit, section, timed)
+    release(rt, lot, token, pair, limit, section, queue, timed)
 }

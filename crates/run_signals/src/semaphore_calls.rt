@@ -1,5 +1,5 @@
 //! The steps of which the calls of a semaphore are made, and what each call leaves to the driver.
-ghost use Rattle.std.specs.Prelude.{ℕ, ◌≡◌, ◌≢◌, ◌≤◌, ◌++◌, ◌∷◌, ◌-◌, ◌*◌, ◌^◌, List, None, true, false};
+ghost use Rattle.std.specs.Prelude.{ℕ, ◌≡◌, ◌≢◌, ◌≤◌, ◌++◌, ◌∷◌, ◌-◌, ◌*◌, ◌^◌, List, None, true, false, IsFalse};
 ghost use Rattle.spec_locks.specs.Codes.{has_parked};
 ghost use Rattle.core_base.specs.Clocks.{IsUp};
 ghost use Rattle.core_base.specs.declared.ops.Op.TheVariants.{Add, Exchange};
@@ -12,6 +12,7 @@ ghost use Rattle.run_base.specs.Fitting.{AreWordsFor, Fits, IsOver, call_purpose
 ghost use Rattle.run_base.specs.Paths.{Walks, at_semaphore, semaphore_at, step};
 ghost use Rattle.run_base.specs.SemaphoreFitting.{FitsSemaphore, IsSemaphoreOver, to_acquire, permit, semaphore_purpose_at, to_release, to_try};
 ghost use Rattle.lot_steps.specs.declared.places.Place.TheVariants.{Semaphore};
+ghost use Rattle.run_base.specs.Queued.{is_queued};
 ghost use Rattle.run_base.specs.Stages.{stage_of};
 ghost use Rattle.run_base.specs.Telling.{owns_of, steps_of};
 ghost use Rattle.run_base.specs.Words.{single_word, at_in, kind_in};
@@ -99,6 +100,7 @@ fn run_out<R: Wait, C: Clock>(
     start: SemaphorePlace,
 ) -> Answer
     requires own { MeetsSemaphore lot.now token.old word }
+    requires unqueued { IsFalse (is_queued (Semaphore word.number start)) }
     requires fits { FitsSemaphore (IsUp C.tells limit) word.number (owns_of token.old) start
         (stage_of token.old None) }
     ensures own { IsSameThread lot.now token.old token.new }

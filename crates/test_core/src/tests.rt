@@ -19,13 +19,15 @@ ghost use Rattle.core_words.specs.Lots.{IsWordOf};
 ghost use Rattle.core_words.specs.RightsOf.{IsFor, IsRightOf};
 ghost use Rattle.core_words.specs.declared.words.WordKind.TheVariants.{Mutex};
 ghost use Rattle.parking_lot_core.specs.Keys.{IsKeyOf};
+ghost use Rattle.parking_lot_core.specs.Places.{IsPlaceOf};
 ghost use Rattle.parking_lot_core.specs.Sections.{IsUntouched, StaysIn, rightless_in, taken_in};
 ghost use Rattle.parking_lot_core.specs.Tokens.{IsNewTicketOf, IsSameThread, IsTicketOf, IsTokenOf};
 
 use core_base::TickClock;
 use parking_lot_core::pauses::{SHORT_PAUSE, pause};
 use parking_lot_core::{
-    Key, Keys, Note, ParkingLot, Right, Section, Slept, Ticket, Token, Want, Word, WordKind,
+    Key, Keys, Note, ParkingLot, QueuePlace, Right, Section, Slept, Ticket, Token, Want, Word,
+    WordKind,
 };
 use std::alloc::Global;
 use std::fmt::Debug;
@@ -152,22 +154,16 @@ fn delay(turns: usize) {
 // The part of a thread in a section of one key.
 #[derive(Clone, Copy)]
 enum Task {
-    LineUp(Want),
     TakeFirst,
     TakeThree,
 }
 
 // Does it. It gives the first that was taken, if any.
-fn perform(section: &mut Section, key: Key, thread: usize, task: Task) -> Option<usize>
-    requires section { IsKeyOf section.old.keys key × IsUntouched section.old }
-    requires thread { thread < section.old.lot.now.records.count }
+fn perform(section: &mut Section, key: Key, task: Task) -> Option<usize>
+    requires { IsKeyOf section.old.keys key × IsUntouched section.old }
     ensures { StaysIn section.old section.new × (rightless_in section.new ≡ taken_in section.new) }
 {
     match task {
-        Task::LineUp(want) => {
-            section.append(key, thread, want);
-            None
-        }
         Task::TakeFirst => section.take_first(key),
         Task::TakeThree => {
             if section.count(key) != 3 {
@@ -193,9 +189,27 @@ fn in_section<R: Wait>(
     ensures { IsSameThread lot.now token.old token.new }
 {
     let mut section = lot.enter(rt, token, Keys::One(key));
-    let taken = perform(&mut section, key, token.number(), task);
+    let taken = perform(&mut section, key, task);
     section.leave(rt, token, Note::Normal);
     taken
+}
+
+// Stands behind the last under a key. It gives the thread's place there.
+fn line_up<'a, R: Wait>(
+    rt: &R,
+    lot: &'a ParkingLot,
+    token: &mut Token,
+    key: Key,
+    want: Want,
+) -> QueuePlace<'a>
+    requires { IsTokenOf lot.now token.old }
+    ensures own { IsSameThread lot.now token.old token.new }
+    ensures place { IsPlaceOf lot.now token.old.number result }
+{
+    let mut section = lot.enter(rt, token, Keys::One(key));
+    let place = section.append(key, token.number(), want);
+    section.leave(rt, token, Note::Normal);
+    place
 }
 
 // Does it again and again, until somebody was taken.
@@ -213,30 +227,38 @@ fn until_taken<R: Wait>(rt: &R, lot: &ParkingLot, token: &mut Token, key: Key, t
 
 // The right that a thread is handed in its sleep, or none where it is told to try again. Its sleep
 // has no limit, so that it is never late.
-fn sleep<R: Wait>(
+fn sleep<'a, R: Wait>(
     rt: &R,
-    lot: &ParkingLot,
+    lot: &'a ParkingLot,
     token: &mut Token,
+    place: QueuePlace<'a>,
     word: Word,
     want: Want,
 ) -> Option<Right>
-    requires { IsTokenOf lot.now token.old }
+    requires { IsTokenOf lot.now token.old × IsPlaceOf lot.now token.old.number place }
     ensures own { IsSameThread lot.now token.old token.new }
     ensures right { IfSome result (λ right. IsRightOf lot.now.words right × IsFor word want right) }
 {
-    match lot.sleep(rt, token, word, want, None::<(&TickClock, u64)>) {
+    match lot.sleep(rt, token, place, word, want, None::<(&TickClock, u64)>) {
         Slept::Handed(right) => Some(right),
         Slept::Woken(_) => None,
-        Slept::Late(_section, _) => unreachable!(),
+        Slept::Late(_section, _, _) => unreachable!(),
     }
 }
 
 // Returns the note that a thread is given in such a sleep. A right that it is handed is forgotten.
-fn told<R: Wait>(rt: &R, lot: &ParkingLot, token: &mut Token, word: Word, want: Want) -> Note
-    requires { IsTokenOf lot.now token.old }
+fn told<'a, R: Wait>(
+    rt: &R,
+    lot: &'a ParkingLot,
+    token: &mut Token,
+    place: QueuePlace<'a>,
+    word: Word,
+    want: Want,
+) -> Note
+    requires { IsTokenOf lot.now token.old × IsPlaceOf lot.now token.old.number place }
     ensures { IsSameThread lot.now token.old token.new }
 {
-    match sleep(rt, lot, token, word, want) {
+    match sleep(rt, lot, token, place, word, want) {
         Some(right) => {
             right.forget();
             Note::HandOff

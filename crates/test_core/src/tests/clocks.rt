@@ -1,11 +1,13 @@
 //! Clocks, and sleepers whose time is up.
+ghost use Rattle.parking_lot_core.specs.Places.{IsPlaceOf};
 ghost use Rattle.parking_lot_core.specs.Tokens.{IsTicketOf, IsTokenOf, IsSameThread};
 
 use super::buckets::is_told;
-use super::{Task, check, check_eq, in_section, lot_of, mutex_of, ticket_of, word_of};
+use super::{check, check_eq, line_up, lot_of, mutex_of, ticket_of, word_of};
 use core_base::TickClock;
 use parking_lot_core::{
-    Clock, Key, Keys, Note, ParkingLot, Slept, SystemClock, Ticket, Token, Want, Word, WordKind,
+    Clock, Key, Keys, Note, ParkingLot, QueuePlace, Slept, SystemClock, Ticket, Token, Want, Word,
+    WordKind,
 };
 use std::alloc::Global;
 use std::io;
@@ -21,20 +23,21 @@ const KEY: Key = 4;
 // Returns the note that a thread is given in a sleep up to a deadline, or the key under which it
 // was late, and the key under which it stood. A late thread leaves its place, and a right that it
 // is handed is forgotten.
-pub fn told_until<R: Wait, C: Clock>(
+pub fn told_until<'a, R: Wait, C: Clock>(
     rt: &R,
-    lot: &ParkingLot,
+    lot: &'a ParkingLot,
     token: &mut Token,
+    place: QueuePlace<'a>,
     word: Word,
     limit: (&C, u64),
 ) -> Result<Note, (Key, Option<Key>)>
-    requires { IsTokenOf lot.now token.old }
+    requires { IsTokenOf lot.now token.old × IsPlaceOf lot.now token.old.number place }
     ensures { IsSameThread lot.now token.old token.new }
 {
-    match lot.sleep(rt, token, word, Want::Exclusive, Some(limit)) {
-        Slept::Late(mut section, key) => {
+    match lot.sleep(rt, token, place, word, Want::Exclusive, Some(limit)) {
+        Slept::Late(mut section, key, place) => {
             let stood = section.key_of(token.number());
-            section.remove(token.number());
+            section.remove(place);
             section.leave(rt, token, Note::Normal);
             Err((key, stood))
         }
@@ -49,8 +52,8 @@ pub fn told_until<R: Wait, C: Clock>(
 // Nobody wakes a thread up to this time.
 fn is_late<R: Wait + Abort, C: Clock>(rt: &R, alloc: Global, limit: (&C, u64)) {
     let (lot, mut token, word) = mutex_of(rt, alloc, 4);
-    in_section(rt, &lot, &mut token, KEY, Task::LineUp(Want::Exclusive));
-    let told = told_until(rt, &lot, &mut token, word, limit);
+    let place = line_up(rt, &lot, &mut token, KEY, Want::Exclusive);
+    let told = told_until(rt, &lot, &mut token, place, word, limit);
     check_eq(rt, told, Err((KEY, Some(KEY))));
     check_eq(rt, lot.queued(rt, &mut token, KEY), 0);
 }
@@ -129,48 +132,66 @@ impl Clock for NotingClock<'_> {
     fn pause(&self, _left: u64) {}
 }
 
-// Sleeps past a deadline, and stands in no line, as a thread that was taken does. Whether it was
-// woken.
+// What two threads tell each other: that one stands in the line, that the other is inside the
+// section, and that the first has asked its clock.
+#[derive(Drop)]
+struct Flags {
+    stands: AtomicBool,
+    inside: AtomicBool,
+    asked: AtomicBool,
+}
+
+// Sleeps past a deadline while another thread is inside the section, and takes this one there.
+// Whether it was woken.
 fn is_woken_past_it<R: Wait>(
     rt: &R,
     lot: &ParkingLot,
     ticket: Ticket,
     word: Word,
-    asked: &AtomicBool,
+    flags: &Flags,
 ) -> bool
     requires { IsTicketOf lot.now ticket }
 {
     let mut token = ticket.enter();
-    let told = told_until(rt, lot, &mut token, word, (&NotingClock(asked), 0));
+    let place = line_up(rt, lot, &mut token, KEY, Want::Exclusive);
+    flags.stands.store(true, SeqCst);
+    let begun = is_told(&flags.inside);
+    let clock = NotingClock(&flags.asked);
+    let told = told_until(rt, lot, &mut token, place, word, (&clock, 0));
     drop(token.leave());
-    told == Ok(Note::Normal)
+    begun && told == Ok(Note::Normal)
 }
 
-// Lines the first thread up and takes it, once the clock was asked.
-fn take_once_asked<R: Wait>(rt: &R, lot: &ParkingLot, ticket: Ticket, asked: &AtomicBool) -> bool
+// Takes the first in the line, once that thread has asked its clock.
+fn take_once_asked<R: Wait>(rt: &R, lot: &ParkingLot, ticket: Ticket, flags: &Flags) -> bool
     requires { IsTicketOf lot.now ticket }
 {
     let mut token = ticket.enter();
-    let told = is_told(asked);
+    let stands = is_told(&flags.stands);
     let mut section = lot.enter(rt, &mut token, Keys::One(KEY));
-    section.append(KEY, 0, Want::Exclusive);
+    flags.inside.store(true, SeqCst);
+    let told = is_told(&flags.asked);
     section.take_first(KEY);
     section.leave(rt, &mut token, Note::Normal);
     drop(token.leave());
-    told
+    stands && told
 }
 
 #[test]
-fn who_stands_nowhere_is_not_late(rt: HostRuntime) {
+fn who_was_taken_is_not_late(rt: HostRuntime) {
     let (lot, mut token, mut others) = lot_of(&rt, rt.alloc(), 1, 2);
     let word = word_of(&rt, &lot, &mut token, WordKind::Mutex);
     let (first, second) = (ticket_of(&rt, &lot, &mut others), token.leave());
-    let asked = AtomicBool::new(false);
-    let (lot, asked) = (&*lot, &asked);
+    let flags = Flags {
+        stands: AtomicBool::new(false),
+        inside: AtomicBool::new(false),
+        asked: AtomicBool::new(false),
+    };
+    let (lot, flags) = (&*lot, &flags);
     let (woken, told) = join(
         &rt,
-        move || is_woken_past_it(&rt, lot, first, word, asked),
-        move || take_once_asked(&rt, lot, second, asked),
+        move || is_woken_past_it(&rt, lot, first, word, flags),
+        move || take_once_asked(&rt, lot, second, flags),
     );
     check(&rt, woken && told);
 }

@@ -8,42 +8,62 @@ ghost use Rattle.parking_lot_core.specs.Tokens.{IsNewTicketOf, IsSameThread, IsT
 use super::mutexes::{try_lock, unlock};
 use super::several::told_to;
 use super::threads::try_hand_over;
-use super::{Task, check_eq, in_section, next_of, seats_of, sleep};
-use parking_lot_core::{Key, Keys, Note, ParkingLot, Ticket, Token, Want, Word};
+use super::{check_eq, line_up, next_of, seats_of, sleep};
+use parking_lot_core::{Key, Keys, Note, ParkingLot, QueuePlace, Ticket, Token, Want, Word};
+use std::alloc::Global;
 use std::sync::Wait;
 
 const KEY: Key = 0;
 
 const THREADS: usize = 1024;
 
-// All but the last stand in one line, and are taken together. How many were queued.
-fn take_all<R: Wait>(rt: &R, lot: &ParkingLot, token: &mut Token, threads: usize) -> usize
+// All but the last stand in one line, and are taken together. How many were queued, and their
+// places.
+fn take_all<'a, R: Wait>(
+    rt: &R,
+    alloc: Global,
+    lot: &'a ParkingLot,
+    token: &mut Token,
+    threads: usize,
+) -> (usize, Vec<QueuePlace<'a>>)
     requires { IsTokenOf lot.now token.old × (threads ≤ lot.now.records.count) }
     ensures { IsSameThread lot.now token.old token.new }
 {
+    let mut places = Vec::new(alloc);
     let mut section = lot.enter(rt, token, Keys::One(KEY));
     for thread in 0..threads {
-        section.append(KEY, thread, Want::Exclusive);
+        // A place for which there is no memory is missed by the test.
+        let _ = places.push(section.append(KEY, thread, Want::Exclusive));
     }
     section.leave(rt, token, Note::Normal);
     let queued = lot.queued(rt, token, KEY);
     let mut section = lot.enter(rt, token, Keys::One(KEY));
     section.take_all(KEY);
     section.leave(rt, token, Note::Normal);
-    queued
+    (queued, places)
 }
 
 // How many were told to try again, each of which sleeps until it is told something.
-fn count_woken<R: Wait>(rt: &R, lot: &ParkingLot, tickets: Vec<Ticket>, word: Word) -> usize
+fn count_woken<'a, R: Wait>(
+    rt: &R,
+    lot: &'a ParkingLot,
+    tickets: Vec<Ticket>,
+    places: Vec<QueuePlace<'a>>,
+    word: Word,
+) -> usize
     requires { All (IsNewTicketOf lot.now) tickets.items }
 {
     let mut tickets = tickets;
+    let mut places = places;
     let mut woken = 0usize;
     for _ in 0..tickets.len() {
         let Some(ticket) = next_of(lot, &mut tickets) else {
             break;
         };
-        if told_to(rt, lot, ticket, word) == Note::Normal {
+        let Some(place) = places.pop() else {
+            break;
+        };
+        if told_to(rt, lot, ticket, place, word) == Some(Note::Normal) {
             woken = woken.wrapping_add(1);
         }
     }
@@ -53,9 +73,13 @@ fn count_woken<R: Wait>(rt: &R, lot: &ParkingLot, tickets: Vec<Ticket>, word: Wo
 #[test]
 fn one_leave_wakes_1023_threads(rt: HostRuntime) {
     let (lot, mut server, others, word) = seats_of(&rt, rt.alloc(), 1, THREADS);
-    let queued = take_all(&rt, &lot, &mut server, THREADS - 1);
+    let (queued, places) = take_all(&rt, rt.alloc(), &lot, &mut server, THREADS - 1);
     check_eq(&rt, queued, THREADS - 1);
-    check_eq(&rt, count_woken(&rt, &lot, others, word), THREADS - 1);
+    check_eq(
+        &rt,
+        count_woken(&rt, &lot, others, places, word),
+        THREADS - 1,
+    );
 }
 
 // Locks the mutex, and hands it over to a thread, which unlocks it. Whether it got the mutex.
@@ -69,11 +93,11 @@ fn serve<R: Wait>(rt: &R, lot: &ParkingLot, server: &mut Token, ticket: Ticket, 
         drop(token.leave());
         return false;
     };
-    in_section(rt, lot, &mut token, KEY, Task::LineUp(Want::Exclusive));
+    let place = line_up(rt, lot, &mut token, KEY, Want::Exclusive);
     if let Some(left) = try_hand_over(rt, lot, server, right, 0) {
         left.forget();
     }
-    let handed = match sleep(rt, lot, &mut token, word, Want::Exclusive) {
+    let handed = match sleep(rt, lot, &mut token, place, word, Want::Exclusive) {
         Some(right) => {
             unlock(lot, &mut token, right);
             true

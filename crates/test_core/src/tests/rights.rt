@@ -7,7 +7,7 @@ ghost use Rattle.parking_lot_core.specs.Tokens.{IsTokenOf, IsSameThread};
 use super::clocks::told_until;
 use super::mutexes::try_lock;
 use super::threads::try_hand_over;
-use super::{Task, check, check_eq, in_section, mutex_of, word_of};
+use super::{check, check_eq, line_up, mutex_of, word_of};
 use core_base::TickClock;
 use parking_lot_core::{Key, ParkingLot, Token, Want, Word, WordKind};
 use std::sync::Wait;
@@ -22,7 +22,7 @@ fn hand_to_itself<R: Wait>(rt: &R, lot: &ParkingLot, token: &mut Token, word: Wo
     requires { IsTokenOf lot.now token.old × IsWordOf lot.now.words word × (word.kind ≡ Mutex) }
     ensures { IsSameThread lot.now token.old token.new }
 {
-    in_section(rt, lot, token, KEY, Task::LineUp(Want::Exclusive));
+    line_up(rt, lot, token, KEY, Want::Exclusive);
     let Some(right) = try_lock(lot, token, word) else {
         return false;
     };
@@ -40,8 +40,8 @@ fn a_right_to_another_mutex_wakes_nobody(rt: HostRuntime) {
     let (lot, mut token, one) = mutex_of(&rt, rt.alloc(), 2);
     let other = word_of(&rt, &lot, &mut token, WordKind::Mutex);
     check(&rt, hand_to_itself(&rt, &lot, &mut token, other));
-    in_section(&rt, &lot, &mut token, KEY, Task::LineUp(Want::Exclusive));
+    let place = line_up(&rt, &lot, &mut token, KEY, Want::Exclusive);
     let clock = TickClock::new();
-    let late = told_until(&rt, &lot, &mut token, one, (&clock, EARLY));
+    let late = told_until(&rt, &lot, &mut token, place, one, (&clock, EARLY));
     check_eq(&rt, late, Err((KEY, Some(KEY))));
 }

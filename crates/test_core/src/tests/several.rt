@@ -11,9 +11,9 @@ ghost use Rattle.parking_lot_core.specs.declared.tokens.Did.TheVariants.{Nothing
 
 use super::mutexes::try_lock;
 use super::parts::{Part, Score, play_beside};
-use super::{Task, check_eq, in_section, seats_of, ticket_of, told};
+use super::{check_eq, line_up, seats_of, ticket_of, told};
 use parking_lot_core::{
-    Key, Keys, Note, ParkingLot, Right, Section, Ticket, Token, Want, Word, WordKind,
+    Key, Keys, Note, ParkingLot, QueuePlace, Right, Section, Ticket, Token, Want, Word, WordKind,
 };
 use std::alloc::Global;
 use std::process::Abort;
@@ -68,13 +68,13 @@ enum Way {
     HandOff,
 }
 
-/// Three threads line up in a section, under one of its keys.
-pub fn append_three(
-    section: &mut Section,
+/// Three threads line up in a section, under one of its keys. It gives their places.
+pub fn append_three<'a>(
+    section: &mut Section<'a>,
     key: Key,
     threads: (usize, usize, usize),
     wants: (Want, Want, Want),
-)
+) -> [QueuePlace<'a>; 3]
     requires key { IsKeyOf section.old.keys key }
     requires threads { (threads.0 < section.old.lot.now.records.count)
         × (threads.1 < section.old.lot.now.records.count)
@@ -82,9 +82,11 @@ pub fn append_three(
     ensures { StaysIn section.old section.new × TookAs section.old section.new
         × (rightless_in section.new ≡ rightless_in section.old) }
 {
-    section.append(key, threads.0, wants.0);
-    section.append(key, threads.1, wants.1);
-    section.append(key, threads.2, wants.2);
+    [
+        section.append(key, threads.0, wants.0),
+        section.append(key, threads.1, wants.1),
+        section.append(key, threads.2, wants.2),
+    ]
 }
 
 // Takes those that stand in the line. It gives the note that is then right for them.
@@ -120,33 +122,43 @@ fn take_together<R: Wait>(
 }
 
 // Three threads line up, and are taken together. It gives the mutexes whose rights they were given,
-// in their order.
-fn take_three<R: Wait>(
+// in their order, and their places.
+fn take_three<'a, R: Wait>(
     rt: &R,
     alloc: Global,
-    lot: &ParkingLot,
+    lot: &'a ParkingLot,
     token: &mut Token,
     way: Way,
-) -> Vec<Word>
+) -> (Vec<Word>, [QueuePlace<'a>; 3])
     requires { IsTokenOf lot.now token.old × (lot.now.records.count ≡ 4) }
     ensures { IsSameThread lot.now token.old token.new }
 {
     let mut given = Vec::new(alloc);
     let mut section = lot.enter(rt, token, Keys::One(KEY));
-    append_three(&mut section, KEY, (1, 2, 3), ALL_SHARED);
+    let places = append_three(&mut section, KEY, (1, 2, 3), ALL_SHARED);
     let note = take_together(rt, lot, token, &mut section, way, &mut given);
     section.leave(rt, token, note);
-    given
+    (given, places)
 }
 
-/// Returns the note of a thread that was taken. It sleeps until it has one.
-pub fn told_to<R: Wait>(rt: &R, lot: &ParkingLot, ticket: Ticket, word: Word) -> Note
-    requires { IsTicketOf lot.now ticket }
+/// Returns the note of a thread that was taken. It sleeps until it has one. None where the place is
+/// another's.
+pub fn told_to<'a, R: Wait>(
+    rt: &R,
+    lot: &'a ParkingLot,
+    ticket: Ticket,
+    place: QueuePlace<'a>,
+    word: Word,
+) -> Option<Note>
+    requires { IsTicketOf lot.now ticket × (place.lot.now ≡ lot.now) }
 {
     let mut token = ticket.enter();
-    let note = told(rt, lot, &mut token, word, Want::Exclusive);
+    if place.thread() != token.number() {
+        return None;
+    }
+    let note = told(rt, lot, &mut token, place, word, Want::Exclusive);
     drop(token.leave());
-    note
+    Some(note)
 }
 
 // Returns the notes of three threads that are taken together.
@@ -156,7 +168,7 @@ fn notes_of_three<R: Wait>(
     lot: &ParkingLot,
     seats: Four,
     way: Way,
-) -> [Note; 3]
+) -> [Option<Note>; 3]
     requires seats { IsTicketOf lot.now seats.one × IsTicketOf lot.now seats.two
         × IsTicketOf lot.now seats.three × IsTicketOf lot.now seats.four }
     requires four { lot.now.records.count ≡ 4 }
@@ -169,19 +181,25 @@ fn notes_of_three<R: Wait>(
         word,
     } = seats;
     let mut token = four.enter();
-    let given = take_three(rt, alloc, lot, &mut token, way);
+    let (given, [first, second, third]) = take_three(rt, alloc, lot, &mut token, way);
     drop(token.leave());
     [
-        told_to(rt, lot, three, given.first().copied().unwrap_or(word)),
-        told_to(rt, lot, two, given.get(1).copied().unwrap_or(word)),
-        told_to(rt, lot, one, given.get(2).copied().unwrap_or(word)),
+        told_to(
+            rt,
+            lot,
+            three,
+            first,
+            given.first().copied().unwrap_or(word),
+        ),
+        told_to(rt, lot, two, second, given.get(1).copied().unwrap_or(word)),
+        told_to(rt, lot, one, third, given.get(2).copied().unwrap_or(word)),
     ]
 }
 
 fn each_gets<R: Wait + Abort>(rt: &R, alloc: Global, way: Way, note: Note) {
     let (lot, seats) = seat_four(rt, alloc, 4);
     let notes = notes_of_three(rt, alloc, &lot, seats, way);
-    check_eq(rt, notes, [note, note, note]);
+    check_eq(rt, notes, [Some(note); 3]);
 }
 
 #[test]
@@ -195,8 +213,8 @@ fn each_of_three_gets_its_note(rt: HostRuntime) {
 pub fn sleep_in_line<R: Wait>(rt: &R, lot: &ParkingLot, token: &mut Token, word: Word) -> usize
     requires { IsTokenOf lot.now token.old }
 {
-    in_section(rt, lot, token, KEY, Task::LineUp(Want::Shared));
-    let note = told(rt, lot, token, word, Want::Shared);
+    let place = line_up(rt, lot, token, KEY, Want::Shared);
+    let note = told(rt, lot, token, place, word, Want::Shared);
     usize::from(note == Note::Normal)
 }
 

@@ -4,14 +4,15 @@ ghost use Rattle.core_words.specs.Lots.{IsWordOf};
 ghost use Rattle.core_words.specs.RightsOf.{IsRightOf};
 ghost use Rattle.core_words.specs.declared.words.WordKind.TheVariants.{Mutex};
 ghost use Rattle.core_words.specs.declared.owners.Owner.TheVariants.{Exclusive};
+ghost use Rattle.parking_lot_core.specs.Places.{IsPlaceOf};
 ghost use Rattle.parking_lot_core.specs.Tokens.{IsTokenOf, IsSameThread};
 
 use super::clocks::told_until;
 use super::mutexes::{try_lock, unlock};
 use super::parts::{Part, play};
-use super::{Task, check_eq, delay, in_section, sleep, until_taken};
+use super::{Task, check_eq, delay, in_section, line_up, sleep, until_taken};
 use core_base::TickClock;
-use parking_lot_core::{Key, Keys, Note, ParkingLot, Right, Token, Want, Word};
+use parking_lot_core::{Key, Keys, Note, ParkingLot, QueuePlace, Right, Token, Want, Word};
 use std::sync::Wait;
 use std::sync::atomic::AtomicBool;
 use std::sync::atomic::Ordering::SeqCst;
@@ -77,8 +78,8 @@ fn receive<R: Wait>(rt: &R, lot: &ParkingLot, token: &mut Token, word: Word) -> 
     ensures right { IfSome result
         (λ right. IsRightOf lot.now.words right × (right.word.kind ≡ Mutex) × (right.owner ≡ Exclusive)) }
 {
-    in_section(rt, lot, token, KEY, Task::LineUp(Want::Exclusive));
-    sleep(rt, lot, token, word, Want::Exclusive)
+    let place = line_up(rt, lot, token, KEY, Want::Exclusive);
+    sleep(rt, lot, token, place, word, Want::Exclusive)
 }
 
 // Hands the right over and gets it back, so many times.
@@ -131,11 +132,18 @@ pub fn wake_early<R: Wait>(rt: &R, lot: &ParkingLot, token: &mut Token, word: Wo
 }
 
 // Whether a thread is woken by a note. A right that it is handed is given up.
-fn is_woken<R: Wait>(rt: &R, lot: &ParkingLot, token: &mut Token, word: Word) -> bool
-    requires { IsTokenOf lot.now token.old × (word.kind ≡ Mutex) }
+fn is_woken<'a, R: Wait>(
+    rt: &R,
+    lot: &'a ParkingLot,
+    token: &mut Token,
+    place: QueuePlace<'a>,
+    word: Word,
+) -> bool
+    requires own { IsTokenOf lot.now token.old × (word.kind ≡ Mutex) }
+    requires place { IsPlaceOf lot.now token.old.number place }
     ensures { IsSameThread lot.now token.old token.new }
 {
-    match sleep(rt, lot, token, word, Want::Exclusive) {
+    match sleep(rt, lot, token, place, word, Want::Exclusive) {
         Some(right) => {
             unlock(lot, token, right);
             false
@@ -150,9 +158,9 @@ fn sleeps_late<R: Wait>(rt: &R, lot: &ParkingLot, token: &mut Token, word: Word)
     requires { IsTokenOf lot.now token.old × IsWordOf lot.now.words word × (word.kind ≡ Mutex) }
     ensures { IsSameThread lot.now token.old token.new }
 {
-    in_section(rt, lot, token, KEY, Task::LineUp(Want::Exclusive));
+    let place = line_up(rt, lot, token, KEY, Want::Exclusive);
     delay(PAUSE);
-    let by_note = is_woken(rt, lot, token, word);
+    let by_note = is_woken(rt, lot, token, place, word);
     let standing = lot.queued(rt, token, KEY);
     let Some(right) = receive(rt, lot, token, word) else {
         return false;
@@ -194,8 +202,8 @@ pub fn sleep_briefly<R: Wait>(
     let (mut woken, mut late) = (0, 0);
     for round in 0..ROUNDS {
         clock.restart();
-        in_section(rt, lot, token, KEY, Task::LineUp(Want::Exclusive));
-        match told_until(rt, lot, token, word, (&clock, round as u64 % 8)) {
+        let place = line_up(rt, lot, token, KEY, Want::Exclusive);
+        match told_until(rt, lot, token, place, word, (&clock, round as u64 % 8)) {
             Ok(Note::Normal) => woken += 1,
             Ok(Note::HandOff) => {}
             Err(_) => late += 1,

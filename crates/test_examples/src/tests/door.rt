@@ -1,11 +1,12 @@
 //! A primitive of one's own over a section: a door, at which threads wait until it is opened.
-ghost use Rattle.std.specs.Prelude.{◌≡◌, IfOk};
+ghost use Rattle.std.specs.Prelude.{◌≡◌, IfOk, IfSome};
 ghost use Rattle.std.specs.Arc.{arc_value};
-ghost use Rattle.parking_lot.specs.Names.{IsTokenOf};
+ghost use Rattle.parking_lot.specs.Names.{IsPlaceOf, IsTokenOf};
 
 use super::{all_are, check};
 use parking_lot::{
-    Fault, Key, Keys, Note, ParkingLot, Slept, Team, TickClock, Token, Want, Word, WordKind,
+    Fault, Key, Keys, Note, ParkingLot, QueuePlace, Slept, Team, TickClock, Token, Want, Word,
+    WordKind,
 };
 use std::sync::atomic::AtomicBool;
 use std::sync::atomic::Ordering::SeqCst;
@@ -37,19 +38,20 @@ impl Door {
     }
 
     // Looks at the door inside the section, so that nobody opens it between the look and the line.
-    // Whether the thread lined up.
-    fn line_up<R: Wait>(&self, rt: &R, token: &mut Token) -> bool
+    // None where it is open.
+    fn line_up<'a, R: Wait>(&'a self, rt: &R, token: &mut Token) -> Option<QueuePlace<'a>>
         requires { IsTokenOf (arc_value self.now.lot) token.old }
-        ensures { IsTokenOf (arc_value self.now.lot) token.new }
+        ensures token { IsTokenOf (arc_value self.now.lot) token.new }
+        ensures place { IfSome result (IsPlaceOf (arc_value self.now.lot) token.new.number) }
     {
         let mut section = self.lot.enter(rt, token, Keys::One(self.key));
         if self.open.load(SeqCst) {
             section.leave(rt, token, Note::Normal);
-            return false;
+            return None;
         }
-        section.append(self.key, token.number(), Want::Wait);
+        let place = section.append(self.key, token.number(), Want::Wait);
         section.leave(rt, token, Note::Normal);
-        true
+        Some(place)
     }
 
     // Waits until the door is open.
@@ -57,14 +59,17 @@ impl Door {
         requires { IsTokenOf (arc_value self.now.lot) token.old }
         ensures { IsTokenOf (arc_value self.now.lot) token.new }
     {
-        if !self.line_up(rt, token) {
+        let Some(place) = self.line_up(rt, token) else {
             return;
-        }
+        };
         let no_limit = None::<(&TickClock, u64)>;
-        match self.lot.sleep(rt, token, self.word, Want::Wait, no_limit) {
+        match self
+            .lot
+            .sleep(rt, token, place, self.word, Want::Wait, no_limit)
+        {
             Slept::Woken(_) => {}
             Slept::Handed(right) => right.forget(),
-            Slept::Late(_section, _) => unreachable!(),
+            Slept::Late(_section, _, _) => unreachable!(),
         }
     }
 

@@ -1,4 +1,4 @@
-use Rattle.std.proofs.Common.{◌∙◌, None, sym, ap, subst, ℕ}
+use Rattle.std.proofs.Common.{◌≡◌, ◌∙◌, false, None, sym, ap, subst, ℕ}
 use Rattle.core_base.specs.Clocks.{IsUp}
 use Rattle.lot_steps.specs.Steps.{next_place}
 use Rattle.steps_base.specs.declared.acts.Reply.TheVariants.{Value}
@@ -9,10 +9,12 @@ use Rattle.run_base.specs.Fitting.{AreWordsFor, Fits, IsOver, IsStopped, call_pu
 use Rattle.run_base.specs.declared.driver.Stop.{Stop}
 use Rattle.run_base.specs.declared.driver.Stop.TheVariants.{Paused}
 use Rattle.run_base.specs.Paths.{RunsTo, Walks}
+use Rattle.run_base.specs.Queued.{is_queued}
 use Rattle.run_base.specs.Stages.{stage_of}
 use Rattle.run_base.specs.Words.{kind_in, at_in, single_word}
 use Rattle.run_base.specs.declared.words.Words.{Words}
 use Rattle.run_base.proofs.Behind.{fits_behind, over_behind, path_behind, words_behind, alone_at, never_pauses}
+use Rattle.run_base.proofs.Unqueued.{after_first}
 use Rattle.run_base.proofs.driver.call_slow.Goals as goal
 
 pub run-requires-clause-words : goal.run-requires-clause-words
@@ -20,6 +22,9 @@ run-requires-clause-words g c = let word = c.args.word in
     subst (λ (words : Words). AreWordsFor c.place_behind-start.result (kind_in words) (at_in words)) (sym c.alone.ensures)
     (subst (λ (p : Place). AreWordsFor p (kind_in (single_word c.args.word)) (at_in (single_word c.args.word))) (sym c.place_behind-start.ensures)
     (words_behind word c.requires.own.2 c.args.call c.args.seen c.requires.own.3))
+
+pub run-requires-clause-unqueued : goal.run-requires-clause-unqueued
+run-requires-clause-unqueued g c = subst (λ (p : Place). is_queued p ≡ false) (sym c.place_behind-start.ensures) (after_first c.args.word.number c.args.call c.args.seen)
 
 pub run-requires-clause-start : goal.run-requires-clause-start
 run-requires-clause-start g c = let v = view_of c.args.token.now in (

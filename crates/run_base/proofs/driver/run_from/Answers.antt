@@ -1,4 +1,4 @@
-use Rattle.std.proofs.Common.{◌≡◌, ◌∙◌, None, Some, Option, List, sym, refl, ap, subst, rules}
+use Rattle.std.proofs.Common.{◌≡◌, ◌∙◌, true, None, Some, Option, List, sym, refl, ap, subst, rules}
 use Rattle.core_base.specs.Clocks.{IsUp}
 use Rattle.spec_locks.specs.declared.outcomes.Answer.{Answer}
 use Rattle.lot_steps.specs.Steps.{act_of, next_place, next_act}
@@ -7,11 +7,13 @@ use Rattle.core_words.specs.declared.owners.Ownership.{Ownership}
 use Rattle.parking_lot_core.specs.Tokens.{view_of, last_of}
 use Rattle.run_base.specs.Fitting.{CallPurpose, Fits, ReachedBy, IsOver, AreWordsFor, answer_of, call_purpose}
 use Rattle.run_base.specs.Paths.{closure_of}
+use Rattle.run_base.specs.Queued.{is_queued}
 use Rattle.run_base.specs.Stages.{stage_of, section_view}
 use Rattle.run_base.specs.Words.{kind_in, at_in}
 use Rattle.run_base.proofs.Ending.{closed, closes_outside, end_of, ended, outside}
 use Rattle.run_base.proofs.Leading.{places_lead, fits_from, words_from}
 use Rattle.run_base.proofs.Paths.{comes_here, comes_on, comes_from, comes_to_end}
+use Rattle.run_base.proofs.Queued.{queued_from}
 use Rattle.run_base.proofs.Turning.{does_next, shows_keys, words_on}
 use Rattle.run_base.proofs.driver.run_from.Goals as goal
 
@@ -20,6 +22,7 @@ loop-init g c = record {
   turns = (tt, tt);
   own = search rules;
   path = comes_here (at_in c.args.words) c.args.start (view_of c.args.token.now).steps;
+  queued = c.requires.queued;
   words = c.requires.words;
   fits = λ base fits. fits;
   act = c.act-act.ensures;
@@ -39,6 +42,7 @@ loop-preserved g c = let p = c.loop.place in let t = c.turn-reply in let reply =
       turns = (tt, tt);
       own = ((t.ensures.own.0.0, t.ensures.own.0.1 ∙ before.own.0.1), t.ensures.own.1);
       path = comes_from (at_in c.args.words) c.args.start c.advance_in_place-act.new.self c.go_from-act.new.place (view_of c.args.token.now).steps (view_of new).steps (comes_on (at_in c.args.words) c.args.start p c.advance_in_place-act.new.self (view_of c.args.token.now).steps (view_of c.loop.token).steps (view_of new).steps reply t.ensures.told.0 before.path t.ensures.told.1 t.ensures.told.2 next) from;
+      queued = λ queued. t.ensures.queued (subst (λ (q : Place). is_queued q ≡ true) next (queued_from c.advance_in_place-act.new.self c.go_from-act.new.place from queued));
       words = words_from (kind_in c.args.words) (at_in c.args.words) c.advance_in_place-act.new.self c.go_from-act.new.place from words_then;
       fits = λ (base : List Ownership) fits. (goes_from base fits).0;
       act = c.go_from-act.ensures.act;

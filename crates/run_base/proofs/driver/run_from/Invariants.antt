@@ -1,9 +1,10 @@
-use Rattle.std.proofs.Common.{◌≡◌, List}
+use Rattle.std.proofs.Common.{◌≡◌, true, List}
 use Rattle.core_base.specs.Clocks.{IsUp}
 use Rattle.lot_steps.specs.Steps.{act_of}
 use Rattle.core_words.specs.declared.owners.Ownership.{Ownership}
 use Rattle.parking_lot_core.specs.Tokens.{IsSameThread, view_of}
 use Rattle.run_base.specs.Fitting.{AreWordsFor, Fits, call_purpose}
+use Rattle.run_base.specs.Queued.{HasPlace, is_queued}
 use Rattle.run_base.specs.Stages.{IsSectionOf, stage_of}
 use Rattle.run_base.specs.Words.{kind_in, at_in}
 use Rattle.run_base.proofs.Paths.{Comes}
@@ -14,6 +15,7 @@ invariant-loop g l = record {
   turns : (goal.iterator-loop g).can_next l.iterator' × (goal.iterator-loop g).is_finite l.iterator';
   own : IsSameThread l.lot l.fn.token l.token × IsSectionOf l.lot l.section;
   path : Comes (at_in l.words) l.fn.start (view_of l.fn.token).steps (view_of l.token).steps l.place;
+  queued : is_queued l.place ≡ true → HasPlace l.lot l.token.number l.queue;
   words : AreWordsFor l.place (kind_in l.words) (at_in l.words);
   fits : (base : List Ownership) → Fits (IsUp g.C.Clock.tells l.limit) base l.fn.start (stage_of l.fn.token l.fn.inside) → Fits (IsUp g.C.Clock.tells l.limit) base l.place (stage_of l.token l.section);
   act : l.act ≡ act_of l.place;

@@ -8,7 +8,7 @@ use Rattle.run_base.specs.Stages.{Awoke, stage_of}
 use Rattle.run_base.specs.Words.{at_in, kind_in}
 use Rattle.run_base.specs.declared.sleepers.Sleeper.{Sleeper}
 use Rattle.run_base.proofs.Turning.{has_keys}
-use Rattle.run_base.proofs.TurnsOn.{needs_by, turned_by}
+use Rattle.run_base.proofs.TurnsOn.{needs_by, slept_on, turned_by}
 use Rattle.run_base.proofs.turns.turn_sleep.Goals as goal
 
 pub sleeper_at-sleeper-requires : goal.sleeper_at-sleeper-requires
@@ -21,6 +21,7 @@ sleep-requires g c = record {
     subst (IsWordOf c.args.lot.now.words) (sym c.of.ensures) (c.requires.at.1 c.sleeper_at-sleeper.result.lock),
     needs_by (IsUp g.C.Clock.tells c.args.limit) c.args.lot.now c.args.words c.args.place act.TheVariants.Sleep c.args.token.now c.args.section.now c.requires.at c.requires.act,
   );
+  queued = c.requires.queued;
 }
 
 pub returns : goal.returns
@@ -31,4 +32,5 @@ returns g c =
       turned = turned_by (IsUp g.C.Clock.tells c.args.limit) c.args.lot.now c.args.words c.args.place c.args.token.now c.sleep.new.token c.args.section.now c.sleep.new.section act.TheVariants.Sleep c.sleep.result c.requires.act refl c.requires.at
           c.sleep.ensures.own.0 c.sleep.ensures.own.1 became c.sleep.ensures.own.2;
       queues = c.sleep.ensures.queues;
+      queued = slept_on (IsUp g.C.Clock.tells c.args.limit) c.args.lot.now c.args.words c.args.place c.args.token.now c.sleep.new.token c.args.section.now c.sleep.new.section c.sleep.result c.args.queue.now c.sleep.new.queue c.requires.at c.requires.act became c.sleep.ensures.own.0.1 c.sleep.ensures.place c.requires.queued;
     }

@@ -7,6 +7,10 @@ use Rattle.lot_steps.specs.declared.places.Place.{Place}
 use Rattle.run_locks.specs.CondvarCourses.{notify_at}
 use Rattle.run_locks.proofs.Coming.{begins, comes, may_do, named}
 use Rattle.run_locks.proofs.CondvarGoing.{marks_on, set_again, set_on}
+use Rattle.std.proofs.lemmas.Bool.{false≢true}
+use Rattle.run_base.specs.Queued.{is_queued}
+use Rattle.run_base.proofs.Unqueued.{after_condvar}
+use Rattle.steps_condvar.specs.declared.places.CondvarPlace.TheVariants.{Notify}
 use Rattle.run_locks.proofs.notify_courses.mark_and_move.Goals as goal
 
 pub move_some-requires : goal.move_some-requires
@@ -78,3 +82,9 @@ returns g c = let pair = c.args.pair in let at = notify_at pair.condvar pair.mut
     (refl, set_again pair.condvar pair.mutex c.args.all seen found (is_locked found) changed refl) in
     let there = named missed (sym (c.next_place-next.ensures ∙ ap (λ (p : Place). next_place p (Value found)) c.notifies-place.ensures)) in
     there.ends c.rest.result c.rest.new.token c.rest.ensures
+
+pub rest-requires-clause-queued : goal.rest-requires-clause-queued
+rest-requires-clause-queued g c = let pair = c.args.pair in let found = c.turn_word-found.result in
+    let next = c.next_place-next.ensures ∙ ap (λ (q : Place). next_place q (Value c.turn_word-found.result)) c.notifies-place.ensures in
+    let calm = after_condvar pair.condvar (Notify c.args.all pair.mutex (notify.Set c.turn_word-seen.result)) found tt refl in
+    λ queued. absurd (false≢true (sym calm ∙ ap is_queued (sym next) ∙ queued))

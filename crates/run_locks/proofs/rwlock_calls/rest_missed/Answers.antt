@@ -1,4 +1,4 @@
-use Rattle.std.proofs.Common.{rules, ◌≡◌, ◌∙◌, Option, None, Some, List, ap, inl, inr, refl, sym, subst, ℕ}
+use Rattle.std.proofs.Common.{rules, ◌≡◌, ◌∙◌, Option, None, Some, List, ap, inl, inr, refl, sym, subst, ℕ, false}
 use Rattle.steps_base.specs.declared.acts.Reply.TheVariants.{Value}
 use Rattle.core_base.specs.Clocks.{IsUp}
 use Rattle.spec_locks.specs.declared.outcomes.Answer.{Answer}
@@ -14,6 +14,8 @@ use Rattle.run_base.specs.Words.{single_word, at_in, kind_in}
 use Rattle.run_base.proofs.Ending.{end_of}
 use Rattle.run_locks.proofs.RwLockCalling.{rwlock_alone, rwlock_kinds}
 use Rattle.run_base.proofs.Turning.{words_on}
+use Rattle.run_base.specs.Queued.{is_queued}
+use Rattle.run_base.proofs.Unqueued.{after_decision}
 use Rattle.run_locks.proofs.rwlock_calls.rest_missed.Goals as goal
 
 pub run_out-requires-clause-words : goal.run_out-requires-clause-words
@@ -46,3 +48,7 @@ returns-in-None-clause-over g c = let next : c.advance-next.result.0 ≡ next_pl
     λ (base : List Ownership) reached. let goes = subst (λ (o : Option Answer). ReachedBy (IsUp g.C.Clock.tells c.args.limit.now) base (of_rwlock c.args.word.now.number c.args.admission.now c.args.purpose.now) (next_place (rwlock_deciding c.args.word.now.number c.args.admission.now c.args.purpose.now c.args.expected) (Value c.args.found)) o (stage_of c.args.token.now None)) none reached in
     subst (λ (aim : CallPurpose). IsOver (IsUp g.C.Clock.tells c.args.limit.now) base aim c.run_out.result (stage_of c.run_out.new.token None)) (ap call_purpose next ∙ goes.1)
     (c.run_out.ensures.over base (subst (λ (p : Place). Fits (IsUp g.C.Clock.tells c.args.limit.now) base p (stage_of c.args.token.now None)) (sym next) goes.0))
+
+pub run_out-requires-clause-unqueued : goal.run_out-requires-clause-unqueued
+run_out-requires-clause-unqueued g c = let next : c.advance-next.result.0 ≡ next_place (rwlock_deciding c.args.word.now.number c.args.admission.now c.args.purpose.now c.args.expected) (Value c.args.found) = search rules in
+    subst (λ (p : Place). is_queued p ≡ false) (sym next) (after_decision c.args.word.now.number c.args.admission.now c.args.purpose.now c.args.expected c.args.found)

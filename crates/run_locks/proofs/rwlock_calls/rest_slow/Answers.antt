@@ -1,4 +1,4 @@
-use Rattle.std.proofs.Common.{rules, ◌≡◌, None, List, sym, subst, ℕ}
+use Rattle.std.proofs.Common.{rules, ◌≡◌, None, List, sym, subst, ℕ, false}
 use Rattle.steps_base.specs.declared.acts.Reply.TheVariants.{Value}
 use Rattle.core_base.specs.Clocks.{IsUp}
 use Rattle.lot_steps.specs.Steps.{next_place}
@@ -11,6 +11,8 @@ use Rattle.run_base.specs.RwLockCalls.{rwlock_begin}
 use Rattle.run_base.specs.Stages.{stage_of}
 use Rattle.run_base.specs.Words.{single_word, at_in, kind_in}
 use Rattle.run_locks.proofs.RwLockCalling.{rwlock_alone, words_after}
+use Rattle.run_base.specs.Queued.{is_queued}
+use Rattle.run_base.proofs.Unqueued.{after_begin}
 use Rattle.run_locks.proofs.rwlock_calls.rest_slow.Goals as goal
 
 pub run_out-requires-clause-words : goal.run_out-requires-clause-words
@@ -31,3 +33,7 @@ pub returns-clause-over : goal.returns-clause-over
 returns-clause-over g c = λ (base : List Ownership) fits. let start : c.place_behind-start.result ≡ next_place (rwlock_begin c.args.word.now.number c.args.admission.now c.args.purpose.now) (Value c.args.seen) = search rules in
     subst (λ (p : Place). IsOver (IsUp g.C.Clock.tells c.args.limit.now) base (call_purpose p) c.run_out.result (stage_of c.run_out.new.token None)) start
     (c.run_out.ensures.over base (subst (λ (p : Place). Fits (IsUp g.C.Clock.tells c.args.limit.now) base p (stage_of c.args.token.now None)) (sym start) fits))
+
+pub run_out-requires-clause-unqueued : goal.run_out-requires-clause-unqueued
+run_out-requires-clause-unqueued g c = let start : c.place_behind-start.result ≡ next_place (rwlock_begin c.args.word.now.number c.args.admission.now c.args.purpose.now) (Value c.args.seen) = search rules in
+    subst (λ (p : Place). is_queued p ≡ false) (sym start) (after_begin c.args.word.now.number c.args.admission.now c.args.purpose.now c.args.seen)

@@ -1,14 +1,16 @@
-use Rattle.std.proofs.Common.{◌≡◌, ◌∙◌, List, None, inl, refl, sym, subst}
+use Rattle.std.proofs.Common.{◌≡◌, ◌∙◌, List, None, inl, refl, sym, subst, false}
 use Rattle.steps_base.specs.declared.acts.Next.{Next}
 use Rattle.steps_base.specs.declared.acts.Next.TheVariants.{At, End}
 use Rattle.core_base.specs.declared.ops.Op.TheVariants.{Load}
-use Rattle.steps_rwlock_fair.specs.FairSteps.{glance_next}
+use Rattle.steps_rwlock_fair.specs.FairSteps.{gives_way, glance_next}
 use Rattle.steps_rwlock_fair.specs.declared.places.RwLockCallPlace.{RwLockCallPlace}
 use Rattle.core_words.specs.declared.owners.Ownership.{Ownership}
 use Rattle.parking_lot_core.specs.Tokens.{view_of}
 use Rattle.run_base.specs.Fitting.{CallPurpose, IsOver}
 use Rattle.run_base.specs.Stages.{stage_of}
 use Rattle.run_locks.proofs.RwLockFairCalls.{Glanced, bump_ends, bump_goes_on, glanced, has_taken, saw_step}
+use Rattle.run_base.specs.Queued.{is_queued}
+use Rattle.run_base.proofs.Queueing.{after, call_queued, glance_off}
 use Rattle.run_locks.proofs.rwlock_fair_calls.bump.Goals as goal
 
 pub rest-requires-clause-fits : goal.rest-requires-clause-fits
@@ -50,3 +52,8 @@ returns-in-At-clause-over g c = λ (base : List Ownership) right. let l = c.args
     let here = subst (λ (n : Next RwLockCallPlace). Glanced l a c.args.access base old mid seen refl c.requires.own.4 taken right n) goes
     (glanced l a c.args.access base old mid seen refl c.requires.own.4 taken right) in
     (subst (λ (aim : CallPurpose). IsOver ⊥ base aim c.rest.result (stage_of c.rest.new.token None)) here.1 (c.rest.ensures.over base here.0)).1
+
+pub rest-requires-clause-unqueued : goal.rest-requires-clause-unqueued
+rest-requires-clause-unqueued g c = let a = c.args.admission.now in
+    let goes : glance_next a c.args.access c.word-seen.result ≡ At c.in-At.at = sym c.next.ensures ∙ c.in-At.is in
+    subst (λ (n : Next RwLockCallPlace). after (call_queued c.args.admission.now) n ≡ false) goes (glance_off a c.args.access (gives_way a c.args.access c.word-seen.result))

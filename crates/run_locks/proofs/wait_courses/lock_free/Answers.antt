@@ -10,6 +10,10 @@ use Rattle.lot_steps.specs.declared.places.Place.{Place}
 use Rattle.run_locks.specs.CondvarCourses.{locks_at, wait_at}
 use Rattle.run_locks.proofs.Coming.{begins, comes, may_do, named, over}
 use Rattle.run_locks.proofs.CondvarGoing.{decides_again, takes_free}
+use Rattle.std.proofs.lemmas.Bool.{false≢true}
+use Rattle.run_base.specs.Queued.{is_queued}
+use Rattle.run_base.proofs.Unqueued.{after_condvar}
+use Rattle.steps_condvar.specs.declared.places.CondvarPlace.TheVariants.{Wait}
 use Rattle.run_locks.proofs.wait_courses.lock_free.Goals as goal
 
 pub turn_word-found-requires : goal.turn_word-found-requires
@@ -49,3 +53,9 @@ returns g c = let pair = c.args.pair in let at = wait_at pair.condvar pair.mutex
     (refl, decides_again pair.condvar pair.mutex c.args.timed c.args.seen found (is_locked found) changed refl) in
     let there = named missed (sym (c.next_place-next.ensures ∙ ap (λ (q : Place). next_place q (Value found)) (c.waits-place.ensures ∙ ap at c.locks.ensures))) in
     there.ends c.rest.result c.rest.new.token c.rest.ensures
+
+pub rest-requires-clause-queued : goal.rest-requires-clause-queued
+rest-requires-clause-queued g c = let pair = c.args.pair in let at = wait_at pair.condvar pair.mutex c.args.timed in let found = c.turn_word-found.result in
+    let next = c.next_place-next.ensures ∙ ap (λ (q : Place). next_place q (Value c.turn_word-found.result)) (c.waits-place.ensures ∙ ap (wait_at c.args.pair.condvar c.args.pair.mutex c.args.timed) c.locks.ensures) in
+    let calm = after_condvar pair.condvar (Wait pair.mutex c.args.timed (locks_at (lock.Decide c.args.seen))) found tt refl in
+    λ queued. absurd (false≢true (sym calm ∙ ap is_queued (sym next) ∙ queued))

@@ -6,6 +6,8 @@ use Rattle.steps_mutex.specs.declared.lock.LockAt.TheVariants as lock
 use Rattle.run_locks.specs.CondvarCourses.{locks_at, wait_at}
 use Rattle.run_locks.proofs.Coming.{begins, comes, named}
 use Rattle.run_locks.proofs.CondvarGoing.{decides_on}
+use Rattle.std.proofs.lemmas.Bool.{false≢true}
+use Rattle.run_base.specs.Queued.{is_queued}
 use Rattle.run_locks.proofs.wait_courses.lock_seen.Goals as goal
 
 pub rest-requires-clause-at : goal.rest-requires-clause-at
@@ -37,3 +39,6 @@ returns g c = let pair = c.args.pair in let at = wait_at pair.condvar pair.mutex
     let looked = comes here (Value seen) c.turn_word-seen.new.token c.args.section c.turn_word-seen.ensures refl (at (locks_at (lock.Decide seen)))
     (refl, decides_on pair.condvar pair.mutex c.args.timed seen (is_locked seen) refl) in
     looked.ends c.lock_free.result c.lock_free.new.token c.lock_free.ensures
+
+pub rest-requires-clause-queued : goal.rest-requires-clause-queued
+rest-requires-clause-queued g c = λ queued. absurd (false≢true (ap is_queued (sym (c.waits-place.ensures ∙ ap (wait_at c.args.pair.condvar c.args.pair.mutex c.args.timed) c.locks.ensures)) ∙ queued))

@@ -1,4 +1,4 @@
-use Rattle.std.proofs.Common.{rules, ℕ, ◌≡◌, ◌∙◌, None, Some, ap, sym, subst}
+use Rattle.std.proofs.Common.{rules, ℕ, ◌≡◌, ◌∙◌, None, Some, ap, sym, subst, false}
 use Rattle.core_base.specs.Clocks.{IsUp}
 use Rattle.steps_base.specs.declared.acts.Reply.TheVariants.{Value}
 use Rattle.lot_steps.specs.Steps.{next_act, next_place}
@@ -14,6 +14,8 @@ use Rattle.run_base.specs.declared.driver.Stop.TheVariants.{Ended, Paused}
 use Rattle.run_base.proofs.Ending.{end_of}
 use Rattle.run_signals.specs.OnceCalls.{in_closure, once_begin}
 use Rattle.run_signals.proofs.OnceCalling.{comes_by, looks_ended, looks_on, looks_to, on_aim, once_alone, paused}
+use Rattle.run_base.specs.Queued.{is_queued}
+use Rattle.run_base.proofs.Unqueued.{after_once}
 use Rattle.run_signals.proofs.once_calls.begin_slow.Goals as goal
 
 pub returns-in-Some-clause-path : goal.returns-in-Some-clause-path
@@ -67,3 +69,7 @@ returns-in-Paused-clause-over g c = let n = c.args.word.number in let call = c.a
     let stopped = subst (λ (stop : Stop). IsStopped (IsUp g.C.Clock.tells c.args.limit) (owns_of before) (call_purpose c.advance-next.result.0) stop (stage_of c.run.new.token None)) c.in-Paused.is (c.run.ensures.stopped base fits) in
     (paused (IsUp g.C.Clock.tells c.args.limit) n call base c.in-Paused.place c.in-Paused.state (stage_of c.run.new.token None)
     (subst (λ (aim : CallPurpose). IsStopped (IsUp g.C.Clock.tells c.args.limit) (owns_of before) aim (Paused c.in-Paused.place c.in-Paused.state) (stage_of c.run.new.token None)) (ap call_purpose next ∙ on.1) stopped)).owns
+
+pub run-requires-clause-unqueued : goal.run-requires-clause-unqueued
+run-requires-clause-unqueued g c = let next : c.advance-next.result.0 ≡ next_place (once_begin c.args.word.number c.args.call) (Value c.args.seen) = search rules in
+    subst (λ (p : Place). is_queued p ≡ false) (sym next) (after_once c.args.word.number c.args.call c.args.seen)

@@ -1,4 +1,4 @@
-use Rattle.parking_lot_core.proofs.Sleeps.{woken_slept, woken_not_late, late_slept}
+use Rattle.parking_lot_core.proofs.Sleeps.{woken_slept, woken_not_late}
 use Rattle.parking_lot_core.proofs.lot.ParkingLot.sleep.Goals as goal
 
 pub returns-in-Some-take_note-clause-slept : goal.returns-in-Some-take_note-clause-slept
@@ -11,4 +11,4 @@ pub returns-in-Some-take_note-clause-late : goal.returns-in-Some-take_note-claus
 returns-in-Some-take_note-clause-late g c = λ late. absurd (woken_not_late c.args.self.now c.args.word c.args.want c.in-Some-take_note.told c.in-Some-take_note.ensures late)
 
 pub returns-in-Some-give_up-clause-slept : goal.returns-in-Some-give_up-clause-slept
-returns-in-Some-give_up-clause-slept g c = late_slept c.args.self.now c.args.token.now.number c.args.word c.args.want c.in-Some-give_up.late c.in-Some-give_up.ensures
+returns-in-Some-give_up-clause-slept g c = (c.in-Some-give_up.ensures, c.requires.queued)
