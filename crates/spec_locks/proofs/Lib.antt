@@ -30,6 +30,8 @@ pub mod QueueOrder
 pub mod Guarantees
 pub mod Bypass
 pub mod Idle
+pub mod RightsChange
+pub mod StaysDone
 pub mod Reach
 pub mod FairQueues
 pub mod FairEvents

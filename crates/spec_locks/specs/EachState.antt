@@ -1,9 +1,11 @@
--- The guarantees of each state: exclusion, quiescence, no stuck world, and what condition variables show.
-use Rattle.std.specs.Prelude.{ℕ, Bool, true, false, None, Some, ◌||◌, ◌≡◌, ◌≢◌, ◌≤◌, ◌⊎◌, List, length, get_or}
+-- The guarantees of each state: exclusion, quiescence, no stuck world, what condition variables show, and who runs
+-- a `Once`.
+use Rattle.std.specs.Prelude.{ℕ, Bool, true, false, None, Some, ◌||◌, ◌≡◌, ◌≢◌, ◌≤◌, ◌⊎◌, ◌↔◌, List, length, get_or}
 use Rattle.spec_locks.specs.declared.kinds.Kind.{Kind}
 use Rattle.spec_locks.specs.declared.kinds.Kind.TheVariants as kind
-use Rattle.spec_locks.specs.Onces.{Done, IsRunning}
+use Rattle.spec_locks.specs.Onces.{Done, InProgress, IsRunning}
 use Rattle.spec_locks.specs.Locks.{Sort, Mutex, Normal, Recursive, Semaphore, Once, Condvar, LockState, has_caller, readers, times}
+use Rattle.spec_locks.specs.Purposes.{CallsOnce}
 use Rattle.spec_locks.specs.Sites.{has_readers, is_full}
 use Rattle.spec_locks.specs.Runs.{LocksState, Status, AreLockStates, IsOpening, LetsGo, MayGo, ShowsWaiters, rules_at}
 
@@ -47,6 +49,11 @@ pub record Rests (w : LocksState) (was_full : ℕ → Bool) : Type 0 where
 
 -- ---------------------------------------------------------------- each state
 
+-- the thread runs the closure of its call of the `Once`
+abbrev pub RunsOnce : LocksState → ℕ → ℕ → Type 0
+RunsOnce w t l = ((w.stances t).in_closure ≡ true)
+    × ((forced : Bool) × ((w.calls t).purpose ≡ Some (CallsOnce l forced)))
+
 -- in a state in which these locks were once at their limit
 pub record StateHolds (w : LocksState) (was_full : ℕ → Bool) : Type 0 where
   -- owners exclude each other, and each thread stands once in a queue at most
@@ -59,6 +66,8 @@ pub record StateHolds (w : LocksState) (was_full : ℕ → Bool) : Type 0 where
   pub shown : (c : ℕ) → sort_in w c ≡ Condvar → ShowsWaiters w c
   -- A sleeper that waits for a notification has let its mutex go.
   pub let_go : (t : ℕ) → LetsGo w t
+  -- a `Once` is in progress exactly while one thread runs its closure
+  pub runs : (t l : ℕ) → (w.locks l).phase ≡ InProgress t ↔ RunsOnce w t l
 
 -- ---------------------------------------------------------------- the first state
 

@@ -1,17 +1,18 @@
--- The guarantees of each step: true answers, calls that go on as they began, and queues that are first in, first
--- out.
+-- The guarantees of each step: true answers, calls that go on as they began, rights that change by their owner's
+-- call, and queues that keep their order.
 use Rattle.std.specs.Prelude.{ℕ, true, None, Some, ◌≡◌, ◌≢◌, ◌≤◌, ◌⊎◌, ◌↔◌, List, [], ◌∷◌, ◌++◌}
 use Rattle.spec_locks.specs.declared.calls.Call.{Call}
 use Rattle.spec_locks.specs.declared.calls.Step.{Step}
-use Rattle.spec_locks.specs.declared.calls.Turn.TheVariants.{Begin, Go, Late}
+use Rattle.spec_locks.specs.declared.calls.Turn.TheVariants.{Begin, Late}
 use Rattle.spec_locks.specs.declared.outcomes.Answer.{Answer}
 use Rattle.spec_locks.specs.declared.outcomes.Outcome.{Outcome}
 use Rattle.spec_locks.specs.declared.outcomes.Outcome.TheVariants.{NotNow, End}
-use Rattle.spec_locks.specs.Kinds.{is_fair}
 use Rattle.spec_locks.specs.Locks.{Queued, times}
-use Rattle.spec_locks.specs.Runs.{LocksState, CallState, IsNotified, MayGo, MayWake, new_call, no_call, rights_in}
-use Rattle.spec_locks.specs.CallTable.{IsTrue, goal_of}
+use Rattle.spec_locks.specs.Onces.{Done}
+use Rattle.spec_locks.specs.Runs.{LocksState, CallState, IsNotified, KeepsOrder, MayWake, new_call, no_call, rights_in}
+use Rattle.spec_locks.specs.CallTable.{IsPossible, IsTrue, MayChange, MayHandOver, goal_in}
 use Rattle.spec_locks.specs.CondvarLaws.{NobodyWakesByItself}
+use Rattle.spec_locks.specs.UserLaws.{ReadersStayOut}
 
 -- ---------------------------------------------------------------- queues
 
@@ -21,7 +22,7 @@ IsPartOf [] q = Unit {0}
 IsPartOf (x ∷ xs) [] = ⊥
 IsPartOf (x ∷ xs) (y ∷ q) = ((x ≡ y) × IsPartOf xs q) ⊎ IsPartOf (x ∷ xs) q
 
--- those that stay in a line keep their order, and a thread that joins it stands behind them
+-- those that stay in a line keep their order, and a thread that joins it stands after them
 pub record KeepsOrderOf (before now : List Queued) : Type 0 where
   pub left : List Queued
   pub joined : List Queued
@@ -58,26 +59,33 @@ pub record Recalls (w : LocksState) (t : ℕ) (now : CallState) : Type 0 where
 
 -- a step that leads from w to v, and of which this is told
 pub record StepHolds (w : LocksState) (step : Step) (o : Outcome) (v : LocksState) : Type 0 where
+  -- threads, locks and kinds stay, and it is told of its thread whether that sleeps or runs a closure
+  pub keeps : KeepsOrder w step.thread o v
+  -- a turn of any sort is refused exactly where it isn't possible, and then nothing changes
+  pub goes : (o ≡ NotNow) ↔ (IsPossible w step.thread step.turn → ⊥)
+  pub refused : o ≡ NotNow → v ≡ w
   -- an answer is true of the state in which it is given
   pub answer : (a : Answer) → o ≡ End a
       → (now : CallState) × Recalls w step.thread now × IsTrue now.purpose a v step.thread now
   -- a call begins, and its time is up, by these turns alone; it is forgotten as it ends, and else goes on
   pub begins : (begun : Call) → step.turn ≡ Begin begun → o ≢ NotNow
-      → v.calls step.thread
-      ≡ new_call (Some (goal_of (λ l. is_fair (w.kinds l)) begun)) (rights_in w step.thread)
+      → v.calls step.thread ≡ new_call (Some (goal_in w begun)) (rights_in w step.thread)
   pub is_late : step.turn ≡ Late → o ≢ NotNow
       → v.calls step.thread ≡ record (w.calls step.thread) { late = true }
   pub ends : (a : Answer) → o ≡ End a → v.calls step.thread ≡ no_call
   pub goes_on : (u : ℕ) → (u ≡ step.thread → IsUnderWay step o) → CallGoesOn (w.calls u) (v.calls u)
-  -- a thread in no call owns what it owned
-  pub idle : (u : ℕ) → (w.calls u).purpose ≡ None → (l : ℕ) → rights_in v u l ≡ rights_in w u l
+  -- rights to a lock change by the step of their thread in its call of the lock, or are handed over to it
+  pub rights : (u l : ℕ) → (rights_in v u l ≡ rights_in w u l)
+      ⊎ (((u ≡ step.thread) × MayChange (w.calls u).purpose l)
+      ⊎ MayHandOver w step.thread u l (w.calls step.thread).purpose)
+  -- no reader begins to share a lock on which a writer is pending, unless it is a recursive one
+  pub readers : ReadersStayOut w v
+  -- a `Once` that is done stays so
+  pub stays_done : (l : ℕ) → (w.locks l).phase ≡ Done → (v.locks l).phase ≡ Done
   -- no wait wakes by itself: another thread notifies it
   pub notified : NobodyWakesByItself w v
-  -- a thread that may go on does, and a step that is refused changes nothing
-  pub goes : step.turn ≡ Go → (o ≡ NotNow) ↔ (MayGo w step.thread → ⊥)
-  pub refused : o ≡ NotNow → v ≡ w
   -- another thread stands as it did, but for a sleeper that this one wakes
   pub others : (u : ℕ) → u ≢ step.thread → (v.stances u ≡ w.stances u)
       ⊎ (((w.stances u).asleep ≡ true) × MayWake w step.thread u)
-  -- queues are first in, first out
+  -- those that stay in a queue keep their order, and a thread that joins stands last
   pub order : QueuesKeepOrder w v

@@ -1,7 +1,7 @@
 -- The headline, the second page: what any list of steps comes to is a run of the abstract locks, and each waiter
 -- whose way nobody bars has a thread that looks after it. There is no word here, no place of a call, and no
 -- queue of the machine. The first page is Guarantees, which follows of this one.
-use Rattle.std.specs.Prelude.{ℕ, Bool, true, false, Option, Some, None, ◌≡◌, ◌≢◌, ◌≤◌, ◌<◌, ◌-◌, ◌⊎◌, List, [], ◌∷◌}
+use Rattle.std.specs.Prelude.{ℕ, Bool, true, false, Option, Some, None, ◌≡◌, ◌≢◌, ◌≤◌, ◌<◌, ◌-◌, ◌⊎◌, ◌↔◌, List, [], ◌∷◌}
 use Rattle.core_base.specs.declared.keys.Keys.TheVariants.{One}
 use Rattle.core_base.specs.declared.wants.Want.{Want}
 use Rattle.core_base.specs.declared.wants.Want.TheVariants.{Exclusive, Upgradable}
@@ -9,12 +9,12 @@ use Rattle.core_base.specs.Keys.{key_of}
 use Rattle.spec_locks.specs.declared.calls.Step.{Step}
 use Rattle.spec_locks.specs.declared.kinds.Kind.{Kind}
 use Rattle.spec_locks.specs.declared.outcomes.Outcome.{Outcome}
-use Rattle.spec_locks.specs.Onces.{Done}
+use Rattle.spec_locks.specs.Onces.{Done, InProgress}
 use Rattle.spec_locks.specs.Locks.{Sort, Semaphore, Once, Condvar, LockState, Rules, Taken, Owns, IsSomePending, readers, standing, times}
 use Rattle.spec_locks.specs.Purposes.{Purpose, Enters, Releases, Converts, Bumps, CallsOnce, Awaits, Waits, Notifies, Recall, Blank, Saw, SawOwner, HasMoved, WasMoved, WasNotified, MayWait}
 use Rattle.spec_locks.specs.Sites.{Line, Main, Second, IsOpen, counts_some, has_readers}
 use Rattle.spec_locks.specs.Runs.{LocksState, Status, AreLockStates, IsStep, LetsGo, ShowsWaiters, rules_at}
-pub use Rattle.spec_locks.specs.EachState.{IsUp, Opens, full_by, sort_in}
+pub use Rattle.spec_locks.specs.EachState.{IsUp, Opens, RunsOnce, full_by, sort_in}
 
 -- ---------------------------------------------------------------- threads that wake the next waiter
 
@@ -146,6 +146,8 @@ pub record IsSafe (w : LocksState) (was_full : ℕ → Bool) : Type 0 where
   pub waiting : (t l : ℕ) → 1 ≤ standing t (w.locks l) → MayWait (w.calls t).purpose l
   -- A sleeper that waits for a notification has let its mutex go.
   pub let_go : (t : ℕ) → LetsGo w t
+  -- a `Once` is in progress exactly while one thread runs its closure
+  pub runs : (t l : ℕ) → (w.locks l).phase ≡ InProgress t ↔ RunsOnce w t l
 
 -- ---------------------------------------------------------------- every list of steps
 

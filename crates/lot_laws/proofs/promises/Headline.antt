@@ -16,22 +16,24 @@ use Rattle.steps_once.specs.declared.run.RunAt.TheVariants as running
 use Rattle.lot_machine.proofs.Closures.{runs_one}
 use Rattle.lot_laws.proofs.machine.Parts.{calls_none}
 use Rattle.spec_locks.specs.Locks.{Rights, rights_of, standing}
+use Rattle.spec_locks.specs.Purposes.{CallsOnce}
+use Rattle.lot_laws.proofs.machine.Filled.{filled_after}
 use Rattle.spec_locks.specs.Headline as headline
 use Rattle.spec_locks.specs.Headline.{MayTell, Behaves, Opens}
 use Rattle.lot_machine.specs.Machine.{State, opening, unlocked, place_at, filled_at, after, step_outcome, after_steps, step_outcomes}
-use Rattle.lot_laws.specs.Refinement.{call_at, call_on_both, call_state, keys_entered, lock_state, locks_of, runs_closure, sleeps}
+use Rattle.lot_laws.specs.Refinement.{RunsClosure, call_at, call_on_both, call_state, keys_entered, lock_state, locks_of, runs_closure, sleeps}
 use Rattle.lot_laws.specs.Promises.{AreLookedAfterIn, IsKept, IsDebtorOf, IsLookedAfterIn, IsHandedOverIn}
 use Rattle.lot_laws.specs.Owing.{Owes}
 use Rattle.lot_laws.specs.SitesOf.{IsWorld}
-use Rattle.lot_laws.specs.WorldRuns.{IsWorldRun, Tells}
+use Rattle.lot_laws.specs.WorldRuns.{IsWorldRun, Tells, states_of}
 use Rattle.lot_laws.proofs.sites.Opening.{kind_is, unfilled_0}
 use Rattle.lot_laws.proofs.promises.Promises.{opening_is}
 use Rattle.lot_laws.proofs.alone.WorldRuns.{step_is, world_after, world_kept, world_run, world_step}
 use Rattle.spec_locks.specs.EachState.{StateHolds}
 use Rattle.spec_locks.specs.EachStep.{StepHolds}
-use Rattle.spec_locks.specs.Guarantees.{IsGuaranteed}
+use Rattle.spec_locks.specs.Guarantees.{AllHold, IsGuaranteed}
 use Rattle.spec_locks.specs.Headline.{IsSafe}
-use Rattle.spec_locks.proofs.Guarantees.{headline_guarantees, safe_holds, step_holds}
+use Rattle.spec_locks.proofs.Guarantees.{safe_holds, step_holds}
 
 awake_is : (a : Act) → a ≢ Sleep → sleeps a ≡ false
 awake_is Sleep n = absurd (n refl)
@@ -128,6 +130,21 @@ module _ (w : State) (k : IsKept w) where
     inside = λ t l m inside. (busy t l m (k.inside_owes t l m inside), k.inside_goes t l m inside);
   }
 
+  -- a thread runs a closure in a call that runs a `Once`
+  runs_once : (t l : ℕ) → RunsClosure w t l → headline.RunsOnce (locks_of w) t l
+  runs_once t l h =
+      let one = runs_one (place_at w t) h.1 in
+      let called : Some one.lock ≡ Some l = sym (ap called_lock one.is) ∙ h.0 in
+      let same : one.lock ≡ l = cc in
+      (h.1, one.forced, ap (λ p. (call_state p (λ k. rights_of (lock_state w k) t)).purpose) one.is ∙ ap (λ k. Some (CallsOnce k one.forced)) same)
+
+  runs_there : (t l : ℕ) → headline.RunsOnce (locks_of w) t l → RunsClosure w t l
+  runs_there t l h =
+      let one = runs_one (place_at w t) h.0 in
+      let for : Some (CallsOnce one.lock one.forced) ≡ Some (CallsOnce l h.1.0) = sym (ap (λ p. (call_state p (λ k. rights_of (lock_state w k) t)).purpose) one.is) ∙ h.1.1 in
+      let same : one.lock ≡ l = cc in
+      (ap called_lock one.is ∙ ap Some same, h.0)
+
   pub is_safe : headline.IsSafe (locks_of w) (filled_at w)
   is_safe = record {
     exclude = k.state;
@@ -135,6 +152,7 @@ module _ (w : State) (k : IsKept w) where
     shown = k.shows;
     waiting = k.waiting;
     let_go = k.let_go;
+    runs = λ t l. ((λ e. runs_once t l ((k.runs t l).0 e)), (λ runs. (k.runs t l).1 (runs_there t l runs)));
   }
 
 -- ---------------------------------------------------------------- a run
@@ -188,10 +206,6 @@ module _ (w v : State) (ss : List Step) (before now : List Outcome) (h : IsWorld
       → Tells before now (λ told. MayTell kinds threads ss told)
   tells_headline kinds threads is = (step_outcomes w ss, answers, run_tells kinds threads ss (step_outcomes w ss) w v is (world_kept w h) runs)
 
-  pub tells_guaranteed : (kinds : List Kind) (threads : ℕ) → w ≡ opening kinds threads
-      → Tells before now (λ told. IsGuaranteed kinds threads ss told)
-  tells_guaranteed kinds threads is = let h = tells_headline kinds threads is in (h.0, h.1, headline_guarantees kinds threads ss h.0 h.2)
-
 -- ---------------------------------------------------------------- what follows of a state that is safe
 
 pub safe_now : (w : State) → IsWorld w → IsSafe (locks_of w) (filled_at w)
@@ -208,3 +222,24 @@ holds_after ss w v h led = safe_holds (locks_of v) (filled_at v) (safe_after ss 
 -- each step holds what the first page promises
 pub step_guaranteed : (w : State) (s : Step) → IsWorld w → StepHolds (locks_of w) s (step_outcome w s) (locks_of (after w s))
 step_guaranteed w s h = step_holds (locks_of w) (locks_of (after w s)) s (step_outcome w s) (filled_at w) (safe_now w h) (step_is w s h)
+
+-- ---------------------------------------------------------------- the first page, of the world's own states
+
+all_hold : (ss : List Step) (w : State) → IsWorld w → AllHold (filled_at w) (states_of w ss) ss (step_outcomes w ss)
+all_hold [] w h = safe_holds (locks_of w) (filled_at w) (safe_now w h)
+all_hold (s ∷ ss) w h = (
+  safe_holds (locks_of w) (filled_at w) (safe_now w h),
+  step_guaranteed w s h,
+  subst (λ full. AllHold full (states_of (after w s) ss) ss (step_outcomes (after w s) ss)) (λ i l. filled_after w s (world_after w s h) l i) (all_hold ss (after w s) (world_after w s h)),
+)
+
+pub tells_guaranteed : (w v : State) (ss : List Step) (before now : List Outcome) → IsWorld w → v ≡ after_steps w ss
+    → now ≡ before ++ step_outcomes w ss → (kinds : List Kind) (threads : ℕ) → w ≡ opening kinds threads
+    → Tells before now (λ told. IsGuaranteed kinds threads (states_of w ss) ss told)
+tells_guaranteed w v ss before now h led answers kinds threads is = (step_outcomes w ss, answers, record {
+  opens = subst (λ u. Opens kinds threads (locks_of u)) (sym is) (opens kinds threads);
+  holds = subst (λ full. AllHold full (states_of w ss) ss (step_outcomes w ss)) (λ i l. filled_first l i) (all_hold ss w h);
+})
+  where
+    filled_first : (l : ℕ) → filled_at w l ≡ false
+    filled_first l = subst (λ u. filled_at u l ≡ false) (sym is) (unfilled_0 kinds l)
