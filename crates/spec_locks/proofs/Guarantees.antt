@@ -29,6 +29,8 @@ use Rattle.spec_locks.proofs.LockKeeps.{opening_is_state}
 use Rattle.spec_locks.proofs.Runs.{run_keeps}
 use Rattle.spec_locks.proofs.QueueOrder.{queues_keep_order}
 use Rattle.spec_locks.proofs.Idle.{begins, ends, goes_on, is_late}
+use Rattle.spec_locks.proofs.Firsts.{first_taken}
+use Rattle.spec_locks.proofs.Recalling.{answer_recalls, recalls_truly}
 use Rattle.spec_locks.proofs.RightsChange.{rights_change}
 use Rattle.spec_locks.proofs.StaysDone.{stays_done}
 use Rattle.spec_locks.proofs.UserLaws.{readers_stay_out}
@@ -280,23 +282,27 @@ module _ (w v : LocksState) (t : ℕ) where
 
 pub step_holds : (w v : LocksState) (s : Step) (o : Outcome) (full : ℕ → Bool) → IsSafe w full → IsStep w s o v → StepHolds w s o v
 step_holds w v s o full safe h = record {
-  keeps = h.0;
+  same = (h.0.threads, h.0.size, h.0.kinds);
   goes = (
     λ e can. (refused w v s.thread o s.turn h.1).0 e (may_turn w s.thread s.turn can),
     λ none. (refused w v s.thread o s.turn h.1).1 (λ may. none (is_possible w s.thread s.turn may)),
   );
   refused = nothing w v s.thread o s.turn h.1;
-  answer = λ a e. (let g = ended w v s.thread o s.turn a e h.1 in (going_on g.event (w.calls s.thread), recalls w v s.thread g.event g.may, answer_is (going_on g.event (w.calls s.thread)).purpose v s.thread (going_on g.event (w.calls s.thread)) a (answered w v s.thread o a e g)));
+  sleeps = h.0.told;
+  runs = h.0.runs;
+  answer = λ a e. (let g = ended w v s.thread o s.turn a e h.1 in (going_on g.event (w.calls s.thread), recalls w v s.thread g.event g.may, answer_recalls w v s.thread o g, answer_is (going_on g.event (w.calls s.thread)).purpose v s.thread (going_on g.event (w.calls s.thread)) a (answered w v s.thread o a e g)));
   begins = λ begun e told. begins w v s o h.1 begun e told ∙ ap (λ p. new_call p (rights_in w s.thread)) (goal_is w s.thread begun (may_begin begun e told).right);
   is_late = is_late w v s o h.1;
   ends = ends w v s o h.1;
   goes_on = goes_on w v s o h.1;
+  recalled = recalls_truly w v s.thread o s.turn h.1;
   rights = rights_change w v s.thread o safe.exclude safe.waiting s.turn h.1;
   readers = readers_stay_out w v s o safe.exclude h;
   stays_done = λ l done. stays_done w v s.thread o l done s.turn h.1;
   notified = nobody_wakes w v s o safe.exclude h;
   others = h.2.others;
   order = queues_keep_order w v s o h;
+  first = λ u. first_taken w v s.thread o safe.exclude u s.turn h.1;
 }
   where
     may_begin : (begun : Call) → s.turn ≡ turn.TheVariants.Begin begun → o ≢ outcome.TheVariants.NotNow → MayBegin w s.thread begun
@@ -312,7 +318,9 @@ safe_holds w full safe = record {
   goes = λ t. somebody_goes w full t safe;
   shown = safe.shown;
   let_go = safe.let_go;
+  gives = safe.gives;
   runs = safe.runs;
+  fair = safe.fair;
 }
 
 -- this state, and then those

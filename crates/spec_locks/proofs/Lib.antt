@@ -32,6 +32,8 @@ pub mod Bypass
 pub mod Idle
 pub mod RightsChange
 pub mod StaysDone
+pub mod Firsts
+pub mod Recalling
 pub mod Reach
 pub mod FairQueues
 pub mod FairEvents

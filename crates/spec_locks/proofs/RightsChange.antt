@@ -11,9 +11,9 @@ use Rattle.spec_locks.specs.declared.outcomes.Outcome.{Outcome}
 use Rattle.spec_locks.specs.Condvars.{moved_of}
 use Rattle.spec_locks.specs.Locks as locks
 use Rattle.spec_locks.specs.Locks.{LockState, LockCase, Queued, Rules, Taken, Needs, Enter, Pend, Settle, Leave, Convert, Park, Aside, TakeFirst, TakeAside, TakePicked, Wake, HandOff, Late, Rollback, OfOnce, OfCondvar, SeeOwner, Look, Show, Hide, IsLockState, after_case, left_behind, one_if_some, putting, rights_of, sharing_from, standing}
-use Rattle.spec_locks.specs.Purposes.{MayWait, Purpose, Enters, Releases, Converts, Bumps, CallsOnce, Awaits, Waits, Notifies, Recall, AwaitsBy, CallsOnceBy, IsMadeOf, NotifiesBeside, NotifiesThere, WaitsBeside, WaitsThere}
+use Rattle.spec_locks.specs.Purposes.{MayWait, Purpose, Enters, Releases, Converts, Bumps, CallsOnce, Awaits, Waits, Notifies, Recall, AwaitsBy, CallsOnceBy, IsMadeOf, NotifiesBeside, NotifiesThere, WaitsThere}
 use Rattle.spec_locks.specs.Runs.{LocksState, AreLockStates, Event, Nothing, AtLock, Moves, Does, GoesOn, MayDo, MayHappen, Turned, is_taken_by, joined_by, locks_after, rights_in, rules_at}
-use Rattle.spec_locks.specs.CallTable.{MayChange, MayHandOver}
+use Rattle.spec_locks.specs.CallTable.{MayChange}
 use Rattle.spec_locks.proofs.Idle.{same_number}
 use Rattle.spec_locks.proofs.Rights.{once_keeps, others_keep, rights_are}
 use Rattle.spec_locks.proofs.Runs.{needs_of}
@@ -144,31 +144,16 @@ is_hand_over : (case : LockCase) → ((x : Want) × (y : Option Queued) × (case
 is_hand_over (HandOff x y) = inl (x, y, refl)
 is_hand_over case = inr (λ x y. grind arith)
 
-module _ (w : LocksState) (t u l : ℕ) (held : is_taken_by t ((w.locks l).taken u) ≡ true) (waits : MayWait (w.calls u).purpose l) where
-  hands_call : (q : Purpose) (g : Option ℕ) (b : Bool) (c : Recall) (x : Want) (y : Option Queued) → IsMadeOf q g b c l (HandOff x y) → MayHandOver w t u l (Some q)
-  hands_call (Releases k z true) g b c x y made = (sym made.0, held, waits)
-  hands_call (Releases k z false) g b c x y made = absurd (let e : false ≡ true = made.1.0 in cc)
-  hands_call (Bumps k z) g b c x y made = (sym made.0, held, waits)
-  hands_call (Enters k z how) g b c x y made = absurd made.1
-  hands_call (Converts k z a how) g b c x y made = absurd made.1
-  hands_call (CallsOnce k forced) g b c x y made = absurd made.1
-  hands_call (Awaits k forced timed) g b c x y made = absurd made.1
-  hands_call (Waits k m timed) g b c x y (inl made) = absurd made.1
-  hands_call (Waits k m timed) g b c x y (inr made) = beside made.1
-    where
-      beside : WaitsBeside timed g b c (HandOff x y) → MayHandOver w t u l (Some (Waits k m timed))
-      beside (inl releases) = let e : false ≡ true = releases.0 in absurd cc
-      beside (inr enters) = absurd enters.1
-  hands_call (Notifies k all) g b c x y (inl made) = absurd made.1
-  hands_call (Notifies k all) g b c x y (inr made) = absurd made
-
 -- ---------------------------------------------------------------- a step
 
 -- a thread that waits is in a call
 module _ (w v : LocksState) (t : ℕ) (o : Outcome) (all : AreLockStates w) (waiting : (u l : ℕ) → 1 ≤ standing u (w.locks l) → MayWait (w.calls u).purpose l) where
+  abbrev Held : ℕ → ℕ → Type 0
+  Held u l = (is_taken_by t ((w.locks l).taken u) ≡ true) × MayWait (w.calls u).purpose l
+
   -- whose rights to a lock may change, and by what
   abbrev Changes : ℕ → ℕ → Type 0
-  Changes u l = ((u ≡ t) × MayChange (w.calls u).purpose l) ⊎ MayHandOver w t u l (w.calls t).purpose
+  Changes u l = ((u ≡ t) × MayChange (w.calls u).purpose l) ⊎ Held u l
 
   taken_waits : (u l : ℕ) (h : Option Taken) → (w.locks l).taken u ≡ h → is_taken_by t h ≡ true → MayWait (w.calls u).purpose l
   taken_waits u l None e held = absurd cc
@@ -179,22 +164,18 @@ module _ (w v : LocksState) (t : ℕ) (o : Outcome) (all : AreLockStates w) (wai
   own_rights l case None may = absurd may
   own_rights l case (Some q) may = own_case (rules_at w l) (w.locks l) t q (w.calls t).gave_up (w.calls t).released (w.calls t).recalls l case may.0
 
-  handed_over : (u l : ℕ) (x : Want) (y : Option Queued) (q : Option Purpose) → MayDo w t l (HandOff x y) q → is_taken_by t ((w.locks l).taken u) ≡ true → MayHandOver w t u l q
-  handed_over u l x y None may held = absurd may
-  handed_over u l x y (Some q) may held = hands_call w t u l held (taken_waits u l ((w.locks l).taken u) refl held) q (w.calls t).gave_up (w.calls t).released (w.calls t).recalls x y may.0
-
   other_rights : (u l : ℕ) → u ≢ t → (case : LockCase) → MayDo w t l case (w.calls t).purpose
-      → (rights_of (after_case (rules_at w l) case (w.locks l) t) u ≡ rights_in w u l) ⊎ MayHandOver w t u l (w.calls t).purpose
+      → (rights_of (after_case (rules_at w l) case (w.locks l) t) u ≡ rights_in w u l) ⊎ Held u l
   other_rights u l other case may = by_hand (is_taken_by t ((w.locks l).taken u)) refl
     where
       needs : Needs (rules_at w l) case (w.locks l) t
       needs = needs_of w t l case (w.calls t).purpose may
 
       by_hand : (b : Bool) → is_taken_by t ((w.locks l).taken u) ≡ b
-          → (rights_of (after_case (rules_at w l) case (w.locks l) t) u ≡ rights_in w u l) ⊎ MayHandOver w t u l (w.calls t).purpose
+          → (rights_of (after_case (rules_at w l) case (w.locks l) t) u ≡ rights_in w u l) ⊎ Held u l
       by_hand false e = inl (case_else (rules_at w l) (w.locks l) t u (all l) other e case needs)
       by_hand true e = elim (is_hand_over case) [
-        | inl hands ↦ inr (handed_over u l hands.0 hands.1 (w.calls t).purpose (subst (λ x. MayDo w t l x (w.calls t).purpose) hands.2 may) e)
+        | inl hands ↦ inr (e, taken_waits u l ((w.locks l).taken u) refl e)
         | inr none ↦ inl (others_keep (rules_at w l) (w.locks l) t u (all l) other case none needs)
       ]
 

@@ -21,8 +21,8 @@ use Rattle.spec_locks.specs.Calls.{lock_in}
 use Rattle.spec_locks.specs.Kinds.{has_call, is_fair}
 use Rattle.spec_locks.specs.Onces.{Done, Poisoned}
 use Rattle.spec_locks.specs.Locks.{Mutex, Rights, IsBlocked, IsFree, Owns, count, putting, readers, with_right}
-use Rattle.spec_locks.specs.Purposes.{Purpose, Enters, Releases, Converts, Bumps, CallsOnce, Awaits, Waits, Notifies, HasMoved, MayWait, Patient, Timed, Try}
-use Rattle.spec_locks.specs.Runs.{LocksState, CallState, HasRight, IsNotified, MayBeLate, MayGo, MovedNobody, is_taken_by, rights_in, rules_at}
+use Rattle.spec_locks.specs.Purposes.{Purpose, Enters, Releases, Converts, Bumps, CallsOnce, Awaits, Waits, Notifies, HasMoved, Patient, Timed, Try}
+use Rattle.spec_locks.specs.Runs.{LocksState, CallState, HasRight, IsNotified, MayBeLate, MayGo, MovedNobody, rights_in, rules_at}
 
 -- ---------------------------------------------------------------- goals
 
@@ -59,10 +59,6 @@ goal_of fair (call.Condvar l (Notify all)) = Notifies l all
 goal_of fair (call.Semaphore l (semaphore.Acquire how)) = Enters l Shared how
 goal_of fair (call.Semaphore l semaphore.Release) = Releases l Shared false
 
--- as the kinds of the locks say
-abbrev pub goal_in : LocksState → Call → Purpose
-goal_in w c = goal_of (λ l. is_fair (w.kinds l)) c
-
 -- ---------------------------------------------------------------- turns
 
 -- a call begins: the thread and the lock are there, the lock has the call, the thread is in no call, and has the
@@ -72,7 +68,7 @@ pub record CanBegin (w : LocksState) (t : ℕ) (c : Call) : Type 0 where
   pub idle : (w.calls t).purpose ≡ None
   pub lock : lock_in c < w.size
   pub known : has_call (w.kinds (lock_in c)) c ≡ true
-  pub right : HasRight w t (Some (goal_in w c))
+  pub right : HasRight w t (Some (goal_of (λ l. is_fair (w.kinds l)) c))
 
 -- whether a turn is possible
 abbrev pub IsPossible : LocksState → ℕ → Turn → Type 0
@@ -85,7 +81,7 @@ IsPossible w t turn.Err = (w.stances t).in_closure ≡ true
 
 -- ---------------------------------------------------------------- rights
 
--- the lock of which a call changes its thread's rights: a wait, of its mutex
+-- the lock to which a call changes its thread's rights; a wait, to its mutex
 abbrev pub MayChange : Option Purpose → ℕ → Type 0
 MayChange None l = ⊥
 MayChange (Some (Enters k x how)) l = k ≡ l
@@ -96,14 +92,6 @@ MayChange (Some (CallsOnce k forced)) l = ⊥
 MayChange (Some (Awaits k forced timed)) l = ⊥
 MayChange (Some (Waits k m timed)) l = m ≡ l
 MayChange (Some (Notifies k all)) l = ⊥
-
--- a thread that releases the lock fairly, or bumps it, has this one in its hand, which waits for the lock
-abbrev pub MayHandOver : LocksState → ℕ → ℕ → ℕ → Option Purpose → Type 0
-MayHandOver w t u l (Some (Releases k x true)) =
-    (k ≡ l) × (is_taken_by t ((w.locks l).taken u) ≡ true) × MayWait (w.calls u).purpose l
-MayHandOver w t u l (Some (Bumps k x)) =
-    (k ≡ l) × (is_taken_by t ((w.locks l).taken u) ≡ true) × MayWait (w.calls u).purpose l
-MayHandOver w t u l goal = ⊥
 
 -- ---------------------------------------------------------------- answers
 

@@ -1,16 +1,18 @@
 -- The guarantees of each step: true answers, calls that go on as they began, rights that change by their owner's
 -- call, and queues that keep their order.
-use Rattle.std.specs.Prelude.{ℕ, true, None, Some, ◌≡◌, ◌≢◌, ◌≤◌, ◌⊎◌, ◌↔◌, List, [], ◌∷◌, ◌++◌}
+use Rattle.std.specs.Prelude.{ℕ, Bool, true, None, Some, if◌then◌else◌, ◌≡◌, ◌≢◌, ◌≤◌, ◌⊎◌, ◌↔◌, List, [], ◌∷◌, ◌++◌, drop, length}
 use Rattle.spec_locks.specs.declared.calls.Call.{Call}
 use Rattle.spec_locks.specs.declared.calls.Step.{Step}
 use Rattle.spec_locks.specs.declared.calls.Turn.TheVariants.{Begin, Late}
 use Rattle.spec_locks.specs.declared.outcomes.Answer.{Answer}
 use Rattle.spec_locks.specs.declared.outcomes.Outcome.{Outcome}
-use Rattle.spec_locks.specs.declared.outcomes.Outcome.TheVariants.{NotNow, End}
-use Rattle.spec_locks.specs.Locks.{Queued, times}
+use Rattle.spec_locks.specs.declared.outcomes.Outcome.TheVariants.{NotNow, Sleep, End}
+use Rattle.spec_locks.specs.Kinds.{is_fair}
+use Rattle.spec_locks.specs.Locks.{Queued, TakesOneAtATime, first_thread, times}
 use Rattle.spec_locks.specs.Onces.{Done}
-use Rattle.spec_locks.specs.Runs.{LocksState, CallState, IsNotified, KeepsOrder, MayWake, new_call, no_call, rights_in}
-use Rattle.spec_locks.specs.CallTable.{IsPossible, IsTrue, MayChange, MayHandOver, goal_in}
+use Rattle.spec_locks.specs.Purposes.{HasMoved, MayWait, Notifies, Recall, Saw, Waits}
+use Rattle.spec_locks.specs.Runs.{LocksState, CallState, IsNotified, MayWake, is_closure, is_taken_by, new_call, no_call, rights_in, rules_at}
+use Rattle.spec_locks.specs.CallTable.{IsPossible, IsTrue, MayChange, goal_of}
 use Rattle.spec_locks.specs.CondvarLaws.{NobodyWakesByItself}
 use Rattle.spec_locks.specs.UserLaws.{ReadersStayOut}
 
@@ -55,29 +57,47 @@ pub record Recalls (w : LocksState) (t : ℕ) (now : CallState) : Type 0 where
   pub gave_up : (now.gave_up ≡ (w.calls t).gave_up) ⊎ ((w.calls t).late ≡ true)
   pub notified : IsNotified now.recalls → IsNotified (w.calls t).recalls
 
+-- ---------------------------------------------------------------- notifications
+
+-- A notification recalls the mutex that it saw shown, and how many it has moved: the first, or all that stood
+-- there. This is what it recalls now.
+pub record RecallsTruly (w v : LocksState) (t : ℕ) (now : Recall) : Type 0 where
+  pub saw : (m : ℕ) → now ≡ Saw m → ((w.calls t).recalls ≡ Saw m)
+      ⊎ ((c : ℕ) × (all : Bool) × ((w.calls t).purpose ≡ Some (Notifies c all)) × ((w.locks c).shown ≡ Some m))
+  pub moved : (m n : ℕ) → now ≡ HasMoved m n → ((w.calls t).recalls ≡ HasMoved m n)
+      ⊎ ((c : ℕ) × (all : Bool) × ((w.calls t).purpose ≡ Some (Notifies c all))
+      × (n ≡ (if all then length (w.locks c).queue else 1))
+      × ((v.locks c).queue ≡ (if all then [] else drop 1 (w.locks c).queue)))
+
 -- ---------------------------------------------------------------- each step
 
 -- a step that leads from w to v, and of which this is told
 pub record StepHolds (w : LocksState) (step : Step) (o : Outcome) (v : LocksState) : Type 0 where
-  -- threads, locks and kinds stay, and it is told of its thread whether that sleeps or runs a closure
-  pub keeps : KeepsOrder w step.thread o v
+  -- threads and locks stay as many, and locks of their kinds
+  pub same : (v.threads ≡ w.threads) × (v.size ≡ w.size) × ((l : ℕ) → v.kinds l ≡ w.kinds l)
   -- a turn of any sort is refused exactly where it isn't possible, and then nothing changes
   pub goes : (o ≡ NotNow) ↔ (IsPossible w step.thread step.turn → ⊥)
   pub refused : o ≡ NotNow → v ≡ w
+  -- a thread is told that it sleeps, or runs its closure, exactly where it does
+  pub sleeps : o ≢ NotNow → (o ≡ Sleep) ↔ ((v.stances step.thread).asleep ≡ true)
+  pub runs : o ≢ NotNow → is_closure o ≡ (v.stances step.thread).in_closure
   -- an answer is true of the state in which it is given
   pub answer : (a : Answer) → o ≡ End a
-      → (now : CallState) × Recalls w step.thread now × IsTrue now.purpose a v step.thread now
+      → (now : CallState) × Recalls w step.thread now × RecallsTruly w v step.thread now.recalls
+      × IsTrue now.purpose a v step.thread now
   -- a call begins, and its time is up, by these turns alone; it is forgotten as it ends, and else goes on
   pub begins : (begun : Call) → step.turn ≡ Begin begun → o ≢ NotNow
-      → v.calls step.thread ≡ new_call (Some (goal_in w begun)) (rights_in w step.thread)
+      → v.calls step.thread
+      ≡ new_call (Some (goal_of (λ l. is_fair (w.kinds l)) begun)) (rights_in w step.thread)
   pub is_late : step.turn ≡ Late → o ≢ NotNow
       → v.calls step.thread ≡ record (w.calls step.thread) { late = true }
   pub ends : (a : Answer) → o ≡ End a → v.calls step.thread ≡ no_call
   pub goes_on : (u : ℕ) → (u ≡ step.thread → IsUnderWay step o) → CallGoesOn (w.calls u) (v.calls u)
-  -- rights to a lock change by the step of their thread in its call of the lock, or are handed over to it
+  pub recalled : (u : ℕ) → RecallsTruly w v u (v.calls u).recalls
+  -- rights to a lock change by the step of their thread in its call of the lock, or of one that has it in hand
   pub rights : (u l : ℕ) → (rights_in v u l ≡ rights_in w u l)
       ⊎ (((u ≡ step.thread) × MayChange (w.calls u).purpose l)
-      ⊎ MayHandOver w step.thread u l (w.calls step.thread).purpose)
+      ⊎ ((is_taken_by step.thread ((w.locks l).taken u) ≡ true) × MayWait (w.calls u).purpose l))
   -- no reader begins to share a lock on which a writer is pending, unless it is a recursive one
   pub readers : ReadersStayOut w v
   -- a `Once` that is done stays so
@@ -89,3 +109,9 @@ pub record StepHolds (w : LocksState) (step : Step) (o : Outcome) (v : LocksStat
       ⊎ (((w.stances u).asleep ≡ true) × MayWake w step.thread u)
   -- those that stay in a queue keep their order, and a thread that joins stands last
   pub order : QueuesKeepOrder w v
+  -- a mutex and a semaphore are given in turn: a thread that comes into a hand was the first of the queue, or of those
+  -- that wait with the mutex to be notified
+  pub first : (u l : ℕ) → TakesOneAtATime (rules_at w l).sort → (v.locks l).taken u ≢ None
+      → ((w.locks l).taken u ≢ None) ⊎ ((first_thread (w.locks l).queue ≡ Some u)
+      ⊎ ((c : ℕ) × (timed : Bool) × ((w.calls u).purpose ≡ Some (Waits c l timed))
+      × (first_thread (w.locks c).queue ≡ Some u)))

@@ -9,12 +9,14 @@ use Rattle.core_base.specs.Keys.{key_of}
 use Rattle.spec_locks.specs.declared.calls.Step.{Step}
 use Rattle.spec_locks.specs.declared.kinds.Kind.{Kind}
 use Rattle.spec_locks.specs.declared.outcomes.Outcome.{Outcome}
+use Rattle.spec_locks.specs.CallTable.{Trades}
+use Rattle.spec_locks.specs.Kinds.{is_fair}
 use Rattle.spec_locks.specs.Onces.{Done, InProgress}
 use Rattle.spec_locks.specs.Locks.{Sort, Semaphore, Once, Condvar, LockState, Rules, Taken, Owns, IsSomePending, readers, standing, times}
 use Rattle.spec_locks.specs.Purposes.{Purpose, Enters, Releases, Converts, Bumps, CallsOnce, Awaits, Waits, Notifies, Recall, Blank, Saw, SawOwner, HasMoved, WasMoved, WasNotified, MayWait}
 use Rattle.spec_locks.specs.Sites.{Line, Main, Second, IsOpen, counts_some, has_readers}
-use Rattle.spec_locks.specs.Runs.{LocksState, Status, AreLockStates, IsStep, LetsGo, ShowsWaiters, rules_at}
-pub use Rattle.spec_locks.specs.EachState.{IsUp, Opens, RunsOnce, full_by, sort_in}
+use Rattle.spec_locks.specs.Runs.{LocksState, Status, AreLockStates, IsNotified, IsStep, LetsGo, ShowsWaiters, rules_at}
+pub use Rattle.spec_locks.specs.EachState.{IsUp, Opens, full_by, sort_in}
 
 -- ---------------------------------------------------------------- threads that wake the next waiter
 
@@ -144,10 +146,17 @@ pub record IsSafe (w : LocksState) (was_full : ℕ → Bool) : Type 0 where
   pub shown : (c : ℕ) → sort_in w c ≡ Condvar → ShowsWaiters w c
   -- a thread that stands in a queue, stands aside or is in a hand is in a call that waits for the lock
   pub waiting : (t l : ℕ) → 1 ≤ standing t (w.locks l) → MayWait (w.calls t).purpose l
-  -- A sleeper that waits for a notification has let its mutex go.
+  -- A sleeper that waits for a notification has let its mutex go, and owns till then what else it owned.
   pub let_go : (t : ℕ) → LetsGo w t
+  pub gives : (t l m : ℕ) (timed : Bool) → (w.calls t).purpose ≡ Some (Waits l m timed)
+      → (w.stances t).asleep ≡ true → (w.calls t).gave_up ≡ None
+      → (IsNotified (w.calls t).recalls → ⊥) → Trades w t (w.calls t) m (Some Exclusive) None
   -- a `Once` is in progress exactly while one thread runs its closure
-  pub runs : (t l : ℕ) → (w.locks l).phase ≡ InProgress t ↔ RunsOnce w t l
+  pub runs : (t l : ℕ) → (w.locks l).phase ≡ InProgress t ↔ ((w.stances t).in_closure ≡ true)
+      × ((forced : Bool) × ((w.calls t).purpose ≡ Some (CallsOnce l forced)))
+  -- A fair mutex is owned while somebody waits for it, also in a hand.
+  pub fair : (t l : ℕ) → is_fair (w.kinds l) ≡ true → 1 ≤ standing t (w.locks l)
+      → (w.locks l).exclusive ≢ None
 
 -- ---------------------------------------------------------------- every list of steps
 
