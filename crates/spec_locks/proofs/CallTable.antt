@@ -187,7 +187,7 @@ module _ (v : LocksState) (t : ℕ) (c : CallState) (l : ℕ) where
   gains : (x : Want) → Gains v t c l x → Trades v t c l None (Some x)
   gains x h k = put_own (rights_in v t) l k ∙ h k
 
-  loses : (x : Want) → Loses v t c l x → Trades v t c l (Some x) None
+  pub loses : (x : Want) → Loses v t c l x → Trades v t c l (Some x) None
   loses x h k = h k ∙ sym (put_own c.former l k)
 
   tries : (x : Want) → EntersAnswer v t c l x Try No → IsTrue (Some (Enters l x Try)) No v t c

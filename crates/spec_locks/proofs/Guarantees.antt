@@ -333,8 +333,7 @@ behaves_hold : (full : ℕ → Bool) (w : LocksState) (ss : List Step) (os : Lis
 unfolding first_then
 behaves_hold full w [] [] v h = ((λ n. w), refl, safe_holds w full h.0)
 behaves_hold full w (s ∷ ss) (o ∷ os) v h =
-    let more = behaves_hold (full_by full h.1.0) h.1.0 ss os v h.1.2 in
-    (
+    let more = behaves_hold (full_by full h.1.0) h.1.0 ss os v h.1.2 in (
       first_then w more.0,
       refl,
       (

@@ -1,5 +1,5 @@
--- The goal of each call, the turns that are possible, whose rights a call changes, and what each answer says: the
--- tables of which the first page is made.
+-- The goal of each call, the turns that are possible, the lock to which a call changes rights, and what each
+-- answer says: the tables of which the first page is made.
 use Rattle.std.specs.Prelude.{ℕ, Bool, true, false, Option, Some, None, ◌≡◌, ◌≢◌, ◌≤◌, ◌<◌, ◌⊎◌}
 use Rattle.core_base.specs.declared.wants.Want.{Want}
 use Rattle.core_base.specs.declared.wants.Want.TheVariants.{Exclusive, Upgradable, Shared}
@@ -26,8 +26,8 @@ use Rattle.spec_locks.specs.Runs.{LocksState, CallState, HasRight, IsNotified, M
 
 -- ---------------------------------------------------------------- goals
 
--- the goal of a call of the lock l, where these mutexes are fair ones: it enters by a right, gives one up, turns
--- one into another, gives it up for a while, runs a `Once` or waits for that, waits or notifies
+-- the goal of a call of the lock l, where these mutexes are fair ones: it enters by a right, gives one up,
+-- turns one into another, gives it up for a while, runs a `Once` or waits for that, waits or notifies
 abbrev pub goal_of : (ℕ → Bool) → Call → Purpose
 goal_of fair (call.Mutex l Lock) = Enters l Exclusive Patient
 goal_of fair (call.Mutex l LockTimed) = Enters l Exclusive Timed
@@ -61,8 +61,8 @@ goal_of fair (call.Semaphore l semaphore.Release) = Releases l Shared false
 
 -- ---------------------------------------------------------------- turns
 
--- a call begins: the thread and the lock are there, the lock has the call, the thread is in no call, and has the
--- right that the call needs
+-- a call begins: the thread and the lock are there, the lock has the call, the thread is in no call, and has
+-- the right that the call needs
 pub record CanBegin (w : LocksState) (t : ℕ) (c : Call) : Type 0 where
   pub thread : t < w.threads
   pub idle : (w.calls t).purpose ≡ None

@@ -1,5 +1,5 @@
--- The guarantees of each state: exclusion, quiescence, no stuck world, what condition variables show, and who runs
--- a `Once`.
+-- The guarantees of each state: exclusion, quiescence, no stuck world, what condition variables show, what
+-- their sleepers own, which thread runs a `Once`, and that a fair mutex is kept for its waiters.
 use Rattle.std.specs.Prelude.{ℕ, Bool, true, false, None, Some, ◌||◌, ◌≡◌, ◌≢◌, ◌≤◌, ◌⊎◌, ◌↔◌, List, length, get_or}
 use Rattle.core_base.specs.declared.wants.Want.TheVariants.{Exclusive}
 use Rattle.spec_locks.specs.declared.kinds.Kind.{Kind}

@@ -1,5 +1,5 @@
--- The guarantees of each step: true answers, calls that go on as they began, rights that change by their owner's
--- call, and queues that keep their order.
+-- The guarantees of each step: turns that are refused where they aren't possible, true answers, calls that go
+-- on as they began, rights that change by their owner's call, and queues that keep their order.
 use Rattle.std.specs.Prelude.{ℕ, Bool, true, None, Some, if◌then◌else◌, ◌≡◌, ◌≢◌, ◌≤◌, ◌⊎◌, ◌↔◌, List, [], ◌∷◌, ◌++◌, drop, length}
 use Rattle.spec_locks.specs.declared.calls.Call.{Call}
 use Rattle.spec_locks.specs.declared.calls.Step.{Step}
@@ -63,7 +63,8 @@ pub record Recalls (w : LocksState) (t : ℕ) (now : CallState) : Type 0 where
 -- there. This is what it recalls now.
 pub record RecallsTruly (w v : LocksState) (t : ℕ) (now : Recall) : Type 0 where
   pub saw : (m : ℕ) → now ≡ Saw m → ((w.calls t).recalls ≡ Saw m)
-      ⊎ ((c : ℕ) × (all : Bool) × ((w.calls t).purpose ≡ Some (Notifies c all)) × ((w.locks c).shown ≡ Some m))
+      ⊎ ((c : ℕ) × (all : Bool) × ((w.calls t).purpose ≡ Some (Notifies c all))
+      × ((w.locks c).shown ≡ Some m))
   pub moved : (m n : ℕ) → now ≡ HasMoved m n → ((w.calls t).recalls ≡ HasMoved m n)
       ⊎ ((c : ℕ) × (all : Bool) × ((w.calls t).purpose ≡ Some (Notifies c all))
       × (n ≡ (if all then length (w.locks c).queue else 1))
@@ -94,7 +95,8 @@ pub record StepHolds (w : LocksState) (step : Step) (o : Outcome) (v : LocksStat
   pub ends : (a : Answer) → o ≡ End a → v.calls step.thread ≡ no_call
   pub goes_on : (u : ℕ) → (u ≡ step.thread → IsUnderWay step o) → CallGoesOn (w.calls u) (v.calls u)
   pub recalled : (u : ℕ) → RecallsTruly w v u (v.calls u).recalls
-  -- rights to a lock change by the step of their thread in its call of the lock, or of one that has it in hand
+  -- a thread's rights to a lock change by its own step, in its call of the lock, or are handed over by a
+  -- thread that has it in hand
   pub rights : (u l : ℕ) → (rights_in v u l ≡ rights_in w u l)
       ⊎ (((u ≡ step.thread) × MayChange (w.calls u).purpose l)
       ⊎ ((is_taken_by step.thread ((w.locks l).taken u) ≡ true) × MayWait (w.calls u).purpose l))
@@ -109,8 +111,8 @@ pub record StepHolds (w : LocksState) (step : Step) (o : Outcome) (v : LocksStat
       ⊎ (((w.stances u).asleep ≡ true) × MayWake w step.thread u)
   -- those that stay in a queue keep their order, and a thread that joins stands last
   pub order : QueuesKeepOrder w v
-  -- a mutex and a semaphore are given in turn: a thread that comes into a hand was the first of the queue, or of those
-  -- that wait with the mutex to be notified
+  -- A mutex and a semaphore are given in turn: a thread that comes into a hand was the first of the queue, or
+  -- of those that wait with the mutex to be notified.
   pub first : (u l : ℕ) → TakesOneAtATime (rules_at w l).sort → (v.locks l).taken u ≢ None
       → ((w.locks l).taken u ≢ None) ⊎ ((first_thread (w.locks l).queue ≡ Some u)
       ⊎ ((c : ℕ) × (timed : Bool) × ((w.calls u).purpose ≡ Some (Waits c l timed))
