@@ -91,8 +91,8 @@ impl<Q: Queues + Drop> World<Q> {
         ensures outcome { result ≡ step_outcome self.old step }
 
         // The first page. In each state owners exclude each other. Where no thread has anything to
-        // do, nobody waits for a lock that is open; while one has, some thread can go on. And no
-        // waiter of a condition variable is left behind.
+        // do, nobody waits for a lock that is open; while one has, some thread can go on. No waiter
+        // of a condition variable is left, and a fair mutex is owned while somebody waits for it.
         ensures stays { StateHolds (locks_of self.new) (filled_at self.new) }
 
         // A turn is refused exactly where it isn't possible, and an answer is true. Rights change
@@ -101,7 +101,7 @@ impl<Q: Queues + Drop> World<Q> {
         // stands last.
         ensures holds { StepHolds (locks_of self.old) step result (locks_of self.new) }
 
-        // One step of the headline: nobody is forgotten before it, nor behind it.
+        // One step of the headline: nobody is forgotten before it, nor after it.
         ensures headline { Behaves (filled_at self.old) (locks_of self.old) (step ∷ [])
             (result ∷ []) (locks_of self.new) }
 
@@ -226,7 +226,7 @@ impl<Q: Queues + Drop> World<Q> {
         last
     }
 
-    /// Steps in their order, with their outcomes behind those that are there. Where memory for an
+    /// Steps in their order, with their outcomes after those that are there. Where memory for an
     /// outcome is refused, the world is the one after the steps that were taken.
     pub fn run(&mut self, steps: &[Step], outcomes: &mut Vec<Outcome>) -> Result<(), Stopped>
         ensures same_size { SameSize self.old self.new }
@@ -292,7 +292,7 @@ impl<Q: Queues + Drop> World<Q> {
             (outcomes.new.items ≡ outcomes.old.items ++ step_outcomes self.old steps.now) }
         ensures taken { IfErr result (λ stopped. stopped.taken < length steps.now) }
 
-        // It is refused only behind the room that there was.
+        // It is refused only past the room that there was.
         ensures room { IfErr result
             (λ stopped. vec_capacity outcomes.old ≤ vec_len outcomes.old + stopped.taken) }
         ensures stopped { IfErr result
@@ -322,7 +322,7 @@ impl<Q: Queues + Drop> World<Q> {
         is_drainable(&self.machine)
     }
 
-    /// Steps that drain the world: behind them nobody is in a call or queued, nobody owns the lock,
+    /// Steps that drain the world: after them nobody is in a call or queued, nobody owns the lock,
     /// and its word is 0. The world stays as it is.
     pub fn drain(&self, alloc: Global) -> Result<Vec<Step>, Fault>
         requires { IsDrainable self.now }
