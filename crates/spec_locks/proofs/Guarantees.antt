@@ -318,7 +318,7 @@ safe_holds w full safe = record {
   goes = λ t. somebody_goes w full t safe;
   shown = safe.shown;
   let_go = safe.let_go;
-  gives = safe.gives;
+  keeps = safe.keeps;
   runs = safe.runs;
   fair = safe.fair;
 }

@@ -64,7 +64,7 @@ pub record StateHolds (w : LocksState) (was_full : ℕ → Bool) : Type 0 where
   pub shown : (c : ℕ) → sort_in w c ≡ Condvar → ShowsWaiters w c
   -- A sleeper that waits for a notification has let its mutex go, and owns till then what else it owned.
   pub let_go : (t : ℕ) → LetsGo w t
-  pub gives : (t l m : ℕ) (timed : Bool) → (w.calls t).purpose ≡ Some (Waits l m timed)
+  pub keeps : (t l m : ℕ) (timed : Bool) → (w.calls t).purpose ≡ Some (Waits l m timed)
       → (w.stances t).asleep ≡ true → (w.calls t).gave_up ≡ None
       → (IsNotified (w.calls t).recalls → ⊥) → Trades w t (w.calls t) m (Some Exclusive) None
   -- a `Once` is in progress exactly while one thread runs its closure
