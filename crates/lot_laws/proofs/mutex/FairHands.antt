@@ -61,12 +61,13 @@ module _ (w : State) (l : ℕ) (fair : kind_at w l ≡ kinds.Fair) where
   owner : (p : Place) (r : ℕ → Rights) → FitsItsLock w p → ReleasesFairly (call_state p r).purpose l → (location_at p l).carries ≡ Some false
       → (role_on p l).claims ≡ Some (Has Exclusive)
   owner Idle r fits fairly h = absurd cc
-  owner (Mutex k at) r fits fairly h = by_test (k == l) refl h
+  owner (Mutex k at) r fits fairly h = by_test (k == l) refl _ _ (mutex_owner at) h
     where
-      by_test : (b : Bool) → (k == l) ≡ b → (if b then location_by (mutex_profile at) else nowhere).carries ≡ Some false
-          → (if b then (mutex_profile at).role else idle).claims ≡ Some (Has Exclusive)
-      by_test false e h = absurd cc
-      by_test true e h = elim (mutex_owner at h) [
+      by_test : (b : Bool) → (k == l) ≡ b → (x : Location) (d : Role)
+          → (x.carries ≡ Some false → (d.claims ≡ Some (Has Exclusive)) ⊎ ((k : ℕ) (r : ℕ → Rights) → ReleasesFairly (call_state (Mutex k at) r).purpose k → ⊥))
+          → (if b then x else nowhere).carries ≡ Some false → (if b then d else idle).claims ≡ Some (Has Exclusive)
+      by_test false e x d own h = absurd cc
+      by_test true e x d own h = elim (own h) [
         | inl own ↦ own
         | inr unfair ↦ absurd (unfair k r (subst (ReleasesFairly (call_state (Mutex k at) r).purpose) (sym (eqb-true k l e)) fairly))
       ]

@@ -1,5 +1,5 @@
 -- The promises of the world say the headline: in the words of the abstract locks alone, nobody is forgotten.
-use Rattle.std.proofs.Common.{ℕ, Bool, true, false, Option, Some, None, ◌≤◌, ◌⊎◌, List, [], ◌∷◌, ◌++◌, ◌≡◌, ◌≢◌, inl, inr, refl, sym, ap, subst}
+use Rattle.std.proofs.Common.{ℕ, Bool, true, false, Option, Some, None, ◌≤◌, ◌⊎◌, List, [], ◌∷◌, ◌++◌, ◌≡◌, ◌≢◌, inl, inr, refl, sym, ◌∙◌, ap, subst}
 use Rattle.std.proofs.lemmas.List.{length-replicate, length-map}
 use Rattle.core_base.specs.declared.keys.Line.{Line}
 use Rattle.core_base.specs.declared.keys.Line.TheVariants.{Main, Second}
@@ -141,7 +141,7 @@ module _ (w : State) (k : IsKept w) where
       let one = runs_one (place_at w t) h.1 in
       let called : Some one.lock ≡ Some l = sym (ap called_lock one.is) ∙ h.0 in
       let same : one.lock ≡ l = cc in
-      (h.1, one.forced, ap (λ p. (call_state p (λ k. rights_of (lock_state w k) t)).purpose) one.is ∙ ap (λ k. Some (CallsOnce k one.forced)) same)
+      (h.1, (one.forced, ap (λ p. (call_state p (λ k. rights_of (lock_state w k) t)).purpose) one.is ∙ ap (λ k. Some (CallsOnce k one.forced)) same))
 
   runs_there : (t l : ℕ) → RunsOnce t l → RunsClosure w t l
   runs_there t l h =
