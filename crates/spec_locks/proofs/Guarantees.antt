@@ -32,7 +32,7 @@ use Rattle.spec_locks.proofs.Idle.{begins, ends, goes_on, is_late}
 use Rattle.spec_locks.proofs.Firsts.{first_taken}
 use Rattle.spec_locks.proofs.Recalling.{answer_recalls, recalls_truly}
 use Rattle.spec_locks.proofs.RightsChange.{rights_change}
-use Rattle.spec_locks.proofs.StaysDone.{stays_done}
+use Rattle.spec_locks.proofs.OnceRuns.{closes, starts, stays_done}
 use Rattle.spec_locks.proofs.UserLaws.{readers_stay_out}
 use Rattle.spec_locks.proofs.NobodyWakes.{nobody_wakes}
 
@@ -298,6 +298,8 @@ step_holds w v s o full safe h = record {
   recalled = recalls_truly w v s.thread o s.turn h.1;
   rights = rights_change w v s.thread o safe.exclude safe.waiting s.turn h.1;
   readers = readers_stay_out w v s o safe.exclude h;
+  starts = λ state told. starts w v s.thread o state told s.turn h.1;
+  closes = λ l runs told. closes w v s.thread o full safe l runs s.turn h.1 told;
   stays_done = λ l done. stays_done w v s.thread o l done s.turn h.1;
   notified = nobody_wakes w v s o safe.exclude h;
   others = h.2.others;

@@ -31,7 +31,7 @@ pub mod Guarantees
 pub mod Bypass
 pub mod Idle
 pub mod RightsChange
-pub mod StaysDone
+pub mod OnceRuns
 pub mod Firsts
 pub mod Recalling
 pub mod Reach

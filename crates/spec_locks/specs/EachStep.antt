@@ -3,14 +3,16 @@
 use Rattle.std.specs.Prelude.{ℕ, Bool, true, None, Some, if◌then◌else◌, ◌≡◌, ◌≢◌, ◌≤◌, ◌⊎◌, ◌↔◌, List, [], ◌∷◌, ◌++◌, drop, length}
 use Rattle.spec_locks.specs.declared.calls.Call.{Call}
 use Rattle.spec_locks.specs.declared.calls.Step.{Step}
-use Rattle.spec_locks.specs.declared.calls.Turn.TheVariants.{Begin, Late}
+use Rattle.spec_locks.specs.declared.calls.Turn.TheVariants.{Begin, Late, Ok, Err}
 use Rattle.spec_locks.specs.declared.outcomes.Answer.{Answer}
 use Rattle.spec_locks.specs.declared.outcomes.Outcome.{Outcome}
-use Rattle.spec_locks.specs.declared.outcomes.Outcome.TheVariants.{NotNow, Sleep, End}
+use Rattle.spec_locks.specs.declared.outcomes.Outcome.TheVariants.{NotNow, Sleep, Closure, End}
+use Rattle.spec_locks.specs.declared.outcomes.OnceState.{OnceState}
+use Rattle.spec_locks.specs.declared.outcomes.OnceState.TheVariants as once_state
 use Rattle.spec_locks.specs.Kinds.{is_fair}
 use Rattle.spec_locks.specs.Locks.{Queued, TakesOneAtATime, first_thread, times}
-use Rattle.spec_locks.specs.Onces.{Done}
-use Rattle.spec_locks.specs.Purposes.{HasMoved, MayWait, Notifies, Recall, Saw, Waits}
+use Rattle.spec_locks.specs.Onces.{New, Poisoned, InProgress, Done}
+use Rattle.spec_locks.specs.Purposes.{CallsOnce, HasMoved, MayWait, Notifies, Saw, Waits}
 use Rattle.spec_locks.specs.Runs.{LocksState, CallState, IsNotified, MayWake, is_closure, is_taken_by, new_call, no_call, rights_in, rules_at}
 use Rattle.spec_locks.specs.CallTable.{IsPossible, IsTrue, MayChange, goal_of}
 use Rattle.spec_locks.specs.CondvarLaws.{NobodyWakesByItself}
@@ -57,18 +59,18 @@ pub record Recalls (w : LocksState) (t : ℕ) (now : CallState) : Type 0 where
   pub gave_up : (now.gave_up ≡ (w.calls t).gave_up) ⊎ ((w.calls t).late ≡ true)
   pub notified : IsNotified now.recalls → IsNotified (w.calls t).recalls
 
--- ---------------------------------------------------------------- notifications
-
--- A notification recalls the mutex that it saw shown, and how many it has moved: the first, or all that stood
--- there. This is what it recalls now.
-pub record RecallsTruly (w v : LocksState) (t : ℕ) (now : Recall) : Type 0 where
-  pub saw : (m : ℕ) → now ≡ Saw m → ((w.calls t).recalls ≡ Saw m)
+-- what a call recalls now: a notification, the mutex that it saw shown, and how many it has moved, the first or
+-- all that stood there; a call of a `Once`, that the run of its thread left that poisoned
+pub record RecallsTruly (w v : LocksState) (t : ℕ) (now : CallState) : Type 0 where
+  pub saw : (m : ℕ) → now.recalls ≡ Saw m → ((w.calls t).recalls ≡ Saw m)
       ⊎ ((c : ℕ) × (all : Bool) × ((w.calls t).purpose ≡ Some (Notifies c all))
       × ((w.locks c).shown ≡ Some m))
-  pub moved : (m n : ℕ) → now ≡ HasMoved m n → ((w.calls t).recalls ≡ HasMoved m n)
+  pub moved : (m n : ℕ) → now.recalls ≡ HasMoved m n → ((w.calls t).recalls ≡ HasMoved m n)
       ⊎ ((c : ℕ) × (all : Bool) × ((w.calls t).purpose ≡ Some (Notifies c all))
       × (n ≡ (if all then length (w.locks c).queue else 1))
       × ((v.locks c).queue ≡ (if all then [] else drop 1 (w.locks c).queue)))
+  pub failed : now.failed ≡ true → ((w.calls t).failed ≡ true)
+      ⊎ ((l : ℕ) × ((w.locks l).phase ≡ InProgress t) × ((v.locks l).phase ≡ Poisoned))
 
 -- ---------------------------------------------------------------- each step
 
@@ -84,7 +86,7 @@ pub record StepHolds (w : LocksState) (step : Step) (o : Outcome) (v : LocksStat
   pub runs : o ≢ NotNow → is_closure o ≡ (v.stances step.thread).in_closure
   -- an answer is true of the state in which it is given
   pub answer : (a : Answer) → o ≡ End a
-      → (now : CallState) × Recalls w step.thread now × RecallsTruly w v step.thread now.recalls
+      → (now : CallState) × Recalls w step.thread now × RecallsTruly w v step.thread now
       × IsTrue now.purpose a v step.thread now
   -- a call begins, and its time is up, by these turns alone; it is forgotten as it ends, and else goes on
   pub begins : (begun : Call) → step.turn ≡ Begin begun → o ≢ NotNow
@@ -94,7 +96,7 @@ pub record StepHolds (w : LocksState) (step : Step) (o : Outcome) (v : LocksStat
       → v.calls step.thread ≡ record (w.calls step.thread) { late = true }
   pub ends : (a : Answer) → o ≡ End a → v.calls step.thread ≡ no_call
   pub goes_on : (u : ℕ) → (u ≡ step.thread → IsUnderWay step o) → CallGoesOn (w.calls u) (v.calls u)
-  pub recalled : (u : ℕ) → RecallsTruly w v u (v.calls u).recalls
+  pub recalled : (u : ℕ) → RecallsTruly w v u (v.calls u)
   -- a thread's rights to a lock change by its own step, in its call of the lock, or are handed over by a
   -- thread that has it in hand
   pub rights : (u l : ℕ) → (rights_in v u l ≡ rights_in w u l)
@@ -102,7 +104,14 @@ pub record StepHolds (w : LocksState) (step : Step) (o : Outcome) (v : LocksStat
       ⊎ ((is_taken_by step.thread ((w.locks l).taken u) ≡ true) × MayWait (w.calls u).purpose l))
   -- no reader begins to share a lock on which a writer is pending, unless it is a recursive one
   pub readers : ReadersStayOut w v
-  -- a `Once` that is done stays so
+  -- a run of a `Once` begins where that is new, or poisoned and the call forced; its closure is told which
+  pub starts : (state : OnceState) → o ≡ Closure state → (l : ℕ) × (forced : Bool)
+      × ((w.calls step.thread).purpose ≡ Some (CallsOnce l forced))
+      × ((((w.locks l).phase ≡ New) × (state ≡ once_state.New))
+      ⊎ (((w.locks l).phase ≡ Poisoned) × (forced ≡ true) × (state ≡ once_state.Poisoned)))
+  -- a run that succeeds leaves it done, one that fails poisoned; and one that is done stays so
+  pub closes : (l : ℕ) → (w.locks l).phase ≡ InProgress step.thread → o ≢ NotNow
+      → (step.turn ≡ Ok → (v.locks l).phase ≡ Done) × (step.turn ≡ Err → (v.locks l).phase ≡ Poisoned)
   pub stays_done : (l : ℕ) → (w.locks l).phase ≡ Done → (v.locks l).phase ≡ Done
   -- no wait wakes by itself: another thread notifies it
   pub notified : NobodyWakesByItself w v
