@@ -26,7 +26,7 @@ record Notes (w v : LocksState) (t : ℕ) (now : Recall) : Type 0 where
       × (n ≡ (if all then length (w.locks c).queue else 1))
       × ((v.locks c).queue ≡ (if all then [] else drop 1 (w.locks c).queue)))
 
--- and a call of a `Once`
+-- a call of a `Once` recalls so that its run failed
 abbrev Fails : LocksState → LocksState → ℕ → Bool → Type 0
 Fails w v t now = now ≡ true → ((w.calls t).failed ≡ true)
     ⊎ ((l : ℕ) × ((w.locks l).phase ≡ InProgress t) × ((v.locks l).phase ≡ Poisoned))
