@@ -1,10 +1,7 @@
 -- Calls go on as they were.
-use Rattle.std.proofs.Common.{ℕ, zero, suc, Bool, true, false, Option, Some, None, if◌then◌else◌, ◌==◌, ◌≡◌, ◌≢◌, ◌≤◌, ◌+◌, inl, inr, List, [], ◌∷◌, refl, sym, ◌∙◌, ap, subst, arith}
-use Rattle.std.proofs.lemmas.Bool.{cases_eq, eqb-true}
+use Rattle.std.proofs.Common.{ℕ, Bool, true, false, Option, Some, None, if◌then◌else◌, ◌==◌, ◌≡◌, ◌≢◌, inl, inr, refl, sym, ◌∙◌, ap, subst, arith}
+use Rattle.std.proofs.lemmas.Bool.{cases_eq}
 use Rattle.std.proofs.lemmas.Bool.Decides.{nat_tests}
-use Rattle.std.specs.Prelude.{slice_index}
-use Rattle.core_base.specs.declared.wants.Want.{Want}
-use Rattle.core_base.specs.declared.wants.Want.TheVariants.{Exclusive, Upgradable, Shared}
 use Rattle.spec_locks.specs.declared.calls.Call.{Call}
 use Rattle.spec_locks.specs.declared.calls.Turn.{Turn}
 use Rattle.spec_locks.specs.declared.calls.Turn as turn
@@ -14,13 +11,10 @@ use Rattle.spec_locks.specs.declared.outcomes.Outcome.{Outcome}
 use Rattle.spec_locks.specs.declared.outcomes.Outcome as outcome
 use Rattle.spec_locks.specs.Onces.{Start}
 use Rattle.spec_locks.specs.Condvars.{moved_of}
-use Rattle.spec_locks.specs.Locks as locks
-use Rattle.spec_locks.specs.Locks.{LockState, LockCase, Queued, Rights, Rules, Taken, Needs, Enter, Pend, Settle, Leave, Convert, Park, Aside, TakeFirst, TakeAside, TakePicked, Wake, HandOff, Late, Rollback, OfOnce, OfCondvar, SeeOwner, Look, Show, Hide, IsLockState, after_case, left_behind, one_if_some, putting, rights_of, sharing_from, standing}
-use Rattle.spec_locks.specs.Purposes.{MayWait, Purpose, Recall, Blank, Saw, SawOwner, HasMoved, WasMoved, WasNotified}
+use Rattle.spec_locks.specs.Locks.{LockCase, Wake, HandOff, Late, OfOnce, OfCondvar, Look}
+use Rattle.spec_locks.specs.Purposes.{Purpose, Recall, Blank, Saw, SawOwner, HasMoved, WasMoved, WasNotified}
 use Rattle.spec_locks.specs.Runs.{LocksState, CallState, AreLockStates, Event, Nothing, AtLock, Moves, Does, GoesOn, MayDo, MayHappen, Stays, Turned, calls_after, gives_up, going_on, if_moved, is_among, is_taken_by, joined_by, locks_after, new_call, no_call, purpose_at, rights_in, rules_at, unless_ended, woken}
 use Rattle.spec_locks.specs.EachStep.{CallGoesOn, IsUnderWay}
-use Rattle.spec_locks.proofs.Rights.{others_keep, rights_are}
-use Rattle.spec_locks.proofs.Runs.{needs_of}
 
 -- ---------------------------------------------------------------- the memory of a call
 

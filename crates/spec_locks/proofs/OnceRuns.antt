@@ -9,7 +9,7 @@ use Rattle.spec_locks.specs.declared.outcomes.OnceState.TheVariants as once_stat
 use Rattle.spec_locks.specs.declared.outcomes.Outcome.{Outcome}
 use Rattle.spec_locks.specs.declared.outcomes.Outcome as outcome
 use Rattle.spec_locks.specs.Condvars.{moved_of}
-use Rattle.spec_locks.specs.Locks.{LockState, LockCase, OfOnce, after_case, left_behind, putting}
+use Rattle.spec_locks.specs.Locks.{LockState, OfOnce, after_case, left_behind, putting}
 use Rattle.spec_locks.specs.Onces.{Phase, New, Poisoned, InProgress, Done, OnceCase, Start, Finish, Fail, Rest, TakeAll, MayStart}
 use Rattle.spec_locks.specs.Purposes.{Purpose, Enters, Releases, Converts, Bumps, CallsOnce, Awaits, Waits, Notifies, Recall, AwaitsBy, IsMadeOf}
 use Rattle.spec_locks.specs.Runs.{LocksState, Event, Nothing, AtLock, Moves, Begins, Does, GoesOn, MayDo, MayHappen, Turned, joined_by, locks_after, rules_at}
