@@ -1,10 +1,10 @@
 -- A sleeper that waits to be notified owns what it owned as its call began, but for its mutex.
-use Rattle.std.proofs.Common.{ℕ, Bool, true, false, Option, Some, None, ◌≡◌, ◌≢◌, inl, inr, refl, sym, ◌∙◌, ap, subst}
+use Rattle.std.proofs.Common.{ℕ, Bool, true, false, Option, Some, None, ◌≡◌, inl, inr, refl, sym, ◌∙◌, ap, subst}
 use Rattle.core_base.specs.declared.wants.Want.TheVariants.{Exclusive}
 use Rattle.spec_locks.specs.CallTable.{Trades}
-use Rattle.spec_locks.specs.Locks.{Rights, rights_of}
+use Rattle.spec_locks.specs.Locks.{Rights}
 use Rattle.spec_locks.specs.Purposes.{Notifies, Waits}
-use Rattle.spec_locks.specs.Runs.{IsNotified, Loses, one_more_at}
+use Rattle.spec_locks.specs.Runs.{IsNotified, one_more_at}
 use Rattle.spec_locks.proofs.CallTable.{loses}
 use Rattle.steps_base.specs.declared.acts.Act.{Act}
 use Rattle.steps_base.specs.declared.acts.Act.TheVariants.{Sleep}
@@ -23,7 +23,7 @@ use Rattle.lot_steps.specs.declared.places.Place.{Place}
 use Rattle.lot_steps.specs.declared.places.Place.TheVariants.{Condvar}
 use Rattle.lot_steps.specs.Steps.{act_of}
 use Rattle.lot_machine.specs.Machine.{State, place_at}
-use Rattle.lot_laws.specs.Refinement.{call_at, call_state, lock_state, locks_of, sleeps}
+use Rattle.lot_laws.specs.Refinement.{call_at, call_state, locks_of, sleeps}
 use Rattle.lot_laws.specs.SitesOf.{IsInductive}
 use Rattle.lot_laws.proofs.calls.Events.{rights}
 use Rattle.lot_laws.proofs.condvar.Promises.{two_purpose}

@@ -1,5 +1,5 @@
 -- A fair mutex is owned while somebody waits for it, also by the thread that has a waiter in its hand.
-use Rattle.std.proofs.Common.{ℕ, Bool, true, false, Option, Some, None, if◌then◌else◌, ◌==◌, ◌≡◌, ◌≢◌, ◌≤◌, ◌+◌, ◌⊎◌, inl, inr, [], refl, sym, ◌∙◌, ap, subst, arith}
+use Rattle.std.proofs.Common.{ℕ, Bool, true, false, Option, Some, None, if◌then◌else◌, ◌==◌, ◌≡◌, ◌≢◌, ◌≤◌, ◌+◌, ◌⊎◌, inl, inr, refl, sym, ◌∙◌, ap, subst, arith}
 use Rattle.std.proofs.lemmas.Bool.{cases_lt, eqb-true}
 use Rattle.core_base.specs.declared.wants.Want.TheVariants.{Exclusive, Upgradable}
 use Rattle.spec_locks.specs.declared.kinds.Kind.{Kind}
@@ -9,8 +9,8 @@ use Rattle.spec_locks.specs.Kinds.{is_fair, is_plain_mutex}
 use Rattle.spec_locks.specs.Locks.{IsSomePending, LockState, Rights, Taken, one_if_some, one_if_thread, rights_of, standing, times}
 use Rattle.spec_locks.specs.Locks as locks
 use Rattle.spec_locks.specs.Purposes.{rules_of}
-use Rattle.spec_locks.specs.Sites.{Claim, Has, Role, has_readers, idle}
-use Rattle.steps_base.specs.Locations.{Location, location_by, nowhere}
+use Rattle.spec_locks.specs.Sites.{Has, Role, has_readers, idle}
+use Rattle.steps_base.specs.Locations.{Location, nowhere}
 use Rattle.steps_condvar.specs.CondvarSteps.{mutex_beside}
 use Rattle.steps_mutex.specs.MutexProfiles.{mutex_profile}
 use Rattle.steps_mutex.specs.declared.hand_off.HandOffAt.TheVariants as hand_off
@@ -21,7 +21,7 @@ use Rattle.lot_steps.specs.declared.places.Place.TheVariants.{Idle, Mutex, RwLoc
 use Rattle.lot_steps.specs.Steps.{is_lock}
 use Rattle.lot_machine.specs.Machine.{State, kind_at, place_at}
 use Rattle.lot_laws.specs.Locations.{location_at, role_on}
-use Rattle.lot_laws.specs.Refinement.{call_at, call_state, lock_state, taken_at}
+use Rattle.lot_laws.specs.Refinement.{call_state, lock_state}
 use Rattle.lot_laws.specs.SitesOf.{FitsItsLock, IsWorld, rules_in}
 use Rattle.lot_laws.proofs.machine.Parts.{taken_held}
 use Rattle.lot_laws.proofs.promises.SitesPromise.{not_empty}
