@@ -28,7 +28,8 @@ given_up t Upgradable s = refl
 given_up t Shared s = refl
 given_up t x s = refl
 
-written : (t : ℕ) (b c : Bool) (s : LockState) → (if b then with_owner t Exclusive s else pending_for t c s).taken ≡ s.taken
+written : (t : ℕ) (b c : Bool) (s : LockState)
+    → (if b then with_owner t Exclusive s else pending_for t c s).taken ≡ s.taken
 written t true c s = refl
 written t false c s = refl
 
@@ -54,7 +55,8 @@ succeeded x u s = refl
 
 handed_on : (t : ℕ) (x : Want) (y : Option Queued) (s : LockState) → (handed t x y s).taken ≡ let_go t s.taken
 handed_on t x None s = ap (let_go t) (given_up t x s)
-handed_on t x (Some y) s = succeeded y.want y.thread (locks.sharing_handed t (without_owner t x s)) ∙ ap (let_go t) (given_up t x s)
+handed_on t x (Some y) s =
+    succeeded y.want y.thread (locks.sharing_handed t (without_owner t x s)) ∙ ap (let_go t) (given_up t x s)
 
 kept_some : (t : ℕ) (o : Option Taken) → keep_from t o ≢ None → o ≢ None
 kept_some t None h = absurd (h refl)
@@ -77,7 +79,8 @@ module _ (r : Rules) (s : LockState) (t u : ℕ) (state : IsLockState r s) (one 
   same : (v : LockState) → v.taken ≡ s.taken → v.taken u ≢ None → Was
   same v e some = inl (λ f. some (ap (λ (g : ℕ → Option Taken). g u) e ∙ f))
 
-  taken_first : (x : Queued) → Needs r (TakeFirst x) s t → (after_case r (TakeFirst x) s t).taken u ≢ None → Was
+  taken_first : (x : Queued) → Needs r (TakeFirst x) s t → (after_case r (TakeFirst x) s t).taken u ≢ None
+      → Was
   taken_first x needs some = elim (cases_eq u x.thread) [
     | inl e ↦ inr (ap first_thread needs.0.1 ∙ ap Some (sym e))
     | inr ne ↦ inl (λ f. some (grind (arith, nat_tests)))
@@ -85,21 +88,25 @@ module _ (r : Rules) (s : LockState) (t u : ℕ) (state : IsLockState r s) (one 
 
   comes : (case : LockCase) → Needs r case s t → (after_case r case s t).taken u ≢ None → Was
   comes (TakeFirst x) needs some = taken_first x needs some
-  comes (TakeAside y) needs some = absurd (subst (λ o. locks.IsSomePending o y) (state.unpending (not_picked r.sort one)).0 (state.aside_pending y needs.0))
+  comes (TakeAside y) needs some =
+      absurd (subst (λ o. locks.IsSomePending o y) (state.unpending (not_picked r.sort one)).0 (state.aside_pending y needs.0))
   comes (TakePicked start) needs some = absurd (not_picked r.sort one needs.1)
   comes Wake needs some = inl (kept_some t (s.taken u) some)
-  comes (HandOff x y) needs some = inl (kept_some t (s.taken u) (λ f. some (ap (λ (g : ℕ → Option Taken). g u) (handed_on t x y s) ∙ f)))
+  comes (HandOff x y) needs some =
+      inl (kept_some t (s.taken u) (λ f. some (ap (λ (g : ℕ → Option Taken). g u) (handed_on t x y s) ∙ f)))
   comes (OfOnce case) needs some = absurd (subst TakesOneAtATime needs.0 one)
   comes (OfCondvar case) needs some = absurd (subst TakesOneAtATime needs.0 one)
   comes (Enter x) needs some = same (with_owner t x s) (given t x s) some
   comes Pend needs some = inl some
   comes Settle needs some = inl some
   comes (Leave x) needs some = same (without_owner t x s) (given_up t x s) some
-  comes (Convert x y) needs some = same (converted t y (without_owner t x s)) (turned t y (without_owner t x s) ∙ given_up t x s) some
+  comes (Convert x y) needs some =
+      same (converted t y (without_owner t x s)) (turned t y (without_owner t x s) ∙ given_up t x s) some
   comes (Park x) needs some = inl some
   comes Aside needs some = inl some
   comes Late needs some = inl some
-  comes Rollback needs some = same (falling_back t s.pending (record s { pending = None })) (fallen t s.pending (record s { pending = None })) some
+  comes Rollback needs some =
+      same (falling_back t s.pending (record s { pending = None })) (fallen t s.pending (record s { pending = None })) some
   comes (SeeOwner b) needs some = inl some
 
 -- ---------------------------------------------------------------- a step
@@ -110,7 +117,8 @@ module _ (w v : LocksState) (t : ℕ) (o : Outcome) (all : AreLockStates w) (u :
   First l = ((w.locks l).taken u ≢ None) ⊎ ((first_thread (w.locks l).queue ≡ Some u)
       ⊎ ((c : ℕ) × (timed : Bool) × ((w.calls u).purpose ≡ Some (Waits c l timed)) × (first_thread (w.locks c).queue ≡ Some u)))
 
-  brought : (c m n : ℕ) (every owned : Bool) → MayHappen w t (Moves c m every owned n) → (q : List Queued) → (w.locks c).queue ≡ q
+  brought : (c m n : ℕ) (every owned : Bool) → MayHappen w t (Moves c m every owned n) → (q : List Queued)
+      → (w.locks c).queue ≡ q
       → taking t (taken_of owned (moved_of every q)) (w.locks m).taken u ≢ None → First m
   brought c m n every true may q e some = inl some
   brought c m n true false may [] e some = inl some
@@ -132,21 +140,25 @@ module _ (w v : LocksState) (t : ℕ) (o : Outcome) (all : AreLockStates w) (u :
       by_all true some none = some none
       by_all false some none = some none
 
-  by_event : (e : Event) → MayHappen w t e → (l : ℕ) → TakesOneAtATime (rules_at w l).sort → (locks_after w t e l).taken u ≢ None → First l
+  by_event : (e : Event) → MayHappen w t e → (l : ℕ) → TakesOneAtATime (rules_at w l).sort
+      → (locks_after w t e l).taken u ≢ None → First l
   by_event Nothing may l one some = inl some
   by_event (Moves c m every owned n) may l one some = at_mutex (l == m) refl some
     where
-      at_condvar : (b : Bool) → (l == c) ≡ b → (if b then left_behind every (w.locks c) else w.locks l).taken u ≢ None → First l
+      at_condvar : (b : Bool) → (l == c) ≡ b
+          → (if b then left_behind every (w.locks c) else w.locks l).taken u ≢ None → First l
       at_condvar false e some = inl some
       at_condvar true e some = inl (subst (λ k. (w.locks k).taken u ≢ None) (sym (eqb-true l c e)) some)
 
       at_mutex : (b : Bool) → (l == m) ≡ b
           → (if b then joined_by owned t (moved_of every (w.locks c).queue) (w.locks m) else putting w.locks c (left_behind every (w.locks c)) l).taken u ≢ None → First l
       at_mutex false e some = at_condvar (l == c) refl some
-      at_mutex true e some = subst First (sym (eqb-true l m e)) (brought c m n every owned may (w.locks c).queue refl some)
+      at_mutex true e some =
+          subst First (sym (eqb-true l m e)) (brought c m n every owned may (w.locks c).queue refl some)
   by_event (AtLock k case) may l one some = either (l == k) refl some
     where
-      either : (b : Bool) → (l == k) ≡ b → (if b then after_case (rules_at w k) case (w.locks k) t else w.locks l).taken u ≢ None → First l
+      either : (b : Bool) → (l == k) ≡ b
+          → (if b then after_case (rules_at w k) case (w.locks k) t else w.locks l).taken u ≢ None → First l
       either false e some = inl some
       either true e some = subst First (sym (eqb-true l k e))
           (elim (comes (rules_at w k) (w.locks k) t u (all k) (subst (λ j. TakesOneAtATime (rules_at w j).sort) (eqb-true l k e) one) case (needs_of w t k case (w.calls t).purpose may) some) [
@@ -155,16 +167,20 @@ module _ (w v : LocksState) (t : ℕ) (o : Outcome) (all : AreLockStates w) (u :
           ])
 
   goes : GoesOn w t o v → (l : ℕ) → TakesOneAtATime (rules_at w l).sort → (v.locks l).taken u ≢ None → First l
-  goes g l one some = by_event g.event g.may l one (subst (λ (s : LockState). s.taken u ≢ None) (g.locks l) some)
+  goes g l one some =
+      by_event g.event g.may l one (subst (λ (s : LockState). s.taken u ≢ None) (g.locks l) some)
 
-  does : (x : Turn) → Does w t x o v → (l : ℕ) → TakesOneAtATime (rules_at w l).sort → (v.locks l).taken u ≢ None → First l
-  does (turn.TheVariants.Begin c) d l one some = inl (subst (λ (s : LockState). s.taken u ≢ None) (d.locks l) some)
+  does : (x : Turn) → Does w t x o v → (l : ℕ) → TakesOneAtATime (rules_at w l).sort
+      → (v.locks l).taken u ≢ None → First l
+  does (turn.TheVariants.Begin c) d l one some =
+      inl (subst (λ (s : LockState). s.taken u ≢ None) (d.locks l) some)
   does turn.TheVariants.Late d l one some = inl (subst (λ (s : LockState). s.taken u ≢ None) (d.locks l) some)
   does turn.TheVariants.Go d l one some = goes d l one some
   does turn.TheVariants.Spin d l one some = goes d.goes l one some
   does turn.TheVariants.Ok d l one some = goes d.goes l one some
   does turn.TheVariants.Err d l one some = goes d.goes l one some
 
-  pub first_taken : (x : Turn) → Turned w t x o v → (l : ℕ) → TakesOneAtATime (rules_at w l).sort → (v.locks l).taken u ≢ None → First l
+  pub first_taken : (x : Turn) → Turned w t x o v → (l : ℕ) → TakesOneAtATime (rules_at w l).sort
+      → (v.locks l).taken u ≢ None → First l
   first_taken x (inl d) l one some = does x d.1 l one some
   first_taken x (inr r) l one some = inl (subst (λ (k : LocksState). (k.locks l).taken u ≢ None) r.1.1 some)

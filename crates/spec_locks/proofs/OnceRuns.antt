@@ -21,17 +21,20 @@ use Rattle.spec_locks.proofs.Runs.{needs_of}
 -- ---------------------------------------------------------------- the call of a run
 
 -- one that only waits begins and ends no run
-awaits_none : (e : OnceCase) (forced timed : Bool) (g : Option ℕ) → ((x : Want) (b : Bool) → e ≢ Rest x b) → AwaitsBy forced timed g (OfOnce e) → ⊥
+awaits_none : (e : OnceCase) (forced timed : Bool) (g : Option ℕ) → ((x : Want) (b : Bool) → e ≢ Rest x b)
+    → AwaitsBy forced timed g (OfOnce e) → ⊥
 awaits_none (Rest x b) forced timed g rests_not made = rests_not x b refl
 awaits_none (Start b) forced timed g rests_not made = made
 awaits_none Finish forced timed g rests_not made = made
 awaits_none Fail forced timed g rests_not made = made
 awaits_none TakeAll forced timed g rests_not made = made
 
-runs_call : (q : Purpose) (g : Option ℕ) (b : Bool) (c : Recall) (l : ℕ) (e : OnceCase) → ((x : Want) (b : Bool) → e ≢ Rest x b) → IsMadeOf q g b c l (OfOnce e)
+runs_call : (q : Purpose) (g : Option ℕ) (b : Bool) (c : Recall) (l : ℕ) (e : OnceCase)
+    → ((x : Want) (b : Bool) → e ≢ Rest x b) → IsMadeOf q g b c l (OfOnce e)
     → (forced : Bool) × (q ≡ CallsOnce l forced)
 runs_call (CallsOnce k forced) g b c l e rests_not made = (forced, ap (λ n. CallsOnce n forced) (sym made.0))
-runs_call (Awaits k forced timed) g b c l e rests_not made = absurd (awaits_none e forced timed g rests_not made.1)
+runs_call (Awaits k forced timed) g b c l e rests_not made =
+    absurd (awaits_none e forced timed g rests_not made.1)
 runs_call (Enters k x how) g b c l e rests_not made = absurd made.1
 runs_call (Releases k x fair) g b c l e rests_not made = absurd made.1
 runs_call (Converts k x y how) g b c l e rests_not made = absurd made.1
@@ -44,9 +47,11 @@ runs_call (Notifies k all) g b c l e rests_not (inl made) = absurd made.1
 runs_call (Notifies k all) g b c l e rests_not (inr made) = absurd made
 
 module _ (w : LocksState) (t : ℕ) where
-  runs_for : (l : ℕ) (e : OnceCase) → ((x : Want) (b : Bool) → e ≢ Rest x b) → (o : Option Purpose) → MayDo w t l (OfOnce e) o → (forced : Bool) × (o ≡ Some (CallsOnce l forced))
+  runs_for : (l : ℕ) (e : OnceCase) → ((x : Want) (b : Bool) → e ≢ Rest x b) → (o : Option Purpose)
+      → MayDo w t l (OfOnce e) o → (forced : Bool) × (o ≡ Some (CallsOnce l forced))
   runs_for l e rests_not None may = absurd may
-  runs_for l e rests_not (Some q) may = let call = runs_call q (w.calls t).gave_up (w.calls t).released (w.calls t).recalls l e rests_not may.0 in (call.0, ap Some call.1)
+  runs_for l e rests_not (Some q) may =
+      let call = runs_call q (w.calls t).gave_up (w.calls t).released (w.calls t).recalls l e rests_not may.0 in (call.0, ap Some call.1)
 
 -- ---------------------------------------------------------------- a run begins
 
@@ -56,7 +61,8 @@ module _ (w : LocksState) (t : ℕ) (state : OnceState) where
       × ((((w.locks l).phase ≡ New) × (state ≡ once_state.New))
       ⊎ (((w.locks l).phase ≡ Poisoned) × (forced ≡ true) × (state ≡ once_state.Poisoned)))
 
-  start_told : (l : ℕ) (forced : Bool) (p : Phase) → (w.locks l).phase ≡ p → MayStart p forced → state ≡ Rattle.spec_locks.specs.Runs.state_told p
+  start_told : (l : ℕ) (forced : Bool) (p : Phase) → (w.locks l).phase ≡ p → MayStart p forced
+      → state ≡ Rattle.spec_locks.specs.Runs.state_told p
       → (((w.locks l).phase ≡ New) × (state ≡ once_state.New)) ⊎ (((w.locks l).phase ≡ Poisoned) × (forced ≡ true) × (state ≡ once_state.Poisoned))
   start_told l forced New e may told = inl (e, told)
   start_told l true Poisoned e may told = inr (e, refl, told)
@@ -69,10 +75,13 @@ module _ (w : LocksState) (t : ℕ) (state : OnceState) where
   start_at l b may h = let call = starts_for (w.calls t).purpose refl may in
       (l, b, call, start_told l b (w.locks l).phase refl (needs_of w t l (OfOnce (Start b)) (w.calls t).purpose may).1 (let e : state ≡ Rattle.spec_locks.specs.Runs.state_told (w.locks l).phase = cc in e))
     where
-      starts_for : (o : Option Purpose) → (w.calls t).purpose ≡ o → MayDo w t l (OfOnce (Start b)) o → (w.calls t).purpose ≡ Some (CallsOnce l b)
+      starts_for : (o : Option Purpose) → (w.calls t).purpose ≡ o → MayDo w t l (OfOnce (Start b)) o
+          → (w.calls t).purpose ≡ Some (CallsOnce l b)
       starts_for None e may = absurd may
-      starts_for (Some (CallsOnce k forced)) e may = e ∙ ap (λ n. Some (CallsOnce n forced)) (sym may.0.0) ∙ ap (λ f. Some (CallsOnce l f)) (sym may.0.1)
-      starts_for (Some q) e may = let call = runs_call q (w.calls t).gave_up (w.calls t).released (w.calls t).recalls l (Start b) (λ x c. λ f. cc) may.0 in
+      starts_for (Some (CallsOnce k forced)) e may =
+          e ∙ ap (λ n. Some (CallsOnce n forced)) (sym may.0.0) ∙ ap (λ f. Some (CallsOnce l f)) (sym may.0.1)
+      starts_for (Some q) e may =
+          let call = runs_call q (w.calls t).gave_up (w.calls t).released (w.calls t).recalls l (Start b) (λ x c. λ f. cc) may.0 in
           absurd (let f : q ≡ CallsOnce l call.0 = call.1 in cc)
 
   by_event : (e : Event) → MayHappen w t e → Begins w e (outcome.TheVariants.Closure state) → Starts
@@ -96,20 +105,23 @@ module _ (w v : LocksState) (t : ℕ) (o : Outcome) (state : OnceState) (told : 
 
   pub starts : (x : Turn) → Turned w t x o v → Starts w t state
   starts x (inl d) = does_start x d.1
-  starts x (inr r) = absurd (let f : outcome.TheVariants.NotNow ≡ outcome.TheVariants.Closure state = sym r.1.0 ∙ told in cc)
+  starts x (inr r) =
+      absurd (let f : outcome.TheVariants.NotNow ≡ outcome.TheVariants.Closure state = sym r.1.0 ∙ told in cc)
 
 -- ---------------------------------------------------------------- a run ends
 
 module _ (w v : LocksState) (t : ℕ) (o : Outcome) (full : ℕ → Bool) (safe : IsSafe w full) (l : ℕ) (runs : (w.locks l).phase ≡ InProgress t) where
   -- its lock is that of the event
-  same_lock : (k : ℕ) (e : OnceCase) → ((x : Want) (b : Bool) → e ≢ Rest x b) → MayHappen w t (AtLock k (OfOnce e)) → k ≡ l
+  same_lock : (k : ℕ) (e : OnceCase) → ((x : Want) (b : Bool) → e ≢ Rest x b)
+      → MayHappen w t (AtLock k (OfOnce e)) → k ≡ l
   same_lock k e rests_not may =
       let call = runs_for w t k e rests_not (w.calls t).purpose may in
       let own = ((safe.runs t l).0 runs).1 in
       let same : Some (CallsOnce k call.0) ≡ Some (CallsOnce l own.0) = sym call.1 ∙ own.1 in
       cc
 
-  after_end : (e : OnceCase) → ((x : Want) (b : Bool) → e ≢ Rest x b) → (p : Phase) → ((s : LockState) → (after_case (rules_at w l) (OfOnce e) s t).phase ≡ p)
+  after_end : (e : OnceCase) → ((x : Want) (b : Bool) → e ≢ Rest x b) → (p : Phase)
+      → ((s : LockState) → (after_case (rules_at w l) (OfOnce e) s t).phase ≡ p)
       → (g : GoesOn w t o v) → (k : ℕ) → g.event ≡ AtLock k (OfOnce e) → (v.locks l).phase ≡ p
   after_end e rests_not p leaves g k ends =
       let may : MayHappen w t (AtLock k (OfOnce e)) = subst (MayHappen w t) ends g.may in
@@ -124,7 +136,8 @@ module _ (w v : LocksState) (t : ℕ) (o : Outcome) (full : ℕ → Bool) (safe 
   done_then x e d = absurd cc
 
   poisoned_then : (x : Turn) → x ≡ turn.TheVariants.Err → Does w t x o v → (v.locks l).phase ≡ Poisoned
-  poisoned_then turn.TheVariants.Err e d = after_end Fail (λ x b. λ f. cc) Poisoned (λ s. refl) d.goes d.lock d.ends
+  poisoned_then turn.TheVariants.Err e d =
+      after_end Fail (λ x b. λ f. cc) Poisoned (λ s. refl) d.goes d.lock d.ends
   poisoned_then x e d = absurd cc
 
   pub closes : (x : Turn) → Turned w t x o v → o ≢ outcome.TheVariants.NotNow
@@ -139,7 +152,8 @@ module _ (w v : LocksState) (t : ℕ) (o : Outcome) (l : ℕ) (done : (w.locks l
   done_by Nothing may = done
   done_by (Moves c m every owned n) may = at_mutex (l == m) refl
     where
-      at_condvar : (b : Bool) → (l == c) ≡ b → (if b then left_behind every (w.locks c) else w.locks l).phase ≡ Done
+      at_condvar : (b : Bool) → (l == c) ≡ b
+          → (if b then left_behind every (w.locks c) else w.locks l).phase ≡ Done
       at_condvar false e = done
       at_condvar true e = ap (λ k. (w.locks k).phase) (sym (eqb-true l c e)) ∙ done
 
@@ -149,9 +163,11 @@ module _ (w v : LocksState) (t : ℕ) (o : Outcome) (l : ℕ) (done : (w.locks l
       at_mutex true e = ap (λ k. (w.locks k).phase) (sym (eqb-true l m e)) ∙ done
   done_by (AtLock k case) may = either (l == k) refl
     where
-      either : (b : Bool) → (l == k) ≡ b → (if b then after_case (rules_at w k) case (w.locks k) t else w.locks l).phase ≡ Done
+      either : (b : Bool) → (l == k) ≡ b
+          → (if b then after_case (rules_at w k) case (w.locks k) t else w.locks l).phase ≡ Done
       either false e = done
-      either true e = done_stays (rules_at w k) case (w.locks k) t (needs_of w t k case (w.calls t).purpose may) (ap (λ j. (w.locks j).phase) (sym (eqb-true l k e)) ∙ done)
+      either true e =
+          done_stays (rules_at w k) case (w.locks k) t (needs_of w t k case (w.calls t).purpose may) (ap (λ j. (w.locks j).phase) (sym (eqb-true l k e)) ∙ done)
 
   goes_done : GoesOn w t o v → (v.locks l).phase ≡ Done
   goes_done g = ap (λ (s : LockState). s.phase) (g.locks l) ∙ done_by g.event g.may

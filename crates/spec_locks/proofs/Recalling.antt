@@ -30,13 +30,15 @@ abbrev Fails : LocksState → LocksState → ℕ → Bool → Type 0
 Fails w v t now = now ≡ true → ((w.calls t).failed ≡ true)
     ⊎ ((l : ℕ) × ((w.locks l).phase ≡ InProgress t) × ((v.locks l).phase ≡ Poisoned))
 
-truly : (w v : LocksState) (t : ℕ) (c : CallState) → Notes w v t c.recalls → Fails w v t c.failed → RecallsTruly w v t c
+truly : (w v : LocksState) (t : ℕ) (c : CallState) → Notes w v t c.recalls → Fails w v t c.failed
+    → RecallsTruly w v t c
 truly w v t c notes fails = record { saw = notes.saw; moved = notes.moved; failed = fails }
 
 -- ---------------------------------------------------------------- a look
 
 -- a call that looks which mutex is shown notifies
-looks_call : (q : Purpose) (g : Option ℕ) (b : Bool) (c : Recall) (l : ℕ) (seen : Option ℕ) → IsMadeOf q g b c l (OfCondvar (Look seen))
+looks_call : (q : Purpose) (g : Option ℕ) (b : Bool) (c : Recall) (l : ℕ) (seen : Option ℕ)
+    → IsMadeOf q g b c l (OfCondvar (Look seen))
     → (every : Bool) × (q ≡ Notifies l every)
 looks_call (Notifies k every) g b c l seen (inl made) = (every, ap (λ n. Notifies n every) (sym made.0))
 looks_call (Notifies k every) g b c l seen (inr made) = absurd made
@@ -52,9 +54,11 @@ looks_call (Waits k m timed) g b c l seen (inr (e, inl gives)) = absurd gives
 looks_call (Waits k m timed) g b c l seen (inr (e, inr enters)) = absurd enters.1
 
 module _ (w : LocksState) (t : ℕ) where
-  looks : (l m : ℕ) (o : Option Purpose) → MayDo w t l (OfCondvar (Look (Some m))) o → (every : Bool) × (o ≡ Some (Notifies l every)) × ((w.locks l).shown ≡ Some m)
+  looks : (l m : ℕ) (o : Option Purpose) → MayDo w t l (OfCondvar (Look (Some m))) o
+      → (every : Bool) × (o ≡ Some (Notifies l every)) × ((w.locks l).shown ≡ Some m)
   looks l m None may = absurd may
-  looks l m (Some q) may = let call = looks_call q (w.calls t).gave_up (w.calls t).released (w.calls t).recalls l (Some m) may.0 in
+  looks l m (Some q) may =
+      let call = looks_call q (w.calls t).gave_up (w.calls t).released (w.calls t).recalls l (Some m) may.0 in
       (call.0, ap Some call.1, sym may.1.1)
 
 -- ---------------------------------------------------------------- a call
@@ -84,15 +88,18 @@ module _ (w v : LocksState) where
   behind u (HasMoved m n) h = h
   behind u WasNotified h = h
 
-  woken_so : (t : ℕ) (e : Event) (u : ℕ) (c : CallState) → Notes w v u c.recalls → Notes w v u (woken w t e u c).recalls
+  woken_so : (t : ℕ) (e : Event) (u : ℕ) (c : CallState) → Notes w v u c.recalls
+      → Notes w v u (woken w t e u c).recalls
   woken_so t (AtLock l Wake) u c h = either (is_taken_by t ((w.locks l).taken u))
     where
-      either : (b : Bool) → Notes w v u (if b then record c { retries = Some l; recalls = behind_wake c.recalls } else c).recalls
+      either : (b : Bool)
+          → Notes w v u (if b then record c { retries = Some l; recalls = behind_wake c.recalls } else c).recalls
       either true = behind u c.recalls h
       either false = h
   woken_so t (AtLock l (HandOff x y)) u c h = either (is_taken_by t ((w.locks l).taken u))
     where
-      either : (b : Bool) → Notes w v u (if b then record c { retries = None; recalls = behind_wake c.recalls } else c).recalls
+      either : (b : Bool)
+          → Notes w v u (if b then record c { retries = None; recalls = behind_wake c.recalls } else c).recalls
       either true = behind u c.recalls h
       either false = h
   woken_so t (Moves l m every owned n) u c h = either (is_among u (moved_of every (w.locks l).queue))
@@ -106,12 +113,14 @@ module _ (w v : LocksState) where
   woken_failed : (t : ℕ) (e : Event) (u : ℕ) (c : CallState) → (woken w t e u c).failed ≡ c.failed
   woken_failed t (AtLock l Wake) u c = either (is_taken_by t ((w.locks l).taken u))
     where
-      either : (b : Bool) → (if b then record c { retries = Some l; recalls = behind_wake c.recalls } else c).failed ≡ c.failed
+      either : (b : Bool)
+          → (if b then record c { retries = Some l; recalls = behind_wake c.recalls } else c).failed ≡ c.failed
       either true = refl
       either false = refl
   woken_failed t (AtLock l (HandOff x y)) u c = either (is_taken_by t ((w.locks l).taken u))
     where
-      either : (b : Bool) → (if b then record c { retries = None; recalls = behind_wake c.recalls } else c).failed ≡ c.failed
+      either : (b : Bool)
+          → (if b then record c { retries = None; recalls = behind_wake c.recalls } else c).failed ≡ c.failed
       either true = refl
       either false = refl
   woken_failed t (Moves l m every owned n) u c = either (is_among u (moved_of every (w.locks l).queue))
@@ -136,25 +145,31 @@ module _ (w v : LocksState) where
   -- ---------------------------------------------------------------- a move
 
   module _ (t : ℕ) (o : Outcome) (g : GoesOn w t o v) where
-    number_of : (every : Bool) (q : List Queued) (n : ℕ) → n ≢ 0 → n ≡ length (moved_of every q) → n ≡ (if every then length q else 1)
+    number_of : (every : Bool) (q : List Queued) (n : ℕ) → n ≢ 0 → n ≡ length (moved_of every q)
+        → n ≡ (if every then length q else 1)
     number_of true q n some e = e
     number_of false [] n some e = absurd (some e)
     number_of false (x ∷ q) n some e = grind arith
 
-    left_of : (c : ℕ) (every : Bool) → (left_behind every (w.locks c)).queue ≡ (if every then [] else drop 1 (w.locks c).queue)
+    left_of : (c : ℕ) (every : Bool)
+        → (left_behind every (w.locks c)).queue ≡ (if every then [] else drop 1 (w.locks c).queue)
     left_of c every = refl
 
     apart : (c m n : ℕ) (every owned : Bool) → MayHappen w t (Moves c m every owned n) → c ≢ m
-    apart c m n every owned may e = let f : Condvar ≡ Mutex = sym may.sorts.0 ∙ ap (λ k. (rules_at w k).sort) e ∙ may.sorts.1 in cc
+    apart c m n every owned may e =
+        let f : Condvar ≡ Mutex = sym may.sorts.0 ∙ ap (λ k. (rules_at w k).sort) e ∙ may.sorts.1 in cc
 
-    moves : (c m n : ℕ) (every owned : Bool) → (may : MayHappen w t (Moves c m every owned n)) → g.event ≡ Moves c m every owned n → Notes w v t (HasMoved m n)
+    moves : (c m n : ℕ) (every owned : Bool) → (may : MayHappen w t (Moves c m every owned n))
+        → g.event ≡ Moves c m every owned n → Notes w v t (HasMoved m n)
     moves c m n every owned may e = record {
       saw = λ k f. absurd cc;
-      moved = λ k number f. inr (let same : n ≡ number = cc in (c, every, may.notifies, subst (λ x. x ≡ (if every then length (w.locks c).queue else 1)) same (number_of every (w.locks c).queue n may.some may.number), queue_left));
+      moved =
+          λ k number f. inr (let same : n ≡ number = cc in (c, every, may.notifies, subst (λ x. x ≡ (if every then length (w.locks c).queue else 1)) same (number_of every (w.locks c).queue n may.some may.number), queue_left));
     }
       where
         queue_left : (v.locks c).queue ≡ (if every then [] else drop 1 (w.locks c).queue)
-        queue_left = ap (λ (s : LockState). s.queue) (g.locks c ∙ ap (λ x. Rattle.spec_locks.specs.Runs.locks_after w t x c) e
+        queue_left =
+            ap (λ (s : LockState). s.queue) (g.locks c ∙ ap (λ x. Rattle.spec_locks.specs.Runs.locks_after w t x c) e
             ∙ ap (λ (b : Bool). if b then joined_by owned t (moved_of every (w.locks c).queue) (w.locks m) else putting w.locks c (left_behind every (w.locks c)) c) (differs c m (apart c m n every owned may))
             ∙ ap (λ (b : Bool). if b then left_behind every (w.locks c) else w.locks c) (same_number c))
 
@@ -174,10 +189,11 @@ module _ (w v : LocksState) where
     by_event (AtLock l (OfOnce Fail)) h may = stays_so t _ refl
     by_event (AtLock l (OfOnce Finish)) h may = stays_so t _ refl
     by_event (AtLock l (OfOnce TakeAll)) h may = stays_so t _ refl
-    by_event (AtLock l (OfCondvar (Look (Some m)))) h may = let seen = looks w t l m (w.calls t).purpose may in record {
-      saw = λ k f. inr (let same : m ≡ k = cc in (l, seen.0, seen.1, seen.2 ∙ ap Some same));
-      moved = λ k n f. absurd cc;
-    }
+    by_event (AtLock l (OfCondvar (Look (Some m)))) h may =
+        let seen = looks w t l m (w.calls t).purpose may in record {
+          saw = λ k f. inr (let same : m ≡ k = cc in (l, seen.0, seen.1, seen.2 ∙ ap Some same));
+          moved = λ k n f. absurd cc;
+        }
     by_event (AtLock l (OfCondvar (Look None))) h may = stays_so t _ refl
     by_event (AtLock l (OfCondvar (Show m))) h may = stays_so t _ refl
     by_event (AtLock l (OfCondvar Hide)) h may = stays_so t _ refl
@@ -229,7 +245,8 @@ module _ (w v : LocksState) where
         (ended_fails o _ (subst (Fails w v t) (sym (woken_failed t g.event t (going_on g.event (w.calls t)))) own_fails))
 
     other_goes : (u : ℕ) → RecallsTruly w v u (woken w t g.event u (w.calls u))
-    other_goes u = truly w v u _ (woken_so t g.event u (w.calls u) (stays_so u _ refl)) (λ e. inl (sym (woken_failed t g.event u (w.calls u)) ∙ e))
+    other_goes u =
+        truly w v u _ (woken_so t g.event u (w.calls u) (stays_so u _ refl)) (λ e. inl (sym (woken_failed t g.event u (w.calls u)) ∙ e))
 
     goes : (u : ℕ) → RecallsTruly w v u (v.calls u)
     goes u = elim (cases_eq u t) [
@@ -238,17 +255,20 @@ module _ (w v : LocksState) where
     ]
 
   same_call : (u : ℕ) (c : CallState) → c ≡ w.calls u → RecallsTruly w v u c
-  same_call u c e = truly w v u c (stays_so u _ (ap (λ (d : CallState). d.recalls) e)) (λ f. inl (sym (ap (λ (d : CallState). d.failed) e) ∙ f))
+  same_call u c e =
+      truly w v u c (stays_so u _ (ap (λ (d : CallState). d.recalls) e)) (λ f. inl (sym (ap (λ (d : CallState). d.failed) e) ∙ f))
 
   module _ (t : ℕ) (o : Outcome) where
-    stays : (c : CallState) → RecallsTruly w v t c → Stays w t c o v → (u : ℕ) → RecallsTruly w v u (v.calls u)
+    stays : (c : CallState) → RecallsTruly w v t c → Stays w t c o v → (u : ℕ)
+        → RecallsTruly w v u (v.calls u)
     stays c h s u = elim (cases_eq u t) [
       | inl e ↦ subst (λ k. RecallsTruly w v k (v.calls k)) (sym e) (subst (RecallsTruly w v t) (sym (stay_own w v t o c s)) h)
       | inr ne ↦ same_call u (v.calls u) (s.calls u ∙ ap (λ (b : Bool). if b then c else w.calls u) (differs u t ne))
     ]
 
     does : (x : Turn) → Does w t x o v → (u : ℕ) → RecallsTruly w v u (v.calls u)
-    does (turn.TheVariants.Begin c) d u = stays _ (truly w v t _ (blank t) (λ e. absurd (let f : false ≡ true = e in cc))) d u
+    does (turn.TheVariants.Begin c) d u =
+        stays _ (truly w v t _ (blank t) (λ e. absurd (let f : false ≡ true = e in cc))) d u
     does turn.TheVariants.Late d u = stays _ (truly w v t _ (stays_so t _ refl) (λ e. inl e)) d u
     does turn.TheVariants.Go d u = goes t o d u
     does turn.TheVariants.Spin d u = goes t o d.goes u

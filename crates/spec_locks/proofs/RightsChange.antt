@@ -20,10 +20,13 @@ use Rattle.spec_locks.proofs.Runs.{needs_of}
 
 -- ---------------------------------------------------------------- a thread that is in no hand of the step's
 
-sharing_else : (t : ℕ) (taken : ℕ → Option Taken) (i u : ℕ) (ns : List ℕ) → locks.shares_handed t (taken (i + u)) ≡ 0 → slice_index (sharing_from t taken i ns) u ≡ slice_index ns u
+sharing_else : (t : ℕ) (taken : ℕ → Option Taken) (i u : ℕ) (ns : List ℕ)
+    → locks.shares_handed t (taken (i + u)) ≡ 0 → slice_index (sharing_from t taken i ns) u ≡ slice_index ns u
 sharing_else t taken i u [] e = grind arith
-sharing_else t taken i zero (n ∷ ns) e = let f : locks.shares_handed t (taken i) ≡ 0 = subst (λ k. locks.shares_handed t (taken k) ≡ 0) (omega arith) e in let g : slice_index (sharing_from t taken i (n ∷ ns)) 0 ≡ n + locks.shares_handed t (taken i) = refl in omega arith
-sharing_else t taken i (suc u) (n ∷ ns) e = sharing_else t taken (i + 1) u ns (subst (λ k. locks.shares_handed t (taken k) ≡ 0) (omega arith) e)
+sharing_else t taken i zero (n ∷ ns) e =
+    let f : locks.shares_handed t (taken i) ≡ 0 = subst (λ k. locks.shares_handed t (taken k) ≡ 0) (omega arith) e in let g : slice_index (sharing_from t taken i (n ∷ ns)) 0 ≡ n + locks.shares_handed t (taken i) = refl in omega arith
+sharing_else t taken i (suc u) (n ∷ ns) e =
+    sharing_else t taken (i + 1) u ns (subst (λ k. locks.shares_handed t (taken k) ≡ 0) (omega arith) e)
 
 module _ (r : Rules) (s : LockState) (t u : ℕ) (state : IsLockState r s) (other : u ≢ t) (free : is_taken_by t (s.taken u) ≡ false) where
   unhanded : (o : Option Taken) → is_taken_by t o ≡ false → locks.shares_handed t o ≡ 0
@@ -31,10 +34,12 @@ module _ (r : Rules) (s : LockState) (t u : ℕ) (state : IsLockState r s) (othe
   unhanded (Some h) e = ap (λ (b : Bool). if b && locks.wants_shared h.want then 1 else 0) e
 
   shared_else : slice_index (sharing_from t s.taken 0 s.shared) u ≡ slice_index s.shared u
-  shared_else = sharing_else t s.taken 0 u s.shared (subst (λ k. locks.shares_handed t (s.taken k) ≡ 0) (omega arith) (unhanded (s.taken u) free))
+  shared_else =
+      sharing_else t s.taken 0 u s.shared (subst (λ k. locks.shares_handed t (s.taken k) ≡ 0) (omega arith) (unhanded (s.taken u) free))
 
   -- a hand-over leaves it what it has
-  hands_else : (x : Want) (y : Option Queued) → Needs r (HandOff x y) s t → rights_of (after_case r (HandOff x y) s t) u ≡ rights_of s u
+  hands_else : (x : Want) (y : Option Queued) → Needs r (HandOff x y) s t
+      → rights_of (after_case r (HandOff x y) s t) u ≡ rights_of s u
   hands_else Exclusive None n = rights_are _ _ _ _ _ _ _ _ (grind (arith, nat_tests)) refl refl shared_else
   hands_else Upgradable None n = rights_are _ _ _ _ _ _ _ _ refl refl (grind (arith, nat_tests)) shared_else
   hands_else Exclusive (Some y) n = by_want y.want (((n.2 y.thread y.want).0 refl).1)
@@ -43,15 +48,19 @@ module _ (r : Rules) (s : LockState) (t u : ℕ) (state : IsLockState r s) (othe
       left = locks.sharing_handed t (locks.without_owner t Exclusive s)
 
       apart : y.thread ≢ u
-      apart e = let h : s.taken y.thread ≡ Some (record { by = t; want = y.want }) = ((n.2 y.thread y.want).0 refl).0 in let f : false ≡ true = sym free ∙ ap (is_taken_by t) (ap s.taken (sym e) ∙ h) ∙ same_number t in cc
+      apart e =
+          let h : s.taken y.thread ≡ Some (record { by = t; want = y.want }) = ((n.2 y.thread y.want).0 refl).0 in let f : false ≡ true = sym free ∙ ap (is_taken_by t) (ap s.taken (sym e) ∙ h) ∙ same_number t in cc
 
-      by_readers : (b : Bool) → rights_of (if b then locks.with_owner y.thread Exclusive left else locks.pending_for y.thread false left) u ≡ rights_of s u
+      by_readers : (b : Bool)
+          → rights_of (if b then locks.with_owner y.thread Exclusive left else locks.pending_for y.thread false left) u ≡ rights_of s u
       by_readers true = rights_are _ _ _ _ _ _ _ _ (grind (arith, nat_tests, apart)) refl refl shared_else
-      by_readers false = rights_are _ _ _ _ _ _ _ _ (grind (arith, nat_tests)) (grind (arith, nat_tests, apart, state.exclusive_alone)) refl shared_else
+      by_readers false =
+          rights_are _ _ _ _ _ _ _ _ (grind (arith, nat_tests)) (grind (arith, nat_tests, apart, state.exclusive_alone)) refl shared_else
 
       by_want : (z : Want) → z ≢ Shared → rights_of (locks.succeeding z y.thread left) u ≡ rights_of s u
       by_want Exclusive more = by_readers (locks.readers left == 0)
-      by_want Upgradable more = rights_are _ _ _ _ _ _ _ _ (grind (arith, nat_tests)) refl (grind (arith, nat_tests, apart, state.exclusive_alone)) shared_else
+      by_want Upgradable more =
+          rights_are _ _ _ _ _ _ _ _ (grind (arith, nat_tests)) refl (grind (arith, nat_tests, apart, state.exclusive_alone)) shared_else
       by_want Shared more = absurd (more refl)
       by_want z more = rights_are _ _ _ _ _ _ _ _ (grind (arith, nat_tests)) refl refl shared_else
   hands_else Upgradable (Some y) n = by_want y.want (((n.2 y.thread y.want).0 refl).1)
@@ -60,15 +69,20 @@ module _ (r : Rules) (s : LockState) (t u : ℕ) (state : IsLockState r s) (othe
       left = locks.sharing_handed t (locks.without_owner t Upgradable s)
 
       apart : y.thread ≢ u
-      apart e = let h : s.taken y.thread ≡ Some (record { by = t; want = y.want }) = ((n.2 y.thread y.want).0 refl).0 in let f : false ≡ true = sym free ∙ ap (is_taken_by t) (ap s.taken (sym e) ∙ h) ∙ same_number t in cc
+      apart e =
+          let h : s.taken y.thread ≡ Some (record { by = t; want = y.want }) = ((n.2 y.thread y.want).0 refl).0 in let f : false ≡ true = sym free ∙ ap (is_taken_by t) (ap s.taken (sym e) ∙ h) ∙ same_number t in cc
 
-      by_readers : (b : Bool) → rights_of (if b then locks.with_owner y.thread Exclusive left else locks.pending_for y.thread false left) u ≡ rights_of s u
-      by_readers true = rights_are _ _ _ _ _ _ _ _ (grind (arith, nat_tests, apart, state.exclusive_alone)) refl (grind (arith, nat_tests)) shared_else
-      by_readers false = rights_are _ _ _ _ _ _ _ _ refl (grind (arith, nat_tests, apart, state.pending_alone)) (grind (arith, nat_tests)) shared_else
+      by_readers : (b : Bool)
+          → rights_of (if b then locks.with_owner y.thread Exclusive left else locks.pending_for y.thread false left) u ≡ rights_of s u
+      by_readers true =
+          rights_are _ _ _ _ _ _ _ _ (grind (arith, nat_tests, apart, state.exclusive_alone)) refl (grind (arith, nat_tests)) shared_else
+      by_readers false =
+          rights_are _ _ _ _ _ _ _ _ refl (grind (arith, nat_tests, apart, state.pending_alone)) (grind (arith, nat_tests)) shared_else
 
       by_want : (z : Want) → z ≢ Shared → rights_of (locks.succeeding z y.thread left) u ≡ rights_of s u
       by_want Exclusive more = by_readers (locks.readers left == 0)
-      by_want Upgradable more = rights_are _ _ _ _ _ _ _ _ refl refl (grind (arith, nat_tests, apart)) shared_else
+      by_want Upgradable more =
+          rights_are _ _ _ _ _ _ _ _ refl refl (grind (arith, nat_tests, apart)) shared_else
       by_want Shared more = absurd (more refl)
       by_want z more = rights_are _ _ _ _ _ _ _ _ refl refl (grind (arith, nat_tests)) shared_else
   hands_else Shared y n = absurd (n.1 refl)
@@ -97,17 +111,20 @@ module _ (r : Rules) (s : LockState) (t u : ℕ) (state : IsLockState r s) (othe
 
 -- a call gives its thread rights to its own lock alone, and takes them there
 module _ (r : Rules) (s : LockState) (t : ℕ) where
-  once_call : (case : LockCase) (forced : Bool) → CallsOnceBy forced case → rights_of (after_case r case s t) t ≡ rights_of s t
+  once_call : (case : LockCase) (forced : Bool) → CallsOnceBy forced case
+      → rights_of (after_case r case s t) t ≡ rights_of s t
   once_call (OfOnce case) forced made = once_keeps case s t t
   once_call Wake forced made = refl
   once_call case forced made = absurd made
 
-  await_call : (case : LockCase) (forced timed : Bool) (gave_up : Option ℕ) → AwaitsBy forced timed gave_up case → rights_of (after_case r case s t) t ≡ rights_of s t
+  await_call : (case : LockCase) (forced timed : Bool) (gave_up : Option ℕ)
+      → AwaitsBy forced timed gave_up case → rights_of (after_case r case s t) t ≡ rights_of s t
   await_call (OfOnce case) forced timed gave_up made = once_keeps case s t t
   await_call Late forced timed gave_up made = refl
   await_call case forced timed gave_up made = absurd made
 
-  wait_call : (case : LockCase) (m : ℕ) (timed : Bool) (gave_up : Option ℕ) (released : Bool) → WaitsThere m timed gave_up released case
+  wait_call : (case : LockCase) (m : ℕ) (timed : Bool) (gave_up : Option ℕ) (released : Bool)
+      → WaitsThere m timed gave_up released case
       → rights_of (after_case r case s t) t ≡ rights_of s t
   wait_call (OfCondvar (Show m)) k timed gave_up released made = refl
   wait_call (OfCondvar Hide) k timed gave_up released made = refl
@@ -115,12 +132,14 @@ module _ (r : Rules) (s : LockState) (t : ℕ) where
   wait_call Late k timed gave_up released made = refl
   wait_call case k timed gave_up released made = absurd made
 
-  notify_there : (case : LockCase) (recalls : Recall) → NotifiesThere recalls case → rights_of (after_case r case s t) t ≡ rights_of s t
+  notify_there : (case : LockCase) (recalls : Recall) → NotifiesThere recalls case
+      → rights_of (after_case r case s t) t ≡ rights_of s t
   notify_there (OfCondvar (Look seen)) recalls made = refl
   notify_there (OfCondvar Hide) recalls made = refl
   notify_there case recalls made = absurd made
 
-  notify_beside : (case : LockCase) (recalls : Recall) (m : ℕ) → NotifiesBeside recalls m case → rights_of (after_case r case s t) t ≡ rights_of s t
+  notify_beside : (case : LockCase) (recalls : Recall) (m : ℕ) → NotifiesBeside recalls m case
+      → rights_of (after_case r case s t) t ≡ rights_of s t
   notify_beside (SeeOwner owned) recalls m made = refl
   notify_beside Wake recalls m made = refl
   notify_beside case recalls m made = absurd made
@@ -140,7 +159,8 @@ module _ (r : Rules) (s : LockState) (t : ℕ) where
 
 -- ---------------------------------------------------------------- hand-overs
 
-is_hand_over : (case : LockCase) → ((x : Want) × (y : Option Queued) × (case ≡ HandOff x y)) ⊎ ((x : Want) (y : Option Queued) → case ≢ HandOff x y)
+is_hand_over : (case : LockCase)
+    → ((x : Want) × (y : Option Queued) × (case ≡ HandOff x y)) ⊎ ((x : Want) (y : Option Queued) → case ≢ HandOff x y)
 is_hand_over (HandOff x y) = inl (x, y, refl)
 is_hand_over case = inr (λ x y. grind arith)
 
@@ -155,14 +175,17 @@ module _ (w v : LocksState) (t : ℕ) (o : Outcome) (all : AreLockStates w) (wai
   abbrev Changes : ℕ → ℕ → Type 0
   Changes u l = ((u ≡ t) × MayChange (w.calls u).purpose l) ⊎ Held u l
 
-  taken_waits : (u l : ℕ) (h : Option Taken) → (w.locks l).taken u ≡ h → is_taken_by t h ≡ true → MayWait (w.calls u).purpose l
+  taken_waits : (u l : ℕ) (h : Option Taken) → (w.locks l).taken u ≡ h → is_taken_by t h ≡ true
+      → MayWait (w.calls u).purpose l
   taken_waits u l None e held = absurd cc
-  taken_waits u l (Some h) e held = waiting u l (let one : one_if_some ((w.locks l).taken u) ≡ 1 = ap one_if_some e in omega arith)
+  taken_waits u l (Some h) e held =
+      waiting u l (let one : one_if_some ((w.locks l).taken u) ≡ 1 = ap one_if_some e in omega arith)
 
   own_rights : (l : ℕ) (case : LockCase) (q : Option Purpose) → MayDo w t l case q
       → (rights_of (after_case (rules_at w l) case (w.locks l) t) t ≡ rights_in w t l) ⊎ MayChange q l
   own_rights l case None may = absurd may
-  own_rights l case (Some q) may = own_case (rules_at w l) (w.locks l) t q (w.calls t).gave_up (w.calls t).released (w.calls t).recalls l case may.0
+  own_rights l case (Some q) may =
+      own_case (rules_at w l) (w.locks l) t q (w.calls t).gave_up (w.calls t).released (w.calls t).recalls l case may.0
 
   other_rights : (u l : ℕ) → u ≢ t → (case : LockCase) → MayDo w t l case (w.calls t).purpose
       → (rights_of (after_case (rules_at w l) case (w.locks l) t) u ≡ rights_in w u l) ⊎ Held u l
@@ -187,13 +210,16 @@ module _ (w v : LocksState) (t : ℕ) (o : Outcome) (all : AreLockStates w) (wai
   ]
     where
       own : (rights_of (after_case (rules_at w l) case (w.locks l) t) t ≡ rights_in w t l) ⊎ Changes t l
-      own = elim (own_rights l case (w.calls t).purpose may) [ inl same ↦ inl same | inr mine ↦ inr (inl (refl, mine)) ]
+      own =
+          elim (own_rights l case (w.calls t).purpose may) [ inl same ↦ inl same | inr mine ↦ inr (inl (refl, mine)) ]
 
-  event_rights : (e : Event) → MayHappen w t e → (u l : ℕ) → (rights_of (locks_after w t e l) u ≡ rights_in w u l) ⊎ Changes u l
+  event_rights : (e : Event) → MayHappen w t e → (u l : ℕ)
+      → (rights_of (locks_after w t e l) u ≡ rights_in w u l) ⊎ Changes u l
   event_rights Nothing may u l = inl refl
   event_rights (Moves c m every owned n) may u l = inl (at_mutex (l == m) refl)
     where
-      at_condvar : (b : Bool) → (l == c) ≡ b → rights_of (if b then left_behind every (w.locks c) else w.locks l) u ≡ rights_in w u l
+      at_condvar : (b : Bool) → (l == c) ≡ b
+          → rights_of (if b then left_behind every (w.locks c) else w.locks l) u ≡ rights_in w u l
       at_condvar false e = refl
       at_condvar true e = ap (λ k. rights_of (w.locks k) u) (sym (eqb-true l c e))
 
@@ -206,7 +232,8 @@ module _ (w v : LocksState) (t : ℕ) (o : Outcome) (all : AreLockStates w) (wai
       either : (b : Bool) → (l == k) ≡ b
           → (rights_of (if b then after_case (rules_at w k) case (w.locks k) t else w.locks l) u ≡ rights_in w u l) ⊎ Changes u l
       either false e = inl refl
-      either true e = subst (λ j. (rights_of (after_case (rules_at w k) case (w.locks k) t) u ≡ rights_in w u j) ⊎ Changes u j) (sym (eqb-true l k e)) (case_rights u k case may)
+      either true e =
+          subst (λ j. (rights_of (after_case (rules_at w k) case (w.locks k) t) u ≡ rights_in w u j) ⊎ Changes u j) (sym (eqb-true l k e)) (case_rights u k case may)
 
   goes_rights : GoesOn w t o v → (u l : ℕ) → (rights_in v u l ≡ rights_in w u l) ⊎ Changes u l
   goes_rights g u l = elim (event_rights g.event g.may u l) [
@@ -222,6 +249,7 @@ module _ (w v : LocksState) (t : ℕ) (o : Outcome) (all : AreLockStates w) (wai
   does_rights turn.TheVariants.Ok d u l = goes_rights d.goes u l
   does_rights turn.TheVariants.Err d u l = goes_rights d.goes u l
 
-  pub rights_change : (x : Turn) → Turned w t x o v → (u l : ℕ) → (rights_in v u l ≡ rights_in w u l) ⊎ Changes u l
+  pub rights_change : (x : Turn) → Turned w t x o v → (u l : ℕ)
+      → (rights_in v u l ≡ rights_in w u l) ⊎ Changes u l
   rights_change x (inl d) u l = does_rights x d.1 u l
   rights_change x (inr r) u l = inl (ap (λ (k : LocksState). rights_of (k.locks l) u) r.1.1)

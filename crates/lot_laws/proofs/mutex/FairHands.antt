@@ -51,36 +51,44 @@ mutex_owner at h = absurd cc
 
 module _ (w : State) (l : ℕ) (fair : kind_at w l ≡ kinds.Fair) where
   away : (k : ℕ) (x : locks.Sort) → (rules_in w k).sort ≡ x → x ≢ locks.Mutex → (k == l) ≡ true → ⊥
-  away k x e ne same = ne (sym e ∙ ap (λ j. (rules_in w j).sort) (eqb-true k l same) ∙ fair_sort (kind_at w l) fair)
+  away k x e ne same =
+      ne (sym e ∙ ap (λ j. (rules_in w j).sort) (eqb-true k l same) ∙ fair_sort (kind_at w l) fair)
 
-  only : (b : Bool) (x : Location) (d : Role) → (b ≡ true → ⊥) → (if b then x else nowhere).carries ≡ Some false
+  only : (b : Bool) (x : Location) (d : Role) → (b ≡ true → ⊥)
+      → (if b then x else nowhere).carries ≡ Some false
       → (if b then d else idle).claims ≡ Some (Has Exclusive)
   only true x d none h = absurd (none refl)
   only false x d none h = absurd cc
 
-  owner : (p : Place) (r : ℕ → Rights) → FitsItsLock w p → ReleasesFairly (call_state p r).purpose l → (location_at p l).carries ≡ Some false
+  owner : (p : Place) (r : ℕ → Rights) → FitsItsLock w p → ReleasesFairly (call_state p r).purpose l
+      → (location_at p l).carries ≡ Some false
       → (role_on p l).claims ≡ Some (Has Exclusive)
   owner Idle r fits fairly h = absurd cc
   owner (Mutex k at) r fits fairly h = by_test (k == l) refl _ _ (mutex_owner at) h
     where
       by_test : (b : Bool) → (k == l) ≡ b → (x : Location) (d : Role)
           → (x.carries ≡ Some false → (d.claims ≡ Some (Has Exclusive)) ⊎ ((k : ℕ) (r : ℕ → Rights) → ReleasesFairly (call_state (Mutex k at) r).purpose k → ⊥))
-          → (if b then x else nowhere).carries ≡ Some false → (if b then d else idle).claims ≡ Some (Has Exclusive)
+          → (if b then x else nowhere).carries ≡ Some false
+          → (if b then d else idle).claims ≡ Some (Has Exclusive)
       by_test false e x d own h = absurd cc
       by_test true e x d own h = elim (own h) [
         | inl own ↦ own
         | inr unfair ↦ absurd (unfair k r (subst (ReleasesFairly (call_state (Mutex k at) r).purpose) (sym (eqb-true k l e)) fairly))
       ]
-  owner (RwLock k a at) r fits fairly h = only (k == l) _ _ (λ e. (let f : false ≡ true = sym (ap has_readers (ap (λ j. (rules_in w j).sort) (eqb-true k l e) ∙ fair_sort (kind_at w l) fair)) ∙ fits.0.0 in cc)) h
+  owner (RwLock k a at) r fits fairly h =
+      only (k == l) _ _ (λ e. (let f : false ≡ true = sym (ap has_readers (ap (λ j. (rules_in w j).sort) (eqb-true k l e) ∙ fair_sort (kind_at w l) fair)) ∙ fits.0.0 in cc)) h
   owner (Once k at) r fits fairly h = only (k == l) _ _ (away k locks.Once fits (λ f. cc)) h
   owner (Semaphore k at) r fits fairly h = only (k == l) _ _ (away k locks.Semaphore fits.0 (λ f. cc)) h
   owner (Condvar k at) r fits fairly h = two (k == l) refl (is_lock l (mutex_beside at)) refl _ _ _ _ h
     where
-      two : (b : Bool) → (k == l) ≡ b → (c : Bool) → is_lock l (mutex_beside at) ≡ c → (x y : Location) (d e : Role)
-          → (if b then x else if c then y else nowhere).carries ≡ Some false → (if b then d else if c then e else idle).claims ≡ Some (Has Exclusive)
+      two : (b : Bool) → (k == l) ≡ b → (c : Bool) → is_lock l (mutex_beside at) ≡ c
+          → (x y : Location) (d e : Role)
+          → (if b then x else if c then y else nowhere).carries ≡ Some false
+          → (if b then d else if c then e else idle).claims ≡ Some (Has Exclusive)
       two true e c f x y d g h = absurd (away k locks.Condvar fits.sort (λ i. cc) e)
       two false e false f x y d g h = absurd cc
-      two false e true f x y d g h = absurd (let i : true ≡ false = sym (fits.mutex l (locked_by l (mutex_beside at) f)) ∙ ap is_plain_mutex fair in cc)
+      two false e true f x y d g h =
+          absurd (let i : true ≡ false = sym (fits.mutex l (locked_by l (mutex_beside at) f)) ∙ ap is_plain_mutex fair in cc)
 
 -- ---------------------------------------------------------------- a world
 
@@ -89,7 +97,8 @@ module _ (w : State) (h : IsWorld w) (l : ℕ) (fair : kind_at w l ≡ kinds.Fai
   state = (h.steady.sites.site l).state
 
   unwritten : (lock_state w l).pending ≡ None
-  unwritten = (state.unpending (λ k. subst (λ x. locks.Knows x Upgradable) (fair_sort (kind_at w l) fair) k)).0
+  unwritten =
+      (state.unpending (λ k. subst (λ x. locks.Knows x Upgradable) (fair_sort (kind_at w l) fair) k)).0
 
   in_hand : (t : ℕ) (x : Taken) → (lock_state w l).taken t ≡ Some x → (lock_state w l).exclusive ≢ None
   in_hand t x e =
@@ -102,7 +111,8 @@ module _ (w : State) (h : IsWorld w) (l : ℕ) (fair : kind_at w l ≡ kinds.Fai
   not_aside t None e = refl
   not_aside t (Some u) e = absurd (subst (λ o. IsSomePending o u) unwritten (state.aside_pending u e))
 
-  by_hand : (t : ℕ) (o : Option Taken) → (lock_state w l).taken t ≡ o → 1 ≤ one_if_some o → (lock_state w l).exclusive ≢ None
+  by_hand : (t : ℕ) (o : Option Taken) → (lock_state w l).taken t ≡ o → 1 ≤ one_if_some o
+      → (lock_state w l).exclusive ≢ None
   by_hand t None e some = absurd (let f : 1 ≤ 0 = some in omega arith)
   by_hand t (Some x) e some = in_hand t x e
 
