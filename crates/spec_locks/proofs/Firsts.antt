@@ -1,4 +1,4 @@
--- A thread that comes into a hand of a mutex or a semaphore was the first of the queue, or of those to be notified.
+-- A thread that comes into a hand of a mutex or a semaphore was the first of the queue, or of those to notify.
 use Rattle.std.proofs.Common.{ℕ, Bool, true, false, Option, Some, None, if◌then◌else◌, ◌==◌, ◌≡◌, ◌≢◌, ◌⊎◌, inl, inr, List, [], ◌∷◌, refl, sym, ◌∙◌, ap, subst, arith}
 use Rattle.std.proofs.lemmas.Bool.{cases_eq, eqb-true}
 use Rattle.std.proofs.lemmas.Bool.Decides.{nat_tests}
@@ -89,7 +89,8 @@ module _ (r : Rules) (s : LockState) (t u : ℕ) (state : IsLockState r s) (one 
   comes : (case : LockCase) → Needs r case s t → (after_case r case s t).taken u ≢ None → Was
   comes (TakeFirst x) needs some = taken_first x needs some
   comes (TakeAside y) needs some =
-      absurd (subst (λ o. locks.IsSomePending o y) (state.unpending (not_picked r.sort one)).0 (state.aside_pending y needs.0))
+      absurd (subst (λ o. locks.IsSomePending o y) (state.unpending (not_picked r.sort one)).0
+      (state.aside_pending y needs.0))
   comes (TakePicked start) needs some = absurd (not_picked r.sort one needs.1)
   comes Wake needs some = inl (kept_some t (s.taken u) some)
   comes (HandOff x y) needs some =
@@ -106,7 +107,8 @@ module _ (r : Rules) (s : LockState) (t u : ℕ) (state : IsLockState r s) (one 
   comes Aside needs some = inl some
   comes Late needs some = inl some
   comes Rollback needs some =
-      same (falling_back t s.pending (record s { pending = None })) (fallen t s.pending (record s { pending = None })) some
+      same (falling_back t s.pending (record s { pending = None }))
+      (fallen t s.pending (record s { pending = None })) some
   comes (SeeOwner b) needs some = inl some
 
 -- ---------------------------------------------------------------- a step
@@ -115,7 +117,8 @@ module _ (w v : LocksState) (t : ℕ) (o : Outcome) (all : AreLockStates w) (u :
   -- it was in a hand, or the first in the queue of the lock or of a condition variable
   abbrev First : ℕ → Type 0
   First l = ((w.locks l).taken u ≢ None) ⊎ ((first_thread (w.locks l).queue ≡ Some u)
-      ⊎ ((c : ℕ) × (timed : Bool) × ((w.calls u).purpose ≡ Some (Waits c l timed)) × (first_thread (w.locks c).queue ≡ Some u)))
+      ⊎ ((c : ℕ) × (timed : Bool) × ((w.calls u).purpose ≡ Some (Waits c l timed)) ×
+      (first_thread (w.locks c).queue ≡ Some u)))
 
   brought : (c m n : ℕ) (every owned : Bool) → MayHappen w t (Moves c m every owned n) → (q : List Queued)
       → (w.locks c).queue ≡ q
@@ -151,7 +154,8 @@ module _ (w v : LocksState) (t : ℕ) (o : Outcome) (all : AreLockStates w) (u :
       at_condvar true e some = inl (subst (λ k. (w.locks k).taken u ≢ None) (sym (eqb-true l c e)) some)
 
       at_mutex : (b : Bool) → (l == m) ≡ b
-          → (if b then joined_by owned t (moved_of every (w.locks c).queue) (w.locks m) else putting w.locks c (left_behind every (w.locks c)) l).taken u ≢ None → First l
+          → (if b then joined_by owned t (moved_of every (w.locks c).queue) (w.locks m) else putting w.locks
+          c (left_behind every (w.locks c)) l).taken u ≢ None → First l
       at_mutex false e some = at_condvar (l == c) refl some
       at_mutex true e some =
           subst First (sym (eqb-true l m e)) (brought c m n every owned may (w.locks c).queue refl some)
@@ -161,7 +165,9 @@ module _ (w v : LocksState) (t : ℕ) (o : Outcome) (all : AreLockStates w) (u :
           → (if b then after_case (rules_at w k) case (w.locks k) t else w.locks l).taken u ≢ None → First l
       either false e some = inl some
       either true e some = subst First (sym (eqb-true l k e))
-          (elim (comes (rules_at w k) (w.locks k) t u (all k) (subst (λ j. TakesOneAtATime (rules_at w j).sort) (eqb-true l k e) one) case (needs_of w t k case (w.calls t).purpose may) some) [
+          (elim (comes (rules_at w k) (w.locks k) t u (all k)
+          (subst (λ j. TakesOneAtATime (rules_at w j).sort) (eqb-true l k e) one) case
+          (needs_of w t k case (w.calls t).purpose may) some) [
             | inl was ↦ inl was
             | inr first ↦ inr (inl first)
           ])

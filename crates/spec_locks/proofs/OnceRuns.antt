@@ -51,7 +51,8 @@ module _ (w : LocksState) (t : ℕ) where
       → MayDo w t l (OfOnce e) o → (forced : Bool) × (o ≡ Some (CallsOnce l forced))
   runs_for l e rests_not None may = absurd may
   runs_for l e rests_not (Some q) may =
-      let call = runs_call q (w.calls t).gave_up (w.calls t).released (w.calls t).recalls l e rests_not may.0 in (call.0, ap Some call.1)
+      let call = runs_call q (w.calls t).gave_up (w.calls t).released (w.calls t).recalls l e rests_not
+      may.0 in (call.0, ap Some call.1)
 
 -- ---------------------------------------------------------------- a run begins
 
@@ -63,7 +64,8 @@ module _ (w : LocksState) (t : ℕ) (state : OnceState) where
 
   start_told : (l : ℕ) (forced : Bool) (p : Phase) → (w.locks l).phase ≡ p → MayStart p forced
       → state ≡ Rattle.spec_locks.specs.Runs.state_told p
-      → (((w.locks l).phase ≡ New) × (state ≡ once_state.New)) ⊎ (((w.locks l).phase ≡ Poisoned) × (forced ≡ true) × (state ≡ once_state.Poisoned))
+      → (((w.locks l).phase ≡ New) × (state ≡ once_state.New)) ⊎
+      (((w.locks l).phase ≡ Poisoned) × (forced ≡ true) × (state ≡ once_state.Poisoned))
   start_told l forced New e may told = inl (e, told)
   start_told l true Poisoned e may told = inr (e, refl, told)
   start_told l false Poisoned e may told = absurd may
@@ -71,9 +73,16 @@ module _ (w : LocksState) (t : ℕ) (state : OnceState) where
   start_told l forced Done e may told = absurd may
 
   start_at : (l : ℕ) (b : Bool) → MayHappen w t (AtLock l (OfOnce (Start b)))
-      → outcome.TheVariants.Closure state ≡ outcome.TheVariants.Closure (Rattle.spec_locks.specs.Runs.state_told (w.locks l).phase) → Starts
-  start_at l b may h = let call = starts_for (w.calls t).purpose refl may in
-      (l, b, call, start_told l b (w.locks l).phase refl (needs_of w t l (OfOnce (Start b)) (w.calls t).purpose may).1 (let e : state ≡ Rattle.spec_locks.specs.Runs.state_told (w.locks l).phase = cc in e))
+      → outcome.TheVariants.Closure state ≡ outcome.TheVariants.Closure
+      (Rattle.spec_locks.specs.Runs.state_told (w.locks l).phase) → Starts
+  start_at l b may h = let call = starts_for (w.calls t).purpose refl may in (
+    l,
+    b,
+    call,
+    start_told l b (w.locks l).phase refl
+        (needs_of w t l (OfOnce (Start b)) (w.calls t).purpose may).1
+        (let e : state ≡ Rattle.spec_locks.specs.Runs.state_told (w.locks l).phase = cc in e),
+  )
     where
       starts_for : (o : Option Purpose) → (w.calls t).purpose ≡ o → MayDo w t l (OfOnce (Start b)) o
           → (w.calls t).purpose ≡ Some (CallsOnce l b)
@@ -81,14 +90,16 @@ module _ (w : LocksState) (t : ℕ) (state : OnceState) where
       starts_for (Some (CallsOnce k forced)) e may =
           e ∙ ap (λ n. Some (CallsOnce n forced)) (sym may.0.0) ∙ ap (λ f. Some (CallsOnce l f)) (sym may.0.1)
       starts_for (Some q) e may =
-          let call = runs_call q (w.calls t).gave_up (w.calls t).released (w.calls t).recalls l (Start b) (λ x c. λ f. cc) may.0 in
+          let call = runs_call q (w.calls t).gave_up (w.calls t).released (w.calls t).recalls l (Start b)
+          (λ x c. λ f. cc) may.0 in
           absurd (let f : q ≡ CallsOnce l call.0 = call.1 in cc)
 
   by_event : (e : Event) → MayHappen w t e → Begins w e (outcome.TheVariants.Closure state) → Starts
   by_event (AtLock l (OfOnce (Start b))) may h = start_at l b may h
   by_event e may h = absurd h
 
-module _ (w v : LocksState) (t : ℕ) (o : Outcome) (state : OnceState) (told : o ≡ outcome.TheVariants.Closure state) where
+module _ (w v : LocksState) (t : ℕ) (o : Outcome) (state : OnceState)
+    (told : o ≡ outcome.TheVariants.Closure state) where
   goes_starts : GoesOn w t o v → Starts w t state
   goes_starts g = by_event w t state g.event g.may (subst (Begins w g.event) told g.begins)
 
@@ -110,7 +121,8 @@ module _ (w v : LocksState) (t : ℕ) (o : Outcome) (state : OnceState) (told : 
 
 -- ---------------------------------------------------------------- a run ends
 
-module _ (w v : LocksState) (t : ℕ) (o : Outcome) (full : ℕ → Bool) (safe : IsSafe w full) (l : ℕ) (runs : (w.locks l).phase ≡ InProgress t) where
+module _ (w v : LocksState) (t : ℕ) (o : Outcome) (full : ℕ → Bool) (safe : IsSafe w full) (l : ℕ)
+    (runs : (w.locks l).phase ≡ InProgress t) where
   -- its lock is that of the event
   same_lock : (k : ℕ) (e : OnceCase) → ((x : Want) (b : Bool) → e ≢ Rest x b)
       → MayHappen w t (AtLock k (OfOnce e)) → k ≡ l
@@ -128,7 +140,8 @@ module _ (w v : LocksState) (t : ℕ) (o : Outcome) (full : ℕ → Bool) (safe 
       let same = same_lock k e rests_not may in
       let there : g.event ≡ AtLock l (OfOnce e) = ends ∙ ap (λ j. AtLock j (OfOnce e)) same in
       ap (λ (s : LockState). s.phase) (g.locks l ∙ ap (λ x. locks_after w t x l) there)
-      ∙ ap (λ (b : Bool). (if b then after_case (rules_at w l) (OfOnce e) (w.locks l) t else w.locks l).phase) (same_number l)
+      ∙ ap (λ (b : Bool). (if b then after_case (rules_at w l) (OfOnce e) (w.locks l) t else w.locks
+      l).phase) (same_number l)
       ∙ leaves (w.locks l)
 
   done_then : (x : Turn) → x ≡ turn.TheVariants.Ok → Does w t x o v → (v.locks l).phase ≡ Done
@@ -141,7 +154,8 @@ module _ (w v : LocksState) (t : ℕ) (o : Outcome) (full : ℕ → Bool) (safe 
   poisoned_then x e d = absurd cc
 
   pub closes : (x : Turn) → Turned w t x o v → o ≢ outcome.TheVariants.NotNow
-      → (x ≡ turn.TheVariants.Ok → (v.locks l).phase ≡ Done) × (x ≡ turn.TheVariants.Err → (v.locks l).phase ≡ Poisoned)
+      → (x ≡ turn.TheVariants.Ok → (v.locks l).phase ≡ Done) ×
+      (x ≡ turn.TheVariants.Err → (v.locks l).phase ≡ Poisoned)
   closes x (inl d) told = ((λ e. done_then x e d.1), (λ e. poisoned_then x e d.1))
   closes x (inr r) told = absurd (told r.1.0)
 
@@ -158,7 +172,8 @@ module _ (w v : LocksState) (t : ℕ) (o : Outcome) (l : ℕ) (done : (w.locks l
       at_condvar true e = ap (λ k. (w.locks k).phase) (sym (eqb-true l c e)) ∙ done
 
       at_mutex : (b : Bool) → (l == m) ≡ b
-          → (if b then joined_by owned t (moved_of every (w.locks c).queue) (w.locks m) else putting w.locks c (left_behind every (w.locks c)) l).phase ≡ Done
+          → (if b then joined_by owned t (moved_of every (w.locks c).queue) (w.locks m) else putting w.locks
+          c (left_behind every (w.locks c)) l).phase ≡ Done
       at_mutex false e = at_condvar (l == c) refl
       at_mutex true e = ap (λ k. (w.locks k).phase) (sym (eqb-true l m e)) ∙ done
   done_by (AtLock k case) may = either (l == k) refl
@@ -167,7 +182,8 @@ module _ (w v : LocksState) (t : ℕ) (o : Outcome) (l : ℕ) (done : (w.locks l
           → (if b then after_case (rules_at w k) case (w.locks k) t else w.locks l).phase ≡ Done
       either false e = done
       either true e =
-          done_stays (rules_at w k) case (w.locks k) t (needs_of w t k case (w.calls t).purpose may) (ap (λ j. (w.locks j).phase) (sym (eqb-true l k e)) ∙ done)
+          done_stays (rules_at w k) case (w.locks k) t (needs_of w t k case (w.calls t).purpose may)
+          (ap (λ j. (w.locks j).phase) (sym (eqb-true l k e)) ∙ done)
 
   goes_done : GoesOn w t o v → (v.locks l).phase ≡ Done
   goes_done g = ap (λ (s : LockState). s.phase) (g.locks l) ∙ done_by g.event g.may

@@ -93,13 +93,15 @@ module _ (w v : LocksState) where
   woken_so t (AtLock l Wake) u c h = either (is_taken_by t ((w.locks l).taken u))
     where
       either : (b : Bool)
-          → Notes w v u (if b then record c { retries = Some l; recalls = behind_wake c.recalls } else c).recalls
+          → Notes w v u (if b then record c { retries = Some l; recalls = behind_wake c.recalls } else
+          c).recalls
       either true = behind u c.recalls h
       either false = h
   woken_so t (AtLock l (HandOff x y)) u c h = either (is_taken_by t ((w.locks l).taken u))
     where
       either : (b : Bool)
-          → Notes w v u (if b then record c { retries = None; recalls = behind_wake c.recalls } else c).recalls
+          → Notes w v u (if b then record c { retries = None; recalls = behind_wake c.recalls } else
+          c).recalls
       either true = behind u c.recalls h
       either false = h
   woken_so t (Moves l m every owned n) u c h = either (is_among u (moved_of every (w.locks l).queue))
@@ -114,7 +116,8 @@ module _ (w v : LocksState) where
   woken_failed t (AtLock l Wake) u c = either (is_taken_by t ((w.locks l).taken u))
     where
       either : (b : Bool)
-          → (if b then record c { retries = Some l; recalls = behind_wake c.recalls } else c).failed ≡ c.failed
+          → (if b then record c { retries = Some l; recalls = behind_wake c.recalls } else c).failed ≡
+          c.failed
       either true = refl
       either false = refl
   woken_failed t (AtLock l (HandOff x y)) u c = either (is_taken_by t ((w.locks l).taken u))
@@ -164,13 +167,24 @@ module _ (w v : LocksState) where
     moves c m n every owned may e = record {
       saw = λ k f. absurd cc;
       moved =
-          λ k number f. inr (let same : n ≡ number = cc in (c, every, may.notifies, subst (λ x. x ≡ (if every then length (w.locks c).queue else 1)) same (number_of every (w.locks c).queue n may.some may.number), queue_left));
+          λ k number f. inr (let same : n ≡ number =
+          cc in (
+            c,
+            every,
+            may.notifies,
+            subst (λ x. x ≡ (if every then length (w.locks c).queue else 1))
+                same (number_of every (w.locks c).queue n may.some may.number),
+            queue_left,
+          ));
     }
       where
         queue_left : (v.locks c).queue ≡ (if every then [] else drop 1 (w.locks c).queue)
         queue_left =
-            ap (λ (s : LockState). s.queue) (g.locks c ∙ ap (λ x. Rattle.spec_locks.specs.Runs.locks_after w t x c) e
-            ∙ ap (λ (b : Bool). if b then joined_by owned t (moved_of every (w.locks c).queue) (w.locks m) else putting w.locks c (left_behind every (w.locks c)) c) (differs c m (apart c m n every owned may))
+            ap (λ (s : LockState). s.queue)
+            (g.locks c ∙ ap (λ x. Rattle.spec_locks.specs.Runs.locks_after w t x c) e
+            ∙ ap (λ (b : Bool). if b then joined_by owned t (moved_of every (w.locks c).queue)
+            (w.locks m) else putting w.locks c (left_behind every (w.locks c)) c)
+            (differs c m (apart c m n every owned may))
             ∙ ap (λ (b : Bool). if b then left_behind every (w.locks c) else w.locks c) (same_number c))
 
     by_event : (e : Event) → g.event ≡ e → MayHappen w t e → Notes w v t (going_on e (w.calls t)).recalls
@@ -209,8 +223,10 @@ module _ (w v : LocksState) where
     by_failure (AtLock l (OfOnce Fail)) h may = λ f. inr (
       l,
       (needs_of w t l (OfOnce Fail) (w.calls t).purpose may).1,
-      ap (λ (s : LockState). s.phase) (g.locks l ∙ ap (λ x. Rattle.spec_locks.specs.Runs.locks_after w t x l) h)
-          ∙ ap (λ (b : Bool). (if b then Rattle.spec_locks.specs.Locks.after_case (rules_at w l) (OfOnce Fail) (w.locks l) t else w.locks l).phase) (same_number l),
+      ap (λ (s : LockState). s.phase)
+          (g.locks l ∙ ap (λ x. Rattle.spec_locks.specs.Runs.locks_after w t x l) h)
+          ∙ ap (λ (b : Bool). (if b then Rattle.spec_locks.specs.Locks.after_case (rules_at w l)
+          (OfOnce Fail) (w.locks l) t else w.locks l).phase) (same_number l),
     )
     by_failure (AtLock l Late) h may = λ f. inl (sym (late_failed l (w.calls t).recalls (w.calls t)) ∙ f)
     by_failure (AtLock l (OfCondvar (Look (Some m)))) h may = λ f. inl f
@@ -242,28 +258,34 @@ module _ (w v : LocksState) where
 
     own_goes : RecallsTruly w v t (unless_ended o (woken w t g.event t (going_on g.event (w.calls t))))
     own_goes = truly w v t _ (ended_so o _ (woken_so t g.event t _ own_notes))
-        (ended_fails o _ (subst (Fails w v t) (sym (woken_failed t g.event t (going_on g.event (w.calls t)))) own_fails))
+        (ended_fails o _ (subst (Fails w v t) (sym (woken_failed t g.event t (going_on g.event (w.calls t))))
+        own_fails))
 
     other_goes : (u : ℕ) → RecallsTruly w v u (woken w t g.event u (w.calls u))
     other_goes u =
-        truly w v u _ (woken_so t g.event u (w.calls u) (stays_so u _ refl)) (λ e. inl (sym (woken_failed t g.event u (w.calls u)) ∙ e))
+        truly w v u _ (woken_so t g.event u (w.calls u) (stays_so u _ refl))
+        (λ e. inl (sym (woken_failed t g.event u (w.calls u)) ∙ e))
 
     goes : (u : ℕ) → RecallsTruly w v u (v.calls u)
     goes u = elim (cases_eq u t) [
-      | inl e ↦ subst (λ k. RecallsTruly w v k (v.calls k)) (sym e) (subst (RecallsTruly w v t) (sym (own_then w v t o g)) own_goes)
+      | inl e ↦ subst (λ k. RecallsTruly w v k (v.calls k)) (sym e)
+          (subst (RecallsTruly w v t) (sym (own_then w v t o g)) own_goes)
       | inr ne ↦ subst (RecallsTruly w v u) (sym (other_then w v t o g u ne)) (other_goes u)
     ]
 
   same_call : (u : ℕ) (c : CallState) → c ≡ w.calls u → RecallsTruly w v u c
   same_call u c e =
-      truly w v u c (stays_so u _ (ap (λ (d : CallState). d.recalls) e)) (λ f. inl (sym (ap (λ (d : CallState). d.failed) e) ∙ f))
+      truly w v u c (stays_so u _ (ap (λ (d : CallState). d.recalls) e))
+      (λ f. inl (sym (ap (λ (d : CallState). d.failed) e) ∙ f))
 
   module _ (t : ℕ) (o : Outcome) where
     stays : (c : CallState) → RecallsTruly w v t c → Stays w t c o v → (u : ℕ)
         → RecallsTruly w v u (v.calls u)
     stays c h s u = elim (cases_eq u t) [
-      | inl e ↦ subst (λ k. RecallsTruly w v k (v.calls k)) (sym e) (subst (RecallsTruly w v t) (sym (stay_own w v t o c s)) h)
-      | inr ne ↦ same_call u (v.calls u) (s.calls u ∙ ap (λ (b : Bool). if b then c else w.calls u) (differs u t ne))
+      | inl e ↦ subst (λ k. RecallsTruly w v k (v.calls k)) (sym e)
+          (subst (RecallsTruly w v t) (sym (stay_own w v t o c s)) h)
+      | inr ne ↦ same_call u (v.calls u)
+          (s.calls u ∙ ap (λ (b : Bool). if b then c else w.calls u) (differs u t ne))
     ]
 
     does : (x : Turn) → Does w t x o v → (u : ℕ) → RecallsTruly w v u (v.calls u)

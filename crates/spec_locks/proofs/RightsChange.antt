@@ -24,18 +24,22 @@ sharing_else : (t : ℕ) (taken : ℕ → Option Taken) (i u : ℕ) (ns : List �
     → locks.shares_handed t (taken (i + u)) ≡ 0 → slice_index (sharing_from t taken i ns) u ≡ slice_index ns u
 sharing_else t taken i u [] e = grind arith
 sharing_else t taken i zero (n ∷ ns) e =
-    let f : locks.shares_handed t (taken i) ≡ 0 = subst (λ k. locks.shares_handed t (taken k) ≡ 0) (omega arith) e in let g : slice_index (sharing_from t taken i (n ∷ ns)) 0 ≡ n + locks.shares_handed t (taken i) = refl in omega arith
+    let f : locks.shares_handed t (taken i) ≡ 0 = subst (λ k. locks.shares_handed t (taken k) ≡ 0)
+    (omega arith) e in let g : slice_index (sharing_from t taken i (n ∷ ns)) 0 ≡ n + locks.shares_handed
+    t (taken i) = refl in omega arith
 sharing_else t taken i (suc u) (n ∷ ns) e =
     sharing_else t taken (i + 1) u ns (subst (λ k. locks.shares_handed t (taken k) ≡ 0) (omega arith) e)
 
-module _ (r : Rules) (s : LockState) (t u : ℕ) (state : IsLockState r s) (other : u ≢ t) (free : is_taken_by t (s.taken u) ≡ false) where
+module _ (r : Rules) (s : LockState) (t u : ℕ) (state : IsLockState r s) (other : u ≢ t)
+    (free : is_taken_by t (s.taken u) ≡ false) where
   unhanded : (o : Option Taken) → is_taken_by t o ≡ false → locks.shares_handed t o ≡ 0
   unhanded None e = refl
   unhanded (Some h) e = ap (λ (b : Bool). if b && locks.wants_shared h.want then 1 else 0) e
 
   shared_else : slice_index (sharing_from t s.taken 0 s.shared) u ≡ slice_index s.shared u
   shared_else =
-      sharing_else t s.taken 0 u s.shared (subst (λ k. locks.shares_handed t (s.taken k) ≡ 0) (omega arith) (unhanded (s.taken u) free))
+      sharing_else t s.taken 0 u s.shared
+      (subst (λ k. locks.shares_handed t (s.taken k) ≡ 0) (omega arith) (unhanded (s.taken u) free))
 
   -- a hand-over leaves it what it has
   hands_else : (x : Want) (y : Option Queued) → Needs r (HandOff x y) s t
@@ -49,18 +53,23 @@ module _ (r : Rules) (s : LockState) (t u : ℕ) (state : IsLockState r s) (othe
 
       apart : y.thread ≢ u
       apart e =
-          let h : s.taken y.thread ≡ Some (record { by = t; want = y.want }) = ((n.2 y.thread y.want).0 refl).0 in let f : false ≡ true = sym free ∙ ap (is_taken_by t) (ap s.taken (sym e) ∙ h) ∙ same_number t in cc
+          let h : s.taken y.thread ≡ Some (record { by = t; want = y.want }) =
+          ((n.2 y.thread y.want).0 refl).0 in let f : false ≡ true = sym free
+          ∙ ap (is_taken_by t) (ap s.taken (sym e) ∙ h) ∙ same_number t in cc
 
       by_readers : (b : Bool)
-          → rights_of (if b then locks.with_owner y.thread Exclusive left else locks.pending_for y.thread false left) u ≡ rights_of s u
+          → rights_of (if b then locks.with_owner y.thread Exclusive left else locks.pending_for y.thread
+          false left) u ≡ rights_of s u
       by_readers true = rights_are _ _ _ _ _ _ _ _ (grind (arith, nat_tests, apart)) refl refl shared_else
       by_readers false =
-          rights_are _ _ _ _ _ _ _ _ (grind (arith, nat_tests)) (grind (arith, nat_tests, apart, state.exclusive_alone)) refl shared_else
+          rights_are _ _ _ _ _ _ _ _ (grind (arith, nat_tests))
+          (grind (arith, nat_tests, apart, state.exclusive_alone)) refl shared_else
 
       by_want : (z : Want) → z ≢ Shared → rights_of (locks.succeeding z y.thread left) u ≡ rights_of s u
       by_want Exclusive more = by_readers (locks.readers left == 0)
       by_want Upgradable more =
-          rights_are _ _ _ _ _ _ _ _ (grind (arith, nat_tests)) refl (grind (arith, nat_tests, apart, state.exclusive_alone)) shared_else
+          rights_are _ _ _ _ _ _ _ _ (grind (arith, nat_tests)) refl
+          (grind (arith, nat_tests, apart, state.exclusive_alone)) shared_else
       by_want Shared more = absurd (more refl)
       by_want z more = rights_are _ _ _ _ _ _ _ _ (grind (arith, nat_tests)) refl refl shared_else
   hands_else Upgradable (Some y) n = by_want y.want (((n.2 y.thread y.want).0 refl).1)
@@ -70,14 +79,19 @@ module _ (r : Rules) (s : LockState) (t u : ℕ) (state : IsLockState r s) (othe
 
       apart : y.thread ≢ u
       apart e =
-          let h : s.taken y.thread ≡ Some (record { by = t; want = y.want }) = ((n.2 y.thread y.want).0 refl).0 in let f : false ≡ true = sym free ∙ ap (is_taken_by t) (ap s.taken (sym e) ∙ h) ∙ same_number t in cc
+          let h : s.taken y.thread ≡ Some (record { by = t; want = y.want }) =
+          ((n.2 y.thread y.want).0 refl).0 in let f : false ≡ true = sym free
+          ∙ ap (is_taken_by t) (ap s.taken (sym e) ∙ h) ∙ same_number t in cc
 
       by_readers : (b : Bool)
-          → rights_of (if b then locks.with_owner y.thread Exclusive left else locks.pending_for y.thread false left) u ≡ rights_of s u
+          → rights_of (if b then locks.with_owner y.thread Exclusive left else locks.pending_for y.thread
+          false left) u ≡ rights_of s u
       by_readers true =
-          rights_are _ _ _ _ _ _ _ _ (grind (arith, nat_tests, apart, state.exclusive_alone)) refl (grind (arith, nat_tests)) shared_else
+          rights_are _ _ _ _ _ _ _ _ (grind (arith, nat_tests, apart, state.exclusive_alone)) refl
+          (grind (arith, nat_tests)) shared_else
       by_readers false =
-          rights_are _ _ _ _ _ _ _ _ refl (grind (arith, nat_tests, apart, state.pending_alone)) (grind (arith, nat_tests)) shared_else
+          rights_are _ _ _ _ _ _ _ _ refl (grind (arith, nat_tests, apart, state.pending_alone))
+          (grind (arith, nat_tests)) shared_else
 
       by_want : (z : Want) → z ≢ Shared → rights_of (locks.succeeding z y.thread left) u ≡ rights_of s u
       by_want Exclusive more = by_readers (locks.readers left == 0)
@@ -144,7 +158,8 @@ module _ (r : Rules) (s : LockState) (t : ℕ) where
   notify_beside Wake recalls m made = refl
   notify_beside case recalls m made = absurd made
 
-  own_case : (q : Purpose) (gave_up : Option ℕ) (released : Bool) (recalls : Recall) (l : ℕ) (case : LockCase) → IsMadeOf q gave_up released recalls l case
+  own_case : (q : Purpose) (gave_up : Option ℕ) (released : Bool) (recalls : Recall) (l : ℕ)
+      (case : LockCase) → IsMadeOf q gave_up released recalls l case
       → (rights_of (after_case r case s t) t ≡ rights_of s t) ⊎ MayChange (Some q) l
   own_case (Enters k x how) g b c l case made = inr (sym made.0)
   own_case (Releases k x fair) g b c l case made = inr (sym made.0)
@@ -160,14 +175,16 @@ module _ (r : Rules) (s : LockState) (t : ℕ) where
 -- ---------------------------------------------------------------- hand-overs
 
 is_hand_over : (case : LockCase)
-    → ((x : Want) × (y : Option Queued) × (case ≡ HandOff x y)) ⊎ ((x : Want) (y : Option Queued) → case ≢ HandOff x y)
+    → ((x : Want) × (y : Option Queued) × (case ≡ HandOff x y)) ⊎
+    ((x : Want) (y : Option Queued) → case ≢ HandOff x y)
 is_hand_over (HandOff x y) = inl (x, y, refl)
 is_hand_over case = inr (λ x y. grind arith)
 
 -- ---------------------------------------------------------------- a step
 
 -- a thread that waits is in a call
-module _ (w v : LocksState) (t : ℕ) (o : Outcome) (all : AreLockStates w) (waiting : (u l : ℕ) → 1 ≤ standing u (w.locks l) → MayWait (w.calls u).purpose l) where
+module _ (w v : LocksState) (t : ℕ) (o : Outcome) (all : AreLockStates w)
+    (waiting : (u l : ℕ) → 1 ≤ standing u (w.locks l) → MayWait (w.calls u).purpose l) where
   abbrev Held : ℕ → ℕ → Type 0
   Held u l = (is_taken_by t ((w.locks l).taken u) ≡ true) × MayWait (w.calls u).purpose l
 
@@ -185,7 +202,8 @@ module _ (w v : LocksState) (t : ℕ) (o : Outcome) (all : AreLockStates w) (wai
       → (rights_of (after_case (rules_at w l) case (w.locks l) t) t ≡ rights_in w t l) ⊎ MayChange q l
   own_rights l case None may = absurd may
   own_rights l case (Some q) may =
-      own_case (rules_at w l) (w.locks l) t q (w.calls t).gave_up (w.calls t).released (w.calls t).recalls l case may.0
+      own_case (rules_at w l) (w.locks l) t q (w.calls t).gave_up (w.calls t).released (w.calls t).recalls l
+      case may.0
 
   other_rights : (u l : ℕ) → u ≢ t → (case : LockCase) → MayDo w t l case (w.calls t).purpose
       → (rights_of (after_case (rules_at w l) case (w.locks l) t) u ≡ rights_in w u l) ⊎ Held u l
@@ -205,13 +223,15 @@ module _ (w v : LocksState) (t : ℕ) (o : Outcome) (all : AreLockStates w) (wai
   case_rights : (u l : ℕ) (case : LockCase) → MayDo w t l case (w.calls t).purpose
       → (rights_of (after_case (rules_at w l) case (w.locks l) t) u ≡ rights_in w u l) ⊎ Changes u l
   case_rights u l case may = elim (cases_eq u t) [
-    | inl e ↦ subst (λ k. (rights_of (after_case (rules_at w l) case (w.locks l) t) k ≡ rights_in w k l) ⊎ Changes k l) (sym e) own
+    | inl e ↦ subst (λ k. (rights_of (after_case (rules_at w l) case (w.locks l) t) k ≡ rights_in w k l) ⊎
+        Changes k l) (sym e) own
     | inr ne ↦ elim (other_rights u l ne case may) [ inl same ↦ inl same | inr hands ↦ inr (inr hands) ]
   ]
     where
       own : (rights_of (after_case (rules_at w l) case (w.locks l) t) t ≡ rights_in w t l) ⊎ Changes t l
       own =
-          elim (own_rights l case (w.calls t).purpose may) [ inl same ↦ inl same | inr mine ↦ inr (inl (refl, mine)) ]
+          elim (own_rights l case (w.calls t).purpose may)
+          [ inl same ↦ inl same | inr mine ↦ inr (inl (refl, mine)) ]
 
   event_rights : (e : Event) → MayHappen w t e → (u l : ℕ)
       → (rights_of (locks_after w t e l) u ≡ rights_in w u l) ⊎ Changes u l
@@ -224,16 +244,19 @@ module _ (w v : LocksState) (t : ℕ) (o : Outcome) (all : AreLockStates w) (wai
       at_condvar true e = ap (λ k. rights_of (w.locks k) u) (sym (eqb-true l c e))
 
       at_mutex : (b : Bool) → (l == m) ≡ b
-          → rights_of (if b then joined_by owned t (moved_of every (w.locks c).queue) (w.locks m) else putting w.locks c (left_behind every (w.locks c)) l) u ≡ rights_in w u l
+          → rights_of (if b then joined_by owned t (moved_of every (w.locks c).queue) (w.locks m) else
+          putting w.locks c (left_behind every (w.locks c)) l) u ≡ rights_in w u l
       at_mutex false e = at_condvar (l == c) refl
       at_mutex true e = ap (λ k. rights_of (w.locks k) u) (sym (eqb-true l m e))
   event_rights (AtLock k case) may u l = either (l == k) refl
     where
       either : (b : Bool) → (l == k) ≡ b
-          → (rights_of (if b then after_case (rules_at w k) case (w.locks k) t else w.locks l) u ≡ rights_in w u l) ⊎ Changes u l
+          → (rights_of (if b then after_case (rules_at w k) case (w.locks k) t else w.locks l) u ≡
+          rights_in w u l) ⊎ Changes u l
       either false e = inl refl
       either true e =
-          subst (λ j. (rights_of (after_case (rules_at w k) case (w.locks k) t) u ≡ rights_in w u j) ⊎ Changes u j) (sym (eqb-true l k e)) (case_rights u k case may)
+          subst (λ j. (rights_of (after_case (rules_at w k) case (w.locks k) t) u ≡ rights_in w u j) ⊎
+          Changes u j) (sym (eqb-true l k e)) (case_rights u k case may)
 
   goes_rights : GoesOn w t o v → (u l : ℕ) → (rights_in v u l ≡ rights_in w u l) ⊎ Changes u l
   goes_rights g u l = elim (event_rights g.event g.may u l) [
