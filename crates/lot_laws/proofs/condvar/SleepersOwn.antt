@@ -87,7 +87,7 @@ sleepers_own w steady t l m timed waits asleep gave_up unnotified = elim (single
         → one_more_at m Exclusive (rights w t) k ≡ (call_at w t).former k
     by_two two = subst (Gave (rights w t) m) (sym two.is)
         (by_place (rights w t) two.lock two.at (fits_two w t steady two).reached
-            (sym (ap act_of two.is) ∙ asleep_is (act_of (place_at w t)) asleep) l m timed
+        (sym (ap act_of two.is) ∙ asleep_is (act_of (place_at w t)) asleep) l m timed
         (sym (two_purpose two.lock two.at (rights w t)) ∙ sym
-            (ap (λ p. (call_state p (rights w t)).purpose) two.is) ∙ waits)
+        (ap (λ p. (call_state p (rights w t)).purpose) two.is) ∙ waits)
         (subst (IsOn (rights w t)) two.is (gave_up, unnotified)))

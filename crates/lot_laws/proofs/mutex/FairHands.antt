@@ -42,7 +42,7 @@ locked_by l (Some k) h = ap Some (eqb-true k l h)
 -- it owns the mutex, or is in a plain unlock
 mutex_owner : (at : MutexPlace) → (mutex_profile at).carries ≡ Some false
     → ((mutex_profile at).role.claims ≡ Some (Has Exclusive)) ⊎
-        ((k : ℕ) (r : ℕ → Rights) → ReleasesFairly (call_state (Mutex k at) r).purpose k → ⊥)
+    ((k : ℕ) (r : ℕ → Rights) → ReleasesFairly (call_state (Mutex k at) r).purpose k → ⊥)
 mutex_owner (mutex.HandOff bumps (hand_off.Store any none_left)) h = inl refl
 mutex_owner (mutex.HandOff bumps (hand_off.Leave true)) h = absurd (let e : true ≡ false = cc in cc)
 mutex_owner (mutex.HandOff bumps (hand_off.Leave false)) h = absurd cc
@@ -69,7 +69,7 @@ module _ (w : State) (l : ℕ) (fair : kind_at w l ≡ kinds.Fair) where
     where
       by_test : (b : Bool) → (k == l) ≡ b → (x : Location) (d : Role)
           → (x.carries ≡ Some false → (d.claims ≡ Some (Has Exclusive)) ⊎
-              ((k : ℕ) (r : ℕ → Rights) → ReleasesFairly (call_state (Mutex k at) r).purpose k → ⊥))
+          ((k : ℕ) (r : ℕ → Rights) → ReleasesFairly (call_state (Mutex k at) r).purpose k → ⊥))
           → (if b then x else nowhere).carries ≡ Some false
           → (if b then d else idle).claims ≡ Some (Has Exclusive)
       by_test false e x d own h = absurd cc
@@ -80,8 +80,8 @@ module _ (w : State) (l : ℕ) (fair : kind_at w l ≡ kinds.Fair) where
       ]
   owner (RwLock k a at) r fits fairly h =
       only (k == l) _ _ (λ e. (let f : false ≡ true = sym
-          (ap has_readers (ap (λ j. (rules_in w j).sort) (eqb-true k l e) ∙ fair_sort (kind_at w l) fair))
-              ∙ fits.0.0 in cc)) h
+      (ap has_readers (ap (λ j. (rules_in w j).sort) (eqb-true k l e) ∙ fair_sort (kind_at w l) fair))
+      ∙ fits.0.0 in cc)) h
   owner (Once k at) r fits fairly h = only (k == l) _ _ (away k locks.Once fits (λ f. cc)) h
   owner (Semaphore k at) r fits fairly h = only (k == l) _ _ (away k locks.Semaphore fits.0 (λ f. cc)) h
   owner (Condvar k at) r fits fairly h = two (k == l) refl (is_lock l (mutex_beside at)) refl _ _ _ _ h
@@ -94,7 +94,7 @@ module _ (w : State) (l : ℕ) (fair : kind_at w l ≡ kinds.Fair) where
       two false e false f x y d g h = absurd cc
       two false e true f x y d g h =
           absurd (let i : true ≡ false = sym (fits.mutex l (locked_by l (mutex_beside at) f)) ∙ ap
-              is_plain_mutex fair in cc)
+          is_plain_mutex fair in cc)
 
 -- ---------------------------------------------------------------- a world
 
@@ -110,9 +110,9 @@ module _ (w : State) (h : IsWorld w) (l : ℕ) (fair : kind_at w l ≡ kinds.Fai
   in_hand t x e =
       let carries = h.steady.stands.hands.taken x.by t l false (taken_held (place_at w t) x.by l x.want e) in
       let claims = owner w l fair (place_at w x.by) _ (h.steady.stands.calls x.by)
-          ((h.settled.fair l fair).calls x.by) carries in
+      ((h.settled.fair l fair).calls x.by) carries in
       let own : (lock_state w l).exclusive ≡ Some x.by = (h.steady.sites.site l).held x.by (Has Exclusive)
-          claims in
+      claims in
       λ none. (let f : ◌≡◌ {A = Option ℕ} (Some x.by) None = sym own ∙ none in cc)
 
   not_aside : (t : ℕ) (o : Option ℕ) → (lock_state w l).aside ≡ o → one_if_thread t o ≡ 0
@@ -130,6 +130,6 @@ module _ (w : State) (h : IsWorld w) (l : ℕ) (fair : kind_at w l ≡ kinds.Fai
     | inr ge ↦ by_hand t ((lock_state w l).taken t) refl
         (let none : one_if_thread t (lock_state w l).aside ≡ 0 = not_aside t (lock_state w l).aside refl in
         let sum : 1 ≤ times t (lock_state w l).queue + one_if_thread t (lock_state w l).aside + one_if_some
-            ((lock_state w l).taken t) = some in
+        ((lock_state w l).taken t) = some in
         omega arith)
   ]
