@@ -49,3 +49,4 @@ pub mod NotifyOthers
 pub mod ReleaseStand
 pub mod ActsRefine
 pub mod Begins
+pub mod SleepersOwn

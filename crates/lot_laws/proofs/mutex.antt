@@ -9,3 +9,4 @@ pub mod Steps
 pub mod Owing
 pub mod Promises
 pub mod FairMutexes
+pub mod FairHands

@@ -1,4 +1,5 @@
--- A fair mutex lets nobody be overtaken: a thread that is k-th in its queue owns it after k releases at most.
+-- A fair mutex lets nobody be overtaken: while a thread is k-th in its queue, at most k releases pass it on to
+-- others.
 use Rattle.std.specs.Prelude.{ℕ, ◌+◌, ◌≡◌, ◌≤◌, List, [], ◌∷◌}
 use Rattle.spec_locks.specs.declared.calls.Step.{Step}
 use Rattle.spec_locks.specs.declared.kinds.Kind.TheVariants as kind

@@ -1,6 +1,6 @@
 -- A run of the world: it leads by its steps from one state to another, and of each step all holds
 -- that is promised of steps.
-use Rattle.std.specs.Prelude.{ℕ, Bool, true, false, ◌==◌, ◌≡◌, ◌≢◌, ◌⊎◌, ◌++◌, Some, List, [], ◌∷◌, is_none}
+use Rattle.std.specs.Prelude.{ℕ, Bool, true, false, ◌==◌, ◌≡◌, ◌≢◌, ◌⊎◌, ◌++◌, Some, List, [], ◌∷◌, is_none, take}
 use Rattle.spec_locks.specs.declared.calls.Access.TheVariants.{Exclusive}
 use Rattle.spec_locks.specs.declared.calls.Call as call
 use Rattle.spec_locks.specs.declared.calls.MutexCall.TheVariants as mutex_call
@@ -12,12 +12,12 @@ use Rattle.spec_locks.specs.declared.calls.Step.{Step}
 use Rattle.spec_locks.specs.declared.outcomes.Answer as answer
 use Rattle.spec_locks.specs.declared.outcomes.Outcome.{Outcome}
 use Rattle.spec_locks.specs.declared.outcomes.Outcome as outcome
-use Rattle.spec_locks.specs.Runs.{IsStep}
+use Rattle.spec_locks.specs.Runs.{IsStep, LocksState}
 use Rattle.spec_locks.specs.Headline.{full_by}
 use Rattle.core_base.specs.declared.ops.Op.TheVariants.{Exchange}
 use Rattle.steps_base.specs.declared.acts.Act.TheVariants.{Sleep, Word}
 use Rattle.lot_steps.specs.Steps.{act_of, first_place, taker}
-use Rattle.lot_machine.specs.Machine.{State, place_at, kind_at, word_at, queue_at, filled_at}
+use Rattle.lot_machine.specs.Machine.{State, after_steps, place_at, kind_at, word_at, queue_at, filled_at}
 use Rattle.lot_laws.specs.Refinement.{locks_of, lock_state, ChangesOneThing}
 use Rattle.lot_laws.specs.Fair.{IsFair}
 use Rattle.lot_laws.specs.Owing.{OwesSince}
@@ -90,6 +90,10 @@ IsWorldRun w [] [] v = v ≡ w
 IsWorldRun w (s ∷ ss) (o ∷ os) v = (u : State) × IsWorldStep w s o u × IsWorldRun u ss os v
 IsWorldRun w ss os v = ⊥
 
--- the outcomes told stand behind those that were there, and hold
+-- the abstract state of the world after so many of these steps
+abbrev pub states_of : State → List Step → ℕ → LocksState
+states_of w steps n = locks_of (after_steps w (take n steps))
+
+-- the outcomes told stand after those that were there, and hold
 abbrev pub Tells : List Outcome → List Outcome → (List Outcome → Type 0) → Type 0
 Tells before now holds = (told : List Outcome) × (now ≡ before ++ told) × holds told

@@ -18,7 +18,7 @@ ghost use Rattle.lot_laws.specs.Promises.{IsKept};
 ghost use Rattle.lot_laws.specs.Fair.{IsFair};
 ghost use Rattle.lot_laws.specs.Owing.{OwesSince};
 ghost use Rattle.lot_laws.specs.Overtaking.{NobodyIsOvertaken};
-ghost use Rattle.lot_laws.specs.WorldRuns.{IsWorldRun, Tells, LooksNoMore, SleepersStay, TouchesOnlyByGoing, TriesAtOnce};
+ghost use Rattle.lot_laws.specs.WorldRuns.{IsWorldRun, Tells, states_of, LooksNoMore, SleepersStay, TouchesOnlyByGoing, TriesAtOnce};
 ghost use Rattle.lot_laws.specs.Solo.{IsUnderWay, IsUnobstructed, HasWhatItReads, IsBarred, OnlyTries, Rests, EndsAlone, IsSoloRun};
 ghost use Rattle.lot_machine.specs.Views.{StandUnder, owners_of, queue_of, debts_of};
 ghost use Rattle.lot_world.specs.Drains.{IsDrainable, IsDrain};
@@ -91,16 +91,17 @@ impl<Q: Queues + Drop> World<Q> {
         ensures outcome { result ≡ step_outcome self.old step }
 
         // The first page. In each state owners exclude each other. Where no thread has anything to
-        // do, nobody waits for a lock that is open; while one has, some thread can go on. And no
-        // waiter of a condition variable is left behind.
+        // do, nobody waits for a lock that is open; while one has, some thread can go on. No waiter
+        // of a condition variable is left, and a fair mutex is owned while somebody waits for it.
         ensures stays { StateHolds (locks_of self.new) (filled_at self.new) }
 
-        // An answer is true, a thread that may go on does, and a thread that is in no call owns
-        // what it owned. No other thread wakes or falls asleep by itself, and queues are first in,
-        // first out.
+        // A turn is refused exactly where it isn't possible, and an answer is true. Rights change
+        // by their thread's own call of the lock, or are handed over. No other thread wakes or falls
+        // asleep by itself. In a queue those that stay keep their order, and a thread that joins
+        // stands last.
         ensures holds { StepHolds (locks_of self.old) step result (locks_of self.new) }
 
-        // One step of the headline: nobody is forgotten before it, nor behind it.
+        // One step of the headline: nobody is forgotten before it, nor after it.
         ensures headline { Behaves (filled_at self.old) (locks_of self.old) (step ∷ [])
             (result ∷ []) (locks_of self.new) }
 
@@ -114,9 +115,9 @@ impl<Q: Queues + Drop> World<Q> {
         ensures one_thing { ChangesOneThing self.old step.thread self.new }
         ensures touches { TouchesOnlyByGoing self.old step.turn self.new }
 
-        // A fair release lets its mutex go only where nobody waits, and else the first waiter owns
-        // it in its place; of a lock that is shared all that it has taken have what they waited for
-        // in that one step, or are woken where they would pass the limit.
+        // A fair release lets its mutex go only where its word told of nobody, or nobody waits. Else
+        // the first waiter owns it in its place. Of a lock that is shared all that it has taken have
+        // what they waited for in that one step, or are woken where they would pass the limit.
         ensures fair { IsFair self.old self.new }
 
         // Words are coded, counts keep to the limit, and each thread that waits for a lock whose
@@ -225,20 +226,20 @@ impl<Q: Queues + Drop> World<Q> {
         last
     }
 
-    /// Steps in their order, with their outcomes behind those that are there. Where memory for an
+    /// Steps in their order, with their outcomes after those that are there. Where memory for an
     /// outcome is refused, the world is the one after the steps that were taken.
     pub fn run(&mut self, steps: &[Step], outcomes: &mut Vec<Outcome>) -> Result<(), Stopped>
         ensures same_size { SameSize self.old self.new }
 
-        // The first page, from the opening state on: each state is safe, and each step holds what
-        // it promises of steps.
+        // The first page, from the opening state on: each state that the world is in is safe, and
+        // each step holds what it promises of steps.
         ensures guaranteed { (kinds : List Kind) (threads : ℕ) → self.old ≡ opening kinds threads
             → OnOk result (Tells outcomes.old.items outcomes.new.items
-            (IsGuaranteed kinds threads steps.now)) }
+            (IsGuaranteed kinds threads (states_of self.old steps.now) steps.now)) }
         ensures holds { OnOk result (StateHolds (locks_of self.new) (filled_at self.new)) }
 
-        // A fair mutex lets nobody be overtaken: a thread that is k-th in its queue owns it after k
-        // releases at most.
+        // A fair mutex lets nobody be overtaken: while a thread is k-th in its queue, at most k
+        // releases pass it on to others.
         ensures in_turn { OnOk result (NobodyIsOvertaken self.old steps.now self.new) }
 
         // The headline, from the opening state on: some run of the abstract locks tells these
@@ -280,7 +281,8 @@ impl<Q: Queues + Drop> World<Q> {
         ensures stopped_guaranteed { (kinds : List Kind) (threads : ℕ)
             → self.old ≡ opening kinds threads
             → IfErr result (λ stopped. Tells outcomes.old.items outcomes.new.items
-            (IsGuaranteed kinds threads (take stopped.taken steps.now))) }
+            (IsGuaranteed kinds threads (states_of self.old (take stopped.taken steps.now))
+            (take stopped.taken steps.now))) }
         ensures stopped_behaves { IfErr result
             (λ stopped. Tells outcomes.old.items outcomes.new.items
             (λ told. Behaves (filled_at self.old) (locks_of self.old)
@@ -290,7 +292,7 @@ impl<Q: Queues + Drop> World<Q> {
             (outcomes.new.items ≡ outcomes.old.items ++ step_outcomes self.old steps.now) }
         ensures taken { IfErr result (λ stopped. stopped.taken < length steps.now) }
 
-        // It is refused only behind the room that there was.
+        // It is refused only past the room that there was.
         ensures room { IfErr result
             (λ stopped. vec_capacity outcomes.old ≤ vec_len outcomes.old + stopped.taken) }
         ensures stopped { IfErr result
@@ -320,7 +322,7 @@ impl<Q: Queues + Drop> World<Q> {
         is_drainable(&self.machine)
     }
 
-    /// Steps that drain the world: behind them nobody is in a call or queued, nobody owns the lock,
+    /// Steps that drain the world: after them nobody is in a call or queued, nobody owns the lock,
     /// and its word is 0. The world stays as it is.
     pub fn drain(&self, alloc: Global) -> Result<Vec<Step>, Fault>
         requires { IsDrainable self.now }

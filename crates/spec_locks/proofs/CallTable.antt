@@ -1,5 +1,5 @@
--- The two tables of the first page say of a call what its purpose and its answer say.
-use Rattle.std.proofs.Common.{ℕ, Bool, true, false, Option, Some, None, if◌then◌else◌, ◌==◌, ◌≡◌, inl, inr, refl, sym, ◌∙◌, ap}
+-- The tables of the first page say of a call and a turn what the second page says.
+use Rattle.std.proofs.Common.{ℕ, Bool, true, false, Option, Some, None, if◌then◌else◌, ◌==◌, ◌≡◌, inl, inr, refl, sym, ◌∙◌, ap, subst}
 use Rattle.std.proofs.lemmas.Bool.{eqb-true}
 use Rattle.core_base.specs.declared.wants.Want.{Want}
 use Rattle.core_base.specs.declared.wants.Want.TheVariants as wants
@@ -17,15 +17,18 @@ use Rattle.spec_locks.specs.declared.calls.RwLockCall.{RwLockCall}
 use Rattle.spec_locks.specs.declared.calls.RwLockCall.TheVariants as rwlock
 use Rattle.spec_locks.specs.declared.calls.SemaphoreCall.{SemaphoreCall}
 use Rattle.spec_locks.specs.declared.calls.SemaphoreCall.TheVariants as semaphore
+use Rattle.spec_locks.specs.declared.calls.Turn.{Turn}
+use Rattle.spec_locks.specs.declared.calls.Turn.TheVariants as turn
 use Rattle.spec_locks.specs.declared.kinds.Kind.{Kind}
 use Rattle.spec_locks.specs.declared.kinds.Kind.TheVariants as kind
 use Rattle.spec_locks.specs.declared.outcomes.Answer.{Answer}
 use Rattle.spec_locks.specs.declared.outcomes.Answer.TheVariants.{Ok, Yes, No, Notified, TimedOut, Number, ReadersFull, Failed, Poisoned, TwoMutexes}
-use Rattle.spec_locks.specs.Kinds.{is_fair}
+use Rattle.spec_locks.specs.Calls.{lock_in}
+use Rattle.spec_locks.specs.Kinds.{has_call, is_fair}
 use Rattle.spec_locks.specs.Locks.{Rights, putting}
 use Rattle.spec_locks.specs.Purposes.{Purpose, Enters, Releases, Converts, Bumps, CallsOnce, Awaits, Waits, Notifies, Patience, Patient, Timed, Try, mutex_purpose, purpose_of, rwlock_purpose}
-use Rattle.spec_locks.specs.Runs.{LocksState, CallState, AnswerHolds, EntersAnswer, ConvertsAnswer, Gains, HasRight, Keeps, Loses, purpose_at, rights_in}
-use Rattle.spec_locks.specs.CallTable.{IsTrue, Trades, goal_of}
+use Rattle.spec_locks.specs.Runs.{LocksState, CallState, AnswerHolds, EntersAnswer, ConvertsAnswer, Gains, HasRight, Keeps, Loses, MayBegin, MayTurn, purpose_at, rights_in}
+use Rattle.spec_locks.specs.CallTable.{CanBegin, IsPossible, IsTrue, Trades, goal_of}
 
 -- ---------------------------------------------------------------- goals
 
@@ -61,63 +64,112 @@ module _ (w : LocksState) (t : ℕ) where
 
   -- where the lock has the call
   abbrev Says : Kind → Call → Type 0
-  Says k c = HasRight w t (purpose_of k c) → purpose_of k c ≡ Some (goal_of fair c)
+  Says k c = has_call k c ≡ true → purpose_of k c ≡ Some (goal_of fair c)
 
   of_mutex : (l : ℕ) (c : MutexCall) (k : Kind) → w.kinds l ≡ k → Says k (call.Mutex l c)
   of_mutex l c kind.Mutex e h = mutex_goal false l c (ap is_fair e)
   of_mutex l c kind.Fair e h = mutex_goal true l c (ap is_fair e)
-  of_mutex l c (kind.RwLock limit) e h = absurd h
-  of_mutex l c (kind.Recursive limit) e h = absurd h
-  of_mutex l c kind.Condvar e h = absurd h
-  of_mutex l c kind.Once e h = absurd h
-  of_mutex l c (kind.Semaphore permits) e h = absurd h
+  of_mutex l c (kind.RwLock limit) e h = absurd cc
+  of_mutex l c (kind.Recursive limit) e h = absurd cc
+  of_mutex l c kind.Condvar e h = absurd cc
+  of_mutex l c kind.Once e h = absurd cc
+  of_mutex l c (kind.Semaphore permits) e h = absurd cc
 
   of_rwlock : (l : ℕ) (c : RwLockCall) (k : Kind) → Says k (call.RwLock l c)
   of_rwlock l c (kind.RwLock limit) h = rwlock_goal l c
   of_rwlock l c (kind.Recursive limit) h = rwlock_goal l c
-  of_rwlock l c kind.Mutex h = absurd h
-  of_rwlock l c kind.Fair h = absurd h
-  of_rwlock l c kind.Condvar h = absurd h
-  of_rwlock l c kind.Once h = absurd h
-  of_rwlock l c (kind.Semaphore permits) h = absurd h
+  of_rwlock l c kind.Mutex h = absurd cc
+  of_rwlock l c kind.Fair h = absurd cc
+  of_rwlock l c kind.Condvar h = absurd cc
+  of_rwlock l c kind.Once h = absurd cc
+  of_rwlock l c (kind.Semaphore permits) h = absurd cc
 
   of_once : (l : ℕ) (c : OnceCall) (k : Kind) → Says k (call.Once l c)
   of_once l (once.CallOnce forced) kind.Once h = refl
   of_once l (once.Wait forced) kind.Once h = refl
   of_once l once.WaitTimed kind.Once h = refl
-  of_once l c kind.Mutex h = absurd h
-  of_once l c kind.Fair h = absurd h
-  of_once l c (kind.RwLock limit) h = absurd h
-  of_once l c (kind.Recursive limit) h = absurd h
-  of_once l c kind.Condvar h = absurd h
-  of_once l c (kind.Semaphore permits) h = absurd h
+  of_once l c kind.Mutex h = absurd cc
+  of_once l c kind.Fair h = absurd cc
+  of_once l c (kind.RwLock limit) h = absurd cc
+  of_once l c (kind.Recursive limit) h = absurd cc
+  of_once l c kind.Condvar h = absurd cc
+  of_once l c (kind.Semaphore permits) h = absurd cc
 
   of_condvar : (l : ℕ) (c : CondvarCall) (k : Kind) → Says k (call.Condvar l c)
   of_condvar l (Wait m timed) kind.Condvar h = refl
   of_condvar l (Notify all) kind.Condvar h = refl
-  of_condvar l c kind.Mutex h = absurd h
-  of_condvar l c kind.Fair h = absurd h
-  of_condvar l c (kind.RwLock limit) h = absurd h
-  of_condvar l c (kind.Recursive limit) h = absurd h
-  of_condvar l c kind.Once h = absurd h
-  of_condvar l c (kind.Semaphore permits) h = absurd h
+  of_condvar l c kind.Mutex h = absurd cc
+  of_condvar l c kind.Fair h = absurd cc
+  of_condvar l c (kind.RwLock limit) h = absurd cc
+  of_condvar l c (kind.Recursive limit) h = absurd cc
+  of_condvar l c kind.Once h = absurd cc
+  of_condvar l c (kind.Semaphore permits) h = absurd cc
 
   of_semaphore : (l : ℕ) (c : SemaphoreCall) (k : Kind) → Says k (call.Semaphore l c)
   of_semaphore l (semaphore.Acquire how) (kind.Semaphore permits) h = refl
   of_semaphore l semaphore.Release (kind.Semaphore permits) h = refl
-  of_semaphore l c kind.Mutex h = absurd h
-  of_semaphore l c kind.Fair h = absurd h
-  of_semaphore l c (kind.RwLock limit) h = absurd h
-  of_semaphore l c (kind.Recursive limit) h = absurd h
-  of_semaphore l c kind.Condvar h = absurd h
-  of_semaphore l c kind.Once h = absurd h
+  of_semaphore l c kind.Mutex h = absurd cc
+  of_semaphore l c kind.Fair h = absurd cc
+  of_semaphore l c (kind.RwLock limit) h = absurd cc
+  of_semaphore l c (kind.Recursive limit) h = absurd cc
+  of_semaphore l c kind.Condvar h = absurd cc
+  of_semaphore l c kind.Once h = absurd cc
+
+  goal_there : (c : Call) → has_call (w.kinds (lock_in c)) c ≡ true → purpose_at w c ≡ Some (goal_of fair c)
+  goal_there (call.Mutex l c) h = of_mutex l c (w.kinds l) refl h
+  goal_there (call.RwLock l c) h = of_rwlock l c (w.kinds l) h
+  goal_there (call.Once l c) h = of_once l c (w.kinds l) h
+  goal_there (call.Condvar l c) h = of_condvar l c (w.kinds l) h
+  goal_there (call.Semaphore l c) h = of_semaphore l c (w.kinds l) h
+
+  -- a call for which its thread has the right is one of its lock
+  call_there : (k : Kind) (c : Call) → HasRight w t (purpose_of k c) → has_call k c ≡ true
+  call_there kind.Mutex (call.Mutex l c) h = refl
+  call_there kind.Fair (call.Mutex l c) h = refl
+  call_there (kind.RwLock limit) (call.RwLock l c) h = refl
+  call_there (kind.Recursive limit) (call.RwLock l c) h = refl
+  call_there kind.Condvar (call.Condvar l c) h = refl
+  call_there kind.Once (call.Once l c) h = refl
+  call_there (kind.Semaphore permits) (call.Semaphore l c) h = refl
+  call_there k c h = absurd h
 
   pub goal_is : (c : Call) → HasRight w t (purpose_at w c) → purpose_at w c ≡ Some (goal_of fair c)
-  goal_is (call.Mutex l c) h = of_mutex l c (w.kinds l) refl h
-  goal_is (call.RwLock l c) h = of_rwlock l c (w.kinds l) h
-  goal_is (call.Once l c) h = of_once l c (w.kinds l) h
-  goal_is (call.Condvar l c) h = of_condvar l c (w.kinds l) h
-  goal_is (call.Semaphore l c) h = of_semaphore l c (w.kinds l) h
+  goal_is c h = goal_there c (call_there (w.kinds (lock_in c)) c h)
+
+  -- ---------------------------------------------------------------- turns
+
+  can_begin : (c : Call) → MayBegin w t c → CanBegin w t c
+  can_begin c may = record {
+    thread = may.thread;
+    idle = may.idle;
+    lock = may.lock;
+    known = call_there (w.kinds (lock_in c)) c may.right;
+    right = subst (HasRight w t) (goal_is c may.right) may.right;
+  }
+
+  may_begin : (c : Call) → CanBegin w t c → MayBegin w t c
+  may_begin c can = record {
+    thread = can.thread;
+    idle = can.idle;
+    lock = can.lock;
+    right = subst (HasRight w t) (sym (goal_there c can.known)) can.right;
+  }
+
+  pub is_possible : (x : Turn) → MayTurn w t x → IsPossible w t x
+  is_possible (turn.Begin c) may = can_begin c may
+  is_possible turn.Go may = may
+  is_possible turn.Spin may = may
+  is_possible turn.Late may = may
+  is_possible turn.Ok may = may
+  is_possible turn.Err may = may
+
+  pub may_turn : (x : Turn) → IsPossible w t x → MayTurn w t x
+  may_turn (turn.Begin c) may = may_begin c may
+  may_turn turn.Go may = may
+  may_turn turn.Spin may = may
+  may_turn turn.Late may = may
+  may_turn turn.Ok may = may
+  may_turn turn.Err may = may
 
 -- ---------------------------------------------------------------- answers
 
@@ -135,7 +187,7 @@ module _ (v : LocksState) (t : ℕ) (c : CallState) (l : ℕ) where
   gains : (x : Want) → Gains v t c l x → Trades v t c l None (Some x)
   gains x h k = put_own (rights_in v t) l k ∙ h k
 
-  loses : (x : Want) → Loses v t c l x → Trades v t c l (Some x) None
+  pub loses : (x : Want) → Loses v t c l x → Trades v t c l (Some x) None
   loses x h k = h k ∙ sym (put_own c.former l k)
 
   tries : (x : Want) → EntersAnswer v t c l x Try No → IsTrue (Some (Enters l x Try)) No v t c

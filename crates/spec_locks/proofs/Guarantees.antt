@@ -19,16 +19,21 @@ use Rattle.spec_locks.specs.Locks as locks
 use Rattle.spec_locks.specs.Purposes.{Purpose, Enters, Releases, Converts, Bumps, CallsOnce, Awaits, Waits, Notifies, Recall, Blank, Saw, SawOwner, HasMoved, WasMoved, WasNotified}
 use Rattle.spec_locks.specs.Sites.{Line, Main, Second, counts_some}
 use Rattle.spec_locks.specs.Runs.{LocksState, CallState, Event, Nothing, AtLock, Moves, AnswerHolds, Agrees, AreFree, Does, GoesOn, IsNotified, IsStep, IsTimely, MayBegin, MayDo, MayGo, MayHappen, MayTurn, MovedNobody, NotifiesAnswer, Turned, going_on, gives_up, new_call, rights_in, rules_at}
-use Rattle.spec_locks.specs.EachState.{IsQuiet, IsUp, Rests, WaitsForSome, full_by, sort_in}
+use Rattle.spec_locks.specs.EachState.{IsQuiet, IsUp, Opens, Rests, WaitsForSome, full_by, sort_in}
 use Rattle.spec_locks.specs.EachStep.{Recalls, StepHolds}
 use Rattle.spec_locks.specs.Guarantees.{AllHold}
-use Rattle.spec_locks.proofs.CallTable.{answer_is, goal_is}
+use Rattle.spec_locks.proofs.CallTable.{answer_is, goal_is, is_possible, may_turn}
 use Rattle.spec_locks.specs.GuaranteeLaws.{HeadlineGuarantees, NoNotificationIsLost, OwnersExcludeInRuns, QuietWorldsRest, SafeStatesHold, SomebodyGoes, TellsNobody}
 use Rattle.spec_locks.specs.Headline.{Behaves, GoesFreely, IsDebtor, IsLookedAfter, IsOpenNow, IsSafe, WakesWaiters, want_of}
 use Rattle.spec_locks.proofs.LockKeeps.{opening_is_state}
 use Rattle.spec_locks.proofs.Runs.{run_keeps}
 use Rattle.spec_locks.proofs.QueueOrder.{queues_keep_order}
-use Rattle.spec_locks.proofs.Idle.{begins, ends, goes_on, is_late, stays_idle}
+use Rattle.spec_locks.proofs.Idle.{begins, ends, goes_on, is_late}
+use Rattle.spec_locks.proofs.Firsts.{first_taken}
+use Rattle.spec_locks.proofs.Recalling.{answer_recalls, recalls_truly}
+use Rattle.spec_locks.proofs.RightsChange.{rights_change}
+use Rattle.spec_locks.proofs.OnceRuns.{closes, starts, stays_done}
+use Rattle.spec_locks.proofs.UserLaws.{readers_stay_out}
 use Rattle.spec_locks.proofs.NobodyWakes.{nobody_wakes}
 
 -- ---------------------------------------------------------------- exclusion
@@ -277,17 +282,29 @@ module _ (w v : LocksState) (t : ℕ) where
 
 pub step_holds : (w v : LocksState) (s : Step) (o : Outcome) (full : ℕ → Bool) → IsSafe w full → IsStep w s o v → StepHolds w s o v
 step_holds w v s o full safe h = record {
-  answer = λ a e. (let g = ended w v s.thread o s.turn a e h.1 in (going_on g.event (w.calls s.thread), recalls w v s.thread g.event g.may, answer_is (going_on g.event (w.calls s.thread)).purpose v s.thread (going_on g.event (w.calls s.thread)) a (answered w v s.thread o a e g)));
+  same = (h.0.threads, h.0.size, h.0.kinds);
+  goes = (
+    λ e can. (refused w v s.thread o s.turn h.1).0 e (may_turn w s.thread s.turn can),
+    λ none. (refused w v s.thread o s.turn h.1).1 (λ may. none (is_possible w s.thread s.turn may)),
+  );
+  refused = nothing w v s.thread o s.turn h.1;
+  sleeps = h.0.told;
+  runs = h.0.runs;
+  answer = λ a e. (let g = ended w v s.thread o s.turn a e h.1 in (going_on g.event (w.calls s.thread), recalls w v s.thread g.event g.may, answer_recalls w v s.thread o g, answer_is (going_on g.event (w.calls s.thread)).purpose v s.thread (going_on g.event (w.calls s.thread)) a (answered w v s.thread o a e g)));
   begins = λ begun e told. begins w v s o h.1 begun e told ∙ ap (λ p. new_call p (rights_in w s.thread)) (goal_is w s.thread begun (may_begin begun e told).right);
   is_late = is_late w v s o h.1;
   ends = ends w v s o h.1;
   goes_on = goes_on w v s o h.1;
-  idle = λ u idle. stays_idle w v s.thread o safe.exclude safe.waiting u idle s.turn h.1;
+  recalled = recalls_truly w v s.thread o s.turn h.1;
+  rights = rights_change w v s.thread o safe.exclude safe.waiting s.turn h.1;
+  readers = readers_stay_out w v s o safe.exclude h;
+  starts = λ state told. starts w v s.thread o state told s.turn h.1;
+  closes = λ l runs told. closes w v s.thread o full safe l runs s.turn h.1 told;
+  stays_done = λ l done. stays_done w v s.thread o l done s.turn h.1;
   notified = nobody_wakes w v s o safe.exclude h;
-  goes = λ e. subst (λ x. (o ≡ outcome.TheVariants.NotNow) ↔ (MayTurn w s.thread x → ⊥)) e (refused w v s.thread o s.turn h.1);
-  refused = nothing w v s.thread o s.turn h.1;
   others = h.2.others;
   order = queues_keep_order w v s o h;
+  first = λ u. first_taken w v s.thread o safe.exclude u s.turn h.1;
 }
   where
     may_begin : (begun : Call) → s.turn ≡ turn.TheVariants.Begin begun → o ≢ outcome.TheVariants.NotNow → MayBegin w s.thread begun
@@ -303,16 +320,37 @@ safe_holds w full safe = record {
   goes = λ t. somebody_goes w full t safe;
   shown = safe.shown;
   let_go = safe.let_go;
+  keeps = safe.keeps;
+  runs = safe.runs;
+  fair = safe.fair;
 }
 
-behaves_hold : (full : ℕ → Bool) (w : LocksState) (ss : List Step) (os : List Outcome) (v : LocksState) → Behaves full w ss os v → AllHold full w ss os v
-behaves_hold full w [] [] v h = (safe_holds w full h.0, h.1)
-behaves_hold full w (s ∷ ss) (o ∷ os) v h = (safe_holds w full h.0, (h.1.0, step_holds w h.1.0 s o full h.0 h.1.1, behaves_hold (full_by full h.1.0) h.1.0 ss os v h.1.2))
+-- this state, and then those
+first_then : LocksState → (ℕ → LocksState) → ℕ → LocksState
+first_then w states zero = w
+first_then w states (suc n) = states n
+
+behaves_hold : (full : ℕ → Bool) (w : LocksState) (ss : List Step) (os : List Outcome) (v : LocksState) → Behaves full w ss os v
+    → (states : ℕ → LocksState) × (states 0 ≡ w) × AllHold full states ss os
+unfolding first_then
+behaves_hold full w [] [] v h = ((λ n. w), refl, safe_holds w full h.0)
+behaves_hold full w (s ∷ ss) (o ∷ os) v h =
+    let more = behaves_hold (full_by full h.1.0) h.1.0 ss os v h.1.2 in (
+      first_then w more.0,
+      refl,
+      (
+        safe_holds w full h.0,
+        subst (StepHolds w s o) (sym more.1) (step_holds w h.1.0 s o full h.0 h.1.1),
+        subst (λ u. AllHold (full_by full u) more.0 ss os) (sym more.1) more.2,
+      ),
+    )
 behaves_hold full w [] (o ∷ os) v h = absurd h
 behaves_hold full w (s ∷ ss) [] v h = absurd h
 
 pub headline_guarantees : HeadlineGuarantees
-headline_guarantees kinds threads steps told h = record { first = h.first; last = h.last; opens = h.opens; holds = behaves_hold (λ l. false) h.first steps told h.last h.behaves }
+headline_guarantees kinds threads steps told h =
+    let held = behaves_hold (λ l. false) h.first steps told h.last h.behaves in
+    (held.0, record { opens = subst (Opens kinds threads) (sym held.1) h.opens; holds = held.2 })
 
 -- ---------------------------------------------------------------- no lost notification
 

@@ -1,10 +1,7 @@
--- Calls go on as they were, and a thread that is in no call owns what it owned.
-use Rattle.std.proofs.Common.{ℕ, zero, suc, Bool, true, false, Option, Some, None, if◌then◌else◌, ◌==◌, ◌≡◌, ◌≢◌, ◌≤◌, ◌+◌, inl, inr, List, [], ◌∷◌, refl, sym, ◌∙◌, ap, subst, arith}
-use Rattle.std.proofs.lemmas.Bool.{cases_eq, eqb-true}
+-- Calls go on as they were.
+use Rattle.std.proofs.Common.{ℕ, Bool, true, false, Option, Some, None, if◌then◌else◌, ◌==◌, ◌≡◌, ◌≢◌, inl, inr, refl, sym, ◌∙◌, ap, subst, arith}
+use Rattle.std.proofs.lemmas.Bool.{cases_eq}
 use Rattle.std.proofs.lemmas.Bool.Decides.{nat_tests}
-use Rattle.std.specs.Prelude.{slice_index}
-use Rattle.core_base.specs.declared.wants.Want.{Want}
-use Rattle.core_base.specs.declared.wants.Want.TheVariants.{Exclusive, Upgradable, Shared}
 use Rattle.spec_locks.specs.declared.calls.Call.{Call}
 use Rattle.spec_locks.specs.declared.calls.Turn.{Turn}
 use Rattle.spec_locks.specs.declared.calls.Turn as turn
@@ -14,13 +11,10 @@ use Rattle.spec_locks.specs.declared.outcomes.Outcome.{Outcome}
 use Rattle.spec_locks.specs.declared.outcomes.Outcome as outcome
 use Rattle.spec_locks.specs.Onces.{Start}
 use Rattle.spec_locks.specs.Condvars.{moved_of}
-use Rattle.spec_locks.specs.Locks as locks
-use Rattle.spec_locks.specs.Locks.{LockState, LockCase, Queued, Rights, Rules, Taken, Needs, Enter, Pend, Settle, Leave, Convert, Park, Aside, TakeFirst, TakeAside, TakePicked, Wake, HandOff, Late, Rollback, OfOnce, OfCondvar, SeeOwner, Look, Show, Hide, IsLockState, after_case, left_behind, one_if_some, putting, rights_of, sharing_from, standing}
-use Rattle.spec_locks.specs.Purposes.{MayWait, Purpose, Recall, Blank, Saw, SawOwner, HasMoved, WasMoved, WasNotified}
+use Rattle.spec_locks.specs.Locks.{LockCase, Wake, HandOff, Late, OfOnce, OfCondvar, Look}
+use Rattle.spec_locks.specs.Purposes.{Purpose, Recall, Blank, Saw, SawOwner, HasMoved, WasMoved, WasNotified}
 use Rattle.spec_locks.specs.Runs.{LocksState, CallState, AreLockStates, Event, Nothing, AtLock, Moves, Does, GoesOn, MayDo, MayHappen, Stays, Turned, calls_after, gives_up, going_on, if_moved, is_among, is_taken_by, joined_by, locks_after, new_call, no_call, purpose_at, rights_in, rules_at, unless_ended, woken}
 use Rattle.spec_locks.specs.EachStep.{CallGoesOn, IsUnderWay}
-use Rattle.spec_locks.proofs.Rights.{others_keep, rights_are}
-use Rattle.spec_locks.proofs.Runs.{needs_of}
 
 -- ---------------------------------------------------------------- the memory of a call
 
@@ -163,117 +157,3 @@ module _ (w v : LocksState) (s : Step) (o : Outcome) where
       | inl d ↦ does_go_on s.turn u under d.1
       | inr r ↦ subst (λ (k : LocksState). CallGoesOn (w.calls u) (k.calls u)) (sym r.1.1) (call_stays (w.calls u))
     ]
-
--- ---------------------------------------------------------------- a thread that is in no call
-
-sharing_else : (t : ℕ) (taken : ℕ → Option Taken) (i u : ℕ) (ns : List ℕ) → taken (i + u) ≡ None → slice_index (sharing_from t taken i ns) u ≡ slice_index ns u
-sharing_else t taken i u [] e = grind arith
-sharing_else t taken i zero (n ∷ ns) e = let f : locks.shares_handed t (taken i) ≡ 0 = ap (locks.shares_handed t) (subst (λ k. taken k ≡ None) (omega arith) e) in let g : slice_index (sharing_from t taken i (n ∷ ns)) 0 ≡ n + locks.shares_handed t (taken i) = refl in omega arith
-sharing_else t taken i (suc u) (n ∷ ns) e = sharing_else t taken (i + 1) u ns (subst (λ k. taken k ≡ None) (omega arith) e)
-
-module _ (r : Rules) (s : LockState) (t u : ℕ) (state : IsLockState r s) (other : u ≢ t) (free : s.taken u ≡ None) where
-  shared_else : slice_index (sharing_from t s.taken 0 s.shared) u ≡ slice_index s.shared u
-  shared_else = sharing_else t s.taken 0 u s.shared (subst (λ k. s.taken k ≡ None) (omega arith) free)
-
-  -- a hand-over leaves it what it has
-  hands_else : (x : Want) (y : Option Queued) → Needs r (HandOff x y) s t → rights_of (after_case r (HandOff x y) s t) u ≡ rights_of s u
-  hands_else Exclusive None n = rights_are _ _ _ _ _ _ _ _ (grind (arith, nat_tests)) refl refl shared_else
-  hands_else Upgradable None n = rights_are _ _ _ _ _ _ _ _ refl refl (grind (arith, nat_tests)) shared_else
-  hands_else Exclusive (Some y) n = by_want y.want (((n.2 y.thread y.want).0 refl).1)
-    where
-      left : LockState
-      left = locks.sharing_handed t (locks.without_owner t Exclusive s)
-
-      apart : y.thread ≢ u
-      apart e = let h : s.taken y.thread ≡ Some (record { by = t; want = y.want }) = ((n.2 y.thread y.want).0 refl).0 in let f : ◌≡◌ {A = Option Taken} None (Some (record { by = t; want = y.want })) = sym free ∙ ap s.taken (sym e) ∙ h in cc
-
-      by_readers : (b : Bool) → rights_of (if b then locks.with_owner y.thread Exclusive left else locks.pending_for y.thread false left) u ≡ rights_of s u
-      by_readers true = rights_are _ _ _ _ _ _ _ _ (grind (arith, nat_tests, apart)) refl refl shared_else
-      by_readers false = rights_are _ _ _ _ _ _ _ _ (grind (arith, nat_tests)) (grind (arith, nat_tests, apart, state.exclusive_alone)) refl shared_else
-
-      by_want : (z : Want) → z ≢ Shared → rights_of (locks.succeeding z y.thread left) u ≡ rights_of s u
-      by_want Exclusive more = by_readers (locks.readers left == 0)
-      by_want Upgradable more = rights_are _ _ _ _ _ _ _ _ (grind (arith, nat_tests)) refl (grind (arith, nat_tests, apart, state.exclusive_alone)) shared_else
-      by_want Shared more = absurd (more refl)
-      by_want z more = rights_are _ _ _ _ _ _ _ _ (grind (arith, nat_tests)) refl refl shared_else
-  hands_else Upgradable (Some y) n = by_want y.want (((n.2 y.thread y.want).0 refl).1)
-    where
-      left : LockState
-      left = locks.sharing_handed t (locks.without_owner t Upgradable s)
-
-      apart : y.thread ≢ u
-      apart e = let h : s.taken y.thread ≡ Some (record { by = t; want = y.want }) = ((n.2 y.thread y.want).0 refl).0 in let f : ◌≡◌ {A = Option Taken} None (Some (record { by = t; want = y.want })) = sym free ∙ ap s.taken (sym e) ∙ h in cc
-
-      by_readers : (b : Bool) → rights_of (if b then locks.with_owner y.thread Exclusive left else locks.pending_for y.thread false left) u ≡ rights_of s u
-      by_readers true = rights_are _ _ _ _ _ _ _ _ (grind (arith, nat_tests, apart, state.exclusive_alone)) refl (grind (arith, nat_tests)) shared_else
-      by_readers false = rights_are _ _ _ _ _ _ _ _ refl (grind (arith, nat_tests, apart, state.pending_alone)) (grind (arith, nat_tests)) shared_else
-
-      by_want : (z : Want) → z ≢ Shared → rights_of (locks.succeeding z y.thread left) u ≡ rights_of s u
-      by_want Exclusive more = by_readers (locks.readers left == 0)
-      by_want Upgradable more = rights_are _ _ _ _ _ _ _ _ refl refl (grind (arith, nat_tests, apart)) shared_else
-      by_want Shared more = absurd (more refl)
-      by_want z more = rights_are _ _ _ _ _ _ _ _ refl refl (grind (arith, nat_tests)) shared_else
-  hands_else Shared y n = absurd (n.1 refl)
-  hands_else x y n = absurd n.0
-
-  case_else : (case : LockCase) → Needs r case s t → rights_of (after_case r case s t) u ≡ rights_of s u
-  case_else (HandOff x y) n = hands_else x y n
-  case_else (Enter x) n = others_keep r s t u state other (Enter x) (λ a b. grind arith) n
-  case_else Pend n = others_keep r s t u state other Pend (λ a b. grind arith) n
-  case_else Settle n = others_keep r s t u state other Settle (λ a b. grind arith) n
-  case_else (Leave x) n = others_keep r s t u state other (Leave x) (λ a b. grind arith) n
-  case_else (Convert x y) n = others_keep r s t u state other (Convert x y) (λ a b. grind arith) n
-  case_else (Park x) n = others_keep r s t u state other (Park x) (λ a b. grind arith) n
-  case_else Aside n = others_keep r s t u state other Aside (λ a b. grind arith) n
-  case_else (TakeFirst x) n = others_keep r s t u state other (TakeFirst x) (λ a b. grind arith) n
-  case_else (TakeAside x) n = others_keep r s t u state other (TakeAside x) (λ a b. grind arith) n
-  case_else (TakePicked x) n = others_keep r s t u state other (TakePicked x) (λ a b. grind arith) n
-  case_else Wake n = others_keep r s t u state other Wake (λ a b. grind arith) n
-  case_else Late n = others_keep r s t u state other Late (λ a b. grind arith) n
-  case_else Rollback n = others_keep r s t u state other Rollback (λ a b. grind arith) n
-  case_else (OfOnce case) n = others_keep r s t u state other (OfOnce case) (λ a b. grind arith) n
-  case_else (OfCondvar case) n = others_keep r s t u state other (OfCondvar case) (λ a b. grind arith) n
-  case_else (SeeOwner b) n = others_keep r s t u state other (SeeOwner b) (λ a b. grind arith) n
-
-event_else : (w : LocksState) (t u : ℕ) (e : Event) → AreLockStates w → u ≢ t → ((l : ℕ) → (w.locks l).taken u ≡ None) → MayHappen w t e → (l : ℕ)
-    → rights_of (locks_after w t e l) u ≡ rights_of (w.locks l) u
-event_else w t u Nothing all other free may l = refl
-event_else w t u (Moves c m every owned n) all other free may l = at_mutex (l == m) refl
-  where
-    at_condvar : (b : Bool) → (l == c) ≡ b → rights_of (if b then left_behind every (w.locks c) else w.locks l) u ≡ rights_of (w.locks l) u
-    at_condvar false e = refl
-    at_condvar true e = ap (λ k. rights_of (w.locks k) u) (sym (eqb-true l c e))
-
-    at_mutex : (b : Bool) → (l == m) ≡ b
-        → rights_of (if b then joined_by owned t (moved_of every (w.locks c).queue) (w.locks m) else putting w.locks c (left_behind every (w.locks c)) l) u ≡ rights_of (w.locks l) u
-    at_mutex false e = at_condvar (l == c) refl
-    at_mutex true e = ap (λ k. rights_of (w.locks k) u) (sym (eqb-true l m e))
-event_else w t u (AtLock k case) all other free may l = either (l == k) refl
-  where
-    either : (b : Bool) → (l == k) ≡ b → rights_of (if b then after_case (rules_at w k) case (w.locks k) t else w.locks l) u ≡ rights_of (w.locks l) u
-    either false e = refl
-    either true e = case_else (rules_at w k) (w.locks k) t u (all k) other (free k) case (needs_of w t k case (w.calls t).purpose may) ∙ ap (λ j. rights_of (w.locks j) u) (sym (eqb-true l k e))
-
--- a thread that waits is in a call
-module _ (w v : LocksState) (t : ℕ) (o : Outcome) (all : AreLockStates w) (waiting : (u l : ℕ) → 1 ≤ standing u (w.locks l) → MayWait (w.calls u).purpose l) (u : ℕ) (idle : (w.calls u).purpose ≡ None) where
-  free_at : (l : ℕ) (h : Option Taken) → (w.locks l).taken u ≡ h → (w.locks l).taken u ≡ None
-  free_at l None e = e
-  free_at l (Some h) e = absurd (subst (λ p. MayWait p l) idle (waiting u l (let one : one_if_some ((w.locks l).taken u) ≡ 1 = ap one_if_some e in omega arith)))
-
-  event_idle : GoesOn w t o v → (l : ℕ) → rights_in v u l ≡ rights_in w u l
-  event_idle g l = elim (cases_eq u t) [
-    | inl e ↦ absurd (g.called (subst (λ k. (w.calls k).purpose ≡ None) e idle))
-    | inr ne ↦ ap (λ (s : LockState). rights_of s u) (g.locks l) ∙ event_else w t u g.event all ne (λ k. free_at k ((w.locks k).taken u) refl) g.may l
-  ]
-
-  does_idle : (x : Turn) → Does w t x o v → (l : ℕ) → rights_in v u l ≡ rights_in w u l
-  does_idle (turn.TheVariants.Begin c) d l = ap (λ (s : LockState). rights_of s u) (d.locks l)
-  does_idle turn.TheVariants.Late d l = ap (λ (s : LockState). rights_of s u) (d.locks l)
-  does_idle turn.TheVariants.Go d l = event_idle d l
-  does_idle turn.TheVariants.Spin d l = event_idle d.goes l
-  does_idle turn.TheVariants.Ok d l = event_idle d.goes l
-  does_idle turn.TheVariants.Err d l = event_idle d.goes l
-
-  pub stays_idle : (x : Turn) → Turned w t x o v → (l : ℕ) → rights_in v u l ≡ rights_in w u l
-  stays_idle x (inl d) l = does_idle x d.1 l
-  stays_idle x (inr r) l = ap (λ (k : LocksState). rights_of (k.locks l) u) r.1.1

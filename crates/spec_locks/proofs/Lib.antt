@@ -30,6 +30,10 @@ pub mod QueueOrder
 pub mod Guarantees
 pub mod Bypass
 pub mod Idle
+pub mod RightsChange
+pub mod OnceRuns
+pub mod Firsts
+pub mod Recalling
 pub mod Reach
 pub mod FairQueues
 pub mod FairEvents

@@ -1,5 +1,6 @@
--- The goal of each call, and what each answer says: two tables, of which the first page is made.
-use Rattle.std.specs.Prelude.{ℕ, Bool, true, false, Option, Some, None, ◌≡◌, ◌≢◌, ◌≤◌, ◌⊎◌}
+-- The goal of each call, the turns that are possible, the lock to which a call changes rights, and what each
+-- answer says: the tables of which the first page is made.
+use Rattle.std.specs.Prelude.{ℕ, Bool, true, false, Option, Some, None, ◌≡◌, ◌≢◌, ◌≤◌, ◌<◌, ◌⊎◌}
 use Rattle.core_base.specs.declared.wants.Want.{Want}
 use Rattle.core_base.specs.declared.wants.Want.TheVariants.{Exclusive, Upgradable, Shared}
 use Rattle.spec_locks.specs.declared.calls.Access.TheVariants as to
@@ -11,17 +12,22 @@ use Rattle.spec_locks.specs.declared.calls.MutexCall.TheVariants.{Lock, LockTime
 use Rattle.spec_locks.specs.declared.calls.OnceCall.TheVariants as once
 use Rattle.spec_locks.specs.declared.calls.RwLockCall.TheVariants as rwlock
 use Rattle.spec_locks.specs.declared.calls.SemaphoreCall.TheVariants as semaphore
+use Rattle.spec_locks.specs.declared.calls.Turn.{Turn}
+use Rattle.spec_locks.specs.declared.calls.Turn.TheVariants as turn
+use Rattle.spec_locks.specs.declared.calls.Turn.TheVariants.{Begin, Go, Late, Spin}
 use Rattle.spec_locks.specs.declared.outcomes.Answer.{Answer}
 use Rattle.spec_locks.specs.declared.outcomes.Answer.TheVariants.{Ok, Yes, No, Notified, TimedOut, Number, ReadersFull, Failed, Poisoned as IsPoisoned, TwoMutexes}
+use Rattle.spec_locks.specs.Calls.{lock_in}
+use Rattle.spec_locks.specs.Kinds.{has_call, is_fair}
 use Rattle.spec_locks.specs.Onces.{Done, Poisoned}
 use Rattle.spec_locks.specs.Locks.{Mutex, Rights, IsBlocked, IsFree, Owns, count, putting, readers, with_right}
 use Rattle.spec_locks.specs.Purposes.{Purpose, Enters, Releases, Converts, Bumps, CallsOnce, Awaits, Waits, Notifies, HasMoved, Patient, Timed, Try}
-use Rattle.spec_locks.specs.Runs.{LocksState, CallState, IsNotified, MovedNobody, rights_in, rules_at}
+use Rattle.spec_locks.specs.Runs.{LocksState, CallState, HasRight, IsNotified, MayBeLate, MayGo, MovedNobody, rights_in, rules_at}
 
 -- ---------------------------------------------------------------- goals
 
--- the goal of a call of the lock l, where these mutexes are fair ones: it enters by a right, gives one up, turns
--- one into another, gives it up for a while, runs a `Once` or waits for that, waits or notifies
+-- the goal of a call of the lock l, where these mutexes are fair ones: it enters by a right, gives one up,
+-- turns one into another, gives it up for a while, runs a `Once` or waits for that, waits or notifies
 abbrev pub goal_of : (ℕ → Bool) → Call → Purpose
 goal_of fair (call.Mutex l Lock) = Enters l Exclusive Patient
 goal_of fair (call.Mutex l LockTimed) = Enters l Exclusive Timed
@@ -52,6 +58,40 @@ goal_of fair (call.Condvar l (Wait m timed)) = Waits l m timed
 goal_of fair (call.Condvar l (Notify all)) = Notifies l all
 goal_of fair (call.Semaphore l (semaphore.Acquire how)) = Enters l Shared how
 goal_of fair (call.Semaphore l semaphore.Release) = Releases l Shared false
+
+-- ---------------------------------------------------------------- turns
+
+-- a call begins: the thread and the lock are there, the lock has the call, the thread is in no call, and has
+-- the right that the call needs
+pub record CanBegin (w : LocksState) (t : ℕ) (c : Call) : Type 0 where
+  pub thread : t < w.threads
+  pub idle : (w.calls t).purpose ≡ None
+  pub lock : lock_in c < w.size
+  pub known : has_call (w.kinds (lock_in c)) c ≡ true
+  pub right : HasRight w t (Some (goal_of (λ l. is_fair (w.kinds l)) c))
+
+-- whether a turn is possible
+abbrev pub IsPossible : LocksState → ℕ → Turn → Type 0
+IsPossible w t (Begin c) = CanBegin w t c
+IsPossible w t Go = MayGo w t
+IsPossible w t Spin = (w.stances t).may_spin ≡ true
+IsPossible w t Late = MayBeLate w t
+IsPossible w t turn.Ok = (w.stances t).in_closure ≡ true
+IsPossible w t turn.Err = (w.stances t).in_closure ≡ true
+
+-- ---------------------------------------------------------------- rights
+
+-- the lock to which a call changes its thread's rights; a wait, to its mutex
+abbrev pub MayChange : Option Purpose → ℕ → Type 0
+MayChange None l = ⊥
+MayChange (Some (Enters k x how)) l = k ≡ l
+MayChange (Some (Releases k x fair)) l = k ≡ l
+MayChange (Some (Converts k x y how)) l = k ≡ l
+MayChange (Some (Bumps k x)) l = k ≡ l
+MayChange (Some (CallsOnce k forced)) l = ⊥
+MayChange (Some (Awaits k forced timed)) l = ⊥
+MayChange (Some (Waits k m timed)) l = m ≡ l
+MayChange (Some (Notifies k all)) l = ⊥
 
 -- ---------------------------------------------------------------- answers
 

@@ -1,11 +1,16 @@
--- The guarantees of each state: exclusion, quiescence, no stuck world, and what condition variables show.
-use Rattle.std.specs.Prelude.{ℕ, Bool, true, false, None, Some, ◌||◌, ◌≡◌, ◌≢◌, ◌≤◌, ◌⊎◌, List, length, get_or}
+-- The guarantees of each state: exclusion, quiescence, no stuck world, what condition variables show, what
+-- their sleepers own, which thread runs a `Once`, and that a fair mutex is kept for its waiters.
+use Rattle.std.specs.Prelude.{ℕ, Bool, true, false, None, Some, ◌||◌, ◌≡◌, ◌≢◌, ◌≤◌, ◌⊎◌, ◌↔◌, List, length, get_or}
+use Rattle.core_base.specs.declared.wants.Want.TheVariants.{Exclusive}
 use Rattle.spec_locks.specs.declared.kinds.Kind.{Kind}
 use Rattle.spec_locks.specs.declared.kinds.Kind.TheVariants as kind
-use Rattle.spec_locks.specs.Onces.{Done, IsRunning}
-use Rattle.spec_locks.specs.Locks.{Sort, Mutex, Normal, Recursive, Semaphore, Once, Condvar, LockState, has_caller, readers, times}
+use Rattle.spec_locks.specs.CallTable.{Trades}
+use Rattle.spec_locks.specs.Kinds.{is_fair}
+use Rattle.spec_locks.specs.Onces.{Done, InProgress, IsRunning}
+use Rattle.spec_locks.specs.Locks.{Sort, Mutex, Normal, Recursive, Semaphore, Once, Condvar, LockState, has_caller, readers, standing, times}
+use Rattle.spec_locks.specs.Purposes.{CallsOnce, Waits}
 use Rattle.spec_locks.specs.Sites.{has_readers, is_full}
-use Rattle.spec_locks.specs.Runs.{LocksState, Status, AreLockStates, IsOpening, LetsGo, MayGo, ShowsWaiters, rules_at}
+use Rattle.spec_locks.specs.Runs.{LocksState, Status, AreLockStates, IsNotified, IsOpening, LetsGo, MayGo, ShowsWaiters, rules_at}
 
 -- ---------------------------------------------------------------- a world at rest
 
@@ -57,8 +62,17 @@ pub record StateHolds (w : LocksState) (was_full : ℕ → Bool) : Type 0 where
   pub goes : (t : ℕ) → (w.calls t).purpose ≢ None → IsUp (w.stances t) → (u : ℕ) × MayGo w u
   -- a condition variable shows the mutex with which all wait there
   pub shown : (c : ℕ) → sort_in w c ≡ Condvar → ShowsWaiters w c
-  -- A sleeper that waits for a notification has let its mutex go.
+  -- A sleeper that waits for a notification has let its mutex go, and owns till then what else it owned.
   pub let_go : (t : ℕ) → LetsGo w t
+  pub keeps : (t l m : ℕ) (timed : Bool) → (w.calls t).purpose ≡ Some (Waits l m timed)
+      → (w.stances t).asleep ≡ true → (w.calls t).gave_up ≡ None
+      → (IsNotified (w.calls t).recalls → ⊥) → Trades w t (w.calls t) m (Some Exclusive) None
+  -- a `Once` is in progress exactly while one thread runs its closure
+  pub runs : (t l : ℕ) → (w.locks l).phase ≡ InProgress t ↔ ((w.stances t).in_closure ≡ true)
+      × ((forced : Bool) × ((w.calls t).purpose ≡ Some (CallsOnce l forced)))
+  -- A fair mutex is owned while somebody waits for it, also in a hand.
+  pub fair : (t l : ℕ) → is_fair (w.kinds l) ≡ true → 1 ≤ standing t (w.locks l)
+      → (w.locks l).exclusive ≢ None
 
 -- ---------------------------------------------------------------- the first state
 

@@ -89,4 +89,5 @@ SafeStatesHold = (w : LocksState) (full : ℕ → Bool) → IsSafe w full → St
 abbrev pub HeadlineGuarantees : Type 0
 HeadlineGuarantees =
     (kinds : List Kind) (threads : ℕ) (steps : List Step) (told : List Outcome)
-    → MayTell kinds threads steps told → IsGuaranteed kinds threads steps told
+    → MayTell kinds threads steps told
+    → (states : ℕ → LocksState) × IsGuaranteed kinds threads states steps told

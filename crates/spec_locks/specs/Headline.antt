@@ -1,7 +1,7 @@
 -- The headline, the second page: what any list of steps comes to is a run of the abstract locks, and each waiter
 -- whose way nobody bars has a thread that looks after it. There is no word here, no place of a call, and no
 -- queue of the machine. The first page is Guarantees, which follows of this one.
-use Rattle.std.specs.Prelude.{ℕ, Bool, true, false, Option, Some, None, ◌≡◌, ◌≢◌, ◌≤◌, ◌<◌, ◌-◌, ◌⊎◌, List, [], ◌∷◌}
+use Rattle.std.specs.Prelude.{ℕ, Bool, true, false, Option, Some, None, ◌≡◌, ◌≢◌, ◌≤◌, ◌<◌, ◌-◌, ◌⊎◌, ◌↔◌, List, [], ◌∷◌}
 use Rattle.core_base.specs.declared.keys.Keys.TheVariants.{One}
 use Rattle.core_base.specs.declared.wants.Want.{Want}
 use Rattle.core_base.specs.declared.wants.Want.TheVariants.{Exclusive, Upgradable}
@@ -9,11 +9,13 @@ use Rattle.core_base.specs.Keys.{key_of}
 use Rattle.spec_locks.specs.declared.calls.Step.{Step}
 use Rattle.spec_locks.specs.declared.kinds.Kind.{Kind}
 use Rattle.spec_locks.specs.declared.outcomes.Outcome.{Outcome}
-use Rattle.spec_locks.specs.Onces.{Done}
+use Rattle.spec_locks.specs.CallTable.{Trades}
+use Rattle.spec_locks.specs.Kinds.{is_fair}
+use Rattle.spec_locks.specs.Onces.{Done, InProgress}
 use Rattle.spec_locks.specs.Locks.{Sort, Semaphore, Once, Condvar, LockState, Rules, Taken, Owns, IsSomePending, readers, standing, times}
 use Rattle.spec_locks.specs.Purposes.{Purpose, Enters, Releases, Converts, Bumps, CallsOnce, Awaits, Waits, Notifies, Recall, Blank, Saw, SawOwner, HasMoved, WasMoved, WasNotified, MayWait}
 use Rattle.spec_locks.specs.Sites.{Line, Main, Second, IsOpen, counts_some, has_readers}
-use Rattle.spec_locks.specs.Runs.{LocksState, Status, AreLockStates, IsStep, LetsGo, ShowsWaiters, rules_at}
+use Rattle.spec_locks.specs.Runs.{LocksState, Status, AreLockStates, IsNotified, IsStep, LetsGo, ShowsWaiters, rules_at}
 pub use Rattle.spec_locks.specs.EachState.{IsUp, Opens, full_by, sort_in}
 
 -- ---------------------------------------------------------------- threads that wake the next waiter
@@ -144,8 +146,17 @@ pub record IsSafe (w : LocksState) (was_full : ℕ → Bool) : Type 0 where
   pub shown : (c : ℕ) → sort_in w c ≡ Condvar → ShowsWaiters w c
   -- a thread that stands in a queue, stands aside or is in a hand is in a call that waits for the lock
   pub waiting : (t l : ℕ) → 1 ≤ standing t (w.locks l) → MayWait (w.calls t).purpose l
-  -- A sleeper that waits for a notification has let its mutex go.
+  -- A sleeper that waits for a notification has let its mutex go, and owns till then what else it owned.
   pub let_go : (t : ℕ) → LetsGo w t
+  pub keeps : (t l m : ℕ) (timed : Bool) → (w.calls t).purpose ≡ Some (Waits l m timed)
+      → (w.stances t).asleep ≡ true → (w.calls t).gave_up ≡ None
+      → (IsNotified (w.calls t).recalls → ⊥) → Trades w t (w.calls t) m (Some Exclusive) None
+  -- a `Once` is in progress exactly while one thread runs its closure
+  pub runs : (t l : ℕ) → (w.locks l).phase ≡ InProgress t ↔ ((w.stances t).in_closure ≡ true)
+      × ((forced : Bool) × ((w.calls t).purpose ≡ Some (CallsOnce l forced)))
+  -- A fair mutex is owned while somebody waits for it, also in a hand.
+  pub fair : (t l : ℕ) → is_fair (w.kinds l) ≡ true → 1 ≤ standing t (w.locks l)
+      → (w.locks l).exclusive ≢ None
 
 -- ---------------------------------------------------------------- every list of steps
 

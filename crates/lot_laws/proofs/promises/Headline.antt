@@ -1,5 +1,5 @@
 -- The promises of the world say the headline: in the words of the abstract locks alone, nobody is forgotten.
-use Rattle.std.proofs.Common.{ℕ, Bool, true, false, Option, Some, None, ◌≤◌, ◌⊎◌, List, [], ◌∷◌, ◌++◌, ◌≡◌, ◌≢◌, inl, inr, refl, sym, ap, subst}
+use Rattle.std.proofs.Common.{ℕ, Bool, true, false, Option, Some, None, ◌≤◌, ◌⊎◌, List, [], ◌∷◌, ◌++◌, ◌≡◌, ◌≢◌, inl, inr, refl, sym, ◌∙◌, ap, subst}
 use Rattle.std.proofs.lemmas.List.{length-replicate, length-map}
 use Rattle.core_base.specs.declared.keys.Line.{Line}
 use Rattle.core_base.specs.declared.keys.Line.TheVariants.{Main, Second}
@@ -16,22 +16,26 @@ use Rattle.steps_once.specs.declared.run.RunAt.TheVariants as running
 use Rattle.lot_machine.proofs.Closures.{runs_one}
 use Rattle.lot_laws.proofs.machine.Parts.{calls_none}
 use Rattle.spec_locks.specs.Locks.{Rights, rights_of, standing}
+use Rattle.spec_locks.specs.Purposes.{CallsOnce}
+use Rattle.lot_laws.proofs.machine.Filled.{filled_after}
 use Rattle.spec_locks.specs.Headline as headline
 use Rattle.spec_locks.specs.Headline.{MayTell, Behaves, Opens}
-use Rattle.lot_machine.specs.Machine.{State, opening, unlocked, place_at, filled_at, after, step_outcome, after_steps, step_outcomes}
-use Rattle.lot_laws.specs.Refinement.{call_at, call_on_both, call_state, keys_entered, lock_state, locks_of, runs_closure, sleeps}
+use Rattle.lot_machine.specs.Machine.{State, kind_at, opening, unlocked, place_at, filled_at, after, step_outcome, after_steps, step_outcomes}
+use Rattle.lot_laws.specs.Refinement.{RunsClosure, call_at, call_on_both, call_state, keys_entered, lock_state, locks_of, runs_closure, sleeps}
 use Rattle.lot_laws.specs.Promises.{AreLookedAfterIn, IsKept, IsDebtorOf, IsLookedAfterIn, IsHandedOverIn}
 use Rattle.lot_laws.specs.Owing.{Owes}
 use Rattle.lot_laws.specs.SitesOf.{IsWorld}
-use Rattle.lot_laws.specs.WorldRuns.{IsWorldRun, Tells}
+use Rattle.lot_laws.specs.WorldRuns.{Tells, states_of}
 use Rattle.lot_laws.proofs.sites.Opening.{kind_is, unfilled_0}
 use Rattle.lot_laws.proofs.promises.Promises.{opening_is}
-use Rattle.lot_laws.proofs.alone.WorldRuns.{step_is, world_after, world_kept, world_run, world_step}
+use Rattle.lot_laws.proofs.alone.WorldRuns.{step_is, world_after, world_kept}
+use Rattle.lot_laws.proofs.condvar.SleepersOwn.{sleepers_own}
+use Rattle.lot_laws.proofs.mutex.FairHands.{fair_kind, fair_owned}
 use Rattle.spec_locks.specs.EachState.{StateHolds}
 use Rattle.spec_locks.specs.EachStep.{StepHolds}
-use Rattle.spec_locks.specs.Guarantees.{IsGuaranteed}
+use Rattle.spec_locks.specs.Guarantees.{AllHold, IsGuaranteed}
 use Rattle.spec_locks.specs.Headline.{IsSafe}
-use Rattle.spec_locks.proofs.Guarantees.{headline_guarantees, safe_holds, step_holds}
+use Rattle.spec_locks.proofs.Guarantees.{safe_holds, step_holds}
 
 awake_is : (a : Act) → a ≢ Sleep → sleeps a ≡ false
 awake_is Sleep n = absurd (n refl)
@@ -128,30 +132,48 @@ module _ (w : State) (k : IsKept w) where
     inside = λ t l m inside. (busy t l m (k.inside_owes t l m inside), k.inside_goes t l m inside);
   }
 
-  pub is_safe : headline.IsSafe (locks_of w) (filled_at w)
-  is_safe = record {
-    exclude = k.state;
-    waiters = nobody_forgotten;
-    shown = k.shows;
-    waiting = k.waiting;
-    let_go = k.let_go;
-  }
+  -- a thread runs a closure in a call that runs a `Once`
+  abbrev RunsOnce : ℕ → ℕ → Type 0
+  RunsOnce t l = (runs_closure (act_of (place_at w t)) ≡ true) × ((forced : Bool) × ((call_at w t).purpose ≡ Some (CallsOnce l forced)))
+
+  runs_once : (t l : ℕ) → RunsClosure w t l → RunsOnce t l
+  runs_once t l h =
+      let one = runs_one (place_at w t) h.1 in
+      let called : Some one.lock ≡ Some l = sym (ap called_lock one.is) ∙ h.0 in
+      let same : one.lock ≡ l = cc in
+      (h.1, (one.forced, ap (λ p. (call_state p (λ k. rights_of (lock_state w k) t)).purpose) one.is ∙ ap (λ k. Some (CallsOnce k one.forced)) same))
+
+  runs_there : (t l : ℕ) → RunsOnce t l → RunsClosure w t l
+  runs_there t l h =
+      let one = runs_one (place_at w t) h.0 in
+      let for : Some (CallsOnce one.lock one.forced) ≡ Some (CallsOnce l h.1.0) = sym (ap (λ p. (call_state p (λ k. rights_of (lock_state w k) t)).purpose) one.is) ∙ h.1.1 in
+      let same : one.lock ≡ l = cc in
+      (ap called_lock one.is ∙ ap Some same, h.0)
+
+pub safe_now : (w : State) → IsWorld w → headline.IsSafe (locks_of w) (filled_at w)
+safe_now w h = let k = world_kept w h in record {
+  exclude = k.state;
+  waiters = nobody_forgotten w k;
+  shown = k.shows;
+  waiting = k.waiting;
+  let_go = k.let_go;
+  keeps = sleepers_own w h.steady;
+  runs = λ t l. ((λ e. runs_once w k t l ((k.runs t l).0 e)), (λ runs. (k.runs t l).1 (runs_there w k t l runs)));
+  fair = λ t l fair. fair_owned w h l (fair_kind (kind_at w l) fair) t;
+}
 
 -- ---------------------------------------------------------------- a run
 
-pub run_behaves : (steps : List Step) (told : List Outcome) (w v : State) → IsKept w → IsWorldRun w steps told v
-    → Behaves (filled_at w) (locks_of w) steps told (locks_of v)
-run_behaves [] [] w v k run = (is_safe w k, ap locks_of run)
-run_behaves (s ∷ ss) (o ∷ os) w v k run = (
-  is_safe w k,
-  (locks_of run.0, run.1.refines, subst (λ full. Behaves full (locks_of run.0) ss os (locks_of v)) (λ i l. run.1.filled l i) (run_behaves ss os run.0 v run.1.kept run.2)),
+pub run_behaves : (steps : List Step) (w : State) → IsWorld w → Behaves (filled_at w) (locks_of w) steps (step_outcomes w steps) (locks_of (after_steps w steps))
+run_behaves [] w h = (safe_now w h, refl)
+run_behaves (s ∷ ss) w h = (
+  safe_now w h,
+  (locks_of (after w s), step_is w s h, subst (λ full. Behaves full (locks_of (after w s)) ss (step_outcomes (after w s) ss) (locks_of (after_steps (after w s) ss))) (λ i l. filled_after w s (world_after w s h) l i) (run_behaves ss (after w s) (world_after w s h))),
 )
-run_behaves [] (o ∷ os) w v k run = absurd run
-run_behaves (s ∷ ss) [] w v k run = absurd run
 
 pub step_behaves : (w : State) (s : Step) → IsWorld w
     → Behaves (filled_at w) (locks_of w) (s ∷ []) (step_outcome w s ∷ []) (locks_of (after w s))
-step_behaves w s h = run_behaves (s ∷ []) (step_outcome w s ∷ []) w (after w s) (world_kept w h) (after w s, world_step w s h, refl)
+step_behaves w s h = run_behaves (s ∷ []) w h
 
 pub opens : (kinds : List Kind) (threads : ℕ) → Opens kinds threads (locks_of (opening kinds threads))
 opens kinds threads = record {
@@ -161,41 +183,31 @@ opens kinds threads = record {
   kinds_there = kind_is kinds;
 }
 
--- steps from the opening state tell what they may
-pub run_tells : (kinds : List Kind) (threads : ℕ) (steps : List Step) (told : List Outcome) (w v : State) → w ≡ opening kinds threads
-    → IsKept w → IsWorldRun w steps told v → MayTell kinds threads steps told
-run_tells kinds threads steps told w v is k run = record {
-  first = locks_of w;
-  last = locks_of v;
-  opens = subst (λ u. Opens kinds threads (locks_of u)) (sym is) (opens kinds threads);
-  behaves = subst (λ full. Behaves full (locks_of w) steps told (locks_of v)) (λ i l. filled_first l i) (run_behaves steps told w v k run);
-}
-  where
-    filled_first : (l : ℕ) → filled_at w l ≡ false
-    filled_first l = subst (λ u. filled_at u l ≡ false) (sym is) (unfilled_0 kinds l)
+filled_first : (w : State) (kinds : List Kind) (threads : ℕ) → w ≡ opening kinds threads → (l : ℕ) → filled_at w l ≡ false
+filled_first w kinds threads is l = subst (λ u. filled_at u l ≡ false) (sym is) (unfilled_0 kinds l)
 
--- ---------------------------------------------------------------- outcomes behind those that were there
+-- steps from the opening state tell what they may
+pub run_tells : (kinds : List Kind) (threads : ℕ) (steps : List Step) (w : State) → w ≡ opening kinds threads → IsWorld w
+    → MayTell kinds threads steps (step_outcomes w steps)
+run_tells kinds threads steps w is h = record {
+  first = locks_of w;
+  last = locks_of (after_steps w steps);
+  opens = subst (λ u. Opens kinds threads (locks_of u)) (sym is) (opens kinds threads);
+  behaves = subst (λ full. Behaves full (locks_of w) steps (step_outcomes w steps) (locks_of (after_steps w steps))) (λ i l. filled_first w kinds threads is l i) (run_behaves steps w h);
+}
+
+-- ---------------------------------------------------------------- outcomes after those that were there
 
 module _ (w v : State) (ss : List Step) (before now : List Outcome) (h : IsWorld w) (led : v ≡ after_steps w ss)
     (answers : now ≡ before ++ step_outcomes w ss) where
-  runs : IsWorldRun w ss (step_outcomes w ss) v
-  runs = subst (IsWorldRun w ss (step_outcomes w ss)) (sym led) (world_run w ss h)
-
   pub tells_behaves : Tells before now (λ told. Behaves (filled_at w) (locks_of w) ss told (locks_of v))
-  tells_behaves = (step_outcomes w ss, answers, run_behaves ss (step_outcomes w ss) w v (world_kept w h) runs)
+  tells_behaves = (step_outcomes w ss, answers, subst (λ x. Behaves (filled_at w) (locks_of w) ss (step_outcomes w ss) (locks_of x)) (sym led) (run_behaves ss w h))
 
   pub tells_headline : (kinds : List Kind) (threads : ℕ) → w ≡ opening kinds threads
       → Tells before now (λ told. MayTell kinds threads ss told)
-  tells_headline kinds threads is = (step_outcomes w ss, answers, run_tells kinds threads ss (step_outcomes w ss) w v is (world_kept w h) runs)
-
-  pub tells_guaranteed : (kinds : List Kind) (threads : ℕ) → w ≡ opening kinds threads
-      → Tells before now (λ told. IsGuaranteed kinds threads ss told)
-  tells_guaranteed kinds threads is = let h = tells_headline kinds threads is in (h.0, h.1, headline_guarantees kinds threads ss h.0 h.2)
+  tells_headline kinds threads is = (step_outcomes w ss, answers, run_tells kinds threads ss w is h)
 
 -- ---------------------------------------------------------------- what follows of a state that is safe
-
-pub safe_now : (w : State) → IsWorld w → IsSafe (locks_of w) (filled_at w)
-safe_now w h = is_safe w (world_kept w h)
 
 pub safe_after : (ss : List Step) (w v : State) → IsWorld w → v ≡ after_steps w ss → IsSafe (locks_of v) (filled_at v)
 safe_after [] w v h led = subst (λ u. IsSafe (locks_of u) (filled_at u)) (sym led) (safe_now w h)
@@ -208,3 +220,25 @@ holds_after ss w v h led = safe_holds (locks_of v) (filled_at v) (safe_after ss 
 -- each step holds what the first page promises
 pub step_guaranteed : (w : State) (s : Step) → IsWorld w → StepHolds (locks_of w) s (step_outcome w s) (locks_of (after w s))
 step_guaranteed w s h = step_holds (locks_of w) (locks_of (after w s)) s (step_outcome w s) (filled_at w) (safe_now w h) (step_is w s h)
+
+-- ---------------------------------------------------------------- the first page, of the world's own states
+
+all_hold : (ss : List Step) (w : State) → IsWorld w → AllHold (filled_at w) (states_of w ss) ss (step_outcomes w ss)
+all_hold [] w h = safe_holds (locks_of w) (filled_at w) (safe_now w h)
+all_hold (s ∷ ss) w h = (
+  safe_holds (locks_of w) (filled_at w) (safe_now w h),
+  step_guaranteed w s h,
+  subst (λ full. AllHold full (states_of (after w s) ss) ss (step_outcomes (after w s) ss)) (λ i l. filled_after w s (world_after w s h) l i) (all_hold ss (after w s) (world_after w s h)),
+)
+
+pub tells_guaranteed : (w v : State) (ss : List Step) (before now : List Outcome) → IsWorld w → v ≡ after_steps w ss
+    → now ≡ before ++ step_outcomes w ss → (kinds : List Kind) (threads : ℕ) → w ≡ opening kinds threads
+    → Tells before now (λ told. IsGuaranteed kinds threads (states_of w ss) ss told)
+tells_guaranteed w v ss before now h led answers kinds threads is = (
+  step_outcomes w ss,
+  answers,
+  record {
+    opens = subst (λ u. Opens kinds threads (locks_of u)) (sym is) (opens kinds threads);
+    holds = subst (λ full. AllHold full (states_of w ss) ss (step_outcomes w ss)) (λ i l. filled_first w kinds threads is l i) (all_hold ss w h);
+  },
+)

@@ -122,7 +122,7 @@ passes_on (s ∷ ss) w n l t h size fair stands = (
   passes_on ss (after w s) n l t (world_after w s h) ((after_size w s).threads ∙ size) (after_kinds w s l ∙ fair) stands.1,
 )
 
-world_steps : (ss : List Step) (w : State) → IsWorld w → IsWorld (after_steps w ss)
+pub world_steps : (ss : List Step) (w : State) → IsWorld w → IsWorld (after_steps w ss)
 world_steps [] w h = h
 world_steps (s ∷ ss) w h = world_steps ss (after w s) (world_after w s h)
 

@@ -1,0 +1,135 @@
+-- A fair mutex is owned while somebody waits for it, also by the thread that has a waiter in its hand.
+use Rattle.std.proofs.Common.{ℕ, Bool, true, false, Option, Some, None, if◌then◌else◌, ◌==◌, ◌≡◌, ◌≢◌, ◌≤◌, ◌+◌, ◌⊎◌, inl, inr, refl, sym, ◌∙◌, ap, subst, arith}
+use Rattle.std.proofs.lemmas.Bool.{cases_lt, eqb-true}
+use Rattle.core_base.specs.declared.wants.Want.TheVariants.{Exclusive, Upgradable}
+use Rattle.spec_locks.specs.declared.kinds.Kind.{Kind}
+use Rattle.spec_locks.specs.declared.kinds.Kind.TheVariants as kinds
+use Rattle.spec_locks.specs.Bypass.{ReleasesFairly}
+use Rattle.spec_locks.specs.Kinds.{is_fair, is_plain_mutex}
+use Rattle.spec_locks.specs.Locks.{IsSomePending, LockState, Rights, Taken, one_if_some, one_if_thread, rights_of, standing, times}
+use Rattle.spec_locks.specs.Locks as locks
+use Rattle.spec_locks.specs.Purposes.{rules_of}
+use Rattle.spec_locks.specs.Sites.{Has, Role, has_readers, idle}
+use Rattle.steps_base.specs.Locations.{Location, nowhere}
+use Rattle.steps_condvar.specs.CondvarSteps.{mutex_beside}
+use Rattle.steps_mutex.specs.MutexProfiles.{mutex_profile}
+use Rattle.steps_mutex.specs.declared.hand_off.HandOffAt.TheVariants as hand_off
+use Rattle.steps_mutex.specs.declared.places.MutexPlace.{MutexPlace}
+use Rattle.steps_mutex.specs.declared.places.MutexPlace.TheVariants as mutex
+use Rattle.lot_steps.specs.declared.places.Place.{Place}
+use Rattle.lot_steps.specs.declared.places.Place.TheVariants.{Idle, Mutex, RwLock, Once, Condvar, Semaphore}
+use Rattle.lot_steps.specs.Steps.{is_lock}
+use Rattle.lot_machine.specs.Machine.{State, kind_at, place_at}
+use Rattle.lot_laws.specs.Locations.{location_at, role_on}
+use Rattle.lot_laws.specs.Refinement.{call_state, lock_state}
+use Rattle.lot_laws.specs.SitesOf.{FitsItsLock, IsWorld, rules_in}
+use Rattle.lot_laws.proofs.machine.Parts.{taken_held}
+use Rattle.lot_laws.proofs.promises.SitesPromise.{not_empty}
+
+pub fair_kind : (k : Kind) → is_fair k ≡ true → k ≡ kinds.Fair
+fair_kind kinds.Fair e = refl
+fair_kind k e = absurd cc
+
+fair_sort : (k : Kind) → k ≡ kinds.Fair → (rules_of k).sort ≡ locks.Mutex
+fair_sort k e = ap (λ x. (rules_of x).sort) e
+
+locked_by : (l : ℕ) (o : Option ℕ) → is_lock l o ≡ true → o ≡ Some l
+locked_by l None h = absurd cc
+locked_by l (Some k) h = ap Some (eqb-true k l h)
+
+-- ---------------------------------------------------------------- a thread that has a waiter in its hand
+
+-- it owns the mutex, or is in a plain unlock
+mutex_owner : (at : MutexPlace) → (mutex_profile at).carries ≡ Some false
+    → ((mutex_profile at).role.claims ≡ Some (Has Exclusive)) ⊎
+    ((k : ℕ) (r : ℕ → Rights) → ReleasesFairly (call_state (Mutex k at) r).purpose k → ⊥)
+mutex_owner (mutex.HandOff bumps (hand_off.Store any none_left)) h = inl refl
+mutex_owner (mutex.HandOff bumps (hand_off.Leave true)) h = absurd (let e : true ≡ false = cc in cc)
+mutex_owner (mutex.HandOff bumps (hand_off.Leave false)) h = absurd cc
+mutex_owner (mutex.HandOff bumps at) h = absurd cc
+mutex_owner (mutex.Unlock at) h = inr (λ k r fairly. (let e : false ≡ true = fairly refl in cc))
+mutex_owner at h = absurd cc
+
+module _ (w : State) (l : ℕ) (fair : kind_at w l ≡ kinds.Fair) where
+  away : (k : ℕ) (x : locks.Sort) → (rules_in w k).sort ≡ x → x ≢ locks.Mutex → (k == l) ≡ true → ⊥
+  away k x e ne same =
+      ne (sym e ∙ ap (λ j. (rules_in w j).sort) (eqb-true k l same) ∙ fair_sort (kind_at w l) fair)
+
+  only : (b : Bool) (x : Location) (d : Role) → (b ≡ true → ⊥)
+      → (if b then x else nowhere).carries ≡ Some false
+      → (if b then d else idle).claims ≡ Some (Has Exclusive)
+  only true x d none h = absurd (none refl)
+  only false x d none h = absurd cc
+
+  owner : (p : Place) (r : ℕ → Rights) → FitsItsLock w p → ReleasesFairly (call_state p r).purpose l
+      → (location_at p l).carries ≡ Some false
+      → (role_on p l).claims ≡ Some (Has Exclusive)
+  owner Idle r fits fairly h = absurd cc
+  owner (Mutex k at) r fits fairly h = by_test (k == l) refl _ _ (mutex_owner at) h
+    where
+      by_test : (b : Bool) → (k == l) ≡ b → (x : Location) (d : Role)
+          → (x.carries ≡ Some false → (d.claims ≡ Some (Has Exclusive)) ⊎
+          ((k : ℕ) (r : ℕ → Rights) → ReleasesFairly (call_state (Mutex k at) r).purpose k → ⊥))
+          → (if b then x else nowhere).carries ≡ Some false
+          → (if b then d else idle).claims ≡ Some (Has Exclusive)
+      by_test false e x d own h = absurd cc
+      by_test true e x d own h = elim (own h) [
+        | inl own ↦ own
+        | inr unfair ↦ absurd (unfair k r
+            (subst (ReleasesFairly (call_state (Mutex k at) r).purpose) (sym (eqb-true k l e)) fairly))
+      ]
+  owner (RwLock k a at) r fits fairly h =
+      only (k == l) _ _ (λ e. (let f : false ≡ true = sym
+      (ap has_readers (ap (λ j. (rules_in w j).sort) (eqb-true k l e) ∙ fair_sort (kind_at w l) fair))
+      ∙ fits.0.0 in cc)) h
+  owner (Once k at) r fits fairly h = only (k == l) _ _ (away k locks.Once fits (λ f. cc)) h
+  owner (Semaphore k at) r fits fairly h = only (k == l) _ _ (away k locks.Semaphore fits.0 (λ f. cc)) h
+  owner (Condvar k at) r fits fairly h = two (k == l) refl (is_lock l (mutex_beside at)) refl _ _ _ _ h
+    where
+      two : (b : Bool) → (k == l) ≡ b → (c : Bool) → is_lock l (mutex_beside at) ≡ c
+          → (x y : Location) (d e : Role)
+          → (if b then x else if c then y else nowhere).carries ≡ Some false
+          → (if b then d else if c then e else idle).claims ≡ Some (Has Exclusive)
+      two true e c f x y d g h = absurd (away k locks.Condvar fits.sort (λ i. cc) e)
+      two false e false f x y d g h = absurd cc
+      two false e true f x y d g h =
+          absurd (let i : true ≡ false = sym (fits.mutex l (locked_by l (mutex_beside at) f)) ∙ ap
+          is_plain_mutex fair in cc)
+
+-- ---------------------------------------------------------------- a world
+
+module _ (w : State) (h : IsWorld w) (l : ℕ) (fair : kind_at w l ≡ kinds.Fair) where
+  state : locks.IsLockState (rules_in w l) (lock_state w l)
+  state = (h.steady.sites.site l).state
+
+  unwritten : (lock_state w l).pending ≡ None
+  unwritten =
+      (state.unpending (λ k. subst (λ x. locks.Knows x Upgradable) (fair_sort (kind_at w l) fair) k)).0
+
+  in_hand : (t : ℕ) (x : Taken) → (lock_state w l).taken t ≡ Some x → (lock_state w l).exclusive ≢ None
+  in_hand t x e =
+      let carries = h.steady.stands.hands.taken x.by t l false (taken_held (place_at w t) x.by l x.want e) in
+      let claims = owner w l fair (place_at w x.by) _ (h.steady.stands.calls x.by)
+      ((h.settled.fair l fair).calls x.by) carries in
+      let own : (lock_state w l).exclusive ≡ Some x.by = (h.steady.sites.site l).held x.by (Has Exclusive)
+      claims in
+      λ none. (let f : ◌≡◌ {A = Option ℕ} (Some x.by) None = sym own ∙ none in cc)
+
+  not_aside : (t : ℕ) (o : Option ℕ) → (lock_state w l).aside ≡ o → one_if_thread t o ≡ 0
+  not_aside t None e = refl
+  not_aside t (Some u) e = absurd (subst (λ o. IsSomePending o u) unwritten (state.aside_pending u e))
+
+  by_hand : (t : ℕ) (o : Option Taken) → (lock_state w l).taken t ≡ o → 1 ≤ one_if_some o
+      → (lock_state w l).exclusive ≢ None
+  by_hand t None e some = absurd (let f : 1 ≤ 0 = some in omega arith)
+  by_hand t (Some x) e some = in_hand t x e
+
+  pub fair_owned : (t : ℕ) → 1 ≤ standing t (lock_state w l) → (lock_state w l).exclusive ≢ None
+  fair_owned t some = elim (cases_lt 0 (times t (lock_state w l).queue)) [
+    | inl lt ↦ (h.settled.fair l fair).owned (not_empty t (lock_state w l).queue lt)
+    | inr ge ↦ by_hand t ((lock_state w l).taken t) refl
+        (let none : one_if_thread t (lock_state w l).aside ≡ 0 = not_aside t (lock_state w l).aside refl in
+        let sum : 1 ≤ times t (lock_state w l).queue + one_if_thread t (lock_state w l).aside + one_if_some
+        ((lock_state w l).taken t) = some in
+        omega arith)
+  ]
