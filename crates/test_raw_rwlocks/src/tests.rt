@@ -296,7 +296,7 @@ fn fills<R: Wait>(rt: &R, lock: &AnyRwLock, token: &mut Token) -> bool
 
 #[test]
 fn a_full_lock_refuses_readers(rt: HostRuntime) -> Result<(), Fail> {
-    let (lock, mut token) = lock_alone(rt.alloc(), 2)?;
+    let (lock, mut token) = lock_alone(Sort::Normal, rt.alloc(), 2)?;
     check(&rt, fills(&rt, &lock, &mut token));
     check(&rt, look(&rt, &lock, &mut token) == FREE);
     Ok(())

@@ -20,7 +20,7 @@ const TURNS: usize = 1_000_000;
 
 // Which tries get the lock: to read, to read and upgrade, to write; and whether it is locked then,
 // and is locked exclusively.
-fn look<R: Wait>(rt: &R, lock: &Lock<false>, token: &mut Token) -> [bool; 5]
+fn look<R: Wait>(rt: &R, lock: &Lock, token: &mut Token) -> [bool; 5]
     requires { IsTokenOf (lot_of_rwlock lock.now) token.old }
     ensures { IsTokenOf (lot_of_rwlock lock.now) token.new }
 {
@@ -34,7 +34,7 @@ fn look<R: Wait>(rt: &R, lock: &Lock<false>, token: &mut Token) -> [bool; 5]
 }
 
 // Checks all that is seen beside a reader.
-fn beside_reader<R: Wait>(rt: &R, lock: &Lock<false>, token: &mut Token) -> Option<[bool; 5]>
+fn beside_reader<R: Wait>(rt: &R, lock: &Lock, token: &mut Token) -> Option<[bool; 5]>
     requires { IsTokenOf (lot_of_rwlock lock.now) token.old }
     ensures { IsTokenOf (lot_of_rwlock lock.now) token.new }
 {
@@ -45,7 +45,7 @@ fn beside_reader<R: Wait>(rt: &R, lock: &Lock<false>, token: &mut Token) -> Opti
 }
 
 // Beside one that may write later.
-fn beside_upgradable<R: Wait>(rt: &R, lock: &Lock<false>, token: &mut Token) -> Option<[bool; 5]>
+fn beside_upgradable<R: Wait>(rt: &R, lock: &Lock, token: &mut Token) -> Option<[bool; 5]>
     requires { IsTokenOf (lot_of_rwlock lock.now) token.old }
     ensures { IsTokenOf (lot_of_rwlock lock.now) token.new }
 {
@@ -56,7 +56,7 @@ fn beside_upgradable<R: Wait>(rt: &R, lock: &Lock<false>, token: &mut Token) -> 
 }
 
 // Beside a writer, behind each of its downgrades, and in the end.
-fn beside_writer<R: Wait>(rt: &R, lock: &Lock<false>, token: &mut Token) -> [[bool; 5]; 4]
+fn beside_writer<R: Wait>(rt: &R, lock: &Lock, token: &mut Token) -> [[bool; 5]; 4]
     requires { IsTokenOf (lot_of_rwlock lock.now) token.old }
     ensures { IsTokenOf (lot_of_rwlock lock.now) token.new }
 {
@@ -84,7 +84,7 @@ const BESIDE_WRITER: [[bool; 5]; 4] = [
     [true, true, true, false, false],
 ];
 
-fn all_keep_out<R: Wait + Abort>(rt: &R, lock: &Lock<false>, token: &mut Token)
+fn all_keep_out<R: Wait + Abort>(rt: &R, lock: &Lock, token: &mut Token)
     requires { IsTokenOf (lot_of_rwlock lock.now) token.old }
 {
     let reader = beside_reader(rt, lock, token);

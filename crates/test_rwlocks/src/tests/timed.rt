@@ -26,7 +26,7 @@ fn waited_long(clock: &TickClock) -> bool {
 }
 
 // Whether a reader that waits comes in, or gives up late.
-fn reads_in_time<R: Wait>(rt: &R, lock: &Lock<false>, token: &mut Token, until: bool) -> bool
+fn reads_in_time<R: Wait>(rt: &R, lock: &Lock, token: &mut Token, until: bool) -> bool
     requires { IsTokenOf (lot_of_rwlock lock.now) token.old }
     ensures { IsTokenOf (lot_of_rwlock lock.now) token.new }
 {
@@ -48,7 +48,7 @@ fn reads_in_time<R: Wait>(rt: &R, lock: &Lock<false>, token: &mut Token, until: 
 // Comes as an upgradable reader, in time or not.
 fn comes_upgradable_in_time<R: Wait>(
     rt: &R,
-    lock: &Lock<false>,
+    lock: &Lock,
     token: &mut Token,
     until: bool,
 ) -> bool
@@ -71,7 +71,7 @@ fn comes_upgradable_in_time<R: Wait>(
 }
 
 // Comes as a writer, in time or not.
-fn writes_in_time<R: Wait>(rt: &R, lock: &Lock<false>, token: &mut Token, until: bool) -> bool
+fn writes_in_time<R: Wait>(rt: &R, lock: &Lock, token: &mut Token, until: bool) -> bool
     requires { IsTokenOf (lot_of_rwlock lock.now) token.old }
     ensures { IsTokenOf (lot_of_rwlock lock.now) token.new }
 {
@@ -93,7 +93,7 @@ fn writes_in_time<R: Wait>(rt: &R, lock: &Lock<false>, token: &mut Token, until:
 // The threads that try to come in beside a writer: a reader, an upgradable one, another writer.
 fn come_beside_a_writer<R: Wait>(
     rt: &R,
-    lock: &Lock<false>,
+    lock: &Lock,
     token: &mut Token,
     until: bool,
 ) -> [bool; 3]
@@ -113,9 +113,9 @@ fn come_beside_a_writer<R: Wait>(
 // Goes. Whether it had become the writer.
 fn goes_upgraded<'l, R: Wait>(
     rt: &R,
-    lock: &Lock<false>,
+    lock: &Lock,
     token: &mut Token,
-    upgraded: Result<Writer<'l, false>, Upgradable<'l, false>>,
+    upgraded: Result<Writer<'l>, Upgradable<'l>>,
 ) -> bool
     requires token { IsTokenOf (lot_of_rwlock lock.now) token.old }
     requires guard { MatchResult upgraded (λ guard. lock_of guard ≡ lock.now)
@@ -137,7 +137,7 @@ fn goes_upgraded<'l, R: Wait>(
 // Whether an upgrade becomes the writer, where it doesn't give up late.
 fn upgrades_in_time<R: Wait>(
     rt: &R,
-    lock: &Lock<false>,
+    lock: &Lock,
     token: &mut Token,
     until: bool,
 ) -> Option<bool>
@@ -159,7 +159,7 @@ fn upgrades_in_time<R: Wait>(
 }
 
 // The ends of upgrades, of both forms.
-fn upgrades<R: Wait>(rt: &R, lock: &Lock<false>, token: &mut Token) -> [Option<bool>; 2]
+fn upgrades<R: Wait>(rt: &R, lock: &Lock, token: &mut Token) -> [Option<bool>; 2]
     requires { IsTokenOf (lot_of_rwlock lock.now) token.old }
     ensures { IsTokenOf (lot_of_rwlock lock.now) token.new }
 {
@@ -172,7 +172,7 @@ fn upgrades<R: Wait>(rt: &R, lock: &Lock<false>, token: &mut Token) -> [Option<b
 // The ends of upgrades beside a reader, and then without one.
 fn upgrades_beside_a_reader<R: Wait>(
     rt: &R,
-    lock: &Lock<false>,
+    lock: &Lock,
     token: &mut Token,
 ) -> Option<[[Option<bool>; 2]; 2]>
     requires { IsTokenOf (lot_of_rwlock lock.now) token.old }

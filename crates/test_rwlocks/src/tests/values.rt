@@ -56,7 +56,7 @@ fn four_threads_read_a_value_at_once(rt: HostRuntime) {
 }
 
 // Two guards of one thread show the value at once: what they show.
-fn shown_twice<R: Wait>(rt: &R, lock: &Lock<false>, token: &mut Token) -> Option<(u64, u64)>
+fn shown_twice<R: Wait>(rt: &R, lock: &Lock, token: &mut Token) -> Option<(u64, u64)>
     requires { IsTokenOf (lot_of_rwlock lock.now) token.old }
     ensures { IsTokenOf (lot_of_rwlock lock.now) token.new }
 {
@@ -74,7 +74,7 @@ fn shown_twice<R: Wait>(rt: &R, lock: &Lock<false>, token: &mut Token) -> Option
 type Tried = (Result<Option<u64>, Fault>, Option<u64>);
 
 // Runs closures where the lock is free: what one reads, and what another writes.
-fn try_both<R: Wait>(rt: &R, lock: &Lock<false>, token: &mut Token) -> Tried
+fn try_both<R: Wait>(rt: &R, lock: &Lock, token: &mut Token) -> Tried
     requires { IsTokenOf (lot_of_rwlock lock.now) token.old }
     ensures { IsTokenOf (lot_of_rwlock lock.now) token.new }
 {
@@ -87,7 +87,7 @@ fn try_both<R: Wait>(rt: &R, lock: &Lock<false>, token: &mut Token) -> Tried
 }
 
 // Tries while a writer has the lock, and after.
-fn try_around<R: Wait>(rt: &R, lock: &Lock<false>, token: &mut Token) -> [Tried; 2]
+fn try_around<R: Wait>(rt: &R, lock: &Lock, token: &mut Token) -> [Tried; 2]
     requires { IsTokenOf (lot_of_rwlock lock.now) token.old }
     ensures { IsTokenOf (lot_of_rwlock lock.now) token.new }
 {
@@ -106,7 +106,7 @@ fn a_busy_lock_runs_no_closure(rt: HostRuntime) {
 
 // Upgrades where nobody else reads, adds 1, and goes on as a reader by way of the upgradable right:
 // what each right showed.
-fn convert<R: Wait>(rt: &R, token: &mut Token, guard: Upgradable<'_, false>) -> Option<[u64; 4]>
+fn convert<R: Wait>(rt: &R, token: &mut Token, guard: Upgradable<'_>) -> Option<[u64; 4]>
     requires { IsTokenOf (lot_of_rwlock (lock_of guard)) token.old }
     ensures { IsTokenOf (lot_of_rwlock (lock_of guard.entry)) token.new }
 {
@@ -128,7 +128,7 @@ fn convert<R: Wait>(rt: &R, token: &mut Token, guard: Upgradable<'_, false>) -> 
 }
 
 // A conversion beside another reader, and one behind it.
-fn convert_twice<R: Wait>(rt: &R, lock: &Lock<false>, token: &mut Token) -> [Option<[u64; 4]>; 2]
+fn convert_twice<R: Wait>(rt: &R, lock: &Lock, token: &mut Token) -> [Option<[u64; 4]>; 2]
     requires { IsTokenOf (lot_of_rwlock lock.now) token.old }
     ensures { IsTokenOf (lot_of_rwlock lock.now) token.new }
 {
@@ -141,7 +141,7 @@ fn convert_twice<R: Wait>(rt: &R, lock: &Lock<false>, token: &mut Token) -> [Opt
 }
 
 // Comes in with the upgradable right, and converts it.
-fn convert_in<R: Wait>(rt: &R, lock: &Lock<false>, token: &mut Token) -> Option<[u64; 4]>
+fn convert_in<R: Wait>(rt: &R, lock: &Lock, token: &mut Token) -> Option<[u64; 4]>
     requires { IsTokenOf (lot_of_rwlock lock.now) token.old }
     ensures { IsTokenOf (lot_of_rwlock lock.now) token.new }
 {
