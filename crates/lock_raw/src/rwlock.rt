@@ -17,7 +17,6 @@ ghost use Rattle.lock_raw.specs.Answers.{IsReadersFull, IsRefusal, TriesOrFull, 
 
 use crate::rwlock_halves::RawRwLockHalves;
 use core_base::{Clock, Fault};
-use spec_locks::Access;
 use std::sync::{Arc, Wait};
 use std::time::Duration;
 
@@ -75,7 +74,6 @@ pub trait RawRwLock: RawRwLockHalves {
     /// # Errors
     ///
     /// `ReadersFull`, where as many share the lock as may.
-    #[inline(always)]
     fn lock_shared<R: Wait>(
         &self,
         rt: &R,
@@ -86,13 +84,7 @@ pub trait RawRwLock: RawRwLockHalves {
         ensures guard { MatchResult result (Self.is_shared_of self.now) IsReadersFull }
         ensures path { Self.walked self.now (Enter access.Shared Patient)
             (reading_answer result) token.old token.new }
-        ensures full { IfErr result (λ _. Self.saw_full self.now access.Shared token.old token.new) }
-    {
-        match self.lock_shared_fast(token) {
-            Ok(entered) => entered,
-            Err(rest) => self.lock_shared_slow(rt, token, rest),
-        }
-    }
+        ensures full { IfErr result (λ _. Self.saw_full self.now access.Shared token.old token.new) };
 
     /// Comes in to read where no writer keeps readers out. It may have to try again where others
     /// come and go.
@@ -113,33 +105,20 @@ pub trait RawRwLock: RawRwLockHalves {
         ensures full { IfErr result (λ _. Self.saw_full self.now access.Shared token.old token.new) };
 
     /// Gives the right to read up. The last reader wakes the writer that waits for it.
-    #[inline]
     fn unlock_shared<R: Wait>(&self, rt: &R, token: &mut Self::Token, guard: Self::SharedGuard)
         requires token { Self.is_token_of (Self.lot_of self.now) token.old }
         requires guard { Self.is_shared_of self.now guard }
         ensures token { Self.is_token_of (Self.lot_of self.now) token.new × Self.stays token.old token.new }
         ensures path { Self.walked self.now (Release access.Shared) answers.Ok token.old token.new }
-        ensures record { Self.woke self.now (Release access.Shared) token.old token.new }
-    {
-        if let Some(rest) = self.unlock_shared_fast(token, guard) {
-            self.unlock_slow(rt, token, Access::Shared, rest);
-        }
-    }
+        ensures record { Self.woke self.now (Release access.Shared) token.old token.new };
 
     /// Waits until nobody has the lock, and takes it.
-    #[inline]
     fn lock_exclusive<R: Wait>(&self, rt: &R, token: &mut Self::Token) -> Self::ExclusiveGuard
         requires { Self.is_token_of (Self.lot_of self.now) token.old }
         ensures token { Self.is_token_of (Self.lot_of self.now) token.new × Self.stays token.old token.new }
         ensures guard { Self.is_exclusive_of self.now result }
         ensures path { Self.walked self.now
-            (Enter access.Exclusive Patient) answers.Ok token.old token.new }
-    {
-        match self.lock_exclusive_fast(token) {
-            Ok(guard) => guard,
-            Err(rest) => self.lock_exclusive_slow(rt, token, rest),
-        }
-    }
+            (Enter access.Exclusive Patient) answers.Ok token.old token.new };
 
     /// Takes the lock where nobody has it, and nobody waits. It is one step.
     fn try_lock_exclusive(&self, token: &mut Self::Token) -> Option<Self::ExclusiveGuard>
@@ -150,7 +129,6 @@ pub trait RawRwLock: RawRwLockHalves {
             (answer_by result) token.old token.new };
 
     /// Gives the lock up, and wakes the threads that this lets in.
-    #[inline]
     fn unlock_exclusive<R: Wait>(
         &self,
         rt: &R,
@@ -161,12 +139,7 @@ pub trait RawRwLock: RawRwLockHalves {
         requires guard { Self.is_exclusive_of self.now guard }
         ensures token { Self.is_token_of (Self.lot_of self.now) token.new × Self.stays token.old token.new }
         ensures path { Self.walked self.now (Release access.Exclusive) answers.Ok token.old token.new }
-        ensures record { Self.woke self.now (Release access.Exclusive) token.old token.new }
-    {
-        if let Some(rest) = self.unlock_exclusive_fast(token, guard) {
-            self.unlock_slow(rt, token, Access::Exclusive, rest);
-        }
-    }
+        ensures record { Self.woke self.now (Release access.Exclusive) token.old token.new };
 
     /// Whether somebody has the lock, or a writer waits for its last readers.
     fn is_locked(&self, token: &mut Self::Token) -> bool

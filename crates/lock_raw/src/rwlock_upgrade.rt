@@ -13,7 +13,6 @@ ghost use Rattle.lock_raw.specs.Answers.{IsReadersFull, TriesOrFull, counted_ans
 use crate::rwlock::RawRwLock;
 use core_base::{Clock, Fault};
 use lock_values::{Place, Seen};
-use spec_locks::Access;
 use std::sync::Wait;
 use std::time::Duration;
 
@@ -35,7 +34,6 @@ pub trait RawRwLockUpgrade: RawRwLock {
     /// # Errors
     ///
     /// `ReadersFull`, where as many share the lock as may.
-    #[inline(always)]
     fn lock_upgradable<R: Wait>(
         &self,
         rt: &R,
@@ -48,13 +46,7 @@ pub trait RawRwLockUpgrade: RawRwLock {
         ensures path { Self.RawRwLockHalves.walked self.now (Enter access.Upgradable Patient)
             (reading_answer result) token.old token.new }
         ensures full { IfErr result
-            (λ _. Self.RawRwLockHalves.saw_full self.now access.Upgradable token.old token.new) }
-    {
-        match self.lock_upgradable_fast(token) {
-            Ok(entered) => entered,
-            Err(rest) => self.lock_upgradable_slow(rt, token, rest),
-        }
-    }
+            (λ _. Self.RawRwLockHalves.saw_full self.now access.Upgradable token.old token.new) };
 
     /// Comes in where nobody has the lock alone or with this right. It may have to try again where
     /// others come and go.
@@ -77,7 +69,6 @@ pub trait RawRwLockUpgrade: RawRwLock {
             (λ _. Self.RawRwLockHalves.saw_full self.now access.Upgradable token.old token.new) };
 
     /// Gives the right up, and wakes the threads that this lets in.
-    #[inline]
     fn unlock_upgradable<R: Wait>(
         &self,
         rt: &R,
@@ -90,12 +81,7 @@ pub trait RawRwLockUpgrade: RawRwLock {
             × Self.RawRwLockHalves.stays token.old token.new }
         ensures path { Self.RawRwLockHalves.walked self.now
             (Release access.Upgradable) answers.Ok token.old token.new }
-        ensures record { Self.RawRwLockHalves.woke self.now (Release access.Upgradable) token.old token.new }
-    {
-        if let Some(rest) = self.unlock_upgradable_fast(token, guard) {
-            self.unlock_slow(rt, token, Access::Upgradable, rest);
-        }
-    }
+        ensures record { Self.RawRwLockHalves.woke self.now (Release access.Upgradable) token.old token.new };
 
     /// Takes the first steps of `lock_upgradable`, which are all of it where the thread meets nobody.
     ///

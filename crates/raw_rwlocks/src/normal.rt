@@ -15,6 +15,7 @@ ghost use Rattle.raw_rwlocks.specs.RwLockGuards.{IsExclusiveOf, IsExclusiveOf-pr
 use crate::raw_rwlock::{MOST_READERS, RawRwLock};
 use crate::rwlock_guards::{RawExclusiveGuard, RawSharedGuard};
 use crate::rwlock_rights::LotRwLock;
+use lock_raw::RawRwLockHalves;
 use lock_values::{Open, Place, Seen, calls};
 use parking_lot_core::{Fault, ParkingLot, Token, Want};
 use run_base::driver::FOR_EVER;
@@ -248,6 +249,37 @@ impl lock_raw::RawRwLock for RawRwLock<false> {
     {
         let lock = LotRwLock::with_limit(lot, token, false, limit)?;
         Ok(RawRwLock { lock })
+    }
+
+    #[inline(always)]
+    fn lock_shared<R: Wait>(&self, rt: &R, token: &mut Token) -> Result<RawSharedGuard, Fault> {
+        match self.lock_shared_fast(token) {
+            Ok(Ok(guard)) => Ok(guard),
+            Ok(Err(fault)) => Err(fault),
+            Err(rest) => self.lock_shared_slow(rt, token, rest),
+        }
+    }
+
+    #[inline]
+    fn unlock_shared<R: Wait>(&self, rt: &R, token: &mut Token, guard: RawSharedGuard) {
+        if let Some(rest) = self.unlock_shared_fast(token, guard) {
+            self.unlock_slow(rt, token, Access::Shared, rest);
+        }
+    }
+
+    #[inline]
+    fn lock_exclusive<R: Wait>(&self, rt: &R, token: &mut Token) -> RawExclusiveGuard {
+        match self.lock_exclusive_fast(token) {
+            Ok(guard) => guard,
+            Err(rest) => self.lock_exclusive_slow(rt, token, rest),
+        }
+    }
+
+    #[inline]
+    fn unlock_exclusive<R: Wait>(&self, rt: &R, token: &mut Token, guard: RawExclusiveGuard) {
+        if let Some(rest) = self.unlock_exclusive_fast(token, guard) {
+            self.unlock_slow(rt, token, Access::Exclusive, rest);
+        }
     }
 
     #[inline]

@@ -24,6 +24,19 @@ impl lock_raw::RawRwLockUpgrade for RawRwLock<false> {
 
     ghost upgradable_view = { λ lock. piece_of (word_at lock) Upgradable };
 
+    #[inline(always)]
+    fn lock_upgradable<R: Wait>(
+        &self,
+        rt: &R,
+        token: &mut Token,
+    ) -> Result<RawUpgradableGuard, Fault> {
+        match self.lock_upgradable_fast(token) {
+            Ok(Ok(guard)) => Ok(guard),
+            Ok(Err(fault)) => Err(fault),
+            Err(rest) => self.lock_upgradable_slow(rt, token, rest),
+        }
+    }
+
     #[inline]
     fn try_lock_upgradable<R: Wait>(
         &self,
@@ -37,6 +50,13 @@ impl lock_raw::RawRwLockUpgrade for RawRwLock<false> {
             Ok(Some(right)) => Ok(Some(RawUpgradableGuard { right })),
             Ok(None) => Ok(None),
             Err(fault) => Err(fault),
+        }
+    }
+
+    #[inline]
+    fn unlock_upgradable<R: Wait>(&self, rt: &R, token: &mut Token, guard: RawUpgradableGuard) {
+        if let Some(rest) = self.unlock_upgradable_fast(token, guard) {
+            self.lock.release_slow(rt, token, Access::Upgradable, rest);
         }
     }
 
