@@ -30,6 +30,7 @@ use Rattle.spec_locks.proofs.Runs.{run_keeps}
 use Rattle.spec_locks.proofs.QueueOrder.{queues_keep_order}
 use Rattle.spec_locks.proofs.Idle.{begins, ends, goes_on, is_late}
 use Rattle.spec_locks.proofs.Firsts.{first_taken}
+use Rattle.spec_locks.proofs.Leaving.{leaves}
 use Rattle.spec_locks.proofs.Recalling.{answer_recalls, recalls_truly}
 use Rattle.spec_locks.proofs.RightsChange.{rights_change}
 use Rattle.spec_locks.proofs.OnceRuns.{closes, starts, stays_done}
@@ -304,6 +305,7 @@ step_holds w v s o full safe h = record {
   notified = nobody_wakes w v s o safe.exclude h;
   others = h.2.others;
   order = queues_keep_order w v s o h;
+  leaves = λ u l some. leaves w v s.thread o u l some s.turn h.1;
   first = λ u. first_taken w v s.thread o safe.exclude u s.turn h.1;
 }
   where

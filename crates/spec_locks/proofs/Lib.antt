@@ -34,6 +34,7 @@ pub mod RightsChange
 pub mod OnceRuns
 pub mod Firsts
 pub mod Recalling
+pub mod Leaving
 pub mod Reach
 pub mod FairQueues
 pub mod FairEvents

@@ -90,14 +90,14 @@ unpicked_part r start q =
     (both (filter (λ (x : Queued). not (wants_shared x.want)) (drop m (take n q))) (drop n q) (take n q) (drop n q) (filtered_rest (λ (x : Queued). not (wants_shared x.want)) m (take n q)) (whole (drop n q)))
 
 module _ (r : Rules) (s : LockState) (t : ℕ) where
-  owned : (x : Want) → (locks.with_owner t x s).queue ≡ s.queue
+  pub owned : (x : Want) → (locks.with_owner t x s).queue ≡ s.queue
   owned Exclusive = refl
   owned Upgradable = refl
   owned Shared = refl
   owned Wait = refl
   owned CallOnce = refl
 
-  disowned : (x : Want) → (locks.without_owner t x s).queue ≡ s.queue
+  pub disowned : (x : Want) → (locks.without_owner t x s).queue ≡ s.queue
   disowned Exclusive = refl
   disowned Upgradable = refl
   disowned Shared = refl
@@ -111,7 +111,7 @@ writes t b s = either (locks.readers s == 0)
     either true = refl
     either false = refl
 
-converts : (t : ℕ) (x : Want) (s : LockState) → (locks.converted t x s).queue ≡ s.queue
+pub converts : (t : ℕ) (x : Want) (s : LockState) → (locks.converted t x s).queue ≡ s.queue
 converts t Exclusive s = writes t true s
 converts t Upgradable s = refl
 converts t Shared s = refl
@@ -125,11 +125,11 @@ succeeds Shared t s = refl
 succeeds Wait t s = refl
 succeeds CallOnce t s = refl
 
-succeeded : (o : Option Queued) (s : LockState) → (locks.with_successor o s).queue ≡ s.queue
+pub succeeded : (o : Option Queued) (s : LockState) → (locks.with_successor o s).queue ≡ s.queue
 succeeded None s = refl
 succeeded (Some x) s = succeeds x.want x.thread s
 
-falls : (t : ℕ) (o : Option locks.Pending) (s : LockState) → (locks.falling_back t o s).queue ≡ s.queue
+pub falls : (t : ℕ) (o : Option locks.Pending) (s : LockState) → (locks.falling_back t o s).queue ≡ s.queue
 falls t None s = refl
 falls t (Some p) s = either p.falls_back
   where

@@ -120,6 +120,10 @@ pub record StepHolds (w : LocksState) (step : Step) (o : Outcome) (v : LocksStat
       ⊎ (((w.stances u).asleep ≡ true) × MayWake w step.thread u)
   -- those that stay in a queue keep their order, and a thread that joins stands last
   pub order : QueuesKeepOrder w v
+  -- a thread leaves a queue as its time is up, as it comes into a hand, or as a notification moves it
+  pub leaves : (u l : ℕ) → 1 ≤ times u (w.locks l).queue → times u (v.locks l).queue ≡ 0
+      → ((u ≡ step.thread) × ((w.calls u).late ≡ true))
+      ⊎ (((v.locks l).taken u ≢ None) ⊎ IsNotified (v.calls u).recalls)
   -- A mutex and a semaphore are given in turn: a thread that comes into a hand was the first of the queue, or
   -- of those that wait with the mutex to be notified.
   pub first : (u l : ℕ) → TakesOneAtATime (rules_at w l).sort → (v.locks l).taken u ≢ None
