@@ -1,5 +1,7 @@
 -- A thread's knowledge and rights behind a call of a `Once`.
-use Rattle.std.proofs.Common.{ℕ, zero, suc, ◌≡◌, Bool, true, false, List, ◌∷◌, Option, None, refl, sym, ap, ◌∙◌, subst}
+use Rattle.std.specs.Prelude.{IfOk, MatchResult}
+use Rattle.std.specs.declared.result.Result.{Result}
+use Rattle.std.proofs.Common.{ℕ, zero, suc, ◌≡◌, Bool, true, false, List, ◌∷◌, Option, None, refl, sym, ap, ◌∙◌, subst, Ok, Err}
 use Rattle.spec_locks.specs.Codes.{is_done}
 use Rattle.steps_base.specs.declared.acts.Act.{Act}
 use Rattle.steps_base.specs.declared.acts.Reply.TheVariants.{Value}
@@ -89,3 +91,8 @@ module _ (n : ℕ) where
   pub has_run_by : (forced s : Bool) (state : OnceState) (old mid new : Token) → Began n (CallOnce forced) state old mid → EndsRun n forced s (steps_of mid) (steps_of new) → EndedAndWoke n s (steps_of mid) (steps_of new) (last_of new) → HasRun n forced s state old new
   has_run_by forced s state old mid new b ends closes = let call : CallOnce forced ≡ CallOnce b.0 = b.2 in let same : b.0 ≡ forced = cc in
       (b.1, steps_of mid, b.3, subst (λ (f : Bool). StepsLeadTo n (once_begin n (CallOnce forced)) (steps_of old) (steps_of mid) (in_closure n f b.1)) same b.4, ends, closes)
+
+-- a call that has a value knows that its `Once` is done, and one that failed tells its error
+pub by_result : {A B : Type 0} (P : Type 0) (Q : A → Type 0) (E : B → Type 0) (r : Result A B) → IfOk r (λ _. P) → MatchResult r Q E → MatchResult r (λ _. P) E
+by_result P Q E (Ok value) knows tells = knows
+by_result P Q E (Err error) knows tells = tells

@@ -91,6 +91,10 @@ deadline_answer (Ok true) = answers.Yes
 deadline_answer (Ok false) = answers.No
 deadline_answer (Err fault) = answers.Poisoned
 
+-- the value of a cell was there, or another thread's run made it
+abbrev pub FoundAnothers : ℕ → Token → Token → Type 0
+FoundAnothers n old new = (new ≡ old) ⊎ RanNothing n (CallOnce true) answers.Ok old new
+
 -- What a wait for a `Once` answers.
 abbrev pub Waited : ℕ → Token → Token → Result (Unit {0}) Fault → Type 0
 Waited n old new (Ok done) = SawDone n old new × RanNothing n (Wait false) answers.Ok old new

@@ -44,7 +44,7 @@ pub enum OnceFault<E> {
 
 // The end of the rest of a call: in a register, so that the first step has no local to clear for
 // it.
-enum Came {
+pub(crate) enum Came {
     Done,
     Poisoned,
     /// The time of its wait was up.
@@ -222,7 +222,7 @@ impl Once {
 
     // The step with which each call begins.
     #[inline]
-    fn begin(&self, token: &mut Token) -> u64
+    pub(crate) fn begin(&self, token: &mut Token) -> u64
         requires { IsTokenOf (lot_of self.now) token.old }
         ensures token { IsTokenOf (lot_of self.now) token.new }
         ensures seen { HasLookedFirst (number_of self.now) result token.old token.new }
@@ -235,7 +235,7 @@ impl Once {
     // reference, so that a call which is done has no room to clear for it.
     #[cold]
     #[inline(never)]
-    fn go_on<R: Wait, C: Clock>(
+    pub(crate) fn go_on<R: Wait, C: Clock>(
         &self,
         rt: &R,
         token: &mut Token,
@@ -256,7 +256,7 @@ impl Once {
     }
 
     // The run of a thread that has run the closure ends.
-    fn end_run<R: Wait>(&self, rt: &R, token: &mut Token, forced: bool, succeeded: bool)
+    pub(crate) fn end_run<R: Wait>(&self, rt: &R, token: &mut Token, forced: bool, succeeded: bool)
         requires token { IsTokenOf (lot_of self.now) token.old }
         requires runs { (base : List Ownership)
             × OwnsRun (number_of self.now) base (owns_of token.old) }

@@ -1,15 +1,29 @@
 //! `OnceCell`: a value that the first that asks for it makes.
-ghost use Rattle.std.specs.Prelude.{◌≡◌, ◌⊎◌, ◌∷◌, [], Err, IfErr, IfOk, MatchResult};
+ghost use Rattle.std.specs.Prelude.{◌≡◌, ◌⊎◌, ◌∷◌, [], List, Ok, Err, true, IfErr, IfOk, MatchResult};
 ghost use Rattle.std.specs.Arc.{arc_value};
 ghost use Rattle.core_words.specs.Draws.{IsDrawn, IsDrawRefused};
 ghost use Rattle.core_words.specs.declared.words.WordKind.TheVariants as kinds;
+ghost use Rattle.core_words.specs.declared.owners.Ownership.{Ownership};
 ghost use Rattle.parking_lot_core.specs.Tokens.{IsTokenOf, view_of};
+ghost use Rattle.run_base.specs.OnceFitting.{KnowsIt, OwnsKnowing, OwnsRun};
+ghost use Rattle.run_base.specs.Telling.{owns_of};
+ghost use Rattle.spec_locks.specs.declared.calls.OnceCall.TheVariants.{CallOnce};
+ghost use Rattle.spec_locks.specs.declared.outcomes.Answer.TheVariants as answers;
 
-use crate::once::{Once, OnceFault};
+use crate::once::{Came, Once};
 use parking_lot_core::{Fault, ParkingLot, Token};
+use run_base::driver::FOR_EVER;
+use spec_locks::OnceCall;
 use std::convert::Infallible;
 use std::marker::Model;
 use std::sync::{Arc, OnceLock, Wait};
+use steps_base::bits::is_done;
+
+// Such a thread has met a value that no run made.
+fn never<R: Wait>(rt: &R) -> ! {
+    for _ in rt.forever() {}
+    unreachable!()
+}
 
 /// A value that is made once, by the first that asks for it, and then read by all.
 ///
@@ -32,7 +46,7 @@ impl<T> Model for OnceCell<T> {
 }
 
 impl<T: Drop> OnceCell<T> {
-    ghost use Rattle.run_signals.specs.Ran.{FoundOrMade, SawDone, StaysKnowing};
+    ghost use Rattle.run_signals.specs.Ran.{FoundAnothers, FoundOrMade, StaysKnowing};
     ghost use Rattle.run_signals.specs.OnceUsers.{lot_of, number_of};
 
     /// A cell that is empty.
@@ -98,11 +112,13 @@ impl<T: Drop> OnceCell<T> {
             × StaysKnowing (number_of self.now) token.old token.new }
         ensures failed { IfErr result (λ error. F.post f (Err error)) }
         ensures made { IfOk result (λ _. FoundOrMade (number_of self.now) token.old token.new) }
+        ensures value { IfOk result (λ value. F.post f (Ok value.now)
+            ⊎ FoundAnothers (number_of self.now) token.old token.new) }
     {
         if let Some(value) = self.value.get() {
             return Ok(value);
         }
-        self.make(rt, token, f)
+        self.made.make(rt, token, &self.value, f)
     }
 
     /// The value, where the closure can't fail.
@@ -124,32 +140,78 @@ impl<T: Drop> OnceCell<T> {
             Err(never) => match never {},
         }
     }
+}
 
-    #[cold]
-    #[inline(never)]
-    fn make<R: Wait, E, F: FnOnce() -> Result<T, E> + Drop>(
+impl Once {
+    ghost use Rattle.run_signals.specs.Ran.{RanNothing, SawDone, StaysKnowing};
+    ghost use Rattle.run_signals.specs.OnceUsers.{lot_of, number_of};
+
+    // Runs the closure of a cell, for a thread that owns the run, and ends the run.
+    fn fill<'a, T: Drop, R: Wait, E, F: FnOnce() -> Result<T, E> + Drop>(
         &self,
         rt: &R,
         token: &mut Token,
+        value: &'a OnceLock<T>,
         f: F,
-    ) -> Result<&T, E>
+    ) -> Result<&'a T, E>
+        requires token { IsTokenOf (lot_of self.now) token.old }
+        requires callable { F.IsAlwaysCallable f }
+        requires runs { (base : List Ownership)
+            × OwnsRun (number_of self.now) base (owns_of token.old) }
+        ensures token { IsTokenOf (lot_of self.now) token.new
+            × (token.new.number ≡ token.old.number) }
+        ensures owns { (base : List Ownership)
+            → OwnsRun (number_of self.now) base (owns_of token.old)
+            → OwnsKnowing (number_of self.now) base (owns_of token.new)
+            × IfOk result (λ _. KnowsIt (number_of self.now) base (owns_of token.new)) }
+        ensures value { MatchResult result (λ value. F.post f (Ok value.now))
+            (λ error. F.post f (Err error)) }
+    {
+        match f() {
+            Ok(made) => {
+                let set = value.try_set(made);
+                self.end_run(rt, token, true, true);
+                match set {
+                    Ok(witness) => Ok(value.value(&witness)),
+                    // Only a thread that runs sets the value, and none runs after it.
+                    Err(_) => never(rt),
+                }
+            }
+            Err(error) => {
+                self.end_run(rt, token, true, false);
+                Err(error)
+            }
+        }
+    }
+
+    // Makes the value of a cell by a run of its own, or waits for another's.
+    #[cold]
+    #[inline(never)]
+    fn make<'a, T: Drop, R: Wait, E, F: FnOnce() -> Result<T, E> + Drop>(
+        &self,
+        rt: &R,
+        token: &mut Token,
+        value: &'a OnceLock<T>,
+        f: F,
+    ) -> Result<&'a T, E>
         requires token { IsTokenOf (lot_of self.now) token.old }
         requires callable { F.IsAlwaysCallable f }
         ensures token { IsTokenOf (lot_of self.now) token.new
             × StaysKnowing (number_of self.now) token.old token.new }
         ensures ended { MatchResult result (λ _. SawDone (number_of self.now) token.old token.new)
             (λ error. F.post f (Err error)) }
+        ensures value { IfOk result (λ value. F.post f (Ok value.now)
+            ⊎ RanNothing (number_of self.now) (CallOnce true) answers.Ok token.old token.new) }
     {
-        let value = &self.value;
-        let ran = self.made.call_once_force(rt, token, move |_| {
-            let made = f()?;
-            drop(value.try_set(made));
-            Ok(())
-        });
-        match ran {
-            Ok(()) => Ok(value.wait(rt)),
-            Err(OnceFault::Failed(error)) => Err(error),
-            Err(OnceFault::Refused(_)) => unreachable!(),
+        let seen = self.begin(token);
+        if is_done(seen) {
+            return Ok(value.wait(rt));
+        }
+        let call = OnceCall::CallOnce { forced: true };
+        match self.go_on(rt, token, FOR_EVER, call, seen) {
+            Came::Done => Ok(value.wait(rt)),
+            Came::Runs(_) => self.fill(rt, token, value, f),
+            Came::Poisoned | Came::Late => unreachable!(),
         }
     }
 }

@@ -1,21 +1,54 @@
 //! As many threads as a lot has: whatever its number, a thread that was taken gets its note and its
 //! right.
-ghost use Rattle.std.specs.Prelude.{◌≡◌, ◌≤◌, All};
+ghost use Rattle.std.specs.Prelude.{◌≡◌, ◌≤◌, ◌<◌, All, IfSome};
 ghost use Rattle.core_words.specs.Lots.{IsWordOf};
 ghost use Rattle.core_words.specs.declared.words.WordKind.TheVariants.{Mutex};
+ghost use Rattle.parking_lot_core.specs.Keys.{IsKeyOf};
+ghost use Rattle.parking_lot_core.specs.Sections.{StaysIn, TookAs, rightless_in};
+ghost use Rattle.test_core.specs.Standing.{IsInLot};
 ghost use Rattle.parking_lot_core.specs.Tokens.{IsNewTicketOf, IsSameThread, IsTicketOf, IsTokenOf};
 
 use super::mutexes::{try_lock, unlock};
 use super::several::told_to;
 use super::threads::try_hand_over;
 use super::{check_eq, line_up, next_of, seats_of, sleep};
-use parking_lot_core::{Key, Keys, Note, ParkingLot, QueuePlace, Ticket, Token, Want, Word};
+use parking_lot_core::{
+    Key, Keys, Note, ParkingLot, QueuePlace, Section, Ticket, Token, Want, Word,
+};
 use std::alloc::Global;
 use std::sync::Wait;
 
 const KEY: Key = 0;
 
 const THREADS: usize = 1024;
+
+// A thread stands behind the last in a section. A place for which there is no memory is missed by
+// the test.
+fn stand<'a>(
+    lot: &ParkingLot,
+    section: &mut Section<'a>,
+    places: &mut Vec<QueuePlace<'a>>,
+    thread: usize,
+)
+    requires section { (section.old.lot.now ≡ lot.now) × IsKeyOf section.old.keys 0 }
+    requires thread { thread < lot.now.records.count }
+    requires places { All (IsInLot lot.now) places.old.items }
+    ensures section { (section.new.lot.now ≡ lot.now) × IsKeyOf section.new.keys 0 }
+    ensures same { StaysIn section.old section.new × TookAs section.old section.new
+        × (rightless_in section.new ≡ rightless_in section.old) }
+    ensures places { All (IsInLot lot.now) places.new.items }
+{
+    drop(places.push(section.append(KEY, thread, Want::Exclusive)));
+}
+
+fn next_place<'a>(lot: &ParkingLot, places: &mut Vec<QueuePlace<'a>>) -> Option<QueuePlace<'a>>
+    requires { All (IsInLot lot.now) places.old.items }
+    ensures one { IfSome result (IsInLot lot.now) }
+    ensures left { All (IsInLot lot.now) places.new.items }
+{
+    let _ = lot;
+    places.pop()
+}
 
 // All but the last stand in one line, and are taken together. How many were queued, and their
 // places.
@@ -27,13 +60,13 @@ fn take_all<'a, R: Wait>(
     threads: usize,
 ) -> (usize, Vec<QueuePlace<'a>>)
     requires { IsTokenOf lot.now token.old × (threads ≤ lot.now.records.count) }
-    ensures { IsSameThread lot.now token.old token.new }
+    ensures same { IsSameThread lot.now token.old token.new }
+    ensures places { All (IsInLot lot.now) result.1.items }
 {
     let mut places = Vec::new(alloc);
     let mut section = lot.enter(rt, token, Keys::One(KEY));
     for thread in 0..threads {
-        // A place for which there is no memory is missed by the test.
-        let _ = places.push(section.append(KEY, thread, Want::Exclusive));
+        stand(lot, &mut section, &mut places, thread);
     }
     section.leave(rt, token, Note::Normal);
     let queued = lot.queued(rt, token, KEY);
@@ -51,7 +84,8 @@ fn count_woken<'a, R: Wait>(
     places: Vec<QueuePlace<'a>>,
     word: Word,
 ) -> usize
-    requires { All (IsNewTicketOf lot.now) tickets.items }
+    requires tickets { All (IsNewTicketOf lot.now) tickets.items }
+    requires places { All (IsInLot lot.now) places.items }
 {
     let mut tickets = tickets;
     let mut places = places;
@@ -60,7 +94,7 @@ fn count_woken<'a, R: Wait>(
         let Some(ticket) = next_of(lot, &mut tickets) else {
             break;
         };
-        let Some(place) = places.pop() else {
+        let Some(place) = next_place(lot, &mut places) else {
             break;
         };
         if told_to(rt, lot, ticket, place, word) == Some(Note::Normal) {

@@ -68,25 +68,29 @@ enum Way {
     HandOff,
 }
 
+/// The places of three threads.
+pub type Three<'a> = (QueuePlace<'a>, QueuePlace<'a>, QueuePlace<'a>);
+
 /// Three threads line up in a section, under one of its keys. It gives their places.
 pub fn append_three<'a>(
     section: &mut Section<'a>,
     key: Key,
     threads: (usize, usize, usize),
     wants: (Want, Want, Want),
-) -> [QueuePlace<'a>; 3]
+) -> Three<'a>
     requires key { IsKeyOf section.old.keys key }
     requires threads { (threads.0 < section.old.lot.now.records.count)
         × (threads.1 < section.old.lot.now.records.count)
         × (threads.2 < section.old.lot.now.records.count) }
-    ensures { StaysIn section.old section.new × TookAs section.old section.new
+    ensures same { StaysIn section.old section.new × TookAs section.old section.new
         × (rightless_in section.new ≡ rightless_in section.old) }
+    ensures places { (result.0.lot.now ≡ section.old.lot.now)
+        × (result.1.lot.now ≡ section.old.lot.now) × (result.2.lot.now ≡ section.old.lot.now) }
 {
-    [
-        section.append(key, threads.0, wants.0),
-        section.append(key, threads.1, wants.1),
-        section.append(key, threads.2, wants.2),
-    ]
+    let first = section.append(key, threads.0, wants.0);
+    let second = section.append(key, threads.1, wants.1);
+    let third = section.append(key, threads.2, wants.2);
+    (first, second, third)
 }
 
 // Takes those that stand in the line. It gives the note that is then right for them.
@@ -129,9 +133,11 @@ fn take_three<'a, R: Wait>(
     lot: &'a ParkingLot,
     token: &mut Token,
     way: Way,
-) -> (Vec<Word>, [QueuePlace<'a>; 3])
+) -> (Vec<Word>, Three<'a>)
     requires { IsTokenOf lot.now token.old × (lot.now.records.count ≡ 4) }
-    ensures { IsSameThread lot.now token.old token.new }
+    ensures same { IsSameThread lot.now token.old token.new }
+    ensures places { (result.1.0.lot.now ≡ lot.now) × (result.1.1.lot.now ≡ lot.now)
+        × (result.1.2.lot.now ≡ lot.now) }
 {
     let mut given = Vec::new(alloc);
     let mut section = lot.enter(rt, token, Keys::One(KEY));
@@ -181,7 +187,7 @@ fn notes_of_three<R: Wait>(
         word,
     } = seats;
     let mut token = four.enter();
-    let (given, [first, second, third]) = take_three(rt, alloc, lot, &mut token, way);
+    let (given, (first, second, third)) = take_three(rt, alloc, lot, &mut token, way);
     drop(token.leave());
     [
         told_to(
