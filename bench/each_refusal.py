@@ -27,6 +27,7 @@ NO_ROOM = re.compile(
     r"no memory\n|nothing found in \d+ states, complete to depth \d+; memory was refused\n", re.ASCII
 )
 NO_SCHEDULE = re.compile(r"wrong after \d+ moves; no memory for the schedule\n", re.ASCII)
+NO_WAITS = "no memory to tell what the threads wait for\n"
 RUNS = [["lot", "2"], ["mutex", "1", "1"]]
 MESSAGE = "lotbench: no memory, or no thread could be started\n"
 TESTS = ["test_drain", "test_mutexes"]
@@ -55,7 +56,8 @@ def is_run_right(whole, printed, message, status):
 
 
 def is_search_right(whole, printed, message, status):
-    if status == 1 and printed == whole:
+    untold = re.sub(r"^thread .*\n", "", whole, flags=re.MULTILINE).replace("\n", "\n" + NO_WAITS, 1)
+    if status == 1 and printed in (whole, untold):
         return True
     # A device of text that has no room ends a run, with what was printed before.
     if status == 4:

@@ -1,5 +1,5 @@
 #!/usr/bin/env python3
-"""Times searches of `lotexplore`: states, seconds, states a second, and the most memory that a run took.
+"""Times searches of `lotexplore`: states, seconds of a processor, states a second, and the most memory that a run took.
 
 In each program all threads lock and unlock one mutex so often, or two mutexes in one order. `rt run` has built the program
 before.
@@ -12,7 +12,6 @@ import re
 import resource
 import subprocess
 import sys
-import time
 
 HERE = os.path.dirname(os.path.abspath(__file__))
 PROGRAM = os.path.join(HERE, "..", "crates", "lotexplore", "out", "lotexplore")
@@ -31,13 +30,14 @@ def text_of(threads, locks, times):
 
 def timed(text):
     """The states of a search, its seconds, and the greatest number of kilobytes that a search has taken so far."""
-    began = time.perf_counter()
+    before = resource.getrusage(resource.RUSAGE_CHILDREN)
     done = subprocess.run([PROGRAM], input=text, capture_output=True, text=True)
-    seconds = time.perf_counter() - began
+    after = resource.getrusage(resource.RUSAGE_CHILDREN)
+    seconds = after.ru_utime + after.ru_stime - before.ru_utime - before.ru_stime
     found = STATES.match(done.stdout)
     if not found:
         sys.exit(f"status {done.returncode}: {done.stdout}{done.stderr}")
-    return int(found[1]), seconds, resource.getrusage(resource.RUSAGE_CHILDREN).ru_maxrss
+    return int(found[1]), seconds, after.ru_maxrss
 
 
 def main():

@@ -17,7 +17,7 @@ pub fn print_waits(rt: &HostRuntime, parsed: &ProgramText, run: &Followed) -> io
         program.kinds.as_slice(),
         program.threads(),
     ) else {
-        return Ok(());
+        return println!(rt; "no memory to tell what the threads wait for");
     };
     for step in run.steps.iter() {
         world.step(*step);

@@ -5,7 +5,7 @@ use std::process::Abort;
 use std::test::Fail;
 
 /// Room for each program here.
-const ROOM: u32 = 20_000;
+const ROOM: u32 = 30_000;
 
 /// Programs of one sort of lock, or of two that wait for each other.
 const PROGRAMS: &[(&str, Found)] = &[
@@ -116,7 +116,13 @@ const PROGRAMS: &[(&str, Found)] = &[
         "threads 2\nvar x 0\nthread 0 1\nadd x 1\n",
         Found::Nothing(4),
     ),
-    // A lock of a program's own, whose release wakes nobody, or one of those that wait.
+    // A lock of a program's own, whose release wakes a waiter, or nobody.
+    (
+        "threads 2\nlock m mutex\nlock c condvar\nvar held 0\n\
+         thread 0 1\nlock m\nwhile held = 1\nwait c m\nend\nset held 1\nunlock m\n\
+         lock m\nset held 0\nnotify_one c\nunlock m\n",
+        Found::Nothing(1121),
+    ),
     (
         "threads 3\nlock m mutex\nlock c condvar\nvar held 0\n\
          thread 0 1 2\nlock m\nwhile held = 1\nwait c m\nend\nset held 1\nunlock m\n\
