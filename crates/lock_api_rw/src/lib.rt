@@ -15,8 +15,8 @@ mod visits;
 
 pub use guards::{RwLockReadGuard, RwLockUpgradableReadGuard, RwLockWriteGuard};
 pub use lock_raw::{
-    RawRwLock, RawRwLockDowngrade, RawRwLockFair, RawRwLockHalves, RawRwLockTimed, RawRwLockUpgrade,
-    RawRwLockUpgradeDowngrade, RawRwLockUpgradeFair, RawRwLockUpgradeTimed,
+    RawRwLock, RawRwLockDowngrade, RawRwLockFair, RawRwLockHalves, RawRwLockTimed,
+    RawRwLockUpgrade, RawRwLockUpgradeDowngrade, RawRwLockUpgradeFair, RawRwLockUpgradeTimed,
 };
 pub use mapped::{MappedRwLockReadGuard, MappedRwLockWriteGuard};
 pub use rwlock::RwLock;

@@ -13,9 +13,15 @@ impl<R: RawRwLock, T> RwLock<R, T> {
     pub fn get_mut(&mut self) -> &mut T
         ensures* same { sem 𝓛
             (Lends (the_row R.row T.row R.Lot.row R.Token.row R.SharedGuard.row
-            R.ExclusiveGuard.row R.Rest.row (record { limit_of = R.limit_of; seats_of = R.seats_of;
-            drew = R.drew; found_full = R.found_full; looked = R.looked;
-            looked_for_writer = R.looked_for_writer; gave_up = R.gave_up }) R.RawRwLockHalves)
+            R.ExclusiveGuard.row R.Rest.row (record {
+              limit_of = R.limit_of;
+              seats_of = R.seats_of;
+              drew = R.drew;
+              found_full = R.found_full;
+              looked = R.looked;
+              looked_for_writer = R.looked_for_writer;
+              gave_up = R.gave_up;
+            }) R.RawRwLockHalves)
             T.row
             self.entry result (λ _. self.old)) }
     {

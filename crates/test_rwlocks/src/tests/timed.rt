@@ -46,12 +46,7 @@ fn reads_in_time<R: Wait>(rt: &R, lock: &Lock, token: &mut Token, until: bool) -
 }
 
 // Comes as an upgradable reader, in time or not.
-fn comes_upgradable_in_time<R: Wait>(
-    rt: &R,
-    lock: &Lock,
-    token: &mut Token,
-    until: bool,
-) -> bool
+fn comes_upgradable_in_time<R: Wait>(rt: &R, lock: &Lock, token: &mut Token, until: bool) -> bool
     requires { IsTokenOf (lot_of_rwlock lock.now) token.old }
     ensures { IsTokenOf (lot_of_rwlock lock.now) token.new }
 {
@@ -91,12 +86,7 @@ fn writes_in_time<R: Wait>(rt: &R, lock: &Lock, token: &mut Token, until: bool) 
 }
 
 // The threads that try to come in beside a writer: a reader, an upgradable one, another writer.
-fn come_beside_a_writer<R: Wait>(
-    rt: &R,
-    lock: &Lock,
-    token: &mut Token,
-    until: bool,
-) -> [bool; 3]
+fn come_beside_a_writer<R: Wait>(rt: &R, lock: &Lock, token: &mut Token, until: bool) -> [bool; 3]
     requires { IsTokenOf (lot_of_rwlock lock.now) token.old }
     ensures { IsTokenOf (lot_of_rwlock lock.now) token.new }
 {
@@ -135,12 +125,7 @@ fn goes_upgraded<'l, R: Wait>(
 }
 
 // Whether an upgrade becomes the writer, where it doesn't give up late.
-fn upgrades_in_time<R: Wait>(
-    rt: &R,
-    lock: &Lock,
-    token: &mut Token,
-    until: bool,
-) -> Option<bool>
+fn upgrades_in_time<R: Wait>(rt: &R, lock: &Lock, token: &mut Token, until: bool) -> Option<bool>
     requires { IsTokenOf (lot_of_rwlock lock.now) token.old }
     ensures { IsTokenOf (lot_of_rwlock lock.now) token.new }
 {
