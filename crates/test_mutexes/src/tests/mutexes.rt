@@ -47,9 +47,19 @@ fn what_was_written_is_there(rt: HostRuntime) {
     let seen = [
         replace(&rt, &mutex, &mut token, 7),
         clear(&rt, &mutex, &mut token),
-        replace(&rt, &mutex, &mut token, 1),
+        mutex.replace(&rt, &mut token, 1),
     ];
     check_eq(&rt, seen, [5, 7, 0]);
+}
+
+#[test]
+fn a_value_that_is_set_is_got(rt: HostRuntime) {
+    let (mutex, mut token) = mutex_alone(&rt, rt.alloc(), 5);
+    let before = mutex.get(&rt, &mut token);
+    mutex.set(&rt, &mut token, 9);
+    let seen = [before, mutex.get(&rt, &mut token)];
+    check_eq(&rt, seen, [5, 9]);
+    check(&rt, !mutex.is_locked(&mut token));
 }
 
 // Pushes under the mutex. Whether that value alone is there.
@@ -174,27 +184,12 @@ fn the_value_is_dropped_with_its_mutex(rt: HostRuntime) {
     check_eq(&rt, drops.load(SeqCst), 1);
 }
 
-// Puts another value in place of the one that a mutex has, under its guard: how often a value had
-// been dropped then.
-fn drops_by_writing<'d, R: Wait>(
-    rt: &R,
-    mutex: &Mutex<Counts<'d>>,
-    token: &mut Token,
-    drops: &'d AtomicUsize,
-) -> usize
-    requires { IsTokenOf (lot_of mutex.now) token.old }
-{
-    mutex.with(rt, token, move |value: &mut Counts| {
-        drop(mem::replace(value, Counts(drops)));
-        drops.load(SeqCst)
-    })
-}
-
 #[test]
 fn a_value_that_is_replaced_is_dropped_once(rt: HostRuntime) {
     let drops = AtomicUsize::new(0);
     let (mutex, mut token) = mutex_alone(&rt, rt.alloc(), Counts(&drops));
-    check_eq(&rt, drops_by_writing(&rt, &mutex, &mut token, &drops), 1);
+    mutex.set(&rt, &mut token, Counts(&drops));
+    check_eq(&rt, drops.load(SeqCst), 1);
     drop(mutex);
     check_eq(&rt, drops.load(SeqCst), 2);
 }
