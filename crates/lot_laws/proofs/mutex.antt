@@ -8,5 +8,6 @@ pub mod Words
 pub mod Steps
 pub mod Owing
 pub mod Promises
+pub mod FairReleases
 pub mod FairMutexes
 pub mod FairHands

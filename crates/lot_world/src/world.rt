@@ -17,7 +17,7 @@ ghost use Rattle.lot_laws.specs.Refinement.{locks_of, ChangesOneThing};
 ghost use Rattle.lot_laws.specs.Promises.{IsKept};
 ghost use Rattle.lot_laws.specs.Fair.{IsFair};
 ghost use Rattle.lot_laws.specs.Owing.{OwesSince};
-ghost use Rattle.lot_laws.specs.Overtaking.{NobodyIsOvertaken};
+ghost use Rattle.lot_laws.specs.Overtaking.{FairReleasesKeepTurns, NobodyIsOvertaken};
 ghost use Rattle.lot_laws.specs.WorldRuns.{IsWorldRun, Tells, states_of, LooksNoMore, SleepersStay, TouchesOnlyByGoing, TriesAtOnce};
 ghost use Rattle.lot_laws.specs.Solo.{IsUnderWay, IsUnobstructed, HasWhatItReads, IsBarred, OnlyTries, Rests, EndsAlone, IsSoloRun};
 ghost use Rattle.lot_machine.specs.Views.{StandUnder, owners_of, queue_of, debts_of};
@@ -242,6 +242,10 @@ impl<Q: Queues + Drop> World<Q> {
         // releases pass it on to others.
         ensures in_turn { OnOk result (NobodyIsOvertaken self.old steps.now self.new) }
 
+        // So does a plain mutex while each call gives it up fairly, from a state on in which it is
+        // owned. It stays owned while the thread is in its queue, so that nobody comes in between.
+        ensures fair_turns { OnOk result (FairReleasesKeepTurns self.old steps.now self.new) }
+
         // The headline, from the opening state on: some run of the abstract locks tells these
         // outcomes, and in each of its states nobody is forgotten.
         ensures headline { (kinds : List Kind) (threads : ℕ) → self.old ≡ opening kinds threads
@@ -274,6 +278,8 @@ impl<Q: Queues + Drop> World<Q> {
             (λ told. IsWorldRun self.old (take stopped.taken steps.now) told self.new)) }
         ensures stopped_in_turn { IfErr result
             (λ stopped. NobodyIsOvertaken self.old (take stopped.taken steps.now) self.new) }
+        ensures stopped_fair_turns { IfErr result
+            (λ stopped. FairReleasesKeepTurns self.old (take stopped.taken steps.now) self.new) }
         ensures stopped_headline { (kinds : List Kind) (threads : ℕ)
             → self.old ≡ opening kinds threads
             → IfErr result (λ stopped. Tells outcomes.old.items outcomes.new.items

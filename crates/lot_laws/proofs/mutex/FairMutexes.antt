@@ -6,14 +6,12 @@ use Rattle.spec_locks.specs.declared.calls.Step.{Step}
 use Rattle.spec_locks.specs.declared.kinds.Kind.{Kind}
 use Rattle.spec_locks.specs.declared.kinds.Kind.TheVariants as kinds
 use Rattle.spec_locks.specs.Kinds.{is_plain_mutex}
-use Rattle.spec_locks.specs.Bypass.{LetsGoWhileSomeWait, ReleasesFairly}
-use Rattle.spec_locks.specs.Codes.{parked_in}
+use Rattle.spec_locks.specs.Bypass.{ReleasesFairly}
 use Rattle.spec_locks.specs.Locks.{LockState, Queued, Rights, rights_of, times}
 use Rattle.spec_locks.specs.Locks as locks
 use Rattle.spec_locks.specs.Purposes.{rules_of}
 use Rattle.spec_locks.specs.Runs.{IsOpening}
 use Rattle.spec_locks.specs.Sites.{Role, has_readers, idle}
-use Rattle.spec_locks.proofs.FairEvents.{FairlyGoes, fairly_goes}
 use Rattle.spec_locks.proofs.FairQueues.{fair_stays}
 use Rattle.steps_condvar.specs.CondvarSteps.{mutex_beside}
 use Rattle.steps_mutex.specs.declared.hand_off.HandOffAt.TheVariants as hand_off
@@ -34,13 +32,14 @@ use Rattle.steps_rwlock_fair.specs.declared.places.RwLockCallPlace.TheVariants.{
 use Rattle.lot_laws.proofs.once.Marks.{opening_unmarked, unmarked_after}
 use Rattle.lot_laws.proofs.once.Runs.{opening_running, put_running, running_after}
 use Rattle.lot_laws.proofs.promises.Promises.{opening_is}
-use Rattle.lot_machine.specs.Machine.{State, after, kind_at, opening, place_at, put, runs_closure, step_outcome, word_at}
+use Rattle.lot_machine.specs.Machine.{State, after, kind_at, opening, place_at, put, runs_closure, step_outcome}
 use Rattle.lot_laws.specs.Locations.{role_on}
+use Rattle.lot_laws.specs.Overtaking.{IsGivenUpFairly}
 use Rattle.lot_laws.specs.Refinement.{call_at, call_on_both, call_state, lock_state, locks_of}
 use Rattle.lot_laws.specs.SitesOf.{AreFairMutexes, FitsItsLock, IsFairMutex, IsInductive, IsSettled, IsWorld, AreCondvars, AreCounted, is_mutex, rules_in}
 use Rattle.lot_laws.proofs.calls.LockSteps.{after_step}
 use Rattle.lot_laws.proofs.machine.KindsStay.{after_kinds}
-use Rattle.lot_laws.proofs.promises.Fair.{is_fair}
+use Rattle.lot_laws.proofs.mutex.FairReleases.{goes_fairly, hands_over}
 
 fair_rules : (k : Kind) → k ≡ kinds.Fair → (rules_of k).sort ≡ locks.Mutex
 fair_rules k e = ap (λ x. (rules_of x).sort) e
@@ -102,33 +101,23 @@ module _ (w : State) (l : ℕ) (fair : kind_at w l ≡ kinds.Fair) where
       two false e false f = refl
       two false e true f = absurd (let g : true ≡ false = sym (fits.mutex l (locked_by l (mutex_beside at) f)) ∙ ap is_plain_mutex fair in cc)
 
+pub given_up_fairly : (w : State) → IsWorld w → (l : ℕ) → kind_at w l ≡ kinds.Fair → IsGivenUpFairly w l
+given_up_fairly w h l fair = record {
+  calls = (h.settled.fair l fair).calls;
+  brought = λ t sets. (let e : false ≡ true = sym (place_sets w l fair (place_at w t) (h.steady.stands.calls t)) ∙ sets in cc);
+}
+
 -- ---------------------------------------------------------------- a step
 
 module _ (w : State) (s : Step) (h : IsWorld w) (l : ℕ) (fair : kind_at w l ≡ kinds.Fair) where
   abbrev v : State
   v = after w s
 
+  one_owner : is_mutex (kind_at w l) ≡ true
+  one_owner = fair_mutex (kind_at w l) fair
+
   turn_is : Rattle.lot_laws.proofs.calls.LockSteps.IsTurn (locks_of w) s (step_outcome w s) (locks_of v)
   turn_is = after_step w s h.shaped h.steady h.counted h.condvars
-
-  -- each fair release then hands it over where somebody waits
-  hands_over : LetsGoWhileSomeWait (locks_of w) (locks_of v) s.thread l → ⊥
-  hands_over lets = elim ((is_fair w s h.shaped h.steady h.counted h.condvars).gives s.thread l (lets.releases, lets.owner, fair_mutex (kind_at w l) fair)) [
-    | inl on ↦ (let e : ◌≡◌ {A = Option ℕ} None (Some s.thread) = sym lets.gone ∙ on.0 in cc)
-    | inr other ↦ elim other [
-      | inl hands ↦ (let e : ◌≡◌ {A = Option ℕ} None (Some hands.0) = sym lets.gone ∙ hands.2 in cc)
-      | inr goes ↦ elim goes.2 [
-        | inl clear ↦ elim ((h.steady.sites.site l).parked lets.waiter) [
-          | inl set ↦ (let e : false ≡ true = sym clear ∙ (ap (λ x. parked_in x (word_at w l)) (sym (fair_rules (kind_at w l) fair)) ∙ set) in cc)
-          | inr sets ↦ (let e : false ≡ true = sym (place_sets w l fair (place_at w sets.0) (h.steady.stands.calls sets.0)) ∙ sets.1 in cc)
-        ]
-        | inr empty ↦ lets.waiter empty
-      ]
-    ]
-  ]
-
-  pub goes_fairly : FairlyGoes (locks_of w) (locks_of v) s.thread l
-  goes_fairly = fairly_goes (locks_of w) (locks_of v) s.thread l (step_outcome w s) (λ k. (h.steady.sites.site k).state) (fair_rules (kind_at w l) fair) (h.settled.fair l fair).calls s.turn turn_is.1
 
   some_stands : (q : List Queued) → q ≢ [] → (u : ℕ) × (1 ≤ times u q)
   some_stands [] n = absurd (n refl)
@@ -137,9 +126,9 @@ module _ (w : State) (s : Step) (h : IsWorld w) (l : ℕ) (fair : kind_at w l �
   still_fair : IsFairMutex v l
   still_fair = record {
     calls = fair_stays (locks_of w) (locks_of v) s (step_outcome w s) l fair (h.settled.fair l fair).calls turn_is.1;
-    owned = λ some. (let first = some_stands (lock_state v l).queue some in elim (goes_fairly.owned first.0 first.1 (h.settled.fair l fair).owned) [
+    owned = λ some. (let first = some_stands (lock_state v l).queue some in elim ((goes_fairly w s h l one_owner (given_up_fairly w h l fair)).owned first.0 first.1 (h.settled.fair l fair).owned) [
       | inl owned ↦ owned
-      | inr lets ↦ absurd (hands_over lets)
+      | inr lets ↦ absurd (hands_over w s h l one_owner (given_up_fairly w h l fair) lets)
     ]);
   }
 

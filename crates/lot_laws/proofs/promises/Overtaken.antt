@@ -1,4 +1,5 @@
--- A run of the world passes a fair mutex on no more often than there were threads before one that waits.
+-- A run of the world passes a mutex that is given up fairly on no more often than there were threads before one
+-- that waits.
 use Rattle.std.proofs.Common.{ℕ, zero, suc, true, false, Option, Some, None, ◌≡◌, ◌≢◌, ◌+◌, ◌≤◌, ◌<◌, ◌⊎◌, inl, inr, List, [], ◌∷◌, length, refl, sym, ◌∙◌, ap, subst, arith}
 use Rattle.std.proofs.lemmas.Bool.{cases_lt}
 use Rattle.spec_locks.specs.declared.calls.Step.{Step}
@@ -7,25 +8,24 @@ use Rattle.spec_locks.specs.declared.kinds.Kind.TheVariants as kinds
 use Rattle.spec_locks.specs.Bypass.{IsHandedOn, PassesOn, ahead, in_hands}
 use Rattle.spec_locks.specs.Locks.{LockState, Queued, Taken, one_if_some, standing, times}
 use Rattle.spec_locks.specs.Locks as locks
-use Rattle.spec_locks.specs.Purposes.{MayWait, rules_of}
+use Rattle.spec_locks.specs.Purposes.{MayWait}
 use Rattle.spec_locks.specs.Sites.{Line, Main, Second, has_readers}
 use Rattle.spec_locks.proofs.Bypass.{bypass_is_bounded}
+use Rattle.spec_locks.proofs.FairEvents.{FairlyGoes}
 use Rattle.lot_steps.specs.declared.places.Place.TheVariants.{Idle}
 use Rattle.lot_machine.specs.Machine.{State, after, after_steps, kind_at, place_at, step_outcomes}
 use Rattle.lot_machine.proofs.Shape.{after_size}
 use Rattle.lot_laws.specs.Promises.{IsKept, WaitsFor}
 use Rattle.lot_laws.specs.Owing.{IsInside}
-use Rattle.lot_laws.specs.Refinement.{call_at, call_state, lock_state, locks_of, taken_at}
-use Rattle.lot_laws.specs.SitesOf.{IsWorld, rules_in}
-use Rattle.lot_laws.specs.Overtaking.{NobodyIsOvertaken, StandsThroughout, passes}
+use Rattle.lot_laws.specs.Refinement.{call_at, call_state, lock_state, locks_of, owner_at, taken_at}
+use Rattle.lot_laws.specs.SitesOf.{IsWorld, is_mutex, rules_in}
+use Rattle.lot_laws.specs.Overtaking.{FairReleasesKeepTurns, IsGivenUpFairlyIn, NobodyIsOvertaken, OwnedThroughout, StandsThroughout, passes}
 use Rattle.lot_laws.proofs.alone.WorldRuns.{step_is, world_after, world_kept}
 use Rattle.lot_laws.proofs.machine.KindsStay.{after_kinds}
 use Rattle.lot_laws.proofs.machine.Parts.{past_all, taken_held}
-use Rattle.lot_laws.proofs.mutex.FairMutexes.{goes_fairly}
+use Rattle.lot_laws.proofs.mutex.FairMutexes.{given_up_fairly}
+use Rattle.lot_laws.proofs.mutex.FairReleases.{goes_fairly, mutex_sort, stays_owned}
 use Rattle.lot_laws.proofs.promises.SitesPromise.{not_empty}
-
-fair_sort : (k : Kind) → k ≡ kinds.Fair → (rules_of k).sort ≡ locks.Mutex
-fair_sort k e = ap (λ x. (rules_of x).sort) e
 
 -- ---------------------------------------------------------------- one in a hand
 
@@ -51,12 +51,9 @@ one_hand n taken same = (by_number n).0
       )
     ]
 
-module _ (w : State) (h : IsWorld w) (l : ℕ) (fair : kind_at w l ≡ kinds.Fair) where
+module _ (w : State) (h : IsWorld w) (l : ℕ) (sort : (rules_in w l).sort ≡ locks.Mutex) where
   abbrev k : IsKept w
   k = world_kept w h
-
-  sort : (rules_in w l).sort ≡ locks.Mutex
-  sort = fair_sort (kind_at w l) fair
 
   -- each hand is that of the thread inside
   inside_main : (u : ℕ) (x : Taken) → (lock_state w l).taken u ≡ Some x → IsInside w x.by l Main
@@ -98,37 +95,63 @@ stands_first : (w : State) (ss : List Step) (l t : ℕ) → StandsThroughout w s
 stands_first w [] l t h = h
 stands_first w (s ∷ ss) l t h = h.0
 
-handed_on : (w : State) (s : Step) (h : IsWorld w) (n l t : ℕ) → length w.places ≡ n → kind_at w l ≡ kinds.Fair → WaitsFor w t l → WaitsFor (after w s) t l
-    → IsHandedOn (locks_of w) (locks_of (after w s)) n l t
-handed_on w s h n l t size fair before now = record {
-  mutex = fair_sort (kind_at w l) fair;
+-- a step between two states in which it waits and the mutex is owned
+handed_on : (w : State) (s : Step) (h : IsWorld w) (n l t : ℕ) → length w.places ≡ n → (rules_in w l).sort ≡ locks.Mutex
+    → FairlyGoes (locks_of w) (locks_of (after w s)) s.thread l → WaitsFor w t l → WaitsFor (after w s) t l
+    → owner_at w l ≢ None → owner_at (after w s) l ≢ None → IsHandedOn (locks_of w) (locks_of (after w s)) n l t
+handed_on w s h n l t size sort goes before now owned owned_on = record {
+  mutex = sort;
   waits = before;
   waits_on = now;
-  owned = (h.settled.fair l fair).owned (not_empty t (lock_state w l).queue before);
-  owned_on = ((world_after w s h).settled.fair l (after_kinds w s l ∙ fair)).owned (not_empty t (lock_state (after w s) l).queue now);
-  few = λ u some. subst (λ m. u < m) size (is_thread w h l fair u some);
-  hands = (goes_fairly w s h l fair).hands;
+  owned = owned;
+  owned_on = owned_on;
+  few = λ u some. subst (λ m. u < m) size (is_thread w h l sort u some);
+  hands = goes.hands;
 }
 
-passes_on : (ss : List Step) (w : State) (n l t : ℕ) → IsWorld w → length w.places ≡ n → kind_at w l ≡ kinds.Fair → StandsThroughout w ss l t
-    → PassesOn n l t (passes w ss l) (locks_of w) ss (step_outcomes w ss) (locks_of (after_steps w ss))
-passes_on [] w n l t h size fair stands = (refl, refl)
-passes_on (s ∷ ss) w n l t h size fair stands = (
-  locks_of (after w s),
-  passes (after w s) ss l,
-  step_is w s h,
-  handed_on w s h n l t size fair stands.0 (stands_first (after w s) ss l t stands.1),
-  refl,
-  passes_on ss (after w s) n l t (world_after w s h) ((after_size w s).threads ∙ size) (after_kinds w s l ∙ fair) stands.1,
-)
+-- a run between states in which it waits, the mutex is owned and each step gives it up fairly
+passes_on : (ss : List Step) (w : State) (n l t : ℕ) → IsWorld w → length w.places ≡ n → is_mutex (kind_at w l) ≡ true → owner_at w l ≢ None
+    → IsGivenUpFairlyIn w ss l → StandsThroughout w ss l t
+    → OwnedThroughout w ss l × PassesOn n l t (passes w ss l) (locks_of w) ss (step_outcomes w ss) (locks_of (after_steps w ss))
+passes_on [] w n l t h size mutex owned fairly stands = (owned, (refl, refl))
+passes_on (s ∷ ss) w n l t h size mutex owned fairly stands =
+    let now = stands_first (after w s) ss l t stands.1 in
+    let still = stays_owned w s h l mutex fairly.0 t now owned in
+    let more = passes_on ss (after w s) n l t (world_after w s h) ((after_size w s).threads ∙ size) (ap is_mutex (after_kinds w s l) ∙ mutex) still fairly.1 stands.1 in
+    (
+      (owned, more.0),
+      (
+        locks_of (after w s),
+        passes (after w s) ss l,
+        step_is w s h,
+        handed_on w s h n l t size (mutex_sort (kind_at w l) mutex) (goes_fairly w s h l mutex fairly.0) stands.0 now owned still,
+        refl,
+        more.1,
+      ),
+    )
 
 pub world_steps : (ss : List Step) (w : State) → IsWorld w → IsWorld (after_steps w ss)
 world_steps [] w h = h
 world_steps (s ∷ ss) w h = world_steps ss (after w s) (world_after w s h)
 
+pub turns_are_kept : (w v : State) (ss : List Step) → IsWorld w → v ≡ after_steps w ss → FairReleasesKeepTurns w ss v
+turns_are_kept w v ss h led t l mutex owned fairly stands =
+    let run = passes_on ss w (length w.places) l t h refl mutex owned fairly stands in
+    (run.0, subst (λ (x : State). passes w ss l + ahead t (lock_state x l).queue ≤ ahead t (lock_state w l).queue + 1) (sym led)
+    (let bound = bypass_is_bounded (length w.places) l t (passes w ss l) (locks_of w) (locks_of (after_steps w ss)) ss (step_outcomes w ss) (world_kept w h).state run.1 in
+    let few = few_hands w h l (mutex_sort (kind_at w l) mutex) (length w.places) in
+    omega arith))
+
+-- ---------------------------------------------------------------- a fair mutex
+
+fair_is : (k : Kind) → k ≡ kinds.Fair → is_mutex k ≡ true
+fair_is k e = ap is_mutex e
+
+gives_up : (ss : List Step) (w : State) (l : ℕ) → IsWorld w → kind_at w l ≡ kinds.Fair → IsGivenUpFairlyIn w ss l
+gives_up [] w l h fair = tt
+gives_up (s ∷ ss) w l h fair = (given_up_fairly w h l fair, gives_up ss (after w s) l (world_after w s h) (after_kinds w s l ∙ fair))
+
 pub nobody_is_overtaken : (w v : State) (ss : List Step) → IsWorld w → v ≡ after_steps w ss → NobodyIsOvertaken w ss v
 nobody_is_overtaken w v ss h led t l fair stands =
-    subst (λ (x : State). passes w ss l + ahead t (lock_state x l).queue ≤ ahead t (lock_state w l).queue + 1) (sym led)
-    (let bound = bypass_is_bounded (length w.places) l t (passes w ss l) (locks_of w) (locks_of (after_steps w ss)) ss (step_outcomes w ss) (world_kept w h).state (passes_on ss w (length w.places) l t h refl fair stands) in
-    let few = few_hands w h l fair (length w.places) in
-    omega arith)
+    (turns_are_kept w v ss h led t l (fair_is (kind_at w l) fair) ((h.settled.fair l fair).owned (not_empty t (lock_state w l).queue (stands_first w ss l t stands)))
+    (gives_up ss w l h fair) stands).1
