@@ -9,5 +9,6 @@ pub mod Steps
 pub mod Owing
 pub mod Promises
 pub mod FairReleases
+pub mod FreeMutexes
 pub mod FairMutexes
 pub mod FairHands

@@ -17,7 +17,7 @@ ghost use Rattle.lot_laws.specs.Refinement.{locks_of, ChangesOneThing};
 ghost use Rattle.lot_laws.specs.Promises.{IsKept};
 ghost use Rattle.lot_laws.specs.Fair.{IsFair};
 ghost use Rattle.lot_laws.specs.Owing.{OwesSince};
-ghost use Rattle.lot_laws.specs.Overtaking.{FairReleasesKeepTurns, NobodyIsOvertaken};
+ghost use Rattle.lot_laws.specs.Overtaking.{NobodyIsOvertaken};
 ghost use Rattle.lot_laws.specs.WorldRuns.{IsWorldRun, Tells, states_of, LooksNoMore, SleepersStay, TouchesOnlyByGoing, TriesAtOnce};
 ghost use Rattle.lot_laws.specs.Solo.{IsUnderWay, IsUnobstructed, HasWhatItReads, IsBarred, OnlyTries, Rests, EndsAlone, IsSoloRun};
 ghost use Rattle.lot_machine.specs.Views.{StandUnder, owners_of, queue_of, debts_of};
@@ -238,13 +238,9 @@ impl<Q: Queues + Drop> World<Q> {
             (IsGuaranteed kinds threads (states_of self.old steps.now) steps.now)) }
         ensures holds { OnOk result (StateHolds (locks_of self.new) (filled_at self.new)) }
 
-        // A fair mutex lets nobody be overtaken: while a thread is k-th in its queue, at most k
-        // releases pass it on to others.
+        // A fair mutex, and a plain one while each call gives it up fairly, lets nobody be
+        // overtaken: while a thread is k-th in its queue, at most k others come to own it.
         ensures in_turn { OnOk result (NobodyIsOvertaken self.old steps.now self.new) }
-
-        // So does a plain mutex while each call gives it up fairly, from a state on in which it is
-        // owned. It stays owned while the thread is in its queue, so that nobody comes in between.
-        ensures fair_turns { OnOk result (FairReleasesKeepTurns self.old steps.now self.new) }
 
         // The headline, from the opening state on: some run of the abstract locks tells these
         // outcomes, and in each of its states nobody is forgotten.
@@ -278,8 +274,6 @@ impl<Q: Queues + Drop> World<Q> {
             (λ told. IsWorldRun self.old (take stopped.taken steps.now) told self.new)) }
         ensures stopped_in_turn { IfErr result
             (λ stopped. NobodyIsOvertaken self.old (take stopped.taken steps.now) self.new) }
-        ensures stopped_fair_turns { IfErr result
-            (λ stopped. FairReleasesKeepTurns self.old (take stopped.taken steps.now) self.new) }
         ensures stopped_headline { (kinds : List Kind) (threads : ℕ)
             → self.old ≡ opening kinds threads
             → IfErr result (λ stopped. Tells outcomes.old.items outcomes.new.items

@@ -11,9 +11,8 @@ use Rattle.spec_locks.specs.Locks.{LockState, Queued, Rights, rights_of, times}
 use Rattle.spec_locks.specs.Locks as locks
 use Rattle.spec_locks.specs.Purposes.{rules_of}
 use Rattle.spec_locks.specs.Runs.{IsOpening}
-use Rattle.spec_locks.specs.Sites.{Role, has_readers, idle}
+use Rattle.spec_locks.specs.Sites.{has_readers}
 use Rattle.spec_locks.proofs.FairQueues.{fair_stays}
-use Rattle.steps_condvar.specs.CondvarSteps.{mutex_beside}
 use Rattle.steps_mutex.specs.declared.hand_off.HandOffAt.TheVariants as hand_off
 use Rattle.steps_mutex.specs.declared.lock.LockAt.TheVariants as lock
 use Rattle.steps_mutex.specs.declared.places.MutexPlace.{MutexPlace}
@@ -34,11 +33,11 @@ use Rattle.lot_laws.proofs.once.Runs.{opening_running, put_running, running_afte
 use Rattle.lot_laws.proofs.promises.Promises.{opening_is}
 use Rattle.lot_machine.specs.Machine.{State, after, kind_at, opening, place_at, put, runs_closure, step_outcome}
 use Rattle.lot_laws.specs.Locations.{role_on}
-use Rattle.lot_laws.specs.Overtaking.{IsGivenUpFairly}
 use Rattle.lot_laws.specs.Refinement.{call_at, call_on_both, call_state, lock_state, locks_of}
 use Rattle.lot_laws.specs.SitesOf.{AreFairMutexes, FitsItsLock, IsFairMutex, IsInductive, IsSettled, IsWorld, AreCondvars, AreCounted, is_mutex, rules_in}
 use Rattle.lot_laws.proofs.calls.LockSteps.{after_step}
 use Rattle.lot_laws.proofs.machine.KindsStay.{after_kinds}
+use Rattle.lot_laws.proofs.mutex.FairHands.{given_up_fairly}
 use Rattle.lot_laws.proofs.mutex.FairReleases.{goes_fairly, hands_over}
 
 fair_rules : (k : Kind) → k ≡ kinds.Fair → (rules_of k).sort ≡ locks.Mutex
@@ -46,66 +45,6 @@ fair_rules k e = ap (λ x. (rules_of x).sort) e
 
 fair_mutex : (k : Kind) → k ≡ kinds.Fair → is_mutex k ≡ true
 fair_mutex k e = ap is_mutex e
-
--- ---------------------------------------------------------------- nobody brings it waiters
-
-mutex_sets : (at : MutexPlace) → (profile (Mutex 0 at)).role.sets ≡ false
-mutex_sets (mutex.Lock e r lock.First) = refl
-mutex_sets (mutex.Lock e r lock.Load) = refl
-mutex_sets (mutex.Lock e r (lock.Decide seen)) = refl
-mutex_sets (mutex.Lock e r lock.Check) = refl
-mutex_sets (mutex.Lock e r (lock.Leave parked)) = refl
-mutex_sets (mutex.Lock e r lock.Asleep) = refl
-mutex_sets (mutex.Lock e r (lock.Taken by)) = refl
-mutex_sets (mutex.Lock e r (lock.Handed by)) = refl
-mutex_sets (mutex.Lock e r lock.Accept) = refl
-mutex_sets (mutex.Lock e r lock.Remove) = refl
-mutex_sets (mutex.Lock e r lock.Clear) = refl
-mutex_sets (mutex.Lock e r lock.GiveUp) = refl
-mutex_sets mutex.TryLock = refl
-mutex_sets (mutex.Unlock unlock.Subtract) = refl
-mutex_sets (mutex.Unlock unlock.Enter) = refl
-mutex_sets (mutex.Unlock unlock.Take) = refl
-mutex_sets (mutex.Unlock (unlock.Clear any)) = refl
-mutex_sets (mutex.Unlock (unlock.Leave any)) = refl
-mutex_sets mutex.UnlockFair = refl
-mutex_sets mutex.Bump = refl
-mutex_sets (mutex.HandOff bumps hand_off.Enter) = refl
-mutex_sets (mutex.HandOff bumps hand_off.Take) = refl
-mutex_sets (mutex.HandOff bumps (hand_off.Store any none_left)) = refl
-mutex_sets (mutex.HandOff bumps (hand_off.Leave any)) = refl
-
-locked_by : (l : ℕ) (o : Option ℕ) → is_lock l o ≡ true → o ≡ Some l
-locked_by l None h = absurd cc
-locked_by l (Some k) h = ap Some (eqb-true k l h)
-
-module _ (w : State) (l : ℕ) (fair : kind_at w l ≡ kinds.Fair) where
-  away : (k : ℕ) (x : locks.Sort) → (rules_in w k).sort ≡ x → x ≢ locks.Mutex → (k == l) ≡ true → ⊥
-  away k x e ne same = ne (sym e ∙ ap (λ j. (rules_in w j).sort) (eqb-true k l same) ∙ fair_rules (kind_at w l) fair)
-
-  by_test : (b : Bool) (d : Role) → (b ≡ true → d.sets ≡ false) → (if b then d else idle).sets ≡ false
-  by_test true d h = h refl
-  by_test false d h = refl
-
-  place_sets : (p : Place) → FitsItsLock w p → (role_on p l).sets ≡ false
-  place_sets Idle fits = refl
-  place_sets (Mutex k at) fits = by_test (k == l) _ (λ e. mutex_sets at)
-  place_sets (RwLock k a at) fits = by_test (k == l) _ (λ e. absurd (let f : false ≡ true = sym (ap has_readers (ap (λ j. (rules_in w j).sort) (eqb-true k l e) ∙ fair_rules (kind_at w l) fair)) ∙ fits.0.0 in cc))
-  place_sets (Once k at) fits = by_test (k == l) _ (λ e. absurd (away k locks.Once fits (λ f. cc) e))
-  place_sets (Semaphore k at) fits = by_test (k == l) _ (λ e. absurd (away k locks.Semaphore fits.0 (λ f. cc) e))
-  place_sets (Condvar k at) fits = two (k == l) refl (is_lock l (mutex_beside at)) refl
-    where
-      two : (b : Bool) → (k == l) ≡ b → (c : Bool) → is_lock l (mutex_beside at) ≡ c
-          → (if b then (profile (Condvar k at)).role else if c then (profile_beside (Condvar k at)).role else idle).sets ≡ false
-      two true e c f = absurd (away k locks.Condvar fits.sort (λ g. cc) e)
-      two false e false f = refl
-      two false e true f = absurd (let g : true ≡ false = sym (fits.mutex l (locked_by l (mutex_beside at) f)) ∙ ap is_plain_mutex fair in cc)
-
-pub given_up_fairly : (w : State) → IsWorld w → (l : ℕ) → kind_at w l ≡ kinds.Fair → IsGivenUpFairly w l
-given_up_fairly w h l fair = record {
-  calls = (h.settled.fair l fair).calls;
-  brought = λ t sets. (let e : false ≡ true = sym (place_sets w l fair (place_at w t) (h.steady.stands.calls t)) ∙ sets in cc);
-}
 
 -- ---------------------------------------------------------------- a step
 

@@ -1,31 +1,31 @@
--- A run of the world passes a mutex that is given up fairly on no more often than there were threads before one
--- that waits.
+-- In a run of the world a mutex that each call gives up fairly has no more new owners than there were threads before
+-- one that waits.
 use Rattle.std.proofs.Common.{ℕ, zero, suc, true, false, Option, Some, None, ◌≡◌, ◌≢◌, ◌+◌, ◌≤◌, ◌<◌, ◌⊎◌, inl, inr, List, [], ◌∷◌, length, refl, sym, ◌∙◌, ap, subst, arith}
 use Rattle.std.proofs.lemmas.Bool.{cases_lt}
 use Rattle.spec_locks.specs.declared.calls.Step.{Step}
 use Rattle.spec_locks.specs.declared.kinds.Kind.{Kind}
 use Rattle.spec_locks.specs.declared.kinds.Kind.TheVariants as kinds
-use Rattle.spec_locks.specs.Bypass.{IsHandedOn, PassesOn, ahead, in_hands}
+use Rattle.spec_locks.specs.Bypass.{IsHandedOn, ahead, in_hands, passed}
 use Rattle.spec_locks.specs.Locks.{LockState, Queued, Taken, one_if_some, standing, times}
 use Rattle.spec_locks.specs.Locks as locks
 use Rattle.spec_locks.specs.Purposes.{MayWait}
 use Rattle.spec_locks.specs.Sites.{Line, Main, Second, has_readers}
-use Rattle.spec_locks.proofs.Bypass.{bypass_is_bounded}
-use Rattle.spec_locks.proofs.FairEvents.{FairlyGoes}
+use Rattle.spec_locks.proofs.Bypass.{nobody_overtakes}
+use Rattle.spec_locks.proofs.QueueOrder.{queues_keep_order}
 use Rattle.lot_steps.specs.declared.places.Place.TheVariants.{Idle}
-use Rattle.lot_machine.specs.Machine.{State, after, after_steps, kind_at, place_at, step_outcomes}
+use Rattle.lot_machine.specs.Machine.{State, after, after_steps, kind_at, place_at, step_outcome}
 use Rattle.lot_machine.proofs.Shape.{after_size}
 use Rattle.lot_laws.specs.Promises.{IsKept, WaitsFor}
 use Rattle.lot_laws.specs.Owing.{IsInside}
 use Rattle.lot_laws.specs.Refinement.{call_at, call_state, lock_state, locks_of, owner_at, taken_at}
 use Rattle.lot_laws.specs.SitesOf.{IsWorld, is_mutex, rules_in}
-use Rattle.lot_laws.specs.Overtaking.{FairReleasesKeepTurns, IsGivenUpFairlyIn, NobodyIsOvertaken, OwnedThroughout, StandsThroughout, passes}
+use Rattle.lot_laws.specs.Overtaking.{FairlyThroughout, IsGivenUpFairly, NobodyIsOvertaken, StandsThroughout, new_owners, newly_owned}
 use Rattle.lot_laws.proofs.alone.WorldRuns.{step_is, world_after, world_kept}
 use Rattle.lot_laws.proofs.machine.KindsStay.{after_kinds}
 use Rattle.lot_laws.proofs.machine.Parts.{past_all, taken_held}
-use Rattle.lot_laws.proofs.mutex.FairMutexes.{given_up_fairly}
+use Rattle.lot_laws.proofs.mutex.FairHands.{given_up_fairly, in_hand}
 use Rattle.lot_laws.proofs.mutex.FairReleases.{goes_fairly, mutex_sort, stays_owned}
-use Rattle.lot_laws.proofs.promises.SitesPromise.{not_empty}
+use Rattle.lot_laws.proofs.mutex.FreeMutexes.{comes_closer, gets_owner}
 
 -- ---------------------------------------------------------------- one in a hand
 
@@ -95,63 +95,103 @@ stands_first : (w : State) (ss : List Step) (l t : ℕ) → StandsThroughout w s
 stands_first w [] l t h = h
 stands_first w (s ∷ ss) l t h = h.0
 
--- a step between two states in which it waits and the mutex is owned
-handed_on : (w : State) (s : Step) (h : IsWorld w) (n l t : ℕ) → length w.places ≡ n → (rules_in w l).sort ≡ locks.Mutex
-    → FairlyGoes (locks_of w) (locks_of (after w s)) s.thread l → WaitsFor w t l → WaitsFor (after w s) t l
-    → owner_at w l ≢ None → owner_at (after w s) l ≢ None → IsHandedOn (locks_of w) (locks_of (after w s)) n l t
-handed_on w s h n l t size sort goes before now owned owned_on = record {
-  mutex = sort;
-  waits = before;
-  waits_on = now;
-  owned = owned;
-  owned_on = owned_on;
-  few = λ u some. subst (λ m. u < m) size (is_thread w h l sort u some);
-  hands = goes.hands;
-}
+-- as many have yet to come before it: those ahead, and one in a hand, or one that comes in where it is free
+abbrev before_it : Option ℕ → ℕ → ℕ
+before_it None hands = 1
+before_it (Some a) hands = hands
 
--- a run between states in which it waits, the mutex is owned and each step gives it up fairly
-passes_on : (ss : List Step) (w : State) (n l t : ℕ) → IsWorld w → length w.places ≡ n → is_mutex (kind_at w l) ≡ true → owner_at w l ≢ None
-    → IsGivenUpFairlyIn w ss l → StandsThroughout w ss l t
-    → OwnedThroughout w ss l × PassesOn n l t (passes w ss l) (locks_of w) ss (step_outcomes w ss) (locks_of (after_steps w ss))
-passes_on [] w n l t h size mutex owned fairly stands = (owned, (refl, refl))
-passes_on (s ∷ ss) w n l t h size mutex owned fairly stands =
-    let now = stands_first (after w s) ss l t stands.1 in
-    let still = stays_owned w s h l mutex fairly.0 t now owned in
-    let more = passes_on ss (after w s) n l t (world_after w s h) ((after_size w s).threads ∙ size) (ap is_mutex (after_kinds w s l) ∙ mutex) still fairly.1 stands.1 in
-    (
-      (owned, more.0),
-      (
-        locks_of (after w s),
-        passes (after w s) ss l,
-        step_is w s h,
-        handed_on w s h n l t size (mutex_sort (kind_at w l) mutex) (goes_fairly w s h l mutex fairly.0) stands.0 now owned still,
-        refl,
-        more.1,
-      ),
-    )
+no_hands : (n : ℕ) (taken : ℕ → Option Taken) → ((u : ℕ) → taken u ≡ None) → in_hands n taken ≡ 0
+no_hands zero taken none = refl
+no_hands (suc n) taken none = let e : one_if_some (taken n) ≡ 0 = ap one_if_some (none n) in let more = no_hands n taken none in omega arith
+
+module _ (w : State) (s : Step) (h : IsWorld w) (n l t : ℕ) (size : length w.places ≡ n) (one_owner : is_mutex (kind_at w l) ≡ true) (fairly : IsGivenUpFairly w l)
+  (before : WaitsFor w t l) (now : WaitsFor (after w s) t l) where
+  abbrev v : State
+  v = after w s
+
+  sort : (rules_in w l).sort ≡ locks.Mutex
+  sort = mutex_sort (kind_at w l) one_owner
+
+  kept : IsKept w
+  kept = world_kept w h
+
+  handed_on : owner_at w l ≢ None → owner_at v l ≢ None → IsHandedOn (locks_of w) (locks_of v) n l t
+  handed_on owned owned_on = record {
+    mutex = sort;
+    waits = before;
+    waits_on = now;
+    owned = owned;
+    owned_on = owned_on;
+    few = λ u some. subst (λ m. u < m) size (is_thread w h l sort u some);
+    hands = (goes_fairly w s h l one_owner fairly).hands;
+  }
+
+  closer : ahead t (lock_state v l).queue ≤ ahead t (lock_state w l).queue
+  closer = comes_closer t (lock_state w l).queue (lock_state v l).queue (queues_keep_order (locks_of w) (locks_of v) s (step_outcome w s) (step_is w s h) l)
+      before (let once : standing t (lock_state w l) ≤ 1 = (kept.state l).once t in omega arith) now
+
+  none_taken : owner_at w l ≡ None → (u : ℕ) → (lock_state w l).taken u ≡ None
+  none_taken free u = by_hand ((lock_state w l).taken u) refl
+    where
+      by_hand : (o : Option Taken) → (lock_state w l).taken u ≡ o → (lock_state w l).taken u ≡ None
+      by_hand None e = e
+      by_hand (Some x) e = absurd (in_hand w h l sort fairly u x e free)
+
+  none_in_hands : owner_at w l ≡ None → owner_at v l ≢ None → in_hands n (lock_state v l).taken ≡ 0
+  none_in_hands free owned = elim (gets_owner (locks_of w) (locks_of v) s.thread l (step_outcome w s) kept.state sort free s.turn (step_is w s h).1) [
+    | inl still ↦ absurd (owned still)
+    | inr same ↦ ap (in_hands n) same ∙ no_hands n (lock_state w l).taken (none_taken free)
+  ]
+
+  -- each new owner costs one of them
+  costs : (o p : Option ℕ) → owner_at w l ≡ o → owner_at v l ≡ p
+      → newly_owned o p + (ahead t (lock_state v l).queue + before_it p (in_hands n (lock_state v l).taken))
+      ≤ ahead t (lock_state w l).queue + before_it o (in_hands n (lock_state w l).taken)
+  costs None None e f = let less = closer in omega arith
+  costs None (Some b) e f = let less = closer in let none = none_in_hands e (λ g. (let c : ◌≡◌ {A = Option ℕ} (Some b) None = sym f ∙ g in cc)) in omega arith
+  costs (Some a) None e f = absurd (stays_owned w s h l one_owner fairly t now (λ g. (let c : ◌≡◌ {A = Option ℕ} (Some a) None = sym e ∙ g in cc)) f)
+  costs (Some a) (Some b) e f =
+      let on = handed_on (λ g. (let c : ◌≡◌ {A = Option ℕ} (Some a) None = sym e ∙ g in cc)) (λ g. (let c : ◌≡◌ {A = Option ℕ} (Some b) None = sym f ∙ g in cc)) in
+      let cost = nobody_overtakes (locks_of w) (locks_of v) s (step_outcome w s) n l t kept.state (step_is w s h) on in
+      let now_owned : passed (owner_at w l) (owner_at v l) ≡ passed (Some a) (Some b) = ap (λ x. passed x (owner_at v l)) e ∙ ap (passed (Some a)) f in
+      let sum : ahead t (lock_state v l).queue + in_hands n (lock_state v l).taken + passed (owner_at w l) (owner_at v l) ≤ ahead t (lock_state w l).queue + in_hands n (lock_state w l).taken = cost in
+      let new : newly_owned (Some a) (Some b) ≡ passed (Some a) (Some b) = refl in
+      omega arith
+
+-- those that have yet to come before it are so many
+abbrev to_come : State → ℕ → ℕ → ℕ → ℕ
+to_come w n l t = ahead t (lock_state w l).queue + before_it (owner_at w l) (in_hands n (lock_state w l).taken)
+
+come_before : (ss : List Step) (w : State) (n l t : ℕ) → IsWorld w → length w.places ≡ n → is_mutex (kind_at w l) ≡ true → FairlyThroughout w ss l
+    → StandsThroughout w ss l t → new_owners w ss l + to_come (after_steps w ss) n l t ≤ to_come w n l t
+come_before [] w n l t h size one_owner fairly stands = omega arith
+come_before (s ∷ ss) w n l t h size one_owner fairly stands =
+    let cost = costs w s h n l t size one_owner fairly.0 stands.0 (stands_first (after w s) ss l t stands.1) (owner_at w l) (owner_at (after w s) l) refl refl in
+    let rest = come_before ss (after w s) n l t (world_after w s h) ((after_size w s).threads ∙ size) (ap is_mutex (after_kinds w s l) ∙ one_owner) fairly.1 stands.1 in
+    omega arith
 
 pub world_steps : (ss : List Step) (w : State) → IsWorld w → IsWorld (after_steps w ss)
 world_steps [] w h = h
 world_steps (s ∷ ss) w h = world_steps ss (after w s) (world_after w s h)
 
-pub turns_are_kept : (w v : State) (ss : List Step) → IsWorld w → v ≡ after_steps w ss → FairReleasesKeepTurns w ss v
-turns_are_kept w v ss h led t l mutex owned fairly stands =
-    let run = passes_on ss w (length w.places) l t h refl mutex owned fairly stands in
-    (run.0, subst (λ (x : State). passes w ss l + ahead t (lock_state x l).queue ≤ ahead t (lock_state w l).queue + 1) (sym led)
-    (let bound = bypass_is_bounded (length w.places) l t (passes w ss l) (locks_of w) (locks_of (after_steps w ss)) ss (step_outcomes w ss) (world_kept w h).state run.1 in
-    let few = few_hands w h l (mutex_sort (kind_at w l) mutex) (length w.places) in
-    omega arith))
+-- ---------------------------------------------------------------- either mutex
 
--- ---------------------------------------------------------------- a fair mutex
-
-fair_is : (k : Kind) → k ≡ kinds.Fair → is_mutex k ≡ true
-fair_is k e = ap is_mutex e
-
-gives_up : (ss : List Step) (w : State) (l : ℕ) → IsWorld w → kind_at w l ≡ kinds.Fair → IsGivenUpFairlyIn w ss l
+gives_up : (ss : List Step) (w : State) (l : ℕ) → IsWorld w → kind_at w l ≡ kinds.Fair → FairlyThroughout w ss l
 gives_up [] w l h fair = tt
 gives_up (s ∷ ss) w l h fair = (given_up_fairly w h l fair, gives_up ss (after w s) l (world_after w s h) (after_kinds w s l ∙ fair))
 
+one_at_most : (o : Option ℕ) (hands : ℕ) → hands ≤ 1 → before_it o hands ≤ 1
+one_at_most None hands few = omega arith
+one_at_most (Some a) hands few = few
+
 pub nobody_is_overtaken : (w v : State) (ss : List Step) → IsWorld w → v ≡ after_steps w ss → NobodyIsOvertaken w ss v
-nobody_is_overtaken w v ss h led t l fair stands =
-    (turns_are_kept w v ss h led t l (fair_is (kind_at w l) fair) ((h.settled.fair l fair).owned (not_empty t (lock_state w l).queue (stands_first w ss l t stands)))
-    (gives_up ss w l h fair) stands).1
+nobody_is_overtaken w v ss h led t l released stands = elim released [
+  | inl fair ↦ bounded (ap is_mutex fair) (gives_up ss w l h fair)
+  | inr plain ↦ bounded (ap is_mutex plain.0) plain.1
+]
+  where
+    bounded : is_mutex (kind_at w l) ≡ true → FairlyThroughout w ss l → new_owners w ss l + ahead t (lock_state v l).queue ≤ ahead t (lock_state w l).queue + 1
+    bounded one_owner fairly = subst (λ (x : State). new_owners w ss l + ahead t (lock_state x l).queue ≤ ahead t (lock_state w l).queue + 1) (sym led)
+        (let bound = come_before ss w (length w.places) l t h refl one_owner fairly stands in
+        let few = one_at_most (owner_at w l) (in_hands (length w.places) (lock_state w l).taken) (few_hands w h l (mutex_sort (kind_at w l) one_owner) (length w.places)) in
+        omega arith)

@@ -8,7 +8,7 @@ use Rattle.std.proofs.Common.{◌≡◌, ap, ◌∙◌, ◌++◌, arith}
 use Rattle.lot_machine.specs.Machine.{after_steps, step_outcomes}
 use Rattle.lot_laws.proofs.alone.WorldRuns.{tells_run, tells_refines, world_kept}
 use Rattle.lot_laws.proofs.promises.Headline.{holds_after, tells_behaves, tells_guaranteed, tells_headline}
-use Rattle.lot_laws.proofs.promises.Overtaken.{nobody_is_overtaken, turns_are_kept}
+use Rattle.lot_laws.proofs.promises.Overtaken.{nobody_is_overtaken}
 use Rattle.lot_world.proofs.world.World.run.Goals as goal
 
 pub loop-taken-preserved : goal.loop-taken-preserved
@@ -122,16 +122,3 @@ returns-then-is_err-clause-stopped_in_turn g c =
     let before : IsWorld c.self.inside.machine = c.self.invariant in
     let holds : IsWorld c.args.self.now = rw (← c.self.view_is) before in
     nobody_is_overtaken c.args.self.now c.loop-taken.self (take c.loop-taken.taken c.args.steps.now) holds c.loop-taken.invariant.state
-
-pub returns-clause-fair_turns : goal.returns-clause-fair_turns
-returns-clause-fair_turns g c =
-    let before : IsWorld c.self.inside.machine = c.self.invariant in
-    let holds : IsWorld c.args.self.now = rw (← c.self.view_is) before in
-    let all : take c.loop-taken.taken c.args.steps.now ≡ c.args.steps.now = take_all c.loop-taken.taken c.args.steps.now (omega arith) in
-    turns_are_kept c.args.self.now c.loop-taken.self c.args.steps.now holds (c.loop-taken.invariant.state ∙ ap (after_steps c.args.self.now) all)
-
-pub returns-then-is_err-clause-stopped_fair_turns : goal.returns-then-is_err-clause-stopped_fair_turns
-returns-then-is_err-clause-stopped_fair_turns g c =
-    let before : IsWorld c.self.inside.machine = c.self.invariant in
-    let holds : IsWorld c.args.self.now = rw (← c.self.view_is) before in
-    turns_are_kept c.args.self.now c.loop-taken.self (take c.loop-taken.taken c.args.steps.now) holds c.loop-taken.invariant.state
