@@ -1,5 +1,4 @@
--- A mutex that each call gives up fairly lets nobody be overtaken: while a thread is k-th in its queue, at most k
--- others come to own it.
+-- While a thread is k-th in the queue of a mutex that is released fairly, at most k others come to own it.
 use Rattle.std.specs.Prelude.{ℕ, Option, Some, None, if◌then◌else◌, ◌==◌, ◌+◌, ◌≡◌, ◌≢◌, ◌≤◌, ◌⊎◌, List, [], ◌∷◌}
 use Rattle.spec_locks.specs.declared.calls.Step.{Step}
 use Rattle.spec_locks.specs.declared.kinds.Kind.TheVariants as kind
@@ -9,13 +8,13 @@ use Rattle.lot_machine.specs.Machine.{State, after, kind_at, place_at}
 use Rattle.lot_laws.specs.Promises.{WaitsFor}
 use Rattle.lot_laws.specs.Refinement.{lock_state, locks_of, owner_at}
 
--- a lock has an owner, who wasn't its owner before
+-- a lock has an owner, which wasn't its owner before
 abbrev pub newly_owned : Option ℕ → Option ℕ → ℕ
 newly_owned before None = 0
 newly_owned None (Some b) = 1
 newly_owned (Some a) (Some b) = if a == b then 0 else 1
 
--- how often it has a new owner in these steps: one to whom it is handed over, or who comes in where it is free
+-- how often it has a new owner in these steps: it is handed over, or a thread comes in while it is free
 abbrev pub new_owners : State → List Step → ℕ → ℕ
 new_owners w [] l = 0
 new_owners w (s ∷ ss) l = newly_owned (owner_at w l) (owner_at (after w s) l) + new_owners (after w s) ss l

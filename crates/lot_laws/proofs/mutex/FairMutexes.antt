@@ -1,11 +1,10 @@
 -- A fair mutex is released fairly, is owned while somebody waits for it, and lets nobody be overtaken.
-use Rattle.std.proofs.Common.{ℕ, Bool, true, false, Option, Some, None, if◌then◌else◌, ◌==◌, ◌≡◌, ◌≢◌, ◌≤◌, ◌<◌, inl, inr, List, [], ◌∷◌, length, get_or-set_other, get_or-set_same, refl, sym, ◌∙◌, ap, subst, arith}
-use Rattle.std.proofs.lemmas.Bool.{cases_eq, eqb-true}
+use Rattle.std.proofs.Common.{ℕ, true, false, Option, Some, None, ◌≡◌, ◌≢◌, ◌≤◌, ◌<◌, inl, inr, List, [], ◌∷◌, length, get_or-set_other, get_or-set_same, refl, sym, ◌∙◌, ap, subst, arith}
+use Rattle.std.proofs.lemmas.Bool.{cases_eq}
 use Rattle.std.proofs.lemmas.Bool.Decides.{nat_tests}
 use Rattle.spec_locks.specs.declared.calls.Step.{Step}
 use Rattle.spec_locks.specs.declared.kinds.Kind.{Kind}
 use Rattle.spec_locks.specs.declared.kinds.Kind.TheVariants as kinds
-use Rattle.spec_locks.specs.Kinds.{is_plain_mutex}
 use Rattle.spec_locks.specs.Bypass.{ReleasesFairly}
 use Rattle.spec_locks.specs.Locks.{LockState, Queued, Rights, rights_of, times}
 use Rattle.spec_locks.specs.Locks as locks
@@ -13,14 +12,9 @@ use Rattle.spec_locks.specs.Purposes.{rules_of}
 use Rattle.spec_locks.specs.Runs.{IsOpening}
 use Rattle.spec_locks.specs.Sites.{has_readers}
 use Rattle.spec_locks.proofs.FairQueues.{fair_stays}
-use Rattle.steps_mutex.specs.declared.hand_off.HandOffAt.TheVariants as hand_off
-use Rattle.steps_mutex.specs.declared.lock.LockAt.TheVariants as lock
-use Rattle.steps_mutex.specs.declared.places.MutexPlace.{MutexPlace}
-use Rattle.steps_mutex.specs.declared.places.MutexPlace.TheVariants as mutex
-use Rattle.steps_mutex.specs.declared.unlock.UnlockAt.TheVariants as unlock
 use Rattle.lot_steps.specs.declared.places.Place.{Place}
-use Rattle.lot_steps.specs.declared.places.Place.TheVariants.{Idle, Mutex, RwLock, Once, Condvar, Semaphore}
-use Rattle.lot_steps.specs.Steps.{act_of, beside_of, called_lock, is_lock, profile, profile_beside}
+use Rattle.lot_steps.specs.declared.places.Place.TheVariants.{Idle, RwLock}
+use Rattle.lot_steps.specs.Steps.{act_of, beside_of, called_lock, profile, profile_beside}
 use Rattle.lot_machine.specs.Fits.{IsWellFormed}
 use Rattle.steps_rwlock.specs.declared.places.Admission.{Admission}
 use Rattle.steps_rwlock.specs.declared.places.RwLockPlace.{RwLockPlace}
@@ -32,9 +26,8 @@ use Rattle.lot_laws.proofs.once.Marks.{opening_unmarked, unmarked_after}
 use Rattle.lot_laws.proofs.once.Runs.{opening_running, put_running, running_after}
 use Rattle.lot_laws.proofs.promises.Promises.{opening_is}
 use Rattle.lot_machine.specs.Machine.{State, after, kind_at, opening, place_at, put, runs_closure, step_outcome}
-use Rattle.lot_laws.specs.Locations.{role_on}
 use Rattle.lot_laws.specs.Refinement.{call_at, call_on_both, call_state, lock_state, locks_of}
-use Rattle.lot_laws.specs.SitesOf.{AreFairMutexes, FitsItsLock, IsFairMutex, IsInductive, IsSettled, IsWorld, AreCondvars, AreCounted, is_mutex, rules_in}
+use Rattle.lot_laws.specs.SitesOf.{AreFairMutexes, IsFairMutex, IsInductive, IsSettled, IsWorld, AreCondvars, AreCounted, is_mutex, rules_in}
 use Rattle.lot_laws.proofs.calls.LockSteps.{after_step}
 use Rattle.lot_laws.proofs.machine.KindsStay.{after_kinds}
 use Rattle.lot_laws.proofs.mutex.FairHands.{given_up_fairly}

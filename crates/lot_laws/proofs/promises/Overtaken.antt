@@ -3,7 +3,6 @@
 use Rattle.std.proofs.Common.{ℕ, zero, suc, true, false, Option, Some, None, ◌≡◌, ◌≢◌, ◌+◌, ◌≤◌, ◌<◌, ◌⊎◌, inl, inr, List, [], ◌∷◌, length, refl, sym, ◌∙◌, ap, subst, arith}
 use Rattle.std.proofs.lemmas.Bool.{cases_lt}
 use Rattle.spec_locks.specs.declared.calls.Step.{Step}
-use Rattle.spec_locks.specs.declared.kinds.Kind.{Kind}
 use Rattle.spec_locks.specs.declared.kinds.Kind.TheVariants as kinds
 use Rattle.spec_locks.specs.Bypass.{IsHandedOn, ahead, in_hands, passed}
 use Rattle.spec_locks.specs.Locks.{LockState, Queued, Taken, one_if_some, standing, times}
@@ -105,7 +104,7 @@ no_hands zero taken none = refl
 no_hands (suc n) taken none = let e : one_if_some (taken n) ≡ 0 = ap one_if_some (none n) in let more = no_hands n taken none in omega arith
 
 module _ (w : State) (s : Step) (h : IsWorld w) (n l t : ℕ) (size : length w.places ≡ n) (one_owner : is_mutex (kind_at w l) ≡ true) (fairly : IsGivenUpFairly w l)
-  (before : WaitsFor w t l) (now : WaitsFor (after w s) t l) where
+    (before : WaitsFor w t l) (now : WaitsFor (after w s) t l) where
   abbrev v : State
   v = after w s
 
