@@ -1,5 +1,5 @@
--- A mutex that each call gives up fairly is owned while a waiter is in a hand. A fair one is owned while somebody
--- waits for it, also by the thread that has a waiter in its hand.
+-- A mutex that each call gives up fairly is owned while a waiter is in a hand. A fair one is owned while a
+-- thread waits for it too, by the thread that has the waiter in its hand.
 use Rattle.std.proofs.Common.{ℕ, Bool, true, false, Option, Some, None, if◌then◌else◌, ◌==◌, ◌≡◌, ◌≢◌, ◌≤◌, ◌+◌, ◌⊎◌, inl, inr, refl, sym, ◌∙◌, ap, subst, arith}
 use Rattle.std.proofs.lemmas.Bool.{cases_lt, eqb-true}
 use Rattle.core_base.specs.declared.wants.Want.TheVariants.{Exclusive, Upgradable}
@@ -53,7 +53,8 @@ mutex_owner (mutex.Unlock at) h = inr (λ k r fairly. (let e : false ≡ true = 
 mutex_owner at h = absurd cc
 
 -- no call of a condition variable names a fair mutex
-pub fair_apart : (w : State) (l : ℕ) → kind_at w l ≡ kinds.Fair → (p : Place) → FitsItsLock w p → beside_of p ≢ Some l
+pub fair_apart : (w : State) (l : ℕ) → kind_at w l ≡ kinds.Fair → (p : Place) → FitsItsLock w p
+    → beside_of p ≢ Some l
 fair_apart w l fair (Condvar k at) fits e =
     (let i : true ≡ false = sym (fits.mutex l e) ∙ ap is_plain_mutex fair in cc)
 fair_apart w l fair Idle fits e = cc
@@ -108,7 +109,8 @@ module _ (w : State) (l : ℕ) (sort : (rules_in w l).sort ≡ locks.Mutex) wher
 
 -- ---------------------------------------------------------------- a world
 
-module _ (w : State) (h : IsWorld w) (l : ℕ) (sort : (rules_in w l).sort ≡ locks.Mutex) (fairly : IsGivenUpFairly w l) where
+module _ (w : State) (h : IsWorld w) (l : ℕ) (sort : (rules_in w l).sort ≡ locks.Mutex)
+  (fairly : IsGivenUpFairly w l) where
   -- it is owned while somebody is in a hand
   pub in_hand : (t : ℕ) (x : Taken) → (lock_state w l).taken t ≡ Some x → (lock_state w l).exclusive ≢ None
   in_hand t x e =

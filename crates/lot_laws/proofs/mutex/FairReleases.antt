@@ -72,20 +72,24 @@ module _ (w : State) (l : ℕ) (sort : (rules_in w l).sort ≡ locks.Mutex) wher
   place_sets : (p : Place) → FitsItsLock w p → beside_of p ≢ Some l → (role_on p l).sets ≡ false
   place_sets Idle fits apart = refl
   place_sets (Mutex k at) fits apart = by_test (k == l) _ (λ e. mutex_sets at)
-  place_sets (RwLock k a at) fits apart = by_test (k == l) _ (λ e. absurd (let f : false ≡ true = sym (ap has_readers (ap (λ j. (rules_in w j).sort) (eqb-true k l e) ∙ sort)) ∙ fits.0.0 in cc))
+  place_sets (RwLock k a at) fits apart = by_test (k == l) _ (λ e. absurd (let f : false ≡ true = sym
+      (ap has_readers (ap (λ j. (rules_in w j).sort) (eqb-true k l e) ∙ sort)) ∙ fits.0.0 in cc))
   place_sets (Once k at) fits apart = by_test (k == l) _ (λ e. absurd (away k locks.Once fits (λ f. cc) e))
-  place_sets (Semaphore k at) fits apart = by_test (k == l) _ (λ e. absurd (away k locks.Semaphore fits.0 (λ f. cc) e))
+  place_sets (Semaphore k at) fits apart = by_test (k == l) _ (λ e. absurd (away k locks.Semaphore fits.0
+      (λ f. cc) e))
   place_sets (Condvar k at) fits apart = two (k == l) refl (is_lock l (mutex_beside at)) refl
     where
       two : (b : Bool) → (k == l) ≡ b → (c : Bool) → is_lock l (mutex_beside at) ≡ c
-          → (if b then (profile (Condvar k at)).role else if c then (profile_beside (Condvar k at)).role else idle).sets ≡ false
+          → (if b then (profile (Condvar k at)).role else if c then (profile_beside
+              (Condvar k at)).role else idle).sets ≡ false
       two true e c f = absurd (away k locks.Condvar fits.sort (λ g. cc) e)
       two false e false f = refl
       two false e true f = absurd (apart (locked_by l (mutex_beside at) f))
 
 -- ---------------------------------------------------------------- a step
 
-module _ (w : State) (s : Step) (h : IsWorld w) (l : ℕ) (one_owner : is_mutex (kind_at w l) ≡ true) (fairly : IsGivenUpFairly w l) where
+module _ (w : State) (s : Step) (h : IsWorld w) (l : ℕ) (one_owner : is_mutex (kind_at w l) ≡ true)
+  (fairly : IsGivenUpFairly w l) where
   abbrev v : State
   v = after w s
 
@@ -97,14 +101,17 @@ module _ (w : State) (s : Step) (h : IsWorld w) (l : ℕ) (one_owner : is_mutex 
 
   -- each fair release hands it over where somebody waits
   pub hands_over : LetsGoWhileSomeWait (locks_of w) (locks_of v) s.thread l → ⊥
-  hands_over lets = elim ((is_fair w s h.shaped h.steady h.counted h.condvars).gives s.thread l (lets.releases, lets.owner, one_owner)) [
+  hands_over lets = elim ((is_fair w s h.shaped h.steady h.counted h.condvars).gives s.thread l
+      (lets.releases, lets.owner, one_owner)) [
     | inl on ↦ (let e : ◌≡◌ {A = Option ℕ} None (Some s.thread) = sym lets.gone ∙ on.0 in cc)
     | inr other ↦ elim other [
       | inl hands ↦ (let e : ◌≡◌ {A = Option ℕ} None (Some hands.0) = sym lets.gone ∙ hands.2 in cc)
       | inr goes ↦ elim goes.2 [
         | inl clear ↦ elim ((h.steady.sites.site l).parked lets.waiter) [
-          | inl set ↦ (let e : false ≡ true = sym clear ∙ (ap (λ x. parked_in x (word_at w l)) (sym sort) ∙ set) in cc)
-          | inr sets ↦ (let e : false ≡ true = sym (place_sets w l sort (place_at w sets.0) (h.steady.stands.calls sets.0) (fairly.apart sets.0)) ∙ sets.1 in cc)
+          | inl set ↦ (let e : false ≡ true = sym clear ∙ (ap (λ x. parked_in x (word_at w l)) (sym sort)
+              ∙ set) in cc)
+          | inr sets ↦ (let e : false ≡ true = sym (place_sets w l sort (place_at w sets.0)
+              (h.steady.stands.calls sets.0) (fairly.apart sets.0)) ∙ sets.1 in cc)
         ]
         | inr empty ↦ lets.waiter empty
       ]
@@ -112,7 +119,8 @@ module _ (w : State) (s : Step) (h : IsWorld w) (l : ℕ) (one_owner : is_mutex 
   ]
 
   pub goes_fairly : FairlyGoes (locks_of w) (locks_of v) s.thread l
-  goes_fairly = fairly_goes (locks_of w) (locks_of v) s.thread l (step_outcome w s) (λ k. (h.steady.sites.site k).state) sort fairly.calls s.turn turn_is.1
+  goes_fairly = fairly_goes (locks_of w) (locks_of v) s.thread l (step_outcome w s) (λ k.
+      (h.steady.sites.site k).state) sort fairly.calls s.turn turn_is.1
 
   pub stays_owned : (t : ℕ) → WaitsFor v t l → owner_at w l ≢ None → owner_at v l ≢ None
   stays_owned t waits owned = elim (goes_fairly.owned t waits (λ some. owned)) [

@@ -1,5 +1,5 @@
--- A mutex that nobody owns: a step by which a thread comes to own it takes nobody into a hand. A waiter that stays in
--- a queue comes closer to its front, or stays where it is.
+-- A step by which a thread comes to own a free mutex takes nobody into a hand. A waiter that stays in a queue
+-- comes closer to its front, or stays where it is.
 use Rattle.std.proofs.Common.{ℕ, zero, suc, Bool, true, false, Option, Some, None, if◌then◌else◌, ◌==◌, ◌≡◌, ◌≢◌, ◌≤◌, ◌+◌, ◌⊎◌, inl, inr, List, [], ◌∷◌, ◌++◌, refl, sym, ◌∙◌, ap, subst, arith}
 use Rattle.std.proofs.lemmas.Bool.{eqb-true}
 use Rattle.std.proofs.lemmas.Bool.Decides.{nat_tests}
@@ -24,11 +24,14 @@ part_times t (x ∷ xs) [] h = absurd h
 part_times t (x ∷ xs) (y ∷ q) (inl h) = let e : x ≡ y = h.0 in let less = part_times t xs q h.1 in grind arith
 part_times t (x ∷ xs) (y ∷ q) (inr h) = let less = part_times t (x ∷ xs) q h in grind arith
 
-part_ahead : (t : ℕ) (xs q : List Queued) → IsPartOf xs q → 1 ≤ times t xs → times t q ≤ 1 → ahead t xs ≤ ahead t q
+part_ahead : (t : ℕ) (xs q : List Queued) → IsPartOf xs q → 1 ≤ times t xs → times t q ≤ 1
+    → ahead t xs ≤ ahead t q
 part_ahead t [] q h some once = absurd (let e : 1 ≤ 0 = some in omega arith)
 part_ahead t (x ∷ xs) [] h some once = absurd h
-part_ahead t (x ∷ xs) (y ∷ q) (inl h) some once = let e : x ≡ y = h.0 in grind (arith, nat_tests, part_ahead t xs q h.1)
-part_ahead t (x ∷ xs) (y ∷ q) (inr h) some once = let less = part_times t (x ∷ xs) q h in grind (arith, nat_tests, part_ahead t (x ∷ xs) q h some)
+part_ahead t (x ∷ xs) (y ∷ q) (inl h) some once = let e : x ≡ y = h.0 in
+    grind (arith, nat_tests, part_ahead t xs q h.1)
+part_ahead t (x ∷ xs) (y ∷ q) (inr h) some once = let less = part_times t (x ∷ xs) q h in
+    grind (arith, nat_tests, part_ahead t (x ∷ xs) q h some)
 
 joined_times : (t : ℕ) (q r : List Queued) → times t (q ++ r) ≡ times t q + times t r
 joined_times t [] r = omega arith
@@ -38,14 +41,16 @@ joined_ahead : (t : ℕ) (q r : List Queued) → 1 ≤ times t q → ahead t (q 
 joined_ahead t [] r h = absurd (let e : 1 ≤ 0 = h in omega arith)
 joined_ahead t (x ∷ q) r h = grind (arith, nat_tests, joined_ahead t q r)
 
-none_joined : (t : ℕ) (before joined : List Queued) → (1 ≤ times t joined → times t before ≡ 0) → 1 ≤ times t before → times t joined ≡ 0
+none_joined : (t : ℕ) (before joined : List Queued) → (1 ≤ times t joined → times t before ≡ 0)
+    → 1 ≤ times t before → times t joined ≡ 0
 none_joined t before joined anew some = by_number (times t joined) refl
   where
     by_number : (n : ℕ) → times t joined ≡ n → times t joined ≡ 0
     by_number zero e = e
     by_number (suc n) e = absurd (let none : times t before ≡ 0 = anew (omega arith) in omega arith)
 
-pub comes_closer : (t : ℕ) (before now : List Queued) → KeepsOrderOf before now → 1 ≤ times t before → times t before ≤ 1 → 1 ≤ times t now
+pub comes_closer : (t : ℕ) (before now : List Queued) → KeepsOrderOf before now → 1 ≤ times t before
+    → times t before ≤ 1 → 1 ≤ times t now
     → ahead t now ≤ ahead t before
 comes_closer t before now order some once still =
     let none = none_joined t before order.joined (order.anew t) some in
@@ -75,7 +80,8 @@ left_by t Upgradable s = refl
 left_by t Shared s = refl
 left_by t x s = refl
 
-module _ (r : Rules) (s : LockState) (t : ℕ) (state : IsLockState r s) (mutex : r.sort ≡ Mutex) (free : s.exclusive ≡ None) where
+module _ (r : Rules) (s : LockState) (t : ℕ) (state : IsLockState r s) (mutex : r.sort ≡ Mutex)
+  (free : s.exclusive ≡ None) where
   unwritten : (s.pending ≡ None) × (s.upgradable ≡ None)
   unwritten = state.unpending (λ k. subst (λ x. locks.Knows x Upgradable) mutex k)
 
@@ -114,24 +120,30 @@ module _ (r : Rules) (s : LockState) (t : ℕ) (state : IsLockState r s) (mutex 
 
 -- ---------------------------------------------------------------- a step
 
-module _ (w v : LocksState) (t l : ℕ) (o : Outcome) (all : AreLockStates w) (mutex : (rules_at w l).sort ≡ Mutex) (free : (w.locks l).exclusive ≡ None) where
+module _ (w v : LocksState) (t l : ℕ) (o : Outcome) (all : AreLockStates w) (mutex :
+  (rules_at w l).sort ≡ Mutex) (free : (w.locks l).exclusive ≡ None) where
   by_event : (e : Event) → MayHappen w t e → Gets (w.locks l) (locks_after w t e l)
   by_event Nothing may = inl free
   by_event (AtLock k case) may = either (l == k) refl
     where
-      either : (b : Bool) → (l == k) ≡ b → Gets (w.locks l) (if b then after_case (rules_at w k) case (w.locks k) t else w.locks l)
+      either : (b : Bool) → (l == k) ≡ b → Gets (w.locks l) (if b then after_case (rules_at w k) case
+          (w.locks k) t else w.locks l)
       either false e = inl free
       either true e = let same : l ≡ k = eqb-true l k e in
           subst (λ j. Gets (w.locks j) (after_case (rules_at w k) case (w.locks k) t)) (sym same)
-          (gets (rules_at w k) (w.locks k) t (all k) (subst (λ j. (rules_at w j).sort ≡ Mutex) same mutex) (subst (λ j. (w.locks j).exclusive ≡ None) same free) case (needs_of w t k case (w.calls t).purpose may))
+          (gets (rules_at w k) (w.locks k) t (all k) (subst (λ j. (rules_at w j).sort ≡ Mutex) same mutex)
+              (subst (λ j. (w.locks j).exclusive ≡ None) same free) case (needs_of w t k case
+              (w.calls t).purpose may))
   by_event (Moves c m every locked n) may = inl (at_mutex (l == m) refl)
     where
-      at_condvar : (b : Bool) → (l == c) ≡ b → (if b then left_behind every (w.locks c) else w.locks l).exclusive ≡ None
+      at_condvar : (b : Bool) → (l == c) ≡ b → (if b then left_behind every
+          (w.locks c) else w.locks l).exclusive ≡ None
       at_condvar false e = free
       at_condvar true e = ap (λ j. (w.locks j).exclusive) (sym (eqb-true l c e)) ∙ free
 
       at_mutex : (b : Bool) → (l == m) ≡ b
-          → (if b then joined_by locked t (moved_of every (w.locks c).queue) (w.locks m) else putting w.locks c (left_behind every (w.locks c)) l).exclusive ≡ None
+          → (if b then joined_by locked t (moved_of every (w.locks c).queue)
+              (w.locks m) else putting w.locks c (left_behind every (w.locks c)) l).exclusive ≡ None
       at_mutex false e = at_condvar (l == c) refl
       at_mutex true e = ap (λ j. (w.locks j).exclusive) (sym (eqb-true l m e)) ∙ free
 
