@@ -8,5 +8,7 @@ pub mod Words
 pub mod Steps
 pub mod Owing
 pub mod Promises
+pub mod FairReleases
+pub mod FreeMutexes
 pub mod FairMutexes
 pub mod FairHands

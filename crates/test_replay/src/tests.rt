@@ -2,6 +2,7 @@
 mod bad_input;
 mod broken;
 mod devices;
+mod overtaken;
 mod text;
 
 use crate::{

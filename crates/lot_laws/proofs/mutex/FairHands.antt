@@ -1,4 +1,5 @@
--- A fair mutex is owned while somebody waits for it, also by the thread that has a waiter in its hand.
+-- A mutex that each call gives up fairly is owned while a waiter is in a hand. A fair one is owned while a
+-- thread waits for it too, by the thread that has the waiter in its hand.
 use Rattle.std.proofs.Common.{ℕ, Bool, true, false, Option, Some, None, if◌then◌else◌, ◌==◌, ◌≡◌, ◌≢◌, ◌≤◌, ◌+◌, ◌⊎◌, inl, inr, refl, sym, ◌∙◌, ap, subst, arith}
 use Rattle.std.proofs.lemmas.Bool.{cases_lt, eqb-true}
 use Rattle.core_base.specs.declared.wants.Want.TheVariants.{Exclusive, Upgradable}
@@ -18,9 +19,10 @@ use Rattle.steps_mutex.specs.declared.places.MutexPlace.{MutexPlace}
 use Rattle.steps_mutex.specs.declared.places.MutexPlace.TheVariants as mutex
 use Rattle.lot_steps.specs.declared.places.Place.{Place}
 use Rattle.lot_steps.specs.declared.places.Place.TheVariants.{Idle, Mutex, RwLock, Once, Condvar, Semaphore}
-use Rattle.lot_steps.specs.Steps.{is_lock}
+use Rattle.lot_steps.specs.Steps.{beside_of, is_lock}
 use Rattle.lot_machine.specs.Machine.{State, kind_at, place_at}
 use Rattle.lot_laws.specs.Locations.{location_at, role_on}
+use Rattle.lot_laws.specs.Overtaking.{IsGivenUpFairly}
 use Rattle.lot_laws.specs.Refinement.{call_state, lock_state}
 use Rattle.lot_laws.specs.SitesOf.{FitsItsLock, IsWorld, rules_in}
 use Rattle.lot_laws.proofs.machine.Parts.{taken_held}
@@ -33,7 +35,7 @@ fair_kind k e = absurd cc
 fair_sort : (k : Kind) → k ≡ kinds.Fair → (rules_of k).sort ≡ locks.Mutex
 fair_sort k e = ap (λ x. (rules_of x).sort) e
 
-locked_by : (l : ℕ) (o : Option ℕ) → is_lock l o ≡ true → o ≡ Some l
+pub locked_by : (l : ℕ) (o : Option ℕ) → is_lock l o ≡ true → o ≡ Some l
 locked_by l None h = absurd cc
 locked_by l (Some k) h = ap Some (eqb-true k l h)
 
@@ -50,10 +52,20 @@ mutex_owner (mutex.HandOff bumps at) h = absurd cc
 mutex_owner (mutex.Unlock at) h = inr (λ k r fairly. (let e : false ≡ true = fairly refl in cc))
 mutex_owner at h = absurd cc
 
-module _ (w : State) (l : ℕ) (fair : kind_at w l ≡ kinds.Fair) where
+-- no call of a condition variable names a fair mutex
+pub fair_apart : (w : State) (l : ℕ) → kind_at w l ≡ kinds.Fair → (p : Place) → FitsItsLock w p
+    → beside_of p ≢ Some l
+fair_apart w l fair (Condvar k at) fits e =
+    (let i : true ≡ false = sym (fits.mutex l e) ∙ ap is_plain_mutex fair in cc)
+fair_apart w l fair Idle fits e = cc
+fair_apart w l fair (Mutex k at) fits e = cc
+fair_apart w l fair (RwLock k a at) fits e = cc
+fair_apart w l fair (Once k at) fits e = cc
+fair_apart w l fair (Semaphore k at) fits e = cc
+
+module _ (w : State) (l : ℕ) (sort : (rules_in w l).sort ≡ locks.Mutex) where
   away : (k : ℕ) (x : locks.Sort) → (rules_in w k).sort ≡ x → x ≢ locks.Mutex → (k == l) ≡ true → ⊥
-  away k x e ne same =
-      ne (sym e ∙ ap (λ j. (rules_in w j).sort) (eqb-true k l same) ∙ fair_sort (kind_at w l) fair)
+  away k x e ne same = ne (sym e ∙ ap (λ j. (rules_in w j).sort) (eqb-true k l same) ∙ sort)
 
   only : (b : Bool) (x : Location) (d : Role) → (b ≡ true → ⊥)
       → (if b then x else nowhere).carries ≡ Some false
@@ -61,11 +73,12 @@ module _ (w : State) (l : ℕ) (fair : kind_at w l ≡ kinds.Fair) where
   only true x d none h = absurd (none refl)
   only false x d none h = absurd cc
 
-  owner : (p : Place) (r : ℕ → Rights) → FitsItsLock w p → ReleasesFairly (call_state p r).purpose l
+  owner : (p : Place) (r : ℕ → Rights) → FitsItsLock w p → beside_of p ≢ Some l
+      → ReleasesFairly (call_state p r).purpose l
       → (location_at p l).carries ≡ Some false
       → (role_on p l).claims ≡ Some (Has Exclusive)
-  owner Idle r fits fairly h = absurd cc
-  owner (Mutex k at) r fits fairly h = by_test (k == l) refl _ _ (mutex_owner at) h
+  owner Idle r fits apart fairly h = absurd cc
+  owner (Mutex k at) r fits apart fairly h = by_test (k == l) refl _ _ (mutex_owner at) h
     where
       by_test : (b : Bool) → (k == l) ≡ b → (x : Location) (d : Role)
           → (x.carries ≡ Some false → (d.claims ≡ Some (Has Exclusive)) ⊎
@@ -78,13 +91,13 @@ module _ (w : State) (l : ℕ) (fair : kind_at w l ≡ kinds.Fair) where
         | inr unfair ↦ absurd (unfair k r
             (subst (ReleasesFairly (call_state (Mutex k at) r).purpose) (sym (eqb-true k l e)) fairly))
       ]
-  owner (RwLock k a at) r fits fairly h =
+  owner (RwLock k a at) r fits apart fairly h =
       only (k == l) _ _ (λ e. (let f : false ≡ true = sym
-      (ap has_readers (ap (λ j. (rules_in w j).sort) (eqb-true k l e) ∙ fair_sort (kind_at w l) fair))
+      (ap has_readers (ap (λ j. (rules_in w j).sort) (eqb-true k l e) ∙ sort))
       ∙ fits.0.0 in cc)) h
-  owner (Once k at) r fits fairly h = only (k == l) _ _ (away k locks.Once fits (λ f. cc)) h
-  owner (Semaphore k at) r fits fairly h = only (k == l) _ _ (away k locks.Semaphore fits.0 (λ f. cc)) h
-  owner (Condvar k at) r fits fairly h = two (k == l) refl (is_lock l (mutex_beside at)) refl _ _ _ _ h
+  owner (Once k at) r fits apart fairly h = only (k == l) _ _ (away k locks.Once fits (λ f. cc)) h
+  owner (Semaphore k at) r fits apart fairly h = only (k == l) _ _ (away k locks.Semaphore fits.0 (λ f. cc)) h
+  owner (Condvar k at) r fits apart fairly h = two (k == l) refl (is_lock l (mutex_beside at)) refl _ _ _ _ h
     where
       two : (b : Bool) → (k == l) ≡ b → (c : Bool) → is_lock l (mutex_beside at) ≡ c
           → (x y : Location) (d e : Role)
@@ -92,11 +105,27 @@ module _ (w : State) (l : ℕ) (fair : kind_at w l ≡ kinds.Fair) where
           → (if b then d else if c then e else idle).claims ≡ Some (Has Exclusive)
       two true e c f x y d g h = absurd (away k locks.Condvar fits.sort (λ i. cc) e)
       two false e false f x y d g h = absurd cc
-      two false e true f x y d g h =
-          absurd (let i : true ≡ false = sym (fits.mutex l (locked_by l (mutex_beside at) f)) ∙ ap
-          is_plain_mutex fair in cc)
+      two false e true f x y d g h = absurd (apart (locked_by l (mutex_beside at) f))
 
 -- ---------------------------------------------------------------- a world
+
+module _ (w : State) (h : IsWorld w) (l : ℕ) (sort : (rules_in w l).sort ≡ locks.Mutex)
+  (fairly : IsGivenUpFairly w l) where
+  -- it is owned while somebody is in a hand
+  pub in_hand : (t : ℕ) (x : Taken) → (lock_state w l).taken t ≡ Some x → (lock_state w l).exclusive ≢ None
+  in_hand t x e =
+      let carries = h.steady.stands.hands.taken x.by t l false (taken_held (place_at w t) x.by l x.want e) in
+      let claims = owner w l sort (place_at w x.by) _ (h.steady.stands.calls x.by) (fairly.apart x.by)
+      (fairly.calls x.by) carries in
+      let own : (lock_state w l).exclusive ≡ Some x.by = (h.steady.sites.site l).held x.by (Has Exclusive)
+      claims in
+      λ none. (let f : ◌≡◌ {A = Option ℕ} (Some x.by) None = sym own ∙ none in cc)
+
+pub given_up_fairly : (w : State) → IsWorld w → (l : ℕ) → kind_at w l ≡ kinds.Fair → IsGivenUpFairly w l
+given_up_fairly w h l fair = record {
+  calls = (h.settled.fair l fair).calls;
+  apart = λ t. fair_apart w l fair (place_at w t) (h.steady.stands.calls t);
+}
 
 module _ (w : State) (h : IsWorld w) (l : ℕ) (fair : kind_at w l ≡ kinds.Fair) where
   state : locks.IsLockState (rules_in w l) (lock_state w l)
@@ -106,15 +135,6 @@ module _ (w : State) (h : IsWorld w) (l : ℕ) (fair : kind_at w l ≡ kinds.Fai
   unwritten =
       (state.unpending (λ k. subst (λ x. locks.Knows x Upgradable) (fair_sort (kind_at w l) fair) k)).0
 
-  in_hand : (t : ℕ) (x : Taken) → (lock_state w l).taken t ≡ Some x → (lock_state w l).exclusive ≢ None
-  in_hand t x e =
-      let carries = h.steady.stands.hands.taken x.by t l false (taken_held (place_at w t) x.by l x.want e) in
-      let claims = owner w l fair (place_at w x.by) _ (h.steady.stands.calls x.by)
-      ((h.settled.fair l fair).calls x.by) carries in
-      let own : (lock_state w l).exclusive ≡ Some x.by = (h.steady.sites.site l).held x.by (Has Exclusive)
-      claims in
-      λ none. (let f : ◌≡◌ {A = Option ℕ} (Some x.by) None = sym own ∙ none in cc)
-
   not_aside : (t : ℕ) (o : Option ℕ) → (lock_state w l).aside ≡ o → one_if_thread t o ≡ 0
   not_aside t None e = refl
   not_aside t (Some u) e = absurd (subst (λ o. IsSomePending o u) unwritten (state.aside_pending u e))
@@ -122,7 +142,7 @@ module _ (w : State) (h : IsWorld w) (l : ℕ) (fair : kind_at w l ≡ kinds.Fai
   by_hand : (t : ℕ) (o : Option Taken) → (lock_state w l).taken t ≡ o → 1 ≤ one_if_some o
       → (lock_state w l).exclusive ≢ None
   by_hand t None e some = absurd (let f : 1 ≤ 0 = some in omega arith)
-  by_hand t (Some x) e some = in_hand t x e
+  by_hand t (Some x) e some = in_hand w h l (fair_sort (kind_at w l) fair) (given_up_fairly w h l fair) t x e
 
   pub fair_owned : (t : ℕ) → 1 ≤ standing t (lock_state w l) → (lock_state w l).exclusive ≢ None
   fair_owned t some = elim (cases_lt 0 (times t (lock_state w l).queue)) [

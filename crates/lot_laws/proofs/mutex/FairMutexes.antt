@@ -1,29 +1,20 @@
 -- A fair mutex is released fairly, is owned while somebody waits for it, and lets nobody be overtaken.
-use Rattle.std.proofs.Common.{ℕ, Bool, true, false, Option, Some, None, if◌then◌else◌, ◌==◌, ◌≡◌, ◌≢◌, ◌≤◌, ◌<◌, inl, inr, List, [], ◌∷◌, length, get_or-set_other, get_or-set_same, refl, sym, ◌∙◌, ap, subst, arith}
-use Rattle.std.proofs.lemmas.Bool.{cases_eq, eqb-true}
+use Rattle.std.proofs.Common.{ℕ, true, false, Option, Some, None, ◌≡◌, ◌≢◌, ◌≤◌, ◌<◌, inl, inr, List, [], ◌∷◌, length, get_or-set_other, get_or-set_same, refl, sym, ◌∙◌, ap, subst, arith}
+use Rattle.std.proofs.lemmas.Bool.{cases_eq}
 use Rattle.std.proofs.lemmas.Bool.Decides.{nat_tests}
 use Rattle.spec_locks.specs.declared.calls.Step.{Step}
 use Rattle.spec_locks.specs.declared.kinds.Kind.{Kind}
 use Rattle.spec_locks.specs.declared.kinds.Kind.TheVariants as kinds
-use Rattle.spec_locks.specs.Kinds.{is_plain_mutex}
-use Rattle.spec_locks.specs.Bypass.{LetsGoWhileSomeWait, ReleasesFairly}
-use Rattle.spec_locks.specs.Codes.{parked_in}
+use Rattle.spec_locks.specs.Bypass.{ReleasesFairly}
 use Rattle.spec_locks.specs.Locks.{LockState, Queued, Rights, rights_of, times}
 use Rattle.spec_locks.specs.Locks as locks
 use Rattle.spec_locks.specs.Purposes.{rules_of}
 use Rattle.spec_locks.specs.Runs.{IsOpening}
-use Rattle.spec_locks.specs.Sites.{Role, has_readers, idle}
-use Rattle.spec_locks.proofs.FairEvents.{FairlyGoes, fairly_goes}
+use Rattle.spec_locks.specs.Sites.{has_readers}
 use Rattle.spec_locks.proofs.FairQueues.{fair_stays}
-use Rattle.steps_condvar.specs.CondvarSteps.{mutex_beside}
-use Rattle.steps_mutex.specs.declared.hand_off.HandOffAt.TheVariants as hand_off
-use Rattle.steps_mutex.specs.declared.lock.LockAt.TheVariants as lock
-use Rattle.steps_mutex.specs.declared.places.MutexPlace.{MutexPlace}
-use Rattle.steps_mutex.specs.declared.places.MutexPlace.TheVariants as mutex
-use Rattle.steps_mutex.specs.declared.unlock.UnlockAt.TheVariants as unlock
 use Rattle.lot_steps.specs.declared.places.Place.{Place}
-use Rattle.lot_steps.specs.declared.places.Place.TheVariants.{Idle, Mutex, RwLock, Once, Condvar, Semaphore}
-use Rattle.lot_steps.specs.Steps.{act_of, beside_of, called_lock, is_lock, profile, profile_beside}
+use Rattle.lot_steps.specs.declared.places.Place.TheVariants.{Idle, RwLock}
+use Rattle.lot_steps.specs.Steps.{act_of, beside_of, called_lock, profile, profile_beside}
 use Rattle.lot_machine.specs.Fits.{IsWellFormed}
 use Rattle.steps_rwlock.specs.declared.places.Admission.{Admission}
 use Rattle.steps_rwlock.specs.declared.places.RwLockPlace.{RwLockPlace}
@@ -34,13 +25,13 @@ use Rattle.steps_rwlock_fair.specs.declared.places.RwLockCallPlace.TheVariants.{
 use Rattle.lot_laws.proofs.once.Marks.{opening_unmarked, unmarked_after}
 use Rattle.lot_laws.proofs.once.Runs.{opening_running, put_running, running_after}
 use Rattle.lot_laws.proofs.promises.Promises.{opening_is}
-use Rattle.lot_machine.specs.Machine.{State, after, kind_at, opening, place_at, put, runs_closure, step_outcome, word_at}
-use Rattle.lot_laws.specs.Locations.{role_on}
+use Rattle.lot_machine.specs.Machine.{State, after, kind_at, opening, place_at, put, runs_closure, step_outcome}
 use Rattle.lot_laws.specs.Refinement.{call_at, call_on_both, call_state, lock_state, locks_of}
-use Rattle.lot_laws.specs.SitesOf.{AreFairMutexes, FitsItsLock, IsFairMutex, IsInductive, IsSettled, IsWorld, AreCondvars, AreCounted, is_mutex, rules_in}
+use Rattle.lot_laws.specs.SitesOf.{AreFairMutexes, IsFairMutex, IsInductive, IsSettled, IsWorld, AreCondvars, AreCounted, is_mutex, rules_in}
 use Rattle.lot_laws.proofs.calls.LockSteps.{after_step}
 use Rattle.lot_laws.proofs.machine.KindsStay.{after_kinds}
-use Rattle.lot_laws.proofs.promises.Fair.{is_fair}
+use Rattle.lot_laws.proofs.mutex.FairHands.{given_up_fairly}
+use Rattle.lot_laws.proofs.mutex.FairReleases.{goes_fairly, hands_over}
 
 fair_rules : (k : Kind) → k ≡ kinds.Fair → (rules_of k).sort ≡ locks.Mutex
 fair_rules k e = ap (λ x. (rules_of x).sort) e
@@ -48,87 +39,17 @@ fair_rules k e = ap (λ x. (rules_of x).sort) e
 fair_mutex : (k : Kind) → k ≡ kinds.Fair → is_mutex k ≡ true
 fair_mutex k e = ap is_mutex e
 
--- ---------------------------------------------------------------- nobody brings it waiters
-
-mutex_sets : (at : MutexPlace) → (profile (Mutex 0 at)).role.sets ≡ false
-mutex_sets (mutex.Lock e r lock.First) = refl
-mutex_sets (mutex.Lock e r lock.Load) = refl
-mutex_sets (mutex.Lock e r (lock.Decide seen)) = refl
-mutex_sets (mutex.Lock e r lock.Check) = refl
-mutex_sets (mutex.Lock e r (lock.Leave parked)) = refl
-mutex_sets (mutex.Lock e r lock.Asleep) = refl
-mutex_sets (mutex.Lock e r (lock.Taken by)) = refl
-mutex_sets (mutex.Lock e r (lock.Handed by)) = refl
-mutex_sets (mutex.Lock e r lock.Accept) = refl
-mutex_sets (mutex.Lock e r lock.Remove) = refl
-mutex_sets (mutex.Lock e r lock.Clear) = refl
-mutex_sets (mutex.Lock e r lock.GiveUp) = refl
-mutex_sets mutex.TryLock = refl
-mutex_sets (mutex.Unlock unlock.Subtract) = refl
-mutex_sets (mutex.Unlock unlock.Enter) = refl
-mutex_sets (mutex.Unlock unlock.Take) = refl
-mutex_sets (mutex.Unlock (unlock.Clear any)) = refl
-mutex_sets (mutex.Unlock (unlock.Leave any)) = refl
-mutex_sets mutex.UnlockFair = refl
-mutex_sets mutex.Bump = refl
-mutex_sets (mutex.HandOff bumps hand_off.Enter) = refl
-mutex_sets (mutex.HandOff bumps hand_off.Take) = refl
-mutex_sets (mutex.HandOff bumps (hand_off.Store any none_left)) = refl
-mutex_sets (mutex.HandOff bumps (hand_off.Leave any)) = refl
-
-locked_by : (l : ℕ) (o : Option ℕ) → is_lock l o ≡ true → o ≡ Some l
-locked_by l None h = absurd cc
-locked_by l (Some k) h = ap Some (eqb-true k l h)
-
-module _ (w : State) (l : ℕ) (fair : kind_at w l ≡ kinds.Fair) where
-  away : (k : ℕ) (x : locks.Sort) → (rules_in w k).sort ≡ x → x ≢ locks.Mutex → (k == l) ≡ true → ⊥
-  away k x e ne same = ne (sym e ∙ ap (λ j. (rules_in w j).sort) (eqb-true k l same) ∙ fair_rules (kind_at w l) fair)
-
-  by_test : (b : Bool) (d : Role) → (b ≡ true → d.sets ≡ false) → (if b then d else idle).sets ≡ false
-  by_test true d h = h refl
-  by_test false d h = refl
-
-  place_sets : (p : Place) → FitsItsLock w p → (role_on p l).sets ≡ false
-  place_sets Idle fits = refl
-  place_sets (Mutex k at) fits = by_test (k == l) _ (λ e. mutex_sets at)
-  place_sets (RwLock k a at) fits = by_test (k == l) _ (λ e. absurd (let f : false ≡ true = sym (ap has_readers (ap (λ j. (rules_in w j).sort) (eqb-true k l e) ∙ fair_rules (kind_at w l) fair)) ∙ fits.0.0 in cc))
-  place_sets (Once k at) fits = by_test (k == l) _ (λ e. absurd (away k locks.Once fits (λ f. cc) e))
-  place_sets (Semaphore k at) fits = by_test (k == l) _ (λ e. absurd (away k locks.Semaphore fits.0 (λ f. cc) e))
-  place_sets (Condvar k at) fits = two (k == l) refl (is_lock l (mutex_beside at)) refl
-    where
-      two : (b : Bool) → (k == l) ≡ b → (c : Bool) → is_lock l (mutex_beside at) ≡ c
-          → (if b then (profile (Condvar k at)).role else if c then (profile_beside (Condvar k at)).role else idle).sets ≡ false
-      two true e c f = absurd (away k locks.Condvar fits.sort (λ g. cc) e)
-      two false e false f = refl
-      two false e true f = absurd (let g : true ≡ false = sym (fits.mutex l (locked_by l (mutex_beside at) f)) ∙ ap is_plain_mutex fair in cc)
-
 -- ---------------------------------------------------------------- a step
 
 module _ (w : State) (s : Step) (h : IsWorld w) (l : ℕ) (fair : kind_at w l ≡ kinds.Fair) where
   abbrev v : State
   v = after w s
 
+  one_owner : is_mutex (kind_at w l) ≡ true
+  one_owner = fair_mutex (kind_at w l) fair
+
   turn_is : Rattle.lot_laws.proofs.calls.LockSteps.IsTurn (locks_of w) s (step_outcome w s) (locks_of v)
   turn_is = after_step w s h.shaped h.steady h.counted h.condvars
-
-  -- each fair release then hands it over where somebody waits
-  hands_over : LetsGoWhileSomeWait (locks_of w) (locks_of v) s.thread l → ⊥
-  hands_over lets = elim ((is_fair w s h.shaped h.steady h.counted h.condvars).gives s.thread l (lets.releases, lets.owner, fair_mutex (kind_at w l) fair)) [
-    | inl on ↦ (let e : ◌≡◌ {A = Option ℕ} None (Some s.thread) = sym lets.gone ∙ on.0 in cc)
-    | inr other ↦ elim other [
-      | inl hands ↦ (let e : ◌≡◌ {A = Option ℕ} None (Some hands.0) = sym lets.gone ∙ hands.2 in cc)
-      | inr goes ↦ elim goes.2 [
-        | inl clear ↦ elim ((h.steady.sites.site l).parked lets.waiter) [
-          | inl set ↦ (let e : false ≡ true = sym clear ∙ (ap (λ x. parked_in x (word_at w l)) (sym (fair_rules (kind_at w l) fair)) ∙ set) in cc)
-          | inr sets ↦ (let e : false ≡ true = sym (place_sets w l fair (place_at w sets.0) (h.steady.stands.calls sets.0)) ∙ sets.1 in cc)
-        ]
-        | inr empty ↦ lets.waiter empty
-      ]
-    ]
-  ]
-
-  pub goes_fairly : FairlyGoes (locks_of w) (locks_of v) s.thread l
-  goes_fairly = fairly_goes (locks_of w) (locks_of v) s.thread l (step_outcome w s) (λ k. (h.steady.sites.site k).state) (fair_rules (kind_at w l) fair) (h.settled.fair l fair).calls s.turn turn_is.1
 
   some_stands : (q : List Queued) → q ≢ [] → (u : ℕ) × (1 ≤ times u q)
   some_stands [] n = absurd (n refl)
@@ -137,9 +58,9 @@ module _ (w : State) (s : Step) (h : IsWorld w) (l : ℕ) (fair : kind_at w l �
   still_fair : IsFairMutex v l
   still_fair = record {
     calls = fair_stays (locks_of w) (locks_of v) s (step_outcome w s) l fair (h.settled.fair l fair).calls turn_is.1;
-    owned = λ some. (let first = some_stands (lock_state v l).queue some in elim (goes_fairly.owned first.0 first.1 (h.settled.fair l fair).owned) [
+    owned = λ some. (let first = some_stands (lock_state v l).queue some in elim ((goes_fairly w s h l one_owner (given_up_fairly w h l fair)).owned first.0 first.1 (h.settled.fair l fair).owned) [
       | inl owned ↦ owned
-      | inr lets ↦ absurd (hands_over lets)
+      | inr lets ↦ absurd (hands_over w s h l one_owner (given_up_fairly w h l fair) lets)
     ]);
   }
 
