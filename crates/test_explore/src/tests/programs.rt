@@ -1,6 +1,9 @@
 //! Programs with what is found of them.
 
 use super::{Found, check_eq, search_of};
+use core_base::{ListQueues, Queues};
+use core_queues::BucketQueues;
+use std::alloc::Global;
 use std::process::Abort;
 use std::test::Fail;
 
@@ -133,16 +136,34 @@ const PROGRAMS: &[(&str, Found)] = &[
     ("threads 1\nthread 0\nloop\nend\n", Found::Nothing(1)),
 ];
 
+/// Asserts what is found of each program.
+fn check_programs<Q: Queues + Drop>(rt: &impl Abort, alloc: Global) {
+    for (text, wanted) in PROGRAMS {
+        check_eq(rt, search_of::<Q>(alloc, text, ROOM), *wanted);
+    }
+}
+
 #[test]
 fn programs_go_wrong_as_they_do_or_not(rt: HostRuntime) {
-    for (text, wanted) in PROGRAMS {
-        check_eq(&rt, search_of(rt.alloc(), text, ROOM), *wanted);
-    }
+    check_programs::<ListQueues>(&rt, rt.alloc());
+}
+
+#[test]
+fn a_search_over_buckets_finds_what_one_over_lists_does(rt: HostRuntime) {
+    check_programs::<BucketQueues>(&rt, rt.alloc());
 }
 
 #[test]
 fn a_search_stops_at_its_limit(rt: HostRuntime) {
     let text = "threads 2\nlock m mutex\nthread 0 1\nlock m\nunlock m\n";
-    check_eq(&rt, search_of(rt.alloc(), text, 10), Found::Limit(10));
-    check_eq(&rt, search_of(rt.alloc(), text, 0), Found::Limit(0));
+    check_eq(
+        &rt,
+        search_of::<ListQueues>(rt.alloc(), text, 10),
+        Found::Limit(10),
+    );
+    check_eq(
+        &rt,
+        search_of::<ListQueues>(rt.alloc(), text, 0),
+        Found::Limit(0),
+    );
 }
