@@ -6,7 +6,7 @@ use core_base::Queues;
 use lot_explore::{Followed, explore, follow};
 use lot_program::{Fault, Program};
 use lot_program_text::{TextError, parse};
-use state_search::Verdict;
+use state_search::{Limits, Unobserved, Verdict};
 use std::alloc::Global;
 use std::fmt::Debug;
 use std::process::Abort;
@@ -37,12 +37,12 @@ fn check_eq<T: PartialEq + Debug + Drop>(rt: &impl Abort, found: T, wanted: T) {
     assert_eq!(rt; found, wanted);
 }
 
-/// Returns what a search of a text finds, with room for so many states.
-fn search_of<Q: Queues + Drop>(alloc: Global, text: &str, most: u32) -> Found {
+/// Returns what a search of a text finds within these limits.
+fn search_of<Q: Queues + Drop>(alloc: Global, text: &str, limits: Limits) -> Found {
     let Ok(parsed) = parse(alloc, text) else {
         return Found::NoProgram;
     };
-    match explore::<Q>(alloc, &parsed.program, most) {
+    match explore::<Q, _>(alloc, &parsed.program, limits, &mut Unobserved) {
         Ok(Verdict::Holds { states, depth: _ }) => Found::Nothing(states),
         Ok(Verdict::Limited { states, depth: _ }) => Found::Limit(states),
         Ok(Verdict::NoMemory { states, depth: _ }) => Found::NoMemory(states),
