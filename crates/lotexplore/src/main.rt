@@ -7,7 +7,7 @@ mod report;
 mod status;
 mod waits;
 
-use crate::arguments::Limits;
+use crate::arguments::limits_from;
 use crate::report::report;
 use lot_program_text::{TextError, parse};
 use std::io::ErrorKind;
@@ -30,7 +30,7 @@ fn run(rt: &HostRuntime) -> io::Result<u8> {
         ]?,
         Err(e) => return Err(e),
     };
-    let Some(limits) = Limits::from_words(words.as_slice()) else {
+    let Some(limits) = limits_from(words.as_slice()) else {
         eprintln!(rt; "usage: lotexplore [--states N] [--bytes N] < PROGRAM")?;
         return Ok(status::MALFORMED);
     };

@@ -7,7 +7,11 @@ use lot_world::{Kind, World};
 use std::io;
 
 /// Prints a line for each thread that is not through: what it has, what it waits for, and its line.
-pub fn print_waits(rt: &HostRuntime, parsed: &ProgramText, run: &Followed) -> io::Result<()> {
+pub fn print_waits(
+    rt: &HostRuntime,
+    parsed: &ProgramText,
+    run: &Followed<ListQueues>,
+) -> io::Result<()> {
     let program = &parsed.program;
     if !program.is_fit() {
         return Ok(());
@@ -33,7 +37,7 @@ pub fn print_waits(rt: &HostRuntime, parsed: &ProgramText, run: &Followed) -> io
 fn print_thread(
     rt: &HostRuntime,
     parsed: &ProgramText,
-    run: &Followed,
+    run: &Followed<ListQueues>,
     world: &World<ListQueues>,
     thread: usize,
 ) -> io::Result<()> {

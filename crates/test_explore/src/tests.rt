@@ -2,10 +2,11 @@
 mod programs;
 mod texts;
 
+use core_base::Queues;
 use lot_explore::{Followed, explore, follow};
 use lot_program::{Fault, Program};
 use lot_program_text::{TextError, parse};
-use state_search::Verdict;
+use state_search::{Limits, Unobserved, Verdict};
 use std::alloc::Global;
 use std::fmt::Debug;
 use std::process::Abort;
@@ -36,27 +37,27 @@ fn check_eq<T: PartialEq + Debug + Drop>(rt: &impl Abort, found: T, wanted: T) {
     assert_eq!(rt; found, wanted);
 }
 
-/// Returns what a search of a text finds, with room for so many states.
-fn search_of(alloc: Global, text: &str, most: u32) -> Found {
+/// Returns what a search of a text finds within these limits.
+fn search_of<Q: Queues + Drop>(alloc: Global, text: &str, limits: Limits) -> Found {
     let Ok(parsed) = parse(alloc, text) else {
         return Found::NoProgram;
     };
-    match explore(alloc, &parsed.program, most) {
+    match explore::<Q, _>(alloc, &parsed.program, limits, &mut Unobserved) {
         Ok(Verdict::Holds { states, depth: _ }) => Found::Nothing(states),
         Ok(Verdict::Limited { states, depth: _ }) => Found::Limit(states),
         Ok(Verdict::NoMemory { states, depth: _ }) => Found::NoMemory(states),
-        Ok(Verdict::Broken { moves }) => broken(alloc, &parsed.program, moves.as_slice()),
+        Ok(Verdict::Broken { moves }) => broken::<Q>(alloc, &parsed.program, moves.as_slice()),
         Err(_) => Found::NoProgram,
     }
 }
 
 /// Returns what is wrong with the state after some moves.
-fn broken(alloc: Global, program: &Program, moves: &[usize]) -> Found {
+fn broken<Q: Queues + Drop>(alloc: Global, program: &Program, moves: &[usize]) -> Found {
     if !program.is_fit() {
         return Found::NoProgram;
     }
     let number = moves.len();
-    let Ok(run) = follow(alloc, program, moves) else {
+    let Ok(run) = follow::<Q>(alloc, program, moves) else {
         return Found::Limit(number);
     };
     match fault_of(program, &run) {
@@ -67,7 +68,7 @@ fn broken(alloc: Global, program: &Program, moves: &[usize]) -> Found {
 }
 
 /// Returns the first fault of a thread, or that there is none.
-fn fault_of(program: &Program, run: &Followed) -> Fault {
+fn fault_of<Q: Queues + Drop>(program: &Program, run: &Followed<Q>) -> Fault {
     for thread in 0..program.threads() {
         let fault = run.scene.local(thread).fault;
         if fault != Fault::Nothing {

@@ -1,11 +1,18 @@
 //! Programs with what is found of them.
 
 use super::{Found, check_eq, search_of};
+use core_base::{ListQueues, Queues};
+use core_queues::BucketQueues;
+use state_search::Limits;
+use std::alloc::Global;
 use std::process::Abort;
 use std::test::Fail;
 
 /// Room for each program here.
-const ROOM: u32 = 30_000;
+const ROOM: Limits = Limits {
+    states: 30_000,
+    bytes: None,
+};
 
 /// Programs of one sort of lock, or of two that wait for each other.
 const PROGRAMS: &[(&str, Found)] = &[
@@ -133,16 +140,37 @@ const PROGRAMS: &[(&str, Found)] = &[
     ("threads 1\nthread 0\nloop\nend\n", Found::Nothing(1)),
 ];
 
+/// Asserts what is found of each program.
+fn check_programs<Q: Queues + Drop>(rt: &impl Abort, alloc: Global) {
+    for (text, wanted) in PROGRAMS {
+        check_eq(rt, search_of::<Q>(alloc, text, ROOM), *wanted);
+    }
+}
+
 #[test]
 fn programs_go_wrong_as_they_do_or_not(rt: HostRuntime) {
-    for (text, wanted) in PROGRAMS {
-        check_eq(&rt, search_of(rt.alloc(), text, ROOM), *wanted);
-    }
+    check_programs::<ListQueues>(&rt, rt.alloc());
+}
+
+#[test]
+fn a_search_over_buckets_finds_what_one_over_lists_does(rt: HostRuntime) {
+    check_programs::<BucketQueues>(&rt, rt.alloc());
 }
 
 #[test]
 fn a_search_stops_at_its_limit(rt: HostRuntime) {
     let text = "threads 2\nlock m mutex\nthread 0 1\nlock m\nunlock m\n";
-    check_eq(&rt, search_of(rt.alloc(), text, 10), Found::Limit(10));
-    check_eq(&rt, search_of(rt.alloc(), text, 0), Found::Limit(0));
+    // A row has two numbers of each thread and three of the lock, so a state takes 60 bytes.
+    let limits = [
+        (10, None, 10),
+        (0, None, 0),
+        (100, Some(659), 10),
+        (100, Some(660), 11),
+        (10, Some(660), 10),
+    ];
+    for (states, bytes, wanted) in limits.iter().copied() {
+        let limits = Limits { states, bytes };
+        let found = search_of::<ListQueues>(rt.alloc(), text, limits);
+        check_eq(&rt, found, Found::Limit(wanted));
+    }
 }
