@@ -110,7 +110,7 @@ module _ (w : State) (l : ℕ) (sort : (rules_in w l).sort ≡ locks.Mutex) wher
 -- ---------------------------------------------------------------- a world
 
 module _ (w : State) (h : IsWorld w) (l : ℕ) (sort : (rules_in w l).sort ≡ locks.Mutex)
-  (fairly : IsGivenUpFairly w l) where
+    (fairly : IsGivenUpFairly w l) where
   -- it is owned while somebody is in a hand
   pub in_hand : (t : ℕ) (x : Taken) → (lock_state w l).taken t ≡ Some x → (lock_state w l).exclusive ≢ None
   in_hand t x e =

@@ -81,7 +81,7 @@ module _ (w : State) (l : ℕ) (sort : (rules_in w l).sort ≡ locks.Mutex) wher
     where
       two : (b : Bool) → (k == l) ≡ b → (c : Bool) → is_lock l (mutex_beside at) ≡ c
           → (if b then (profile (Condvar k at)).role else if c then (profile_beside
-              (Condvar k at)).role else idle).sets ≡ false
+          (Condvar k at)).role else idle).sets ≡ false
       two true e c f = absurd (away k locks.Condvar fits.sort (λ g. cc) e)
       two false e false f = refl
       two false e true f = absurd (apart (locked_by l (mutex_beside at) f))
@@ -89,7 +89,7 @@ module _ (w : State) (l : ℕ) (sort : (rules_in w l).sort ≡ locks.Mutex) wher
 -- ---------------------------------------------------------------- a step
 
 module _ (w : State) (s : Step) (h : IsWorld w) (l : ℕ) (one_owner : is_mutex (kind_at w l) ≡ true)
-  (fairly : IsGivenUpFairly w l) where
+    (fairly : IsGivenUpFairly w l) where
   abbrev v : State
   v = after w s
 
@@ -103,20 +103,20 @@ module _ (w : State) (s : Step) (h : IsWorld w) (l : ℕ) (one_owner : is_mutex 
   pub hands_over : LetsGoWhileSomeWait (locks_of w) (locks_of v) s.thread l → ⊥
   hands_over lets = elim ((is_fair w s h.shaped h.steady h.counted h.condvars).gives s.thread l
       (lets.releases, lets.owner, one_owner)) [
-    | inl on ↦ (let e : ◌≡◌ {A = Option ℕ} None (Some s.thread) = sym lets.gone ∙ on.0 in cc)
-    | inr other ↦ elim other [
-      | inl hands ↦ (let e : ◌≡◌ {A = Option ℕ} None (Some hands.0) = sym lets.gone ∙ hands.2 in cc)
-      | inr goes ↦ elim goes.2 [
-        | inl clear ↦ elim ((h.steady.sites.site l).parked lets.waiter) [
-          | inl set ↦ (let e : false ≡ true = sym clear ∙ (ap (λ x. parked_in x (word_at w l)) (sym sort)
-              ∙ set) in cc)
-          | inr sets ↦ (let e : false ≡ true = sym (place_sets w l sort (place_at w sets.0)
-              (h.steady.stands.calls sets.0) (fairly.apart sets.0)) ∙ sets.1 in cc)
+        | inl on ↦ (let e : ◌≡◌ {A = Option ℕ} None (Some s.thread) = sym lets.gone ∙ on.0 in cc)
+        | inr other ↦ elim other [
+          | inl hands ↦ (let e : ◌≡◌ {A = Option ℕ} None (Some hands.0) = sym lets.gone ∙ hands.2 in cc)
+          | inr goes ↦ elim goes.2 [
+            | inl clear ↦ elim ((h.steady.sites.site l).parked lets.waiter) [
+              | inl set ↦ (let e : false ≡ true = sym clear ∙ (ap (λ x. parked_in x (word_at w l)) (sym sort)
+                  ∙ set) in cc)
+              | inr sets ↦ (let e : false ≡ true = sym (place_sets w l sort (place_at w sets.0)
+                  (h.steady.stands.calls sets.0) (fairly.apart sets.0)) ∙ sets.1 in cc)
+            ]
+            | inr empty ↦ lets.waiter empty
+          ]
         ]
-        | inr empty ↦ lets.waiter empty
       ]
-    ]
-  ]
 
   pub goes_fairly : FairlyGoes (locks_of w) (locks_of v) s.thread l
   goes_fairly = fairly_goes (locks_of w) (locks_of v) s.thread l (step_outcome w s) (λ k.

@@ -81,7 +81,7 @@ left_by t Shared s = refl
 left_by t x s = refl
 
 module _ (r : Rules) (s : LockState) (t : ℕ) (state : IsLockState r s) (mutex : r.sort ≡ Mutex)
-  (free : s.exclusive ≡ None) where
+    (free : s.exclusive ≡ None) where
   unwritten : (s.pending ≡ None) × (s.upgradable ≡ None)
   unwritten = state.unpending (λ k. subst (λ x. locks.Knows x Upgradable) mutex k)
 
@@ -121,7 +121,7 @@ module _ (r : Rules) (s : LockState) (t : ℕ) (state : IsLockState r s) (mutex 
 -- ---------------------------------------------------------------- a step
 
 module _ (w v : LocksState) (t l : ℕ) (o : Outcome) (all : AreLockStates w) (mutex :
-  (rules_at w l).sort ≡ Mutex) (free : (w.locks l).exclusive ≡ None) where
+    (rules_at w l).sort ≡ Mutex) (free : (w.locks l).exclusive ≡ None) where
   by_event : (e : Event) → MayHappen w t e → Gets (w.locks l) (locks_after w t e l)
   by_event Nothing may = inl free
   by_event (AtLock k case) may = either (l == k) refl
@@ -132,8 +132,8 @@ module _ (w v : LocksState) (t l : ℕ) (o : Outcome) (all : AreLockStates w) (m
       either true e = let same : l ≡ k = eqb-true l k e in
           subst (λ j. Gets (w.locks j) (after_case (rules_at w k) case (w.locks k) t)) (sym same)
           (gets (rules_at w k) (w.locks k) t (all k) (subst (λ j. (rules_at w j).sort ≡ Mutex) same mutex)
-              (subst (λ j. (w.locks j).exclusive ≡ None) same free) case (needs_of w t k case
-              (w.calls t).purpose may))
+          (subst (λ j. (w.locks j).exclusive ≡ None) same free) case (needs_of w t k case
+          (w.calls t).purpose may))
   by_event (Moves c m every locked n) may = inl (at_mutex (l == m) refl)
     where
       at_condvar : (b : Bool) → (l == c) ≡ b → (if b then left_behind every
@@ -143,7 +143,7 @@ module _ (w v : LocksState) (t l : ℕ) (o : Outcome) (all : AreLockStates w) (m
 
       at_mutex : (b : Bool) → (l == m) ≡ b
           → (if b then joined_by locked t (moved_of every (w.locks c).queue)
-              (w.locks m) else putting w.locks c (left_behind every (w.locks c)) l).exclusive ≡ None
+          (w.locks m) else putting w.locks c (left_behind every (w.locks c)) l).exclusive ≡ None
       at_mutex false e = at_condvar (l == c) refl
       at_mutex true e = ap (λ j. (w.locks j).exclusive) (sym (eqb-true l m e)) ∙ free
 

@@ -74,7 +74,7 @@ module _ (w : State) (h : IsWorld w) (l : ℕ) (sort : (rules_in w l).sort ≡ l
           let both : Some x.by ≡ Some y.by = sym (inside_main i x e) ∙ inside_main j y f in
           let same : y.by ≡ x.by = cc in
           sym (h.steady.stands.hands.alone x.by l i j false false sort (taken_held
-              (place_at w i) x.by l x.want e)
+          (place_at w i) x.by l x.want e)
           (taken_held (place_at w j) x.by l y.want (f ∙ (λ n. Some (record { by = same n; want = y.want })))))
 
   pub few_hands : (n : ℕ) → in_hands n (lock_state w l).taken ≤ 1
@@ -88,7 +88,7 @@ module _ (w : State) (h : IsWorld w) (l : ℕ) (sort : (rules_in w l).sort ≡ l
     | inr ge ↦ absurd (let waits : MayWait (call_at w u).purpose l = k.waiting u l some in
         let idle : place_at w u ≡ Idle = past_all w.places u Idle ge in
         let none : call_at w u ≡ call_state Idle (λ j. locks.rights_of (lock_state w j) u) = ap
-            (λ p. call_state p (λ j. locks.rights_of (lock_state w j) u)) idle in
+        (λ p. call_state p (λ j. locks.rights_of (lock_state w j) u)) idle in
         subst (λ (c : Rattle.spec_locks.specs.Runs.CallState). MayWait c.purpose l) none waits)
   ]
 
@@ -112,7 +112,7 @@ no_hands (suc n) taken none = let e : one_if_some (taken n) ≡ 0 = ap one_if_so
     let more = no_hands n taken none in omega arith
 
 module _ (w : State) (s : Step) (h : IsWorld w) (n l t : ℕ) (size : length w.places ≡ n)
-  (one_owner : is_mutex (kind_at w l) ≡ true) (fairly : IsGivenUpFairly w l)
+    (one_owner : is_mutex (kind_at w l) ≡ true) (fairly : IsGivenUpFairly w l)
     (before : WaitsFor w t l) (now : WaitsFor (after w s) t l) where
   abbrev v : State
   v = after w s
@@ -149,9 +149,9 @@ module _ (w : State) (s : Step) (h : IsWorld w) (n l t : ℕ) (size : length w.p
   none_in_hands : owner_at w l ≡ None → owner_at v l ≢ None → in_hands n (lock_state v l).taken ≡ 0
   none_in_hands free owned = elim (gets_owner (locks_of w) (locks_of v) s.thread l
       (step_outcome w s) kept.state sort free s.turn (step_is w s h).1) [
-    | inl still ↦ absurd (owned still)
-    | inr same ↦ ap (in_hands n) same ∙ no_hands n (lock_state w l).taken (none_taken free)
-  ]
+        | inl still ↦ absurd (owned still)
+        | inr same ↦ ap (in_hands n) same ∙ no_hands n (lock_state w l).taken (none_taken free)
+      ]
 
   -- each new owner costs one of them
   costs : (o p : Option ℕ) → owner_at w l ≡ o → owner_at v l ≡ p
@@ -167,11 +167,11 @@ module _ (w : State) (s : Step) (h : IsWorld w) (n l t : ℕ) (size : length w.p
   costs (Some a) (Some b) e f =
       let on = handed_on (is_owned (owner_at w l) a e) (is_owned (owner_at v l) b f) in
       let cost = nobody_overtakes (locks_of w) (locks_of v) s (step_outcome w s) n l t kept.state
-          (step_is w s h) on in
+      (step_is w s h) on in
       let passes : passed (owner_at w l) (owner_at v l) ≡ passed (Some a) (Some b) =
-          ap (λ x. passed x (owner_at v l)) e ∙ ap (passed (Some a)) f in
+      ap (λ x. passed x (owner_at v l)) e ∙ ap (passed (Some a)) f in
       let sum : turns n t (lock_state v l) + passed (owner_at w l) (owner_at v l)
-          ≤ turns n t (lock_state w l) = cost in
+      ≤ turns n t (lock_state w l) = cost in
       let new : newly_owned (Some a) (Some b) ≡ passed (Some a) (Some b) = refl in
       omega arith
 
@@ -186,9 +186,9 @@ come_before : (ss : List Step) (w : State) (n l t : ℕ) → IsWorld w → lengt
 come_before [] w n l t h size one_owner fairly stands = omega arith
 come_before (s ∷ ss) w n l t h size one_owner fairly stands =
     let cost = costs w s h n l t size one_owner fairly.0 stands.0 (stands_first (after w s) ss l t stands.1)
-        (owner_at w l) (owner_at (after w s) l) refl refl in
+    (owner_at w l) (owner_at (after w s) l) refl refl in
     let rest = come_before ss (after w s) n l t (world_after w s h) ((after_size w s).threads ∙ size)
-        (ap is_mutex (after_kinds w s l) ∙ one_owner) fairly.1 stands.1 in
+    (ap is_mutex (after_kinds w s l) ∙ one_owner) fairly.1 stands.1 in
     omega arith
 
 pub world_steps : (ss : List Step) (w : State) → IsWorld w → IsWorld (after_steps w ss)
@@ -200,8 +200,11 @@ world_steps (s ∷ ss) w h = world_steps ss (after w s) (world_after w s h)
 gives_up : (ss : List Step) (w : State) (l : ℕ) → IsWorld w → kind_at w l ≡ kinds.Fair
     → FairlyThroughout w ss l
 gives_up [] w l h fair = tt
-gives_up (s ∷ ss) w l h fair = (given_up_fairly w h l fair, gives_up ss (after w s) l (world_after w s h)
-    (after_kinds w s l ∙ fair))
+gives_up (s ∷ ss) w l h fair = (
+  given_up_fairly w h l fair,
+  gives_up ss (after w s) l (world_after w s h)
+      (after_kinds w s l ∙ fair),
+)
 
 one_at_most : (o : Option ℕ) (hands : ℕ) → hands ≤ 1 → before_it o hands ≤ 1
 one_at_most None hands few = omega arith
@@ -220,5 +223,5 @@ nobody_is_overtaken w v ss h led t l released stands = elim released [
         ≤ ahead t (lock_state w l).queue + 1) (sym led)
         (let bound = come_before ss w (length w.places) l t h refl one_owner fairly stands in
         let few = one_at_most (owner_at w l) (in_hands (length w.places) (lock_state w l).taken)
-            (few_hands w h l (mutex_sort (kind_at w l) one_owner) (length w.places)) in
+        (few_hands w h l (mutex_sort (kind_at w l) one_owner) (length w.places)) in
         omega arith)
