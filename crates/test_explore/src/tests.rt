@@ -1,4 +1,5 @@
 //! Programs, and what a search of all their schedules finds.
+mod packs;
 mod programs;
 mod texts;
 
