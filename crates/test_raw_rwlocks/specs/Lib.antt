@@ -1,1 +1,1 @@
-mod AnyLocks
+pub mod AnyLocks

@@ -1,4 +1,4 @@
 use Rattle.lotbench.proofs.rwlocks.write_raw.Given as goal
 
 abbrev pub invariant-loop : goal.invariant-loop
-invariant-loop g l = g.L.RawRwLock.is_token_of (g.L.RawRwLock.lot_of l.lock) l.token
+invariant-loop g l = g.L.RawRwLockHalves.is_token_of (g.L.RawRwLockHalves.lot_of l.lock) l.token
