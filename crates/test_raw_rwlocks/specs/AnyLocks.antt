@@ -3,8 +3,8 @@ use Rattle.std.specs.Prelude.{ℕ}
 use Rattle.core_words.specs.declared.words.Word.{Word}
 use Rattle.parking_lot_core.specs.declared.lot.ParkingLot.{ParkingLot}
 use Rattle.parking_lot.specs.Names.{admission_of, lot_of_rwlock, word_of_rwlock}
-use Rattle.test_raw_rwlocks.specs.declared.tests.fixtures.any_rwlock.AnyRwLock.{AnyRwLock}
-use Rattle.test_raw_rwlocks.specs.declared.tests.fixtures.any_rwlock.AnyRwLock.TheVariants.{Normal, Recursive}
+use Rattle.test_raw_rwlocks.specs.declared.any_rwlock.AnyRwLock.{AnyRwLock}
+use Rattle.test_raw_rwlocks.specs.declared.any_rwlock.AnyRwLock.TheVariants.{Normal, Recursive}
 
 abbrev pub lot_of : AnyRwLock → ParkingLot
 lot_of (Normal lock) = lot_of_rwlock lock

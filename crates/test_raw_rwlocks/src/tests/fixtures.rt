@@ -1,5 +1,4 @@
 //! A lock with the tickets of its threads, waits that end, and a count of the threads inside.
-pub(super) mod any_rwlock;
 mod inside;
 
 ghost use Rattle.std.specs.Prelude.{◌≡◌, ◌≤◌, ◌<◌, ◌↔◌, All, IfOk, IfSome, IsSome, length};
@@ -7,7 +6,7 @@ ghost use Rattle.std.specs.Arc.{arc_value};
 ghost use Rattle.parking_lot_core.specs.Tokens.{IsTicketOf, IsTokenOf};
 ghost use Rattle.test_raw_rwlocks.specs.AnyLocks.{limit_of, lot_of};
 
-pub(super) use any_rwlock::{AnyRwLock, Sort};
+pub(super) use crate::any_rwlock::{AnyRwLock, Sort};
 pub(super) use inside::Inside;
 use parking_lot::{Fault, ParkingLot, Ticket, Token};
 use std::alloc::Global;
