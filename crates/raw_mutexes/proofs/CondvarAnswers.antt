@@ -1,5 +1,5 @@
 -- The waits of a raw condition variable answer by what they give back.
-use Rattle.std.proofs.Common.{ℕ, ◌≡◌, ◌+◌, ◌++◌, ◌∙◌, ap, Bool, true, false, List, inl, inr, refl, sym, subst}
+use Rattle.std.proofs.Common.{ℕ, ◌≡◌, ◌≢◌, ◌*◌, ◌+◌, ◌++◌, ◌∙◌, ap, Bool, true, false, List, inl, inr, refl, sym, subst}
 use Rattle.core_base.specs.declared.ops.Op.TheVariants.{Load}
 use Rattle.spec_locks.specs.declared.outcomes.Answer.{Answer}
 use Rattle.spec_locks.specs.declared.outcomes.Answer.TheVariants.{No, Number, TimedOut, TwoMutexes, Yes}
@@ -8,11 +8,12 @@ use Rattle.lock_raw.specs.Answers.{GivesBack, GivesBackTimed, LateByClock, timed
 use Rattle.core_words.specs.declared.owners.Ownership.{Ownership}
 use Rattle.core_words.specs.declared.views.WordStep.{WordStep}
 use Rattle.parking_lot_core.specs.declared.tokens.Token.{Token}
-use Rattle.run_base.specs.CondvarFitting.{IsWaitOver, LateIf}
+use Rattle.run_base.specs.CondvarFitting.{IsWaitOver, LateIf, move_did}
 use Rattle.run_base.specs.Paths.{condvar_at, step}
 use Rattle.run_base.specs.Stages.{Stage}
 use Rattle.run_base.specs.Telling.{steps_of}
-use Rattle.run_locks.specs.CondvarCalls.{AnswersWait, HasGoneOn, HasLooked, WaitersMoved, LookedElse, SawNoneToMove, TellsMoved, timed_given_back, given_back}
+use Rattle.run_locks.specs.CondvarCalls.{AnswersWait, HasGoneOn, HasLooked, LookedElse, SawNoneToMove, TellsMoved, timed_given_back, given_back}
+use Rattle.raw_mutexes.specs.Moved.{HasMoved, RecordsMoved}
 
 module _ {G : Type 0} (guard : G) where
   pub waits_so : (answer : Answer) → AnswersWait false answer → waiting_answer (given_back answer guard) ≡ answer
@@ -74,10 +75,19 @@ module _ (words c first : ℕ) (before old new : Token) (looked : HasLooked word
   went_on : (m : ℕ) → first ≡ m + 1 → HasGoneOn (steps_of old) new → HasGoneOn (steps_of before ++ step (condvar_at c) Load (m + 1)) new
   went_on m shown = subst (λ (steps : List WordStep). HasGoneOn steps new) (looked.0 ∙ ap (λ (n : ℕ). steps_of before ++ step (condvar_at c) Load n) shown)
 
-  pub moved_all : (answer : Answer) (number : ℕ) → answer ≡ Number number → TellsMoved c true first answer old new → WaitersMoved c true number before new
-  moved_all answer number is (inl none) = let zero : number ≡ 0 = cc in inl (zero, saw_else none.1)
-  moved_all answer number is (inr moved) = let same : number ≡ moved.2 = cc in inr (moved.0, moved.1, moved.2, same, moved.5, went_on moved.0 moved.3 moved.6)
+  pub moved_all : (answer : Answer) (number : ℕ) → answer ≡ Number number → TellsMoved c true first answer old new → HasMoved c true number before new
+  moved_all answer number is (inl none) = let zero : number ≡ 0 = cc in (inl (zero, saw_else none.1), λ some. absurd (some zero))
+  moved_all answer number is (inr moved) =
+      let same : number ≡ moved.2 = cc in (
+        inr (moved.0, moved.1, moved.2, same, moved.5, went_on moved.0 moved.3 moved.6),
+        λ some. (record { key = 2 * c; did = move_did true moved.1 c moved.0; number = moved.2 }, moved.5, sym same),
+      )
 
-  pub moved_one : (answer : Answer) → answer ≡ Yes → TellsMoved c false first answer old new → WaitersMoved c false 1 before new
-  moved_one answer is (inl none) = absurd (let no : Yes ≡ No = sym is ∙ none.0 in cc)
-  moved_one answer is (inr moved) = inr (moved.0, moved.1, moved.2, refl, moved.5, went_on moved.0 moved.3 moved.6)
+  pub moved_one : (answer : Answer) → answer ≡ Yes → RecordsMoved 1 new → TellsMoved c false first answer old new → HasMoved c false 1 before new
+  moved_one answer is told (inl none) = absurd (let no : Yes ≡ No = sym is ∙ none.0 in cc)
+  moved_one answer is told (inr moved) =
+      (inr (moved.0, moved.1, moved.2, refl, moved.5, went_on moved.0 moved.3 moved.6), λ some. told)
+
+  pub moved_none : (answer : Answer) → answer ≢ Yes → TellsMoved c false first answer old new → (answer ≡ No) × HasMoved c false 0 before new
+  moved_none answer other (inl none) = (none.0, (inl (refl, saw_else none.1), λ some. absurd (some refl)))
+  moved_none answer other (inr moved) = absurd (other moved.4)

@@ -3,3 +3,4 @@ pub mod Words
 pub mod CondvarWords
 pub mod Begun
 pub mod Counting
+pub mod Moved

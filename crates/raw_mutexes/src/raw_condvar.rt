@@ -10,8 +10,9 @@ ghost use Rattle.parking_lot_core.specs.Tokens.{IsTokenOf};
 ghost use Rattle.parking_lot_core.specs.declared.tokens.Token.{Token};
 ghost use Rattle.run_base.specs.Drawing.{Drew};
 ghost use Rattle.run_base.specs.Telling.{steps_of};
-ghost use Rattle.run_locks.specs.CondvarCalls.{AnswersWait, HasLooked, WaitersMoved, NotifiesBy, TellsMoved, WaitsBy};
+ghost use Rattle.run_locks.specs.CondvarCalls.{AnswersWait, HasLooked, NotifiesBy, TellsMoved, WaitsBy};
 ghost use Rattle.run_locks.specs.CondvarCalls as answers;
+ghost use Rattle.raw_mutexes.specs.Moved.{HasMoved, RecordsMoved};
 ghost use Rattle.raw_mutexes.specs.MutexGuards.{IsGuardOf, StaysAs};
 ghost use Rattle.raw_mutexes.specs.Words as mutexes;
 
@@ -69,6 +70,21 @@ fn limit_in<C: Clock>(clock: &C, timeout: Duration) -> Option<(&C, u64)>
 {
     let deadline = to_deadline(clock.now(), timeout)?;
     Some((clock, deadline))
+}
+
+// Goes on where the record of the last section says that it took or moved one. In no state of the
+// world a mutex is shown and nobody waits. A thread that met such a state would stay here.
+fn go_on_where_one_moved<R: Wait>(rt: &R, token: &Token)
+    ensures { RecordsMoved 1 token.now }
+{
+    for _ in rt.forever() {
+        if let Some(section) = token.last_section() {
+            if section.number == 1 {
+                return;
+            }
+        }
+    }
+    unreachable!()
 }
 
 impl RawCondvar {
@@ -147,7 +163,7 @@ impl lock_raw::RawCondvar for RawCondvar {
     ghost looked = { λ condvar seen old new. HasLooked
         (arc_value condvar.lot).words.count condvar.word.number seen old new };
 
-    ghost moved = { λ condvar all number old new. WaitersMoved condvar.word.number all number old new };
+    ghost moved = { λ condvar all number old new. HasMoved condvar.word.number all number old new };
 
     fn new(lot: &Arc<ParkingLot>, token: &mut Token) -> Result<RawCondvar, Fault> {
         let Ok(lot) = Arc::try_clone(lot) else {
@@ -174,8 +190,13 @@ impl lock_raw::RawCondvar for RawCondvar {
     }
 
     fn notify_one_slow<R: Wait>(&self, rt: &R, token: &mut Token, seen: u64) -> bool {
-        let answer = self.notify_rest(rt, token, false, seen);
-        matches!(answer, Answer::Yes)
+        match self.notify_rest(rt, token, false, seen) {
+            Answer::Yes => {
+                go_on_where_one_moved(rt, token);
+                true
+            }
+            _ => false,
+        }
     }
 
     fn notify_all_slow<R: Wait>(&self, rt: &R, token: &mut Token, seen: u64) -> usize {

@@ -134,6 +134,8 @@ impl<T: Drop> OnceCell<T> {
         ensures token { IsTokenOf (lot_of self.now) token.new
             × StaysKnowing (number_of self.now) token.old token.new }
         ensures made { FoundOrMade (number_of self.now) token.old token.new }
+        ensures value { F.post f result.now
+            ⊎ FoundAnothers (number_of self.now) token.old token.new }
     {
         match self.get_or_try_init(rt, token, move || Ok::<T, Infallible>(f())) {
             Ok(value) => value,
