@@ -1,1 +1,2 @@
+mod RwLockEntries
 mod RwLockReleases

@@ -1,6 +1,8 @@
-//! The lot, tried by threads. Nothing is here but tests: they meet the lot as the locks above it
-//! do.
+//! The lot, tried by one thread: each call of it, and both kinds of queues. What a thread takes to
+//! line up is for `test_meets` too.
 #![tactic(auto)]
 
+pub mod lines;
+pub mod mutexes;
 #[cfg(test)]
 mod tests;

@@ -3,6 +3,7 @@ mod cells;
 mod crowds;
 mod meets;
 mod permits;
+mod scripts;
 mod timed;
 
 ghost use Rattle.std.specs.Prelude.{◌≡◌, ◌<◌, ◌≤◌, All, IfSome};
@@ -10,23 +11,18 @@ ghost use Rattle.std.specs.Arc.{arc_value};
 ghost use Rattle.run_signals.specs.OnceUsers.{IsTicketOf, IsTokenOf, lot_of};
 
 use parking_lot_core::{Fault, ParkingLot, Ticket, Token};
-use run_signals::{Once, OnceCell, OnceFault, OnceState};
+use run_signals::{Once, OnceCell, OnceFault};
 use std::alloc::Global;
 use std::fmt::Debug;
 use std::process::Abort;
+use std::sync::atomic::AtomicUsize;
 use std::sync::atomic::Ordering::SeqCst;
-use std::sync::atomic::{AtomicBool, AtomicUsize};
 use std::sync::{Arc, Wait};
 
 /// Asserts that the thing found is the thing wanted. The tests share this one assertion, since each
 /// is proved where it stands.
 fn check_eq<T: PartialEq + Debug + Drop>(rt: &impl Abort, found: T, wanted: T) {
     assert_eq!(rt; found, wanted);
-}
-
-/// Checks what is true.
-fn check(rt: &impl Abort, truth: bool) {
-    assert!(rt; truth);
 }
 
 fn next_of(lot: &ParkingLot, tickets: &mut Vec<Ticket>) -> Option<Ticket>
@@ -109,29 +105,6 @@ fn count_run<R: Wait>(rt: &R, once: &Once, token: &mut Token, runs: &AtomicUsize
     told(answer)
 }
 
-// Asserts that such a call ends as wanted.
-fn answers<R: Wait + Abort>(
-    rt: &R,
-    once: &Once,
-    token: &mut Token,
-    runs: &AtomicUsize,
-    wanted: &'static str,
-)
-    requires { IsTokenOf (lot_of once.now) token.old }
-    ensures { IsTokenOf (lot_of once.now) token.new }
-{
-    check_eq(rt, count_run(rt, once, token, runs), wanted);
-}
-
-// It stands as it was wanted to, and tells so by both calls that look.
-fn stands(rt: &impl Abort, once: &Once, token: &mut Token, wanted: OnceState)
-    requires { IsTokenOf (lot_of once.now) token.old }
-    ensures { IsTokenOf (lot_of once.now) token.new }
-{
-    check_eq(rt, once.state(token), wanted);
-    check_eq(rt, once.is_completed(token), wanted == OnceState::Done);
-}
-
 // The text of a fault of a `Once`.
 fn text_of<A: Abort>(rt: &A, alloc: Global, fault: &OnceFault<u8>) -> String {
     match format!(in alloc; "{fault}") {
@@ -156,72 +129,10 @@ fn faults_of_a_once_say_what_was(rt: HostRuntime) {
     );
 }
 
-#[test]
-fn who_calls_first_runs(rt: HostRuntime) {
-    let (once, mut token) = once_alone(&rt, rt.alloc());
-    let runs = AtomicUsize::new(0);
-    stands(&rt, &once, &mut token, OnceState::New);
-    answers(&rt, &once, &mut token, &runs, "ok");
-    stands(&rt, &once, &mut token, OnceState::Done);
-    answers(&rt, &once, &mut token, &runs, "ok");
-    check(&rt, once.wait(&rt, &mut token).is_ok());
-    once.wait_force(&rt, &mut token);
-    stands(&rt, &once, &mut token, OnceState::Done);
-    check_eq(&rt, runs.load(SeqCst), 1);
-}
-
-#[test]
-fn what_is_made_done_runs_nothing(rt: HostRuntime) {
-    let (lot, mut token, _others) = seats(&rt, rt.alloc(), 1);
-    let Ok(once) = Once::new_completed(&lot, &mut token) else {
-        panic!(rt; "no Once");
-    };
-    let runs = AtomicUsize::new(0);
-    stands(&rt, &once, &mut token, OnceState::Done);
-    answers(&rt, &once, &mut token, &runs, "ok");
-    check_eq(&rt, runs.load(SeqCst), 0);
-}
-
 // Its closure fails.
 fn fail<R: Wait>(rt: &R, once: &Once, token: &mut Token) -> &'static str
     requires { IsTokenOf (lot_of once.now) token.old }
     ensures { IsTokenOf (lot_of once.now) token.new }
 {
     told(once.call_once(rt, token, || Err(7u32)))
-}
-
-// A forced call. Whether it was told that the run before had failed.
-fn mend<R: Wait>(rt: &R, once: &Once, token: &mut Token, poisoned: &AtomicBool) -> &'static str
-    requires { IsTokenOf (lot_of once.now) token.old }
-    ensures { IsTokenOf (lot_of once.now) token.new }
-{
-    let answer: Result<(), OnceFault<u32>> = once.call_once_force(
-        rt,
-        token,
-        move |before: OnceState| {
-            poisoned.store(matches!(before, OnceState::Poisoned), SeqCst);
-            Ok(())
-        },
-    );
-    told(answer)
-}
-
-#[test]
-fn a_failed_run_poisons(rt: HostRuntime) {
-    let (once, mut token) = once_alone(&rt, rt.alloc());
-    let runs = AtomicUsize::new(0);
-    let poisoned = AtomicBool::new(false);
-    check_eq(&rt, fail(&rt, &once, &mut token), "failed");
-    stands(&rt, &once, &mut token, OnceState::Poisoned);
-    answers(&rt, &once, &mut token, &runs, "poisoned");
-    check_eq(&rt, runs.load(SeqCst), 0);
-    check(
-        &rt,
-        matches!(once.wait(&rt, &mut token), Err(Fault::Poisoned)),
-    );
-    check_eq(&rt, mend(&rt, &once, &mut token, &poisoned), "ok");
-    check(&rt, poisoned.load(SeqCst));
-    stands(&rt, &once, &mut token, OnceState::Done);
-    answers(&rt, &once, &mut token, &runs, "ok");
-    check_eq(&rt, runs.load(SeqCst), 0);
 }

@@ -1,15 +1,12 @@
-mod clocks;
 mod condvars;
 mod hand_over;
 mod kinds;
 mod onces;
 mod places;
-mod queues;
+mod scripts;
 
-use spec_locks::Answer;
 use std::fmt::Debug;
 use std::process::Abort;
-use steps_base::Next;
 
 // Asserts that the thing found is the thing wanted. All tests share this one assertion, since each
 // is proved where it stands.
@@ -20,9 +17,4 @@ fn check_eq<T: PartialEq + Debug + Drop>(rt: &impl Abort, found: T, wanted: T) {
 // Asserts that a condition holds.
 fn check(rt: &impl Abort, truth: bool) {
     assert!(rt; truth);
-}
-
-// A call ends so.
-fn ends_as<P>(rt: &impl Abort, next: &Next<P>, answer: Answer) {
-    check(rt, matches!(next, Next::End(found) if *found == answer));
 }

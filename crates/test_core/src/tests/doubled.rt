@@ -25,7 +25,7 @@ fn put<R: Wait>(rt: &R, lot: &ParkingLot, token: &mut Token, key: Key, thread: u
 
 #[test]
 fn queued_counts_those_of_a_key(rt: HostRuntime) {
-    let (lot, mut token, _) = lot_of(&rt, rt.alloc(), 4, SEATS);
+    let (lot, mut token) = lot_of(&rt, rt.alloc(), 4, SEATS);
     check_eq(&rt, lot.queued(&rt, &mut token, KEY), 0);
     put(&rt, &lot, &mut token, KEY, 1);
     check_eq(&rt, lot.queued(&rt, &mut token, KEY), 1);
@@ -38,7 +38,7 @@ fn queued_counts_those_of_a_key(rt: HostRuntime) {
 // next section of both keys finds it under the second alone, and doesn't wait for ever.
 #[test]
 fn a_thread_in_two_buckets_leaves_the_older(rt: HostRuntime) {
-    let (lot, mut token, _) = lot_of(&rt, rt.alloc(), 4, SEATS);
+    let (lot, mut token) = lot_of(&rt, rt.alloc(), 4, SEATS);
     put(&rt, &lot, &mut token, KEY, 1);
     put(&rt, &lot, &mut token, OTHER, 1);
     let section = lot.enter(&rt, &mut token, Keys::Two(KEY, OTHER));

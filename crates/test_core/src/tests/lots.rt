@@ -1,5 +1,5 @@
 //! Lots that are one, and lots that are two.
-use super::{check, lot_of, new_lot};
+use super::{check, new_lot};
 use parking_lot_core::ParkingLot;
 use std::process::Abort;
 use std::sync::atomic::AtomicUsize;
@@ -12,7 +12,7 @@ const ASKS: usize = 20_000;
 fn a_lot_is_itself_and_no_other(rt: HostRuntime) {
     let (one, _) = new_lot(&rt, rt.alloc(), 4, 2);
     let (other, _) = new_lot(&rt, rt.alloc(), 4, 2);
-    let (larger, _, _) = lot_of(&rt, rt.alloc(), 8, 3);
+    let (larger, _) = new_lot(&rt, rt.alloc(), 8, 3);
     for _ in 0..3 {
         check(&rt, one.same_lot(&one));
         check(&rt, !one.same_lot(&other));

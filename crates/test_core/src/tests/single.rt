@@ -9,10 +9,9 @@ ghost use Rattle.parking_lot_core.specs.Sections.{StaysIn, TookAs, moved_in, rig
 ghost use Rattle.parking_lot_core.specs.Tokens.{IsTokenOf, IsSameThread};
 ghost use Rattle.parking_lot_core.specs.declared.tokens.Did.TheVariants.{Nothing, TakeAll};
 
-use super::buckets::lie_apart;
-use super::mutexes::{try_lock, unlock};
-use super::several::append_three;
-use super::{Task, check, check_eq, in_section, lot_of, mutex_of};
+use super::{check, check_eq, lot_of, mutex_of};
+use crate::lines::{append_three, lie_apart};
+use crate::mutexes::{try_lock, unlock};
 use core_words::laws::mutex_may_step;
 use parking_lot_core::{
     Did, Fault, Key, Keys, Note, Op, ParkingLot, Requeue, Section, SectionRecord, Ticket, Token,
@@ -206,7 +205,7 @@ fn draw_the_last(lot: &ParkingLot, token: &mut Token) -> [Drawn; 4]
 
 #[test]
 fn words_are_drawn_once(rt: HostRuntime) {
-    let (lot, mut token, _) = lot_of(&rt, rt.alloc(), 5, 1);
+    let (lot, mut token) = lot_of(&rt, rt.alloc(), 5, 1);
     check_eq(&rt, draw_four(&lot, &mut token), FOUR);
     check_eq(&rt, draw_the_last(&lot, &mut token), THE_LAST);
 }
@@ -256,7 +255,7 @@ fn line_up_twice<R: Wait>(
 
 #[test]
 fn a_section_takes_in_order(rt: HostRuntime) {
-    let (lot, mut token, _) = lot_of(&rt, rt.alloc(), 1, 1);
+    let (lot, mut token) = lot_of(&rt, rt.alloc(), 1, 1);
     let seen = line_up_twice(&rt, &lot, &mut token);
     check_eq(&rt, seen, ([(1, 0, Some(6)), (0, 1, Some(7))], 0, true));
     check_eq(&rt, token.last_section(), recorded(Did::TakeAll(7), 1));
@@ -291,7 +290,7 @@ fn pick_of_three<R: Wait>(rt: &R, lot: &ParkingLot, token: &mut Token) -> (bool,
 
 #[test]
 fn a_section_takes_who_is_picked(rt: HostRuntime) {
-    let (lot, mut token, _) = lot_of(&rt, rt.alloc(), 1, 3);
+    let (lot, mut token) = lot_of(&rt, rt.alloc(), 1, 3);
     check_eq(&rt, pick_of_three(&rt, &lot, &mut token), (true, true, 1));
     let did = Did::TakePicked {
         key: 6,
@@ -357,7 +356,7 @@ fn requeues<R: Wait + Abort>(rt: &R, lot: &ParkingLot, token: &mut Token, to: Ke
 
 #[test]
 fn a_section_requeues(rt: HostRuntime) {
-    let (lot, mut token, _) = lot_of(&rt, rt.alloc(), 1, 3);
+    let (lot, mut token) = lot_of(&rt, rt.alloc(), 1, 3);
     // To a key of the same bucket, and to one of another.
     check_eq(&rt, (lie_apart(3, 6, 1), lie_apart(3, 6, 2)), (false, true));
     requeues(&rt, &lot, &mut token, 1);
@@ -367,7 +366,10 @@ fn a_section_requeues(rt: HostRuntime) {
 fn forgets<R: Wait + Abort>(rt: &R, lot: &ParkingLot, token: &mut Token, word: Word)
     requires { IsTokenOf lot.now token.old × IsWordOf lot.now.words word × (word.kind ≡ Mutex) }
 {
-    check_eq(rt, in_section(rt, lot, token, 0, Task::TakeFirst), None);
+    let mut section = lot.enter(rt, token, Keys::One(0));
+    let taken = section.take_first(0);
+    section.leave(rt, token, Note::Normal);
+    check_eq(rt, taken, None);
     let record = SectionRecord {
         key: 0,
         did: Did::TakeFirst(0),

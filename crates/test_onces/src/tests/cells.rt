@@ -2,7 +2,7 @@
 ghost use Rattle.run_signals.specs.OnceUsers.{IsTokenOf, lot_of};
 
 use super::crowds::{Part, play};
-use super::{cell_of, check, check_eq, seats};
+use super::{cell_of, check_eq, seats};
 use parking_lot_core::Token;
 use run_signals::OnceCell;
 use std::alloc::Global;
@@ -12,37 +12,66 @@ use std::sync::atomic::AtomicUsize;
 use std::sync::atomic::Ordering::SeqCst;
 use std::thread::yield_now;
 
-// The value, made of how many have made it before; or none, where making it fails.
+// How a thread asks for the value, where nobody has made it.
+#[derive(Clone, Copy)]
+enum Ask {
+    /// It makes the value of how many have made it before.
+    Makes,
+    /// Making it fails.
+    Fails,
+    /// It makes the value by a closure that can't fail.
+    MakesSurely,
+}
+
+// An ask, and the value that comes of it.
+type Line = (Ask, Option<u64>);
+
+// The value, or none, where making it fails.
 fn value_of<R: Wait>(
     rt: &R,
     cell: &OnceCell<u64>,
     token: &mut Token,
     runs: &AtomicUsize,
-    fails: bool,
+    ask: Ask,
 ) -> Option<u64>
     requires { IsTokenOf (lot_of cell.now) token.old }
     ensures { IsTokenOf (lot_of cell.now) token.new }
 {
+    if let Ask::MakesSurely = ask {
+        return Some(*cell.get_or_init(rt, token, move || 7 + runs.fetch_add(1, SeqCst) as u64 % 2));
+    }
     let found: Result<&u64, u32> = cell.get_or_try_init(rt, token, move || {
         let before = runs.fetch_add(1, SeqCst) as u64;
-        if fails { Err(7u32) } else { Ok(before) }
+        match ask {
+            Ask::Fails => Err(7u32),
+            _ => Ok(before),
+        }
     });
     found.ok().copied()
 }
 
-// Asserts that the answer is the one wanted.
-fn finds<R: Wait + Abort>(
+// A thread asks as the script says, and finds that each time. So many closures have run.
+fn asks<R: Wait + Abort>(
     rt: &R,
     cell: &OnceCell<u64>,
     token: &mut Token,
-    runs: &AtomicUsize,
-    fails: bool,
-    wanted: Option<u64>,
+    script: &[Line],
+    runs: usize,
 )
     requires { IsTokenOf (lot_of cell.now) token.old }
-    ensures { IsTokenOf (lot_of cell.now) token.new }
 {
-    check_eq(rt, value_of(rt, cell, token, runs, fails), wanted);
+    let ran = AtomicUsize::new(0);
+    check_eq(rt, cell.get().copied(), None);
+    for (number, line) in script.iter().enumerate() {
+        let (ask, wanted) = *line;
+        let found = value_of(rt, cell, token, &ran, ask);
+        check_eq(
+            rt,
+            (number, found, cell.get().copied()),
+            (number, wanted, wanted),
+        );
+    }
+    check_eq(rt, ran.load(SeqCst), runs);
 }
 
 // A cell that one thread has for itself.
@@ -54,45 +83,33 @@ fn cell_alone<A: Abort>(rt: &A, alloc: Global) -> (OnceCell<u64>, Token)
     (cell, token)
 }
 
+const IS_MADE: &[Line] = &[
+    (Ask::Fails, None),
+    (Ask::Makes, Some(1)),
+    (Ask::Makes, Some(1)),
+];
+
 #[test]
 fn a_value_is_made_once(rt: HostRuntime) {
     let (mut cell, mut token) = cell_alone(&rt, rt.alloc());
-    let runs = AtomicUsize::new(0);
-    check(&rt, cell.get().is_none());
-    finds(&rt, &cell, &mut token, &runs, true, None);
-    check(&rt, cell.get().is_none());
-    finds(&rt, &cell, &mut token, &runs, false, Some(1));
-    finds(&rt, &cell, &mut token, &runs, false, Some(1));
-    check_eq(&rt, cell.get().copied(), Some(1));
-    check_eq(&rt, runs.load(SeqCst), 2);
+    asks(&rt, &cell, &mut token, IS_MADE, 2);
     if let Some(value) = cell.get_mut() {
         *value = 5;
     }
     check_eq(&rt, cell.into_inner(), Some(5));
 }
 
-// The value, which can't fail to be made.
-fn sure_value_of<R: Wait>(
-    rt: &R,
-    cell: &OnceCell<u64>,
-    token: &mut Token,
-    runs: &AtomicUsize,
-) -> u64
-    requires { IsTokenOf (lot_of cell.now) token.old }
-    ensures { IsTokenOf (lot_of cell.now) token.new }
-{
-    *cell.get_or_init(rt, token, move || 7 + runs.fetch_add(1, SeqCst) as u64 % 2)
-}
+const IS_MADE_SURELY: &[Line] = &[
+    (Ask::Fails, None),
+    (Ask::MakesSurely, Some(8)),
+    (Ask::MakesSurely, Some(8)),
+    (Ask::Fails, Some(8)),
+];
 
 #[test]
 fn a_value_that_cannot_fail_is_made_once(rt: HostRuntime) {
     let (cell, mut token) = cell_alone(&rt, rt.alloc());
-    let runs = AtomicUsize::new(0);
-    finds(&rt, &cell, &mut token, &runs, true, None);
-    check_eq(&rt, sure_value_of(&rt, &cell, &mut token, &runs), 8);
-    check_eq(&rt, sure_value_of(&rt, &cell, &mut token, &runs), 8);
-    finds(&rt, &cell, &mut token, &runs, true, Some(8));
-    check_eq(&rt, runs.load(SeqCst), 2);
+    asks(&rt, &cell, &mut token, IS_MADE_SURELY, 2);
 }
 
 const ASKERS: usize = 10;

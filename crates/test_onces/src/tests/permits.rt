@@ -1,13 +1,13 @@
 //! Calls of one semaphore, by one thread and by many.
 mod crowds;
 
-ghost use Rattle.std.specs.Prelude.{◌≡◌, ◌≤◌, ◌^◌};
+ghost use Rattle.std.specs.Prelude.{◌≡◌, ◌≤◌, ◌^◌, IfSome};
 ghost use Rattle.std.specs.Arc.{arc_value};
-ghost use Rattle.run_signals.specs.SemaphoreUsers.{IsTokenOf, lot_of};
+ghost use Rattle.run_signals.specs.SemaphoreUsers.{IsTokenOf, lot_of, semaphore_of};
 
 use super::{check_eq, seats};
 use parking_lot_core::{Fault, ParkingLot, TickClock, Token};
-use run_signals::Semaphore;
+use run_signals::{Permit, Semaphore};
 use std::alloc::Global;
 use std::process::Abort;
 use std::sync::{Arc, Wait};
@@ -65,18 +65,47 @@ fn tries<R: Wait>(rt: &R, semaphore: &Semaphore, token: &mut Token) -> bool
     }
 }
 
-// Whether a wait of so many nanoseconds gets a permit. It is given back.
-fn waits_for<R: Wait>(
+// The limit of a wait.
+#[derive(Clone, Copy)]
+enum Limit {
+    /// Is over after so many nanoseconds.
+    For(u64),
+    /// Is over at a time of the clock.
+    Until(u64),
+}
+
+// The permit of a wait up to a limit.
+fn permit_within<'a, R: Wait>(
+    rt: &R,
+    semaphore: &'a Semaphore,
+    token: &mut Token,
+    clock: &TickClock,
+    limit: Limit,
+) -> Option<Permit<'a>>
+    requires { IsTokenOf (lot_of semaphore.now) token.old }
+    ensures token { IsTokenOf (lot_of semaphore.now) token.new }
+    ensures permit { IfSome result (λ permit. semaphore_of permit ≡ semaphore.now) }
+{
+    match limit {
+        Limit::For(nanos) => {
+            semaphore.try_acquire_for(rt, token, clock, Duration::from_nanos(nanos))
+        }
+        Limit::Until(time) => semaphore.try_acquire_until(rt, token, clock, time),
+    }
+}
+
+// Whether such a wait gets a permit. It is given back.
+fn waits<R: Wait>(
     rt: &R,
     semaphore: &Semaphore,
     token: &mut Token,
     clock: &TickClock,
-    nanos: u64,
+    limit: Limit,
 ) -> bool
     requires { IsTokenOf (lot_of semaphore.now) token.old }
     ensures { IsTokenOf (lot_of semaphore.now) token.new }
 {
-    match semaphore.try_acquire_for(rt, token, clock, Duration::from_nanos(nanos)) {
+    match permit_within(rt, semaphore, token, clock, limit) {
         Some(permit) => {
             permit.release(rt, token);
             true
@@ -85,24 +114,29 @@ fn waits_for<R: Wait>(
     }
 }
 
-// Waits for a permit up to a time of the clock.
-fn waits_until<R: Wait>(
-    rt: &R,
-    semaphore: &Semaphore,
-    token: &mut Token,
-    clock: &TickClock,
-    deadline: u64,
-) -> bool
+// The first is over in time, and the others are past.
+const LIMITS: &[Limit] = &[Limit::For(30), Limit::For(0), Limit::Until(0)];
+
+// Each such wait gets a permit, or each is in vain.
+fn all_wait<R: Wait + Abort>(rt: &R, semaphore: &Semaphore, token: &mut Token, wanted: bool)
     requires { IsTokenOf (lot_of semaphore.now) token.old }
     ensures { IsTokenOf (lot_of semaphore.now) token.new }
 {
-    match semaphore.try_acquire_until(rt, token, clock, deadline) {
-        Some(permit) => {
-            permit.release(rt, token);
-            true
-        }
-        None => false,
+    let clock = TickClock::new();
+    for limit in LIMITS {
+        check_eq(rt, waits(rt, semaphore, token, &clock, *limit), wanted);
     }
+}
+
+// How many permits are free while the thread has one more, and whether a try gets one.
+fn beside_one_more<R: Wait>(rt: &R, semaphore: &Semaphore, token: &mut Token) -> (u64, bool)
+    requires { IsTokenOf (lot_of semaphore.now) token.old }
+    ensures { IsTokenOf (lot_of semaphore.now) token.new }
+{
+    let permit = semaphore.acquire(rt, token);
+    let seen = (semaphore.available(token), tries(rt, semaphore, token));
+    permit.release(rt, token);
+    seen
 }
 
 #[test]
@@ -110,35 +144,25 @@ fn as_many_have_a_permit_as_there_are(rt: HostRuntime) {
     let (_lot, semaphore, mut token) = alone(&rt, rt.alloc(), 2);
     check_eq(&rt, semaphore.permits(), 2);
     has_free(&rt, &semaphore, &mut token, 2);
-    let first = semaphore.acquire(&rt, &mut token);
-    has_free(&rt, &semaphore, &mut token, 1);
-    let second = semaphore.acquire(&rt, &mut token);
-    has_free(&rt, &semaphore, &mut token, 0);
-    let refused = tries(&rt, &semaphore, &mut token);
-    first.release(&rt, &mut token);
+    let permit = semaphore.acquire(&rt, &mut token);
+    let full = beside_one_more(&rt, &semaphore, &mut token);
     let given = tries(&rt, &semaphore, &mut token);
-    second.release(&rt, &mut token);
-    check_eq(&rt, (refused, given), (false, true));
+    has_free(&rt, &semaphore, &mut token, 1);
+    permit.release(&rt, &mut token);
+    check_eq(&rt, (full, given), ((0, false), true));
     has_free(&rt, &semaphore, &mut token, 2);
 }
 
 #[test]
 fn a_wait_that_gives_up_leaves_nothing_behind(rt: HostRuntime) {
     let (lot, semaphore, mut token) = alone(&rt, rt.alloc(), 1);
-    let clock = TickClock::new();
     let permit = semaphore.acquire(&rt, &mut token);
-    let in_time = waits_for(&rt, &semaphore, &mut token, &clock, 30);
-    let past = waits_until(&rt, &semaphore, &mut token, &clock, 0);
+    all_wait(&rt, &semaphore, &mut token, false);
     let queued = lot.queued(&rt, &mut token, semaphore.key());
     permit.release(&rt, &mut token);
-    check_eq(&rt, (in_time, past, queued), (false, false, 0));
+    check_eq(&rt, queued, 0);
     // Past the deadline too a permit that is free is given.
-    check_eq(
-        &rt,
-        waits_until(&rt, &semaphore, &mut token, &clock, 0),
-        true,
-    );
-    check_eq(&rt, waits_for(&rt, &semaphore, &mut token, &clock, 0), true);
+    all_wait(&rt, &semaphore, &mut token, true);
     has_free(&rt, &semaphore, &mut token, 1);
 }
 

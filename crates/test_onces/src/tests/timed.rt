@@ -1,28 +1,15 @@
-//! Waits that have a deadline.
-ghost use Rattle.std.specs.Prelude.{◌≡◌, ◌≤◌};
+//! Waits that have a deadline, beside a run.
 ghost use Rattle.run_signals.specs.OnceUsers.{IsTokenOf, lot_of};
 
+use super::check_eq;
 use super::crowds::{Part, Told, play};
 use super::meets::await_flag;
-use super::{check_eq, count_run, fail, once_alone};
-use parking_lot_core::{Clock, Fault, TickClock, Token};
+use super::scripts::waited;
+use parking_lot_core::{TickClock, Token};
 use run_signals::{Once, OnceFault};
 use std::sync::Wait;
-use std::sync::atomic::AtomicUsize;
 use std::sync::atomic::Ordering::SeqCst;
 use std::time::Duration;
-
-const FAR: u64 = 1000;
-
-// Tells its answer in a word.
-fn told(answer: Result<bool, Fault>) -> &'static str {
-    match answer {
-        Ok(true) => "yes",
-        Ok(false) => "no",
-        Err(Fault::Poisoned) => "poisoned",
-        Err(_) => "refused",
-    }
-}
 
 // Waits for so many nanoseconds.
 fn wait_within<R: Wait>(
@@ -35,7 +22,7 @@ fn wait_within<R: Wait>(
     requires { IsTokenOf (lot_of once.now) token.old }
     ensures { IsTokenOf (lot_of once.now) token.new }
 {
-    told(once.wait_for(rt, token, clock, Duration::from_nanos(nanos)))
+    waited(once.wait_for(rt, token, clock, Duration::from_nanos(nanos)))
 }
 
 // Waits up to a time.
@@ -49,59 +36,7 @@ fn wait_before<R: Wait>(
     requires { IsTokenOf (lot_of once.now) token.old }
     ensures { IsTokenOf (lot_of once.now) token.new }
 {
-    told(once.wait_until(rt, token, clock, deadline))
-}
-
-// Tells whether the clock came to a time, and has not been looked at often since.
-fn is_just_past(clock: &TickClock, time: u64) -> bool
-    requires { time ≤ 10000 }
-{
-    let now = clock.now();
-    time < now && now < time + 10
-}
-
-#[test]
-fn who_waits_for_no_run_gives_up_in_time(rt: HostRuntime) {
-    let (once, mut token) = once_alone(&rt, rt.alloc());
-    let clock = TickClock::starting_at(FAR);
-    check_eq(&rt, wait_within(&rt, &once, &mut token, &clock, 30), "no");
-    check_eq(&rt, is_just_past(&clock, FAR + 30), true);
-    check_eq(
-        &rt,
-        wait_before(&rt, &once, &mut token, &clock, FAR + 80),
-        "no",
-    );
-    check_eq(&rt, is_just_past(&clock, FAR + 80), true);
-}
-
-#[test]
-fn who_comes_late_is_told_of_the_run_before(rt: HostRuntime) {
-    let (once, mut token) = once_alone(&rt, rt.alloc());
-    let clock = TickClock::starting_at(FAR);
-    check_eq(&rt, fail(&rt, &once, &mut token), "failed");
-    check_eq(
-        &rt,
-        wait_before(&rt, &once, &mut token, &clock, 0),
-        "poisoned",
-    );
-    let runs = AtomicUsize::new(0);
-    check_eq(&rt, count_run(&rt, &once, &mut token, &runs), "poisoned");
-    check_eq(
-        &rt,
-        wait_within(&rt, &once, &mut token, &clock, 5),
-        "poisoned",
-    );
-}
-
-#[test]
-fn a_run_is_done_past_the_deadline_too(rt: HostRuntime) {
-    let (once, mut token) = once_alone(&rt, rt.alloc());
-    let clock = TickClock::starting_at(FAR);
-    let runs = AtomicUsize::new(0);
-    check_eq(&rt, wait_before(&rt, &once, &mut token, &clock, 0), "no");
-    check_eq(&rt, count_run(&rt, &once, &mut token, &runs), "ok");
-    check_eq(&rt, wait_before(&rt, &once, &mut token, &clock, 0), "yes");
-    check_eq(&rt, wait_within(&rt, &once, &mut token, &clock, 0), "yes");
+    waited(once.wait_until(rt, token, clock, deadline))
 }
 
 // A call whose closure waits to be let go, and fails.

@@ -1,7 +1,7 @@
 //! Threads that meet at one reader-writer lock.
 ghost use Rattle.std.specs.Prelude.{◌≡◌, ◌<◌};
 ghost use Rattle.parking_lot_core.specs.Tokens.{IsTicketOf, IsTokenOf};
-ghost use Rattle.test_raw_rwlocks.specs.AnyLocks.{lot_of};
+ghost use Rattle.test_any_rwlock.specs.AnyLocks.{lot_of};
 
 use super::fixtures::{AnyRwLock, Inside, Sort, seats};
 use super::mixes::mix;

@@ -4,9 +4,8 @@ mod inside;
 ghost use Rattle.std.specs.Prelude.{◌≡◌, ◌≤◌, ◌<◌, ◌↔◌, All, IfOk, IfSome, IsSome, length};
 ghost use Rattle.std.specs.Arc.{arc_value};
 ghost use Rattle.parking_lot_core.specs.Tokens.{IsTicketOf, IsTokenOf};
-ghost use Rattle.test_raw_rwlocks.specs.AnyLocks.{limit_of, lot_of};
+ghost use Rattle.test_any_rwlock.specs.AnyLocks.{limit_of, lot_of};
 
-pub(super) use crate::any_rwlock::{AnyRwLock, Sort};
 pub(super) use inside::Inside;
 use parking_lot::{Fault, ParkingLot, Ticket, Token};
 use std::alloc::Global;
@@ -14,6 +13,7 @@ use std::sync::atomic::Ordering::SeqCst;
 use std::sync::atomic::{AtomicBool, AtomicUsize};
 use std::sync::{Arc, Wait};
 use std::thread::yield_now;
+pub(super) use test_any_rwlock::{AnyRwLock, Sort};
 
 /// How often a thread looks for what it waits for before it gives up.
 pub(super) const TURNS: usize = 1_000_000;

@@ -2,7 +2,7 @@
 ghost use Rattle.std.specs.Prelude.{IfOk, IfSome};
 ghost use Rattle.parking_lot_core.specs.Tokens.{IsTokenOf};
 ghost use Rattle.parking_lot.specs.Names.{IsExclusiveOf, IsSharedOf, IsUpgradableOf};
-ghost use Rattle.test_raw_rwlocks.specs.AnyLocks.{lot_of, word_of};
+ghost use Rattle.test_any_rwlock.specs.AnyLocks.{lot_of, word_of};
 
 use super::check;
 use super::crowds::{Part, play};

@@ -7,7 +7,7 @@ mod waits;
 
 ghost use Rattle.std.specs.Prelude.{◌≡◌, ◌≤◌};
 ghost use Rattle.parking_lot_core.specs.Tokens.{IsTicketOf, IsTokenOf};
-ghost use Rattle.test_raw_rwlocks.specs.AnyLocks.{lot_of};
+ghost use Rattle.test_any_rwlock.specs.AnyLocks.{lot_of};
 
 use super::check;
 use super::fixtures::{AnyRwLock, Sort, seats};

@@ -2,7 +2,7 @@
 ghost use Rattle.std.specs.Prelude.{◌≡◌};
 ghost use Rattle.parking_lot_core.specs.Tokens.{IsTokenOf};
 ghost use Rattle.parking_lot.specs.Names.{IsSharedOf};
-ghost use Rattle.test_raw_rwlocks.specs.AnyLocks.{lot_of, word_of};
+ghost use Rattle.test_any_rwlock.specs.AnyLocks.{lot_of, word_of};
 
 use super::crowds::{Part, Told, play};
 use super::fixtures::{AnyRwLock, Sort, await_flag, comes_to, lock_alone, queue_up};

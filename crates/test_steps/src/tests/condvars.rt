@@ -1,11 +1,14 @@
-//! Calls of a condition variable alone, by the values that words would have.
-ghost use Rattle.steps_condvar.specs.CondvarSteps.{HasMutexKey};
-
-use super::{check, check_eq, ends_as};
+//! Calls of a condition variable, by the values that words would have.
+use super::check;
+use super::scripts::Line::{
+    Does, Goes, Hears, HearsOfMoved, Leaves, LooksAgain, MayGiveUp, MayNotGiveUp, Might, Moves,
+    Owes, OwesNone, Retries, RetriesNone, Steps, TakenBy, Tells, Wants,
+};
+use super::scripts::{ENDS, ENTERS, Line, TOOK_ONE_OF_MORE, follow, plays};
 use core_base::{Keys, Note, Op, Requeue, Want};
-use spec_locks::{Answer, CondvarCall, Outcome};
+use lot_steps::{Act, Answer, Call, Kind, Outcome, Place, Reply, Wakes, Whom};
+use spec_locks::CondvarCall;
 use std::process::Abort;
-use steps_base::{Act, Next, Reply, Wakes, Whom};
 use steps_condvar::CondvarPlace;
 
 const WAIT: CondvarCall = CondvarCall::Wait {
@@ -18,12 +21,16 @@ const WAIT_TIMED: CondvarCall = CondvarCall::Wait {
     timed: true,
 };
 
-const ENTERS: Act = Act::Enter(Keys::One(6));
-
 /// It shows no mutex any more.
 const HIDES: Act = Act::Word {
     lock: 3,
     op: Op::Store(0),
+};
+
+/// It marks its mutex as one that threads wait for.
+const MARKS: Act = Act::Word {
+    lock: 5,
+    op: Op::Or(2),
 };
 
 const WAKES_NOBODY: Act = Act::Leave {
@@ -36,344 +43,219 @@ const WAKES_THE_TAKEN: Act = Act::Leave {
     wakes: Wakes::All(Note::Normal),
 };
 
-/// A reply to a call, and its next act, where a test asks for that.
-type Turn = (Reply, Option<Act>);
-
-/// Where a call beside the mutex 5 goes on from a place by a reply, which doesn't end it.
-fn onward(rt: &impl Abort, place: CondvarPlace, reply: Reply) -> CondvarPlace
-    ensures { HasMutexKey result }
-{
-    match place.next(reply) {
-        Next::At(next) if next.mutex() == Some(5) => next,
-        _ => panic!(rt; "it ended, or is beside another mutex"),
-    }
+/// Where a call of the condition variable 3 begins.
+fn first(call: CondvarCall) -> Place {
+    Place::first(Kind::Condvar, Call::Condvar { lock: 3, call })
 }
 
-/// This is what it does, of a call of the condition variable 3.
-fn does(rt: &impl Abort, place: CondvarPlace, act: Act)
-    requires { HasMutexKey place }
-{
-    check(rt, place.act(3) == act);
-}
-
-/// Where a call goes on behind some turns.
-fn follow(rt: &impl Abort, first: CondvarPlace, turns: &[Turn]) -> CondvarPlace
-    requires { HasMutexKey first }
-    ensures { HasMutexKey result }
-{
-    let mut place = first;
-    for (reply, act) in turns {
-        place = onward(rt, place, *reply);
-        if let Some(act) = act {
-            does(rt, place, *act);
-        }
-    }
-    place
-}
-
-/// Checks that a call ends by a reply.
-fn ends(rt: &impl Abort, place: CondvarPlace, reply: Reply, answer: Answer) {
-    ends_as(rt, &place.next(reply), answer);
-}
-
-const LEAVES: &[Turn] = &[
-    (Reply::Done, None),
-    (Reply::Value(0), None),
-    (Reply::Done, None),
-    (Reply::Done, None),
-];
-
-/// A thread that waits and has left the section, before its release.
-fn releases(rt: &impl Abort, call: CondvarCall) -> CondvarPlace
-    ensures { HasMutexKey result }
-{
-    let entered = onward(rt, CondvarPlace::first(call), Reply::Done);
-    follow(rt, entered, LEAVES)
-}
-
-/// A thread that waits asleep, with nobody in the queue of its mutex.
-fn asleep(rt: &impl Abort, call: CondvarCall) -> CondvarPlace
-    ensures { HasMutexKey result }
-{
-    onward(rt, releases(rt, call), Reply::Value(1))
-}
-
-/// A notification that has found waiters of the mutex 5, and entered the sections.
-fn notifies(rt: &impl Abort, all: bool) -> CondvarPlace
-    ensures { HasMutexKey result }
-{
-    let first = CondvarPlace::first(CondvarCall::Notify { all });
-    let found = onward(rt, first, Reply::Value(6));
-    onward(rt, found, Reply::Done)
-}
-
-const STANDS: &[Turn] = &[
-    (
+const WAITS: &[Line] = &[
+    Does(ENTERS),
+    OwesNone(3),
+    Steps(Reply::Done, 3, Op::Exchange { from: 0, to: 6 }),
+    Owes(3),
+    OwesNone(5),
+    Goes(
         Reply::Value(6),
-        Some(Act::Stand {
+        Act::Stand {
             key: 6,
             want: Want::Wait,
-        }),
+        },
     ),
-    (Reply::Done, None),
-    (
-        Reply::Done,
-        Some(Act::Word {
-            lock: 5,
-            op: Op::Sub(1),
-        }),
-    ),
-    (Reply::Value(1), None),
+    Hears(Reply::Done),
+    Steps(Reply::Done, 5, Op::Sub(1)),
+    Hears(Reply::Value(1)),
+    Tells(Outcome::Sleep),
+    MayNotGiveUp,
 ];
 
 #[test]
 fn a_wait_shows_its_mutex_stands_and_releases(rt: HostRuntime) {
-    let enters = CondvarPlace::first(WAIT);
-    does(&rt, enters, ENTERS);
-    check(&rt, !enters.owes_on(3, 3));
-    let shows = onward(&rt, enters, Reply::Done);
-    let op = Op::Exchange { from: 0, to: 6 };
-    does(&rt, shows, Act::Word { lock: 3, op });
-    check(&rt, shows.owes_on(3, 3) && !shows.owes_on(3, 5));
-    let asleep = follow(&rt, shows, STANDS);
-    check_eq(&rt, asleep.outcome(), Outcome::Sleep);
-    check(&rt, asleep.late_key(3).is_none());
+    plays(&rt, first(WAIT), WAITS);
 }
 
-const FINDS_ANOTHER_MUTEX: &[Turn] = &[
-    (Reply::Done, None),
-    (
-        Reply::Value(8),
-        Some(Act::Leave {
-            keys: Keys::One(6),
-            wakes: Wakes::Nobody,
-        }),
-    ),
+const FINDS_ANOTHER_MUTEX: &[Line] = &[
+    Hears(Reply::Done),
+    Leaves(Reply::Value(8), Keys::One(6), Wakes::Nobody),
+    Goes(Reply::Done, Act::End(Answer::TwoMutexes)),
 ];
 
 #[test]
 fn a_wait_beside_another_mutex_is_refused(rt: HostRuntime) {
-    let refused = follow(&rt, CondvarPlace::first(WAIT), FINDS_ANOTHER_MUTEX);
-    ends(&rt, refused, Reply::Done, Answer::TwoMutexes);
+    plays(&rt, first(WAIT), FINDS_ANOTHER_MUTEX);
 }
 
-const FINDS_ITS_MUTEX_LOCKED: &[Turn] = &[(Reply::Value(1), None), (Reply::Value(1), None)];
+/// A thread that waits has left the section, and is to release its mutex.
+const COMES_TO_RELEASE: &[Line] = &[
+    Hears(Reply::Done),
+    Hears(Reply::Value(0)),
+    Hears(Reply::Done),
+    Hears(Reply::Done),
+];
+
+/// A thread that waits asleep, with nobody in the queue of its mutex.
+fn asleep(rt: &impl Abort, call: CondvarCall) -> Place {
+    let releases = follow(rt, first(call), COMES_TO_RELEASE);
+    follow(
+        rt,
+        releases,
+        &[Hears(Reply::Value(1)), Tells(Outcome::Sleep)],
+    )
+}
+
+const IS_WOKEN: &[Line] = &[
+    Hears(Reply::TakenBy(2)),
+    TakenBy(2),
+    Wants(Want::Exclusive),
+    Steps(
+        Reply::Woken(Note::Normal),
+        5,
+        Op::Exchange { from: 0, to: 1 },
+    ),
+    Retries(5),
+    Might(Reply::Value(0), ENDS),
+    // Its mutex is locked.
+    Hears(Reply::Value(1)),
+    Hears(Reply::Value(1)),
+    LooksAgain,
+];
 
 #[test]
 fn who_is_woken_locks_its_mutex_again(rt: HostRuntime) {
-    let taken = onward(&rt, asleep(&rt, WAIT), Reply::TakenBy(2));
-    check_eq(&rt, taken.taker(), Some(2));
-    check_eq(&rt, taken.wants(), Some(Want::Exclusive));
-    let locks = onward(&rt, taken, Reply::Woken(Note::Normal));
-    check(&rt, locks.retries());
-    let op = Op::Exchange { from: 0, to: 1 };
-    does(&rt, locks, Act::Word { lock: 5, op });
-    ends(&rt, locks, Reply::Value(0), Answer::Ok);
-    let decides = follow(&rt, locks, FINDS_ITS_MUTEX_LOCKED);
-    check(&rt, decides.looking().is_some());
+    plays(&rt, asleep(&rt, WAIT), IS_WOKEN);
 }
 
-const IS_HANDED_ITS_MUTEX: &[Turn] = &[
-    (Reply::TakenBy(1), None),
-    (Reply::HandedBy { by: 1, alone: true }, None),
+const IS_HANDED_ITS_MUTEX: &[Line] = &[
+    Hears(Reply::MovedTo(10)),
+    MayGiveUp(10),
+    Hears(Reply::TakenBy(1)),
+    Hears(Reply::HandedBy { by: 1, alone: true }),
+    Tells(Outcome::Sleep),
+    Goes(Reply::Woken(Note::HandOff), Act::Accept),
+    RetriesNone(5),
+    Goes(Reply::Done, Act::End(Answer::Notified)),
 ];
 
 #[test]
 fn who_is_moved_may_be_handed_its_mutex(rt: HostRuntime) {
-    let moved = onward(&rt, asleep(&rt, WAIT_TIMED), Reply::MovedTo(10));
-    check_eq(&rt, moved.late_key(3), Some(10));
-    let has = follow(&rt, moved, IS_HANDED_ITS_MUTEX);
-    check_eq(&rt, has.outcome(), Outcome::Sleep);
-    let accepts = onward(&rt, has, Reply::Woken(Note::HandOff));
-    does(&rt, accepts, Act::Accept);
-    check(&rt, !accepts.retries());
-    ends(&rt, accepts, Reply::Done, Answer::Notified);
+    plays(&rt, asleep(&rt, WAIT_TIMED), IS_HANDED_ITS_MUTEX);
 }
 
-const SEES_WHO_WAITS: &[Turn] = &[
-    (Reply::MovedTo(10), None),
-    (Reply::Value(3), None),
-    (Reply::Done, None),
-];
-
-// It is the first of that queue, and takes itself.
-const TAKES_ITSELF: &[Turn] = &[
-    (Reply::TakenBy(0), None),
-    (
-        Reply::Took {
-            any: true,
-            none_left: false,
-        },
-        Some(Act::Leave {
-            keys: Keys::One(10),
-            wakes: Wakes::All(Note::Normal),
-        }),
-    ),
-    (Reply::Woken(Note::Normal), None),
-    (Reply::Done, None),
+// It is the first of the queue of its mutex, and takes itself.
+const IS_MOVED_AND_TAKES_ITSELF: &[Line] = &[
+    Hears(Reply::MovedTo(10)),
+    Hears(Reply::Value(3)),
+    Hears(Reply::Done),
+    Owes(5),
+    Hears(Reply::TakenBy(0)),
+    Leaves(TOOK_ONE_OF_MORE, Keys::One(10), Wakes::All(Note::Normal)),
+    Hears(Reply::Woken(Note::Normal)),
+    Hears(Reply::Done),
+    Retries(5),
+    Goes(Reply::Value(0), ENDS),
 ];
 
 #[test]
 fn a_notification_may_come_beside_the_release(rt: HostRuntime) {
-    let takes = follow(&rt, releases(&rt, WAIT), SEES_WHO_WAITS);
-    check(&rt, takes.owes_on(3, 5));
-    let locks = follow(&rt, takes, TAKES_ITSELF);
-    check(&rt, locks.retries());
-    ends(&rt, locks, Reply::Value(0), Answer::Ok);
+    let releases = follow(&rt, first(WAIT), COMES_TO_RELEASE);
+    plays(&rt, releases, IS_MOVED_AND_TAKES_ITSELF);
 }
 
-const GIVES_UP: &[Turn] = &[
-    (Reply::Late, Some(Act::Remove(6))),
-    (Reply::Removed { none_left: true }, Some(HIDES)),
-    (Reply::Value(6), None),
-    (Reply::Done, None),
+const GIVES_UP: &[Line] = &[
+    MayGiveUp(6),
+    Goes(Reply::Late, Act::Remove(6)),
+    Goes(Reply::Removed { none_left: true }, HIDES),
+    Hears(Reply::Value(6)),
+    Hears(Reply::Done),
+    RetriesNone(5),
+    Goes(Reply::Value(0), Act::End(Answer::TimedOut)),
 ];
 
-const GIVES_UP_MOVED: &[Turn] = &[
-    (Reply::MovedTo(10), None),
-    (Reply::Late, Some(Act::Remove(10))),
-    (Reply::Removed { none_left: true }, None),
-    (Reply::Done, None),
+const GIVES_UP_MOVED: &[Line] = &[
+    Hears(Reply::MovedTo(10)),
+    Goes(Reply::Late, Act::Remove(10)),
+    Hears(Reply::Removed { none_left: true }),
+    Hears(Reply::Done),
+    Goes(Reply::Value(0), Act::End(Answer::Notified)),
 ];
 
 #[test]
 fn a_timed_wait_leaves_the_queue_in_which_it_stands(rt: HostRuntime) {
     let late = asleep(&rt, WAIT_TIMED);
-    check_eq(&rt, late.late_key(3), Some(6));
-    let locks = follow(&rt, late, GIVES_UP);
-    check(&rt, !locks.retries());
-    ends(&rt, locks, Reply::Value(0), Answer::TimedOut);
-    let locks = follow(&rt, late, GIVES_UP_MOVED);
-    ends(&rt, locks, Reply::Value(0), Answer::Notified);
+    plays(&rt, late, GIVES_UP);
+    plays(&rt, late, GIVES_UP_MOVED);
+}
+
+/// A notification that has found waiters of the mutex 5, and entered the sections.
+fn notifies(rt: &impl Abort, all: bool) -> Place {
+    let found = &[Hears(Reply::Value(6)), Hears(Reply::Done)];
+    follow(rt, first(CondvarCall::Notify { all }), found)
 }
 
 #[test]
 fn nobody_is_notified_where_nobody_waits(rt: HostRuntime) {
     for (all, none) in [(false, Answer::No), (true, Answer::Number(0))] {
-        let looks = CondvarPlace::first(CondvarCall::Notify { all });
-        check(&rt, looks.mutex().is_none());
-        ends(&rt, looks, Reply::Value(0), none);
-        let missed = onward(&rt, notifies(&rt, all), Reply::Value(8));
-        ends(&rt, missed, Reply::Done, none);
+        let call = CondvarCall::Notify { all };
+        check(&rt, CondvarPlace::first(call).mutex().is_none());
+        plays(&rt, first(call), &[Goes(Reply::Value(0), Act::End(none))]);
+        let missed = [Hears(Reply::Value(8)), Goes(Reply::Done, Act::End(none))];
+        plays(&rt, notifies(&rt, all), &missed);
     }
 }
 
-/// A notification of waiters of the mutex 5 goes so from inside the sections, and answers this.
-fn notification(rt: &impl Abort, all: bool, turns: &[Turn], answer: Answer) {
-    let leaves = follow(rt, notifies(rt, all), turns);
-    ends(rt, leaves, Reply::Done, answer);
-}
-
-const MOVES_THE_FIRST: &[Turn] = &[
-    (Reply::Value(6), None),
-    (
-        Reply::Value(1),
-        Some(Act::Word {
-            lock: 5,
-            op: Op::Exchange { from: 1, to: 3 },
-        }),
-    ),
-    (
-        Reply::Value(1),
-        Some(Act::Requeue {
-            from: 6,
-            to: 10,
-            how: Requeue::One,
-        }),
-    ),
-    (
-        Reply::Requeued {
-            number: 1,
-            none_left: true,
-        },
-        Some(HIDES),
-    ),
-    (Reply::Value(6), Some(WAKES_NOBODY)),
+const MOVES_THE_FIRST: &[Line] = &[
+    Owes(3),
+    Owes(5),
+    OwesNone(4),
+    Hears(Reply::Value(6)),
+    Steps(Reply::Value(1), 5, Op::Exchange { from: 1, to: 3 }),
+    Moves(Reply::Value(1), Requeue::One),
+    HearsOfMoved(1, HIDES),
+    Goes(Reply::Value(6), WAKES_NOBODY),
+    Goes(Reply::Done, Act::End(Answer::Yes)),
 ];
 
-#[test]
-fn the_first_is_moved_to_an_owned_mutex(rt: HostRuntime) {
-    let again = notifies(&rt, false);
-    check(&rt, again.owes_on(3, 3) && again.owes_on(3, 5));
-    check(&rt, !again.owes_on(3, 4));
-    notification(&rt, false, MOVES_THE_FIRST, Answer::Yes);
-}
-
-const WAKES_THE_FIRST: &[Turn] = &[
-    (Reply::Value(6), None),
-    (Reply::Value(1), None),
-    (
+const WAKES_THE_FIRST: &[Line] = &[
+    Hears(Reply::Value(6)),
+    Hears(Reply::Value(1)),
+    Goes(
         Reply::Value(0),
-        Some(Act::Take {
+        Act::Take {
             key: 6,
             whom: Whom::First,
-        }),
-    ),
-    (
-        Reply::Took {
-            any: true,
-            none_left: false,
         },
-        Some(WAKES_THE_TAKEN),
     ),
+    Goes(TOOK_ONE_OF_MORE, WAKES_THE_TAKEN),
+    Goes(Reply::Done, Act::End(Answer::Yes)),
 ];
 
 #[test]
-fn the_first_is_woken_where_the_mutex_is_free(rt: HostRuntime) {
-    notification(&rt, false, WAKES_THE_FIRST, Answer::Yes);
+fn the_first_is_moved_to_an_owned_mutex_and_else_woken(rt: HostRuntime) {
+    for script in [MOVES_THE_FIRST, WAKES_THE_FIRST] {
+        plays(&rt, notifies(&rt, false), script);
+    }
 }
 
-const MOVES_THE_REST: &[Turn] = &[
-    (Reply::Value(6), Some(HIDES)),
-    (Reply::Value(6), None),
-    (
-        Reply::Value(0),
-        Some(Act::Requeue {
-            from: 6,
-            to: 10,
-            how: Requeue::TakeOneMoveRest,
-        }),
-    ),
-    (
-        Reply::Requeued {
-            number: 3,
-            none_left: true,
-        },
-        Some(Act::Word {
-            lock: 5,
-            op: Op::Or(2),
-        }),
-    ),
-    (Reply::Value(0), Some(WAKES_THE_TAKEN)),
+const MOVES_THE_REST: &[Line] = &[
+    Goes(Reply::Value(6), HIDES),
+    Hears(Reply::Value(6)),
+    Moves(Reply::Value(0), Requeue::TakeOneMoveRest),
+    HearsOfMoved(3, MARKS),
+    Goes(Reply::Value(0), WAKES_THE_TAKEN),
+    Goes(Reply::Done, Act::End(Answer::Number(3))),
+];
+
+const MOVES_ALL: &[Line] = &[
+    Hears(Reply::Value(6)),
+    Hears(Reply::Value(6)),
+    Hears(Reply::Value(3)),
+    Moves(Reply::Value(3), Requeue::All),
+    HearsOfMoved(2, WAKES_NOBODY),
+    Goes(Reply::Done, Act::End(Answer::Number(2))),
 ];
 
 #[test]
 fn all_are_moved_and_one_is_woken_where_the_mutex_is_free(rt: HostRuntime) {
-    notification(&rt, true, MOVES_THE_REST, Answer::Number(3));
-}
-
-const MOVES_ALL: &[Turn] = &[
-    (Reply::Value(6), None),
-    (Reply::Value(6), None),
-    (Reply::Value(3), None),
-    (
-        Reply::Value(3),
-        Some(Act::Requeue {
-            from: 6,
-            to: 10,
-            how: Requeue::All,
-        }),
-    ),
-    (
-        Reply::Requeued {
-            number: 2,
-            none_left: true,
-        },
-        None,
-    ),
-];
-
-#[test]
-fn all_are_moved_to_an_owned_mutex(rt: HostRuntime) {
-    notification(&rt, true, MOVES_ALL, Answer::Number(2));
+    for script in [MOVES_THE_REST, MOVES_ALL] {
+        plays(&rt, notifies(&rt, true), script);
+    }
 }

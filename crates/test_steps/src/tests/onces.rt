@@ -1,85 +1,37 @@
-//! Calls of a `Once` alone, by the values that their word would have.
-use super::{check, check_eq, ends_as};
+//! Calls of a `Once`, by the values that their word would have.
+use super::check_eq;
+use super::scripts::Line::{
+    Does, Goes, Hears, Leaves, LooksAgain, MayGiveUp, MayNotGiveUp, Might, Retries, Steps, Tells,
+    Wants,
+};
+use super::scripts::{ENDS, ENTERS, LEAVES, LOADS, Line, TOOK_THE_LAST, follow, plays};
 use core_base::{Keys, Note, Op, Want};
-use spec_locks::{Answer, OnceCall, OnceState, Outcome};
+use lot_steps::{Act, Answer, Call, Kind, OnceState, Outcome, Place, Reply, Wakes};
+use spec_locks::OnceCall;
 use std::process::Abort;
-use steps_base::{Act, Next, Reply, Wakes};
+use steps_base::Next;
 use steps_once::{NOT_PARKED, OncePlace};
 
-/// A reply to a call, and its next act, where a test asks for that.
-type Turn = (Reply, Option<Act>);
-
-/// Where a call goes on from a place by a reply, which doesn't end it.
-fn onward(rt: &impl Abort, place: OncePlace, reply: Reply) -> OncePlace {
-    match place.next(reply) {
-        Next::At(next) => next,
-        Next::End(answer) => panic!(rt; "ended with {answer:?}"),
-    }
+/// Where a call begins.
+fn first(call: OnceCall) -> Place {
+    Place::first(Kind::Once, Call::Once { lock: 3, call })
 }
 
-/// This is what it does, of a call of the `Once` 3.
-fn does(rt: &impl Abort, place: OncePlace, act: Act) {
-    check(rt, place.act(3) == act);
-}
-
-/// This is the step that it takes on the word.
-fn steps(rt: &impl Abort, place: OncePlace, op: Op) {
-    does(rt, place, Act::Word { lock: 3, op });
-}
-
-/// Where a call goes on behind some turns.
-fn follow(rt: &impl Abort, first: OncePlace, turns: &[Turn]) -> OncePlace {
-    let mut place = first;
-    for (reply, act) in turns {
-        place = onward(rt, place, *reply);
-        if let Some(act) = act {
-            does(rt, place, *act);
-        }
-    }
-    place
-}
-
-const BEGINS: &[Turn] = &[
-    (
-        Reply::Value(8),
-        Some(Act::Word {
-            lock: 3,
-            op: Op::Exchange { from: 8, to: 12 },
-        }),
-    ),
-    (Reply::Value(8), None),
-];
-
-const CLOSES: &[Turn] = &[
-    (
-        Reply::Closed { succeeded: true },
-        Some(Act::Word {
-            lock: 3,
-            op: Op::Swap(1),
-        }),
-    ),
-    (Reply::Value(12), Some(Act::Enter(Keys::One(6)))),
-    (Reply::Done, None),
-    (
-        Reply::Took {
-            any: true,
-            none_left: true,
-        },
-        Some(Act::Leave {
-            keys: Keys::One(6),
-            wakes: Wakes::All(Note::Normal),
-        }),
-    ),
+const RUNS: &[Line] = &[
+    Does(LOADS),
+    Steps(Reply::Value(8), 3, Op::Exchange { from: 8, to: 12 }),
+    Hears(Reply::Value(8)),
+    Tells(Outcome::Closure(OnceState::New)),
+    Steps(Reply::Closed { succeeded: true }, 3, Op::Swap(1)),
+    Goes(Reply::Value(12), ENTERS),
+    Hears(Reply::Done),
+    Leaves(TOOK_THE_LAST, Keys::One(6), Wakes::All(Note::Normal)),
+    Goes(Reply::Done, ENDS),
 ];
 
 #[test]
 fn a_call_runs_its_closure_and_wakes_who_waits(rt: HostRuntime) {
-    let loads = OncePlace::first(OnceCall::CallOnce { forced: false });
-    steps(&rt, loads, Op::Load);
-    let runs = follow(&rt, loads, BEGINS);
-    check_eq(&rt, runs.outcome(), Outcome::Closure(OnceState::New));
-    let leaves = follow(&rt, runs, CLOSES);
-    ends_as(&rt, &leaves.next(Reply::Done), Answer::Ok);
+    plays(&rt, first(OnceCall::CallOnce { forced: false }), RUNS);
 }
 
 /// Whether a call of a poisoned `Once` ends with that.
@@ -96,99 +48,93 @@ fn a_call_of_a_poisoned_once_goes_on_by_force_alone(rt: HostRuntime) {
     }
 }
 
-const BEGINS_POISONED: &[Turn] = &[(Reply::Value(2), None), (Reply::Value(2), None)];
+const FAILS_BY_FORCE: &[Line] = &[
+    Hears(Reply::Value(2)),
+    Hears(Reply::Value(2)),
+    Tells(Outcome::Closure(OnceState::Poisoned)),
+    Hears(Reply::Closed { succeeded: false }),
+    Goes(Reply::Value(4), Act::End(Answer::Failed)),
+];
 
 #[test]
 fn a_forced_run_that_fails_poisons_again(rt: HostRuntime) {
-    let looks = OncePlace::first(OnceCall::CallOnce { forced: true });
-    let runs = follow(&rt, looks, BEGINS_POISONED);
-    check_eq(&rt, runs.outcome(), Outcome::Closure(OnceState::Poisoned));
-    let closes = onward(&rt, runs, Reply::Closed { succeeded: false });
-    ends_as(&rt, &closes.next(Reply::Value(4)), Answer::Failed);
+    plays(
+        &rt,
+        first(OnceCall::CallOnce { forced: true }),
+        FAILS_BY_FORCE,
+    );
 }
 
-/// Where a wait decides that has seen a run.
-fn decides(rt: &impl Abort) -> OncePlace {
-    let looks = OncePlace::first(OnceCall::Wait { forced: false });
-    onward(rt, looks, Reply::Value(4))
-}
+const SEES_A_RUN: &[Line] = &[
+    Steps(Reply::Value(4), 3, Op::Exchange { from: 4, to: 12 }),
+    LooksAgain,
+    Does(LOADS),
+];
 
 #[test]
 fn who_waits_for_a_run_shows_it_or_looks_again(rt: HostRuntime) {
-    let decides = decides(&rt);
-    steps(&rt, decides, Op::Exchange { from: 4, to: 12 });
-    match decides.looking() {
-        Some(looks) => steps(&rt, looks, Op::Load),
-        None => panic!(rt; "it looks no more"),
-    }
+    plays(&rt, first(OnceCall::Wait { forced: false }), SEES_A_RUN);
 }
 
-const ENTERS: &[Turn] = &[
-    (Reply::Value(4), Some(Act::Enter(Keys::One(6)))),
-    (Reply::Done, None),
+/// A call that has seen a run falls asleep.
+const SLEEPS: &[Line] = &[
+    Hears(Reply::Value(4)),
+    Goes(Reply::Value(4), ENTERS),
+    Hears(Reply::Done),
+    Wants(Want::Wait),
+    Hears(Reply::Parked(true)),
+    Hears(Reply::Done),
+    Tells(Outcome::Sleep),
 ];
 
-const FALLS_ASLEEP: &[Turn] = &[(Reply::Parked(true), None), (Reply::Done, None)];
+const IS_WOKEN: &[Line] = &[
+    Hears(Reply::Woken(Note::Normal)),
+    Retries(3),
+    Goes(Reply::Value(1), ENDS),
+];
 
 #[test]
 fn who_waits_sleeps_until_it_is_woken(rt: HostRuntime) {
-    let checks = follow(&rt, decides(&rt), ENTERS);
-    check_eq(&rt, checks.wants(), Some(Want::Wait));
-    let asleep = follow(&rt, checks, FALLS_ASLEEP);
-    check_eq(&rt, asleep.outcome(), Outcome::Sleep);
-    let again = onward(&rt, asleep, Reply::Woken(Note::Normal));
-    check(&rt, again.retries());
-    ends_as(&rt, &again.next(Reply::Value(1)), Answer::Ok);
+    let asleep = follow(&rt, first(OnceCall::Wait { forced: false }), SLEEPS);
+    plays(&rt, asleep, IS_WOKEN);
 }
 
-/// Gives the place where a call sleeps that has seen a run.
-fn asleep(rt: &impl Abort, call: OnceCall) -> OncePlace {
-    let decides = onward(rt, OncePlace::first(call), Reply::Value(4));
-    follow(rt, follow(rt, decides, ENTERS), FALLS_ASLEEP)
-}
-
-const LEAVES: Act = Act::Leave {
-    keys: Keys::One(6),
-    wakes: Wakes::Nobody,
-};
-
-const GIVES_UP_ALONE: &[Turn] = &[
-    (Reply::Late, Some(Act::Remove(6))),
-    (
-        Reply::Removed { none_left: true },
-        Some(Act::Word {
-            lock: 3,
-            op: Op::And(NOT_PARKED),
-        }),
-    ),
-    (Reply::Value(12), Some(LEAVES)),
+const GIVES_UP_ALONE: &[Line] = &[
+    MayGiveUp(6),
+    Goes(Reply::Late, Act::Remove(6)),
+    Steps(Reply::Removed { none_left: true }, 3, Op::And(NOT_PARKED)),
+    Goes(Reply::Value(12), LEAVES),
+    Goes(Reply::Done, Act::End(Answer::No)),
 ];
 
-const GIVES_UP_BESIDE: &[Turn] = &[
-    (Reply::Late, Some(Act::Remove(6))),
-    (Reply::Removed { none_left: false }, Some(LEAVES)),
+const GIVES_UP_BESIDE: &[Line] = &[
+    Goes(Reply::Late, Act::Remove(6)),
+    Goes(Reply::Removed { none_left: false }, LEAVES),
+    Goes(Reply::Done, Act::End(Answer::No)),
 ];
 
 #[test]
 fn who_has_a_deadline_gives_up_its_sleep(rt: HostRuntime) {
-    let timed = asleep(&rt, OnceCall::WaitTimed);
-    check(&rt, timed.late_line().is_some());
-    for turns in [GIVES_UP_ALONE, GIVES_UP_BESIDE] {
-        let leaves = follow(&rt, timed, turns);
-        ends_as(&rt, &leaves.next(Reply::Done), Answer::No);
+    let timed = follow(&rt, first(OnceCall::WaitTimed), SLEEPS);
+    for script in [GIVES_UP_ALONE, GIVES_UP_BESIDE] {
+        plays(&rt, timed, script);
     }
 }
 
+const SLEEPS_ON: &[Line] = &[MayNotGiveUp, Goes(Reply::Late, Act::Sleep)];
+
 #[test]
 fn nobody_else_gives_up(rt: HostRuntime) {
-    let waits = asleep(&rt, OnceCall::Wait { forced: false });
-    check(&rt, waits.late_line().is_none());
-    does(&rt, onward(&rt, waits, Reply::Late), Act::Sleep);
+    let waits = follow(&rt, first(OnceCall::Wait { forced: false }), SLEEPS);
+    plays(&rt, waits, SLEEPS_ON);
 }
+
+const IS_IN_TIME: &[Line] = &[
+    Might(Reply::Value(1), Act::End(Answer::Yes)),
+    Might(Reply::Value(2), Act::End(Answer::Poisoned)),
+];
 
 #[test]
 fn who_has_a_deadline_answers_yes_in_time(rt: HostRuntime) {
-    let looks = OncePlace::first(OnceCall::WaitTimed);
-    ends_as(&rt, &looks.next(Reply::Value(1)), Answer::Yes);
-    ends_as(&rt, &looks.next(Reply::Value(2)), Answer::Poisoned);
+    plays(&rt, first(OnceCall::WaitTimed), IS_IN_TIME);
 }

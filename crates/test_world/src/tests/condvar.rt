@@ -1,6 +1,6 @@
 //! Worlds of condition variables.
 use super::check;
-use super::scripts::Line::{Calls, GoesOn, Rests, Shows, Takes};
+use super::scripts::Line::{Calls, GoesOn, IsWaitedFor, Rests, Shows, Takes};
 use super::scripts::{DONE, Line, plays, plays_anew, surprise, world_of};
 use core_base::{ListQueues, Want};
 use lot_world::{Answer, Call, Debt, Kind, MutexCall, Outcome, Owner, Turn, World};
@@ -140,15 +140,7 @@ const TAKES_ITSELF: &[Line] = &[
     Takes(0, Turn::Go, Outcome::Step),
     Takes(0, Turn::Go, Outcome::Step),
     Calls(1, NOTIFY_ONE, Outcome::End(Answer::Yes)),
-    Shows(
-        MUTEX,
-        (
-            3,
-            Some((Owner::Exclusive, 0)),
-            Some((0, Want::Exclusive)),
-            None,
-        ),
-    ),
+    IsWaitedFor(MUTEX, 0, 0),
     Rests(CONDVAR, 0, None),
     // It subtracts, enters the section, takes itself, clears the bit, and wakes itself.
     Takes(0, Turn::Go, Outcome::Step),
@@ -184,28 +176,12 @@ const GIVES_UP: &[Line] = &[
     Calls(1, WAIT, Outcome::Sleep),
     Calls(2, LOCK, DONE),
     Calls(2, NOTIFY_ALL, Outcome::End(Answer::Number(2))),
-    Shows(
-        MUTEX,
-        (
-            3,
-            Some((Owner::Exclusive, 2)),
-            Some((0, Want::Exclusive)),
-            None,
-        ),
-    ),
+    IsWaitedFor(MUTEX, 2, 0),
     Takes(1, Turn::Late, Outcome::NotNow),
     Takes(0, Turn::Late, Outcome::Step),
     GoesOn(0, Outcome::Sleep),
     Takes(0, Turn::Late, Outcome::NotNow),
-    Shows(
-        MUTEX,
-        (
-            3,
-            Some((Owner::Exclusive, 2)),
-            Some((1, Want::Exclusive)),
-            None,
-        ),
-    ),
+    IsWaitedFor(MUTEX, 2, 1),
     Calls(2, UNLOCK, DONE),
     GoesOn(1, DONE),
     Calls(1, UNLOCK, DONE),
@@ -236,15 +212,7 @@ const IS_UNLOCKED: &[Line] = &[Rests(MUTEX, 0, None)];
 const ALL_ARE_MOVED: &[Line] = &[
     Calls(3, LOCK, DONE),
     Calls(3, NOTIFY_ALL, Outcome::End(Answer::Number(3))),
-    Shows(
-        MUTEX,
-        (
-            3,
-            Some((Owner::Exclusive, 3)),
-            Some((0, Want::Exclusive)),
-            None,
-        ),
-    ),
+    IsWaitedFor(MUTEX, 3, 0),
     Rests(CONDVAR, 0, None),
     // The release wakes the first alone.
     GoesOn(0, Outcome::NotNow),
@@ -272,15 +240,7 @@ const OVERTAKEN: &[Line] = &[
     Calls(3, NOTIFY_ALL, Outcome::End(Answer::Number(3))),
     Calls(4, LOCK, DONE),
     GoesOn(0, Outcome::Sleep),
-    Shows(
-        MUTEX,
-        (
-            3,
-            Some((Owner::Exclusive, 4)),
-            Some((1, Want::Exclusive)),
-            None,
-        ),
-    ),
+    IsWaitedFor(MUTEX, 4, 1),
     Calls(4, UNLOCK, DONE),
     GoesOn(1, DONE),
     Calls(1, UNLOCK, DONE),

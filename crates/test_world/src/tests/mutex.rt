@@ -1,5 +1,5 @@
 //! Worlds of mutexes.
-use super::scripts::Line::{Calls, GoesOn, Rests, Shows, Takes};
+use super::scripts::Line::{Calls, GoesOn, IsWaitedFor, Rests, Shows, Takes};
 use super::scripts::{DONE, Line, plays, plays_anew, runs, world_of};
 use super::{check, check_eq};
 use core_base::{ListQueues, Want};
@@ -40,15 +40,7 @@ const WAKES_A_WAITER: &[Line] = &[
     Takes(1, Turn::Go, Outcome::Step),
     Takes(1, Turn::Go, Outcome::Sleep),
     Takes(1, Turn::Go, Outcome::NotNow),
-    Shows(
-        0,
-        (
-            3,
-            Some((Owner::Exclusive, 0)),
-            Some((1, Want::Exclusive)),
-            None,
-        ),
-    ),
+    IsWaitedFor(0, 0, 1),
     Takes(1, Turn::Begin(UNLOCK), Outcome::NotNow),
     Takes(0, Turn::Begin(UNLOCK), Outcome::Step),
     Takes(0, Turn::Go, Outcome::Step),
@@ -114,15 +106,7 @@ const HANDS_OVER: &[Line] = &[
     Takes(0, Turn::Go, DONE),
     Takes(1, Turn::Go, DONE),
     Calls(1, BUMP, Outcome::Sleep),
-    Shows(
-        0,
-        (
-            3,
-            Some((Owner::Exclusive, 2)),
-            Some((1, Want::Exclusive)),
-            None,
-        ),
-    ),
+    IsWaitedFor(0, 2, 1),
 ];
 
 #[test]

@@ -32,6 +32,8 @@ pub enum Line {
     GoesOn(usize, Outcome),
     /// A lock shows this.
     Shows(usize, Shown),
+    /// A mutex has this owner and this first waiter, and no thread owes it a wake.
+    IsWaitedFor(usize, usize, usize),
     /// A lock for which nobody waits shows this word and this owner.
     Rests(usize, u64, Option<(Owner, usize)>),
 }
@@ -58,6 +60,16 @@ fn look<Q: Queues + Drop>(world: &World<Q>, lock: usize) -> Option<Shown> {
     ))
 }
 
+/// Returns the view of a mutex that one thread owns and another waits for.
+fn waited_for(owner: usize, waiter: usize) -> Shown {
+    (
+        3,
+        Some((Owner::Exclusive, owner)),
+        Some((waiter, Want::Exclusive)),
+        None,
+    )
+}
+
 /// Whether a line goes as it says, and what its thread is told, if it has one.
 fn goes<Q: Queues + Drop>(world: &mut World<Q>, line: Line) -> (bool, Option<Outcome>) {
     let (told, wanted) = match line {
@@ -65,6 +77,9 @@ fn goes<Q: Queues + Drop>(world: &mut World<Q>, line: Line) -> (bool, Option<Out
         Line::Takes(thread, turn, wanted) => (world.step(Step { thread, turn }), wanted),
         Line::GoesOn(thread, wanted) => (world.solo(thread), wanted),
         Line::Shows(lock, shown) => return (look(world, lock) == Some(shown), None),
+        Line::IsWaitedFor(lock, owner, waiter) => {
+            return (look(world, lock) == Some(waited_for(owner, waiter)), None);
+        }
         Line::Rests(lock, word, owner) => {
             return (look(world, lock) == Some((word, owner, None, None)), None);
         }

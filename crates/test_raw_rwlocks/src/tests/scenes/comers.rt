@@ -1,6 +1,6 @@
 //! Threads that come to a lock that is held.
 ghost use Rattle.parking_lot_core.specs.Tokens.{IsTokenOf};
-ghost use Rattle.test_raw_rwlocks.specs.AnyLocks.{lot_of};
+ghost use Rattle.test_any_rwlock.specs.AnyLocks.{lot_of};
 
 use super::super::fixtures::{AnyRwLock, await_flag};
 use super::scene::{Coming, Scene, Told};

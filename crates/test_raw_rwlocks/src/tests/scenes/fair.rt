@@ -1,6 +1,6 @@
 //! Threads to which a reader-writer lock is handed over.
 ghost use Rattle.parking_lot_core.specs.Tokens.{IsTokenOf};
-ghost use Rattle.test_raw_rwlocks.specs.AnyLocks.{lot_of};
+ghost use Rattle.test_any_rwlock.specs.AnyLocks.{lot_of};
 
 use super::super::fixtures::{AnyRwLock, Sort, lock_alone};
 use super::scene::{ALL, Coming, Manner, READERS, Scene, WRITERS};

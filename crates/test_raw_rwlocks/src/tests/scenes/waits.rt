@@ -1,6 +1,6 @@
 //! Threads that wait for a reader-writer lock until another lets them in.
 ghost use Rattle.parking_lot_core.specs.Tokens.{IsTicketOf};
-ghost use Rattle.test_raw_rwlocks.specs.AnyLocks.{lot_of};
+ghost use Rattle.test_any_rwlock.specs.AnyLocks.{lot_of};
 
 use super::super::fixtures::{AnyRwLock, Sort, comes_to, seats};
 use super::scene::{ALL, Coming, Manner, READERS, Scene, WRITERS};

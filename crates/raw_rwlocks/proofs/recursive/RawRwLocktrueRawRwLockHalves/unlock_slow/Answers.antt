@@ -1,5 +1,7 @@
+use Rattle.raw_rwlocks.proofs.RwLockEntries.{went}
 use Rattle.raw_rwlocks.proofs.recursive.RawRwLocktrueRawRwLockHalves.unlock_slow.Goals as goal
 
 pub returns-clause-over : goal.returns-clause-over
-returns-clause-over g c = λ before begun. let released = c.release_slow.ensures.over before begun in
-    ((released.0.0, λ settled. released.0.1 (settled c.args.self.now.lock.word.number)), released.1, released.2)
+returns-clause-over g c = λ before begun.
+    let released = c.release_slow.ensures.over before begun in
+    went c.args.self.now.lock c.args.access before c.release_slow.new.token released

@@ -1,4 +1,4 @@
-use Rattle.test_raw_rwlocks.specs.AnyLocks.{lot_of}
+use Rattle.test_any_rwlock.specs.AnyLocks.{lot_of}
 use Rattle.parking_lot_core.specs.Tokens.{IsTokenOf}
 use Rattle.test_raw_rwlocks.proofs.tests.mixes.mix.Given as goal
 

@@ -1,5 +1,0 @@
-use Rattle.parking_lot_core.specs.Tokens.{IsTokenOf}
-use Rattle.test_core.proofs.tests.threads.answer.Given as goal
-
-abbrev pub invariant-loop-round : goal.invariant-loop-round
-invariant-loop-round g l = IsTokenOf l.lot l.token

@@ -1,6 +1,0 @@
-use Rattle.std.proofs.Common.{◌≤◌}
-use Rattle.parking_lot_core.specs.Tokens.{IsTokenOf}
-use Rattle.test_core.proofs.tests.threads.sleep_briefly.Given as goal
-
-abbrev pub invariant-loop-round : goal.invariant-loop-round
-invariant-loop-round g l = IsTokenOf l.lot l.token × (l.woken ≤ l.round) × (l.late ≤ l.round)

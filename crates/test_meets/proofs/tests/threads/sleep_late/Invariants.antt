@@ -1,0 +1,5 @@
+use Rattle.parking_lot_core.specs.Tokens.{IsTokenOf}
+use Rattle.test_meets.proofs.tests.threads.sleep_late.Given as goal
+
+abbrev pub invariant-loop-round : goal.invariant-loop-round
+invariant-loop-round g l = IsTokenOf l.lot l.token
