@@ -2,3 +2,5 @@ pub mod RowLemmas
 pub mod Openings
 pub mod RunLemmas
 pub mod VerdictLemmas
+pub mod TurnLemmas
+pub mod Sizes

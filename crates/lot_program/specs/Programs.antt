@@ -66,6 +66,10 @@ code_of p t = slice_index_or (map (λ code. code.items) p.code.items) t []
 abbrev pub instruction_at : Program → ℕ → ℕ → Option Instruction
 instruction_at p t i = slice_get (code_of p t) i
 
+-- the line of an instruction of a thread, if it has one
+abbrev pub line_at : Program → ℕ → ℕ → Option ℕ
+line_at p t i = slice_get (slice_index_or (map (λ lines. lines.items) p.lines.items) t []) i
+
 -- there are some threads, few enough for a search, and locks that a world may have
 pub record IsFit (p : Program) : Type 0 where
   pub some : 1 ≤ threads_of p

@@ -6,8 +6,10 @@ use Rattle.spec_locks.specs.declared.calls.Step.{Step}
 use Rattle.lot_program.specs.declared.program.Instruction.{Instruction}
 use Rattle.lot_program.specs.declared.program.Instruction.TheVariants as instruction
 use Rattle.lot_program.specs.declared.program.Program.{Program}
+use Rattle.lot_machine.specs.Machine.{State, after, step_outcome}
+use Rattle.lot_program.specs.declared.cuts.Grain.{Grain}
 use Rattle.lot_program.specs.Programs.{instruction_at}
-use Rattle.lot_program.specs.States.{ProgramState, step_of, closing, is_own, local_at, program_next}
+use Rattle.lot_program.specs.States.{ProgramState, step_of, closing, is_own, is_barred, turn_ends, local_at, program_next}
 
 -- an instruction that calls takes a step of the world, and any other takes none
 abbrev pub step_by : Instruction → ℕ → Option Step
@@ -21,6 +23,21 @@ step_by (instruction.JumpUnlessTold x n) t = None
 step_by (instruction.JumpUnlessRunning n) t = None
 step_by (instruction.Assert test) t = None
 
+-- the steps in which a thread goes on alone till its turn ends
+unfoldable pub go_steps : Grain → ℕ → ℕ → State → List Step
+go_steps g zero t w = []
+go_steps g (suc n) t w =
+    if turn_ends g w t then [] else step_of t turn.Go ∷ go_steps g n t (after w (step_of t turn.Go))
+
+-- after its first step a turn goes on, if that step was possible
+abbrev pub turn_steps : Grain → State → Step → List Step
+turn_steps g w step =
+    step ∷ (if is_barred (step_outcome w step) then [] else go_steps g 64 step.thread (after w step))
+
+abbrev pub steps_by : Grain → State → Option Step → List Step
+steps_by g w None = []
+steps_by g w (Some step) = turn_steps g w step
+
 abbrev pub own_step : Option Instruction → ℕ → Option Step
 own_step None t = None
 own_step (Some i) t = step_by i t
@@ -32,21 +49,21 @@ thread_step p s t zero =
 thread_step p s t (suc zero) = Some (step_of t turn.Spin)
 thread_step p s t (suc (suc n)) = Some (step_of t turn.Late)
 
--- the step of a move
+-- the first step of a move
 abbrev pub step_taken : Program → ProgramState → ℕ → Option Step
 step_taken p s k = thread_step p s (k / 3) (k % 3)
 
-abbrev pub steps_in : Option Step → List Step
-steps_in None = []
-steps_in (Some step) = step ∷ []
+-- all its steps
+abbrev pub steps_taken : Program → ProgramState → ℕ → List Step
+steps_taken p s k = steps_by p.grain s.world (step_taken p s k)
 
 -- the steps of moves one after another
 abbrev pub steps_of : Program → ProgramState → List ℕ → List Step
 steps_of p s [] = []
 steps_of p s (k ∷ ks) =
-    steps_in (step_taken p s k) ++ steps_of p (unwrap_or (program_next p s k) s) ks
+    steps_taken p s k ++ steps_of p (unwrap_or (program_next p s k) s) ks
 
--- the state behind moves one after another, of which one that isn't possible changes nothing
+-- the state after moves one after another, of which one that isn't possible changes nothing
 abbrev pub state_behind : Program → ProgramState → List ℕ → ProgramState
 state_behind p s [] = s
 state_behind p s (k ∷ ks) = state_behind p (unwrap_or (program_next p s k) s) ks

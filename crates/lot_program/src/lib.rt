@@ -1,12 +1,18 @@
 //! Programs of lock calls, and where each move of a thread leads.
 #![tactic(auto)]
 
+pub mod cuts;
+pub mod grains;
 pub mod program;
 pub mod scenes;
 pub mod states;
 pub mod tables;
+pub mod turns;
 
-pub use program::{Comparison, Instruction, Program, Test, Told, Value};
+pub use cuts::{Cut, Cuts, Grain};
+pub use program::{
+    Comparison, Deadlines, Instruction, Program, Property, Station, Test, Told, Value,
+};
 pub use scenes::Scene;
 pub use states::{Fault, Local};
 pub use tables::Tables;

@@ -1,9 +1,10 @@
 //! Programs of lock calls: for each thread a list of instructions.
 ghost use Rattle.std.specs.Prelude.{◌≡◌, ◌<◌, ◌-◌, ◌^◌, IfSome, All, true, false, length};
-ghost use Rattle.lot_program.specs.Programs.{told_by, told_number, number_of, holds, compares, instruction_at, IsFit};
+ghost use Rattle.lot_program.specs.Programs.{told_by, told_number, number_of, holds, compares, instruction_at, line_at, IsFit};
 ghost use Rattle.spec_locks.specs.Kinds.{fits};
 ghost use Rattle.lot_program.specs.Runs.{step_by};
 
+use crate::cuts::Grain;
 use lot_parts::MOST;
 use lot_world::{Answer, Call, Kind, MOST_LOCKS, Step, Turn};
 
@@ -70,12 +71,44 @@ pub enum Instruction {
     Assert(Test),
 }
 
-/// The locks by their kinds, the first numbers of the variables, and the code of each thread.
+/// Whether a timed sleep may be given up.
+#[derive(Clone, Copy, Debug, PartialEq, Eq)]
+pub enum Deadlines {
+    /// At any time.
+    Pass,
+    Never,
+}
+
+/// A thread in no call, or in the closure of one, whose next instruction is of a line.
+#[derive(Clone, Copy, Debug, PartialEq, Eq)]
+pub struct Station {
+    pub thread: usize,
+    pub line: u32,
+}
+
+/// What has to be true of the states of a program.
+#[derive(Clone, Copy, Debug, PartialEq, Eq)]
+pub enum Property {
+    /// A test holds in each state.
+    Always(Test),
+    /// A test holds where all threads are through.
+    Finally(Test),
+    /// Two threads are never there at once.
+    Never { first: Station, second: Station },
+}
+
+/// The locks by their kinds, the first numbers of the variables, and the code of each thread. The turns of
+/// threads are of this grain.
 #[derive(Drop)]
 pub struct Program {
     pub kinds: Vec<Kind>,
     pub variables: Vec<u32>,
     pub code: Vec<Vec<Instruction>>,
+    /// The line of each instruction, of each thread.
+    pub lines: Vec<Vec<u32>>,
+    pub properties: Vec<Property>,
+    pub grain: Grain,
+    pub deadlines: Deadlines,
 }
 
 impl Instruction {
@@ -203,6 +236,21 @@ impl Program {
         let code = self.code[thread].as_slice();
         if at < code.len() {
             Some(code[at])
+        } else {
+            None
+        }
+    }
+
+    /// The line of an instruction of a thread, by its number.
+    pub fn line(&self, thread: usize, at: usize) -> Option<u32>
+        ensures { result ≡ line_at self.now thread at }
+    {
+        if thread >= self.lines.len() {
+            return None;
+        }
+        let lines = self.lines[thread].as_slice();
+        if at < lines.len() {
+            Some(lines[at])
         } else {
             None
         }

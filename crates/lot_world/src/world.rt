@@ -238,8 +238,9 @@ impl<Q: Queues + Drop> World<Q> {
             (IsGuaranteed kinds threads (states_of self.old steps.now) steps.now)) }
         ensures holds { OnOk result (StateHolds (locks_of self.new) (filled_at self.new)) }
 
-        // A fair mutex, and a plain one while each call gives it up fairly, lets nobody be
-        // overtaken: while a thread is k-th in its queue, at most k others come to own it.
+        // A fair mutex lets nobody be overtaken, nor does a plain one while each call gives it up
+        // fairly and no condition variable names it: while a thread is k-th in its queue, at most k
+        // others come to own it.
         ensures in_turn { OnOk result (NobodyIsOvertaken self.old steps.now self.new) }
 
         // The headline, from the opening state on: some run of the abstract locks tells these

@@ -1,0 +1,178 @@
+-- The turn of a thread in a call, as steps of the world.
+use Rattle.std.proofs.Common.{ℕ, zero, suc, ◌≡◌, ◌<◌, ◌+◌, ◌-◌, Bool, true, false, List, [], ◌∷◌, refl, sym, ap, subst, ◌∙◌, arith}
+use Rattle.std.specs.Prelude.{if◌then◌else◌, ◌||◌}
+use Rattle.spec_locks.specs.declared.calls.Turn.TheVariants as turn
+use Rattle.spec_locks.specs.declared.calls.Step.{Step}
+use Rattle.spec_locks.specs.declared.outcomes.Outcome.{Outcome}
+use Rattle.spec_locks.specs.declared.outcomes.Outcome.TheVariants as outcome
+use Rattle.spec_locks.specs.declared.outcomes.OnceState.{OnceState}
+use Rattle.steps_base.specs.declared.acts.Act.{Act}
+use Rattle.steps_base.specs.declared.acts.Act.TheVariants as act
+use Rattle.steps_base.specs.Acts.{outcome_of}
+use Rattle.lot_steps.specs.Steps.{act_of}
+use Rattle.lot_laws.specs.Refinement.{sleeps}
+use Rattle.lot_laws.specs.SitesOf.{IsWorld}
+use Rattle.lot_laws.proofs.alone.WorldRuns.{world_after}
+use Rattle.lot_machine.specs.Machine.{State, after, after_steps, place_at, runs_closure, step_outcome}
+use Rattle.lot_machine.specs.Fits.{SameSize}
+use Rattle.lot_machine.proofs.Shape.{after_size, size_more}
+use Rattle.lot_program.specs.declared.cuts.Grain.{Grain}
+use Rattle.lot_program.specs.declared.states.Local.{Local}
+use Rattle.lot_program.specs.Cuts.{is_cut}
+use Rattle.lot_program.specs.States.{Turning, turning, is_own, is_barred, turn_ends, gone, gone_on, step_of}
+use Rattle.lot_program.specs.Runs.{go_steps}
+
+pub gone_none : (g : Grain) (t : ℕ) (x : Turning) (n : ℕ) → n ≡ 0 → gone_on g n t x ≡ x
+unfolding gone_on
+gone_none g t x zero e = refl
+gone_none g t x (suc n) e = cc
+
+pub steps_none : (g : Grain) (t : ℕ) (w : State) (n : ℕ) → n ≡ 0 → go_steps g n t w ≡ []
+unfolding go_steps
+steps_none g t w zero e = refl
+steps_none g t w (suc n) e = cc
+
+-- where a turn ends, it goes on no more
+pub gone_ends : (g : Grain) (t : ℕ) (x : Turning) (n : ℕ) → turn_ends g x.world t ≡ true → gone_on g n t x ≡ x
+unfolding gone_on
+gone_ends g t x zero e = refl
+gone_ends g t x (suc n) e = ap (λ b. if b then x else gone_on g n t (gone t x)) e
+
+pub steps_end : (g : Grain) (t : ℕ) (w : State) (n : ℕ) → turn_ends g w t ≡ true → go_steps g n t w ≡ []
+unfolding go_steps
+steps_end g t w zero e = refl
+steps_end g t w (suc n) e =
+    ap (λ b. if b then [] else step_of t turn.Go ∷ go_steps g n t (after w (step_of t turn.Go))) e
+
+gone_more : (g : Grain) (t : ℕ) (x : Turning) (n : ℕ) → turn_ends g x.world t ≡ false
+    → gone_on g (suc n) t x ≡ gone_on g n t (gone t x)
+unfolding gone_on
+gone_more g t x n e = ap (λ b. if b then x else gone_on g n t (gone t x)) e
+
+steps_more : (g : Grain) (t : ℕ) (w : State) (n : ℕ) → turn_ends g w t ≡ false
+    → go_steps g (suc n) t w ≡ step_of t turn.Go ∷ go_steps g n t (after w (step_of t turn.Go))
+unfolding go_steps
+steps_more g t w n e =
+    ap (λ b. if b then [] else step_of t turn.Go ∷ go_steps g n t (after w (step_of t turn.Go))) e
+
+left : (k : ℕ) → k < 64 → 64 - k ≡ suc (64 - (k + 1))
+left k below = omega (arith, below)
+
+-- else it goes on by one step
+pub gone_goes : (g : Grain) (t : ℕ) (x : Turning) (k : ℕ) → k < 64 → turn_ends g x.world t ≡ false
+    → gone_on g (64 - k) t x ≡ gone_on g (64 - (k + 1)) t (gone t x)
+gone_goes g t x k below e = ap (λ n. gone_on g n t x) (left k below) ∙ gone_more g t x (64 - (k + 1)) e
+
+pub steps_go : (g : Grain) (t : ℕ) (w : State) (k : ℕ) → k < 64 → turn_ends g w t ≡ false
+    → go_steps g (64 - k) t w ≡ step_of t turn.Go ∷ go_steps g (64 - (k + 1)) t (after w (step_of t turn.Go))
+steps_go g t w k below e = ap (λ n. go_steps g n t w) (left k below) ∙ steps_more g t w (64 - (k + 1)) e
+
+-- a turn ends by the place, or where the next step isn't possible
+pub ends_there : (g : Grain) (w : State) (t : ℕ)
+    → (is_own w t || (sleeps (act_of (place_at w t)) || is_cut g (place_at w t))) ≡ true → turn_ends g w t ≡ true
+ends_there g w t e =
+    by (is_own w t) (sleeps (act_of (place_at w t))) (is_cut g (place_at w t)) (is_barred (step_outcome w (step_of t turn.Go))) e
+  where
+    by : (a b c d : Bool) → (a || (b || c)) ≡ true → (a || (b || (c || d))) ≡ true
+    by true b c d e = refl
+    by false true c d e = refl
+    by false false true d e = refl
+    by false false false d e = absurd cc
+
+pub ends_barred : (g : Grain) (w : State) (t : ℕ) → step_outcome w (step_of t turn.Go) ≡ outcome.NotNow → turn_ends g w t ≡ true
+ends_barred g w t e =
+    by (is_own w t) (sleeps (act_of (place_at w t))) (is_cut g (place_at w t)) (is_barred (step_outcome w (step_of t turn.Go))) (ap is_barred e)
+  where
+    by : (a b c d : Bool) → d ≡ true → (a || (b || (c || d))) ≡ true
+    by true b c d e = refl
+    by false true c d e = refl
+    by false false true d e = refl
+    by false false false d e = e
+
+-- an act that is told to be neither sleep nor a closure is none
+pub quiet_act : (a : Act) → (outcome_of a ≡ outcome.Sleep → ⊥) → ((x : OnceState) → outcome_of a ≡ outcome.Closure x → ⊥)
+    → (runs_closure a ≡ false) × (sleeps a ≡ false)
+quiet_act act.Rest f h = (refl, refl)
+quiet_act (act.Word l op) f h = (refl, refl)
+quiet_act (act.HandOver l op) f h = (refl, refl)
+quiet_act (act.Enter keys) f h = (refl, refl)
+quiet_act (act.Park l key check x) f h = (refl, refl)
+quiet_act (act.Stand key x) f h = (refl, refl)
+quiet_act (act.Take key whom) f h = (refl, refl)
+quiet_act (act.Requeue from to how) f h = (refl, refl)
+quiet_act (act.Remove key) f h = (refl, refl)
+quiet_act (act.Leave keys wakes) f h = (refl, refl)
+quiet_act act.Sleep f h = absurd (f refl)
+quiet_act act.Accept f h = (refl, refl)
+quiet_act (act.Closure x) f h = absurd (h x refl)
+quiet_act (act.End a) f h = (refl, refl)
+
+told_barred : (o : Outcome) → (o ≡ outcome.NotNow → ⊥) → is_barred o ≡ false
+told_barred outcome.NotNow h = absurd (h refl)
+told_barred outcome.Step h = refl
+told_barred outcome.Sleep h = refl
+told_barred (outcome.Closure x) h = refl
+told_barred (outcome.End a) h = refl
+
+pub ends_not : (g : Grain) (w : State) (t : ℕ)
+    → (is_own w t || (sleeps (act_of (place_at w t)) || is_cut g (place_at w t))) ≡ false
+    → (step_outcome w (step_of t turn.Go) ≡ outcome.NotNow → ⊥) → turn_ends g w t ≡ false
+ends_not g w t e told =
+    by (is_own w t) (sleeps (act_of (place_at w t))) (is_cut g (place_at w t)) (is_barred (step_outcome w (step_of t turn.Go))) e
+    (told_barred (step_outcome w (step_of t turn.Go)) told)
+  where
+    by : (a b c d : Bool) → (a || (b || c)) ≡ false → d ≡ false → (a || (b || (c || d))) ≡ false
+    by true b c d e f = absurd cc
+    by false true c d e f = absurd cc
+    by false false true d e f = absurd cc
+    by false false false d e f = f
+
+-- ---------------------------------------------------------------- worlds
+
+chosen_world : (b : Bool) (x y : Turning) (ss : List Step) → y.world ≡ after_steps x.world ss
+    → (if b then x else y).world ≡ after_steps x.world (if b then [] else ss)
+chosen_world true x y ss e = refl
+chosen_world false x y ss e = e
+
+chosen_kept : (b : Bool) (x y : Turning) → IsWorld x.world → IsWorld y.world → IsWorld (if b then x else y).world
+chosen_kept true x y p q = p
+chosen_kept false x y p q = q
+
+chosen_size : (b : Bool) (w : State) (x y : Turning) → SameSize w x.world → SameSize w y.world → SameSize w (if b then x else y).world
+chosen_size true w x y p q = p
+chosen_size false w x y p q = q
+
+-- where a thread goes on alone, the world takes its steps
+pub gone_world : (g : Grain) (n t : ℕ) (x : Turning)
+    → (gone_on g n t x).world ≡ after_steps x.world (go_steps g n t x.world)
+unfolding gone_on go_steps
+gone_world g zero t x = refl
+gone_world g (suc n) t x =
+    chosen_world (turn_ends g x.world t) x (gone_on g n t (gone t x))
+    (step_of t turn.Go ∷ go_steps g n t (after x.world (step_of t turn.Go))) (gone_world g n t (gone t x))
+
+pub gone_kept : (g : Grain) (n t : ℕ) (x : Turning) → IsWorld x.world → IsWorld (gone_on g n t x).world
+unfolding gone_on
+gone_kept g zero t x world = world
+gone_kept g (suc n) t x world =
+    chosen_kept (turn_ends g x.world t) x (gone_on g n t (gone t x)) world
+    (gone_kept g n t (gone t x) (world_after x.world (step_of t turn.Go) world))
+
+pub gone_size : (g : Grain) (n t : ℕ) (x : Turning) → SameSize x.world (gone_on g n t x).world
+unfolding gone_on
+gone_size g zero t x = record { threads = refl; locks = refl }
+gone_size g (suc n) t x =
+    chosen_size (turn_ends g x.world t) x.world x (gone_on g n t (gone t x)) (record { threads = refl; locks = refl })
+    (size_more x.world (after x.world (step_of t turn.Go)) (gone_on g n t (gone t x)).world
+    (after_size x.world (step_of t turn.Go)) (gone_size g n t (gone t x)))
+
+-- what is told of a turn that has ended so
+module _ (g : Grain) (t : ℕ) (w v : State) (l k : Local) (e : turning v k ≡ gone_on g 64 t (turning w l)) where
+  pub ended_world : v ≡ (gone_on g 64 t (turning w l)).world
+  ended_world = ap (λ (x : Turning). x.world) e
+
+  pub ended_local : k ≡ (gone_on g 64 t (turning w l)).local
+  ended_local = ap (λ (x : Turning). x.local) e
+
+  pub ended_size : SameSize w v
+  ended_size = subst (SameSize w) (sym ended_world) (gone_size g 64 t (turning w l))
