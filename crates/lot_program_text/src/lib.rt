@@ -3,8 +3,10 @@
 
 pub mod blocks;
 pub mod calls;
+pub mod conditions;
 pub mod malformed;
 pub mod parser;
+pub mod properties;
 pub mod sections;
 pub mod words;
 

@@ -4,10 +4,12 @@ ghost use Rattle.lot_text.specs.Names.{lock_named};
 
 use crate::blocks::{Block, BlockSort, shifted};
 use crate::calls::{Locks, call, declared};
+use crate::conditions::{test, value, variable};
 use crate::malformed::{TextError, malformed};
+use crate::properties::{Stations, property};
 use crate::sections::{MOST_CODE, Section};
-use crate::words::{comparison, line_of, number, told, word_at, words_of};
-use lot_program::{Instruction, Program, Test, Value};
+use crate::words::{MOST_NUMBER, line_of, number, told, word_at, words_of};
+use lot_program::{Deadlines, Grain, Instruction, Program, Property};
 use lot_text::{Name, Names};
 use spec_locks::{Call, OnceCall};
 use std::alloc::Global;
@@ -21,9 +23,6 @@ const MOST_LOCKS: usize = 64;
 /// The most shared variables of a program.
 const MOST_VARIABLES: usize = 64;
 
-/// The greatest number that a text has.
-const MOST_NUMBER: u64 = 4294967295;
-
 /// A program with the names and lines of its text.
 #[derive(Drop)]
 pub struct ProgramText {
@@ -32,8 +31,8 @@ pub struct ProgramText {
     pub variables: Names,
     /// The lines of the threads and the locks, as a schedule has them.
     pub header: String,
-    /// The line of each instruction, of each thread.
-    pub lines: Vec<Vec<u32>>,
+    /// The line of each property.
+    pub property_lines: Vec<u32>,
 }
 
 // A text that is read up to a line.
@@ -51,6 +50,8 @@ struct Parser {
     section: Section,
     code: Vec<Vec<Instruction>>,
     lines: Vec<Vec<u32>>,
+    properties: Vec<Property>,
+    property_lines: Vec<u32>,
 }
 
 /// Reads a program.
@@ -83,6 +84,8 @@ impl Parser {
             section: Section::new(alloc),
             code: Vec::new(alloc),
             lines: Vec::new(alloc),
+            properties: Vec::new(alloc),
+            property_lines: Vec::new(alloc),
         }
     }
 
@@ -99,6 +102,11 @@ impl Parser {
             return self.first_line(line, words);
         };
         match first {
+            "always" | "finally" | "never" => self.add_property(line, words),
+            _ if !self.properties.is_empty() => {
+                let expected = "`always`, `finally` or `never`, which end a program";
+                Err(self.wrong(line, first, expected))
+            }
             "lock" if self.runners.is_empty() => self.declare_lock(line, words, threads),
             "var" if self.runners.is_empty() => self.declare_variable(line, words),
             "thread" => self.begin_section(line, words, threads),
@@ -233,6 +241,19 @@ impl Parser {
         Ok(())
     }
 
+    // Adds a property, before which the last section ends.
+    fn add_property(&mut self, line: u32, words: &[&str]) -> Result<(), TextError> {
+        self.end_section()?;
+        let stations = Stations {
+            alloc: self.alloc,
+            lines: self.lines.as_slice(),
+        };
+        let property = property(&stations, &self.variables, line, words)?;
+        self.properties.push(property)?;
+        self.property_lines.push(line)?;
+        Ok(())
+    }
+
     fn end(mut self, last: u32) -> Result<ProgramText, TextError> {
         if self.threads.is_none() {
             let expected = "the first line is `threads N`, as in `threads 3`";
@@ -250,17 +271,23 @@ impl Parser {
             section: _,
             code,
             lines,
+            properties,
+            property_lines,
         } = self;
         Ok(ProgramText {
             program: Program {
                 kinds,
                 variables: firsts,
                 code,
+                lines,
+                properties,
+                grain: Grain::Steps,
+                deadlines: Deadlines::Pass,
             },
             locks: names,
             variables,
             header,
-            lines,
+            property_lines,
         })
     }
 
@@ -281,46 +308,9 @@ impl Parser {
         }
     }
 
-    fn variable(&self, line: u32, word: &str) -> Result<usize, TextError> {
-        let name = Name::from_word(word.as_bytes());
-        match name.and_then(|name| self.variables.find(name)) {
-            Some(variable) => Ok(variable),
-            None => Err(self.wrong(line, word, "no variable has this name")),
-        }
-    }
-
-    fn value(&self, line: u32, word: &str) -> Result<Value, TextError> {
-        if let Some(number) = number(word, MOST_NUMBER) {
-            return Ok(Value::Number(number as u32));
-        }
-        let name = Name::from_word(word.as_bytes());
-        match name.and_then(|name| self.variables.find(name)) {
-            Some(variable) => Ok(Value::Variable(variable)),
-            None => Err(self.wrong(line, word, "a number, 0 to 4294967295, or a variable")),
-        }
-    }
-
-    // The test of three words after the first.
-    fn test(&self, line: u32, words: &[&str]) -> Result<Test, TextError> {
-        let variable = self.variable(line, word_at(words, 1))?;
-        let Some(comparison) = comparison(word_at(words, 2)) else {
-            let expected = "one of = /= < <= > >=, as in `while full = 1`";
-            return Err(self.wrong(line, word_at(words, 2), expected));
-        };
-        let value = self.value(line, word_at(words, 3))?;
-        if words.len() > 4 {
-            return Err(self.wrong(line, word_at(words, 4), "the end of the line"));
-        }
-        Ok(Test {
-            variable,
-            comparison,
-            value,
-        })
-    }
-
     fn set(&mut self, line: u32, words: &[&str]) -> Result<(), TextError> {
-        let variable = self.variable(line, word_at(words, 1))?;
-        let value = self.value(line, word_at(words, 2))?;
+        let variable = variable(self.alloc, &self.variables, line, word_at(words, 1))?;
+        let value = value(self.alloc, &self.variables, line, word_at(words, 2))?;
         if words.len() > 3 {
             return Err(self.wrong(line, word_at(words, 3), "the end of the line"));
         }
@@ -329,7 +319,7 @@ impl Parser {
     }
 
     fn add(&mut self, line: u32, words: &[&str]) -> Result<(), TextError> {
-        let variable = self.variable(line, word_at(words, 1))?;
+        let variable = variable(self.alloc, &self.variables, line, word_at(words, 1))?;
         match number(word_at(words, 2), MOST_NUMBER) {
             Some(number) if words.len() == 3 => {
                 let number = number as u32;
@@ -341,7 +331,7 @@ impl Parser {
     }
 
     fn begin_while(&mut self, line: u32, words: &[&str]) -> Result<(), TextError> {
-        let test = self.test(line, words)?;
+        let test = test(self.alloc, &self.variables, line, words)?;
         let place = self.section.here();
         self.section.push(
             self.alloc,
@@ -354,7 +344,7 @@ impl Parser {
     fn begin_if(&mut self, line: u32, words: &[&str]) -> Result<(), TextError> {
         let place = self.section.here();
         let instruction = if words.len() > 3 {
-            let test = self.test(line, words)?;
+            let test = test(self.alloc, &self.variables, line, words)?;
             Instruction::JumpUnless { test, target: 0 }
         } else {
             match told(word_at(words, 1), word_at(words, 2)) {
@@ -414,7 +404,7 @@ impl Parser {
 
     // An assertion of a test.
     fn assert(&mut self, line: u32, words: &[&str]) -> Result<(), TextError> {
-        let test = self.test(line, words)?;
+        let test = test(self.alloc, &self.variables, line, words)?;
         self.section
             .push(self.alloc, line, Instruction::Assert(test))
     }

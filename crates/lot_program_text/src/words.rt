@@ -4,6 +4,9 @@ ghost use Rattle.std.specs.Prelude.{◌≤◌, IfSome};
 use lot_program::{Comparison, Told};
 use std::alloc::{AllocError, Global};
 
+/// The greatest number that a text has.
+pub(crate) const MOST_NUMBER: u64 = 4294967295;
+
 /// The most words that a line of a call or a lock has, its leading words included.
 const MOST_WORDS: usize = 5;
 

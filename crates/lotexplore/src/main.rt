@@ -3,11 +3,13 @@
 #![tactic(auto)]
 
 mod arguments;
+mod explain;
+mod headline;
 mod report;
 mod status;
 mod waits;
 
-use crate::arguments::limits_from;
+use crate::arguments::{Arguments, arguments_from};
 use crate::report::report;
 use lot_program_text::{TextError, parse};
 use std::io::ErrorKind;
@@ -23,17 +25,24 @@ fn main(rt: HostRuntime) -> ExitCode {
 
 fn run(rt: &HostRuntime) -> io::Result<u8> {
     let words = match env::args(rt) {
-        Ok(args) => args.skip(1).collect::<Vec<String>>(rt.alloc())?,
-        // An argument that is no text is none of the flags.
-        Err(e) if e.kind() == ErrorKind::InvalidData => vec![in rt.alloc();
-            String::new(rt.alloc()),
-        ]?,
+        Ok(args) => args.collect::<Vec<String>>(rt.alloc())?,
+        Err(e) if e.kind() == ErrorKind::InvalidData => {
+            eprintln!(rt; "an argument is not text")?;
+            return Ok(status::MALFORMED);
+        }
         Err(e) => return Err(e),
     };
-    let Some(limits) = limits_from(words.as_slice()) else {
-        eprintln!(rt; "usage: lotexplore [--states N] [--bytes N] < PROGRAM")?;
-        return Ok(status::MALFORMED);
-    };
+    match arguments_from(rt.alloc(), words.as_slice()) {
+        Ok(arguments) => search_input(rt, arguments),
+        Err(error) => {
+            error.print(rt)?;
+            Ok(error.exit_code() as u8)
+        }
+    }
+}
+
+// Reads the program on standard input, and prints what a search of it finds.
+fn search_input(rt: &HostRuntime, arguments: Arguments) -> io::Result<u8> {
     let text = match io::read_to_string(rt.alloc(), rt.reader()) {
         Ok(text) => text,
         Err(e) if e.kind() == ErrorKind::InvalidData => {
@@ -43,7 +52,7 @@ fn run(rt: &HostRuntime) -> io::Result<u8> {
         Err(e) => return Err(e),
     };
     match parse(rt.alloc(), text.as_str()) {
-        Ok(parsed) => report(rt, &parsed, limits),
+        Ok(parsed) => report(rt, parsed, text.as_str(), arguments),
         Err(TextError::NoMemory) => {
             println!(rt; "no memory")?;
             Ok(status::NOT_ALL)

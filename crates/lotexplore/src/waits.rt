@@ -44,7 +44,8 @@ fn print_thread(
     let local = run.scene.local(thread);
     let ahead = if run.scene.is_idle(thread) { 0 } else { 1 };
     let at = local.at.saturating_sub(ahead);
-    print!(rt; "thread {thread}, line {}:", line_of(parsed, thread, at))?;
+    let line = parsed.program.line(thread, at).unwrap_or(0);
+    print!(rt; "thread {thread}, line {line}:")?;
     match local.fault {
         Fault::Nothing => {}
         Fault::Refused => print!(rt; " the call is refused;")?,
@@ -53,14 +54,6 @@ fn print_thread(
     print_has(rt, parsed, world, thread)?;
     print_waits_for(rt, parsed, world, thread)?;
     println!(rt)
-}
-
-// Returns the line of an instruction, or 0 past the last.
-fn line_of(parsed: &ProgramText, thread: usize, at: usize) -> u32 {
-    match parsed.lines.get(thread) {
-        Some(lines) => lines.get(at).copied().unwrap_or(0),
-        None => 0,
-    }
 }
 
 // Prints the locks that a thread owns or shares.

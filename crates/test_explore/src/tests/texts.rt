@@ -35,6 +35,51 @@ const TEXTS: &[(&str, u32, &str)] = &[
     ("threads 2\nthread 0\nok\n", 3, "ok"),
     ("threads 2\nvar x 0\nthread 0\nloop\nadd x 1\n", 4, ""),
     ("threads 2\nvar x 0\nthread 0\nset x 1 2\n", 4, "2"),
+    ("threads 1\nvar x 0\nalways x 1\n", 3, "1"),
+    ("threads 1\nvar x 0\nfinally y = 1\n", 3, "y"),
+    ("threads 1\nvar x 0\nalways x = 1 2\n", 3, "2"),
+    ("threads 1\nvar x 0\nthread 0\nloop\nalways x = 0\n", 4, ""),
+    ("threads 1\nvar x 0\nalways x = 0\nthread 0\n", 4, "thread"),
+    (
+        "threads 1\nvar x 0\nalways x = 0\nlock m mutex\n",
+        4,
+        "lock",
+    ),
+    (
+        "threads 2\nvar x 0\nthread 0 1\nset x 1\nnever 0 at 4\n",
+        5,
+        "",
+    ),
+    (
+        "threads 2\nvar x 0\nthread 0 1\nset x 1\nnever 0 at 4 2 at 4\n",
+        5,
+        "2",
+    ),
+    (
+        "threads 2\nvar x 0\nthread 0 1\nset x 1\nnever 0 at 4 0 at 4\n",
+        5,
+        "0",
+    ),
+    (
+        "threads 2\nvar x 0\nthread 0 1\nset x 1\nnever 0 at 3 1 at 4\n",
+        5,
+        "3",
+    ),
+    (
+        "threads 2\nvar x 0\nthread 0\nset x 1\nnever 0 at 4 1 at 4\n",
+        5,
+        "4",
+    ),
+    (
+        "threads 2\nvar x 0\nthread 0 1\nset x 1\nnever 0 in 4 1 at 4\n",
+        5,
+        "in",
+    ),
+    (
+        "threads 2\nvar x 0\nthread 0 1\nset x 1\nnever 0 at 4 1 at 4 2\n",
+        5,
+        "2",
+    ),
 ];
 
 /// Asserts that a text is wrong on a line, at a word.

@@ -1,0 +1,121 @@
+//! Programs with what is found of them by turns of each grain.
+
+use super::{Found, Turns, check_eq, search_by};
+use core_base::ListQueues;
+use lot_program::Deadlines;
+use state_search::Limits;
+use std::process::Abort;
+use std::test::Fail;
+
+/// Room for each program here.
+const ROOM: Limits = Limits {
+    states: 30_000,
+    bytes: None,
+};
+
+/// What is found of a program by calls, by calls that are cut where one of its calls can see that, and by
+/// steps.
+struct Grained {
+    text: &'static str,
+    calls: Found,
+    cut_calls: Found,
+    steps: Found,
+}
+
+/// Programs of calls that can't see another half done, then those of calls that can.
+const PROGRAMS: &[Grained] = &[
+    Grained {
+        text: "threads 3\nlock a mutex\nlock b mutex\nlock c mutex\n\
+               thread 0\nlock a\nlock b\nunlock b\nunlock a\n\
+               thread 1\nlock b\nlock c\nunlock c\nunlock b\n\
+               thread 2\nlock a\nlock c\nunlock c\nunlock a\n",
+        calls: Found::Nothing(152),
+        cut_calls: Found::Nothing(152),
+        steps: Found::Nothing(8200),
+    },
+    Grained {
+        text: "threads 2\nlock r rwlock\n\
+               thread 0\nupgradable r\nupgrade r\nunlock_exclusive r\n\
+               thread 1\nread r\nupgradable r\nunlock_upgradable r\nunlock_shared r\n",
+        calls: Found::Deadlock(4),
+        cut_calls: Found::Deadlock(4),
+        steps: Found::Deadlock(19),
+    },
+    Grained {
+        text: "threads 2\nlock m mutex\nlock c condvar\n\
+               thread 0\nlock m\nwait c m\nunlock m\n\
+               thread 1\nlock m\nnotify_one c\nunlock m\n",
+        calls: Found::Deadlock(5),
+        cut_calls: Found::Deadlock(6),
+        steps: Found::Deadlock(14),
+    },
+    // A reader's try fails while a timed writer has given up and not gone yet.
+    Grained {
+        text: "threads 2\nlock r rwlock\nlock a mutex\nlock b mutex\n\
+               thread 0\nread r\nunlock_shared r\ntry_read r\n\
+               if yes\nunlock_shared r\nend\n\
+               if no\nlock a\nlock b\nunlock b\nunlock a\nend\n\
+               thread 1\nwrite_timed r\nif yes\nunlock_exclusive r\nend\n\
+               if no\nlock b\nlock a\nunlock a\nunlock b\nend\n",
+        calls: Found::Nothing(105),
+        cut_calls: Found::Deadlock(14),
+        steps: Found::Deadlock(43),
+    },
+    // A try to write fails by the bit of a queue in which nobody stands.
+    Grained {
+        text: "threads 2\nlock r rwlock\nlock a mutex\n\
+               thread 0\nwrite r\nunlock_exclusive r\n\
+               thread 1\ntry_write r\nif yes\nunlock_exclusive r\nend\n\
+               if no\nread r\nunlock_shared r\ntry_write r\n\
+               if yes\nunlock_exclusive r\nend\nif no\nlock a\nlock a\nend\nend\n",
+        calls: Found::Nothing(30),
+        cut_calls: Found::Deadlock(14),
+        steps: Found::Deadlock(35),
+    },
+    // A notification finds a waiter that owns its mutex yet.
+    Grained {
+        text: "threads 2\nlock g mutex\nlock m mutex\nlock v condvar\n\
+               thread 0\nlock g\nlock m\nwait_timed v m\nunlock g\nunlock m\n\
+               thread 1\nnotify_one v\nif yes\ntry_lock m\nif yes\nunlock m\nend\n\
+               if no\nlock m\nlock g\nunlock g\nunlock m\nend\nend\n",
+        calls: Found::Nothing(60),
+        cut_calls: Found::Deadlock(14),
+        steps: Found::Deadlock(43),
+    },
+    // A bump gives way to a thread that isn't in the queue yet.
+    Grained {
+        text: "threads 2\nlock f fair\nlock a mutex\n\
+               thread 0\nlock f\nlock a\nbump f\nunlock a\nunlock f\n\
+               thread 1\nlock_timed f\nif yes\nunlock f\nend\n\
+               if no\ntry_lock f\nif yes\nlock a\nunlock a\nunlock f\nend\nend\n",
+        calls: Found::Nothing(65),
+        cut_calls: Found::Deadlock(14),
+        steps: Found::Deadlock(39),
+    },
+];
+
+#[test]
+fn calls_are_cut_where_a_call_of_the_program_sees_it(rt: HostRuntime) {
+    for program in PROGRAMS {
+        let found = |turns: Turns| {
+            search_by::<ListQueues>(rt.alloc(), program.text, ROOM, turns, Deadlines::Pass)
+        };
+        check_eq(&rt, found(Turns::Calls), program.calls);
+        check_eq(&rt, found(Turns::CutCalls), program.cut_calls);
+        check_eq(&rt, found(Turns::Steps), program.steps);
+    }
+}
+
+/// Two threads that take two locks in two orders, and give up where the second isn't free in time.
+const TIMED: &str = "threads 2\nlock a mutex\nlock b mutex\n\
+                     thread 0\nlock a\nlock_timed b\nif yes\nunlock b\nend\nunlock a\n\
+                     thread 1\nlock b\nlock_timed a\nif yes\nunlock a\nend\nunlock b\n";
+
+#[test]
+fn where_no_deadline_passes_a_timed_call_waits_for_ever(rt: HostRuntime) {
+    let found = |deadlines: Deadlines| {
+        search_by::<ListQueues>(rt.alloc(), TIMED, ROOM, Turns::CutCalls, deadlines)
+    };
+    check_eq(&rt, found(Deadlines::Pass), Found::Nothing(58));
+    check_eq(&rt, found(Deadlines::Never), Found::Deadlock(4));
+}
