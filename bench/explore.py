@@ -91,7 +91,7 @@ def main():
             ours, theirs = [], []
             model = checker(folder, threads, times) if has_spin and locks == 1 else None
             for _ in range(runs):
-                ours.append(timed([PROGRAM, "--states", MOST], OURS, text_of(threads, locks, times)))
+                ours.append(timed([PROGRAM, "--grain", "step", "--states", MOST], OURS, text_of(threads, locks, times)))
                 if model:
                     # SPIN clears its table first, so that is no larger than the states need.
                     width = ours[0].states.bit_length() + 1
