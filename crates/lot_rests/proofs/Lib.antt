@@ -1,0 +1,17 @@
+pub mod Sums
+pub mod Work
+pub mod Ways
+pub mod Rows
+pub mod Most
+pub mod Befallen
+pub mod Mutexes
+pub mod Semaphores
+pub mod Onces
+pub mod Condvars
+pub mod RwLocks
+pub mod RwLockCalls
+pub mod Places
+pub mod Still
+pub mod Turns
+pub mod Rest
+pub mod Rounds
