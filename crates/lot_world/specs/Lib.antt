@@ -23,6 +23,7 @@ pub use Rattle.lot_laws.specs.Locations
 pub use Rattle.lot_laws.specs.MutexDeeds
 pub use Rattle.lot_laws.specs.SitesOf
 pub use Rattle.lot_laws.specs.Laws
+pub use Rattle.lot_rests.specs.Rests
 pub mod Drains
 pub mod Schedules
 pub mod DrainLaws

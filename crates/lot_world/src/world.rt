@@ -1,5 +1,5 @@
 //! Any number of threads over locks, by a list of steps.
-ghost use Rattle.std.specs.Prelude.{ℕ, List, [], ◌∷◌, ◌≡◌, ◌<◌, ◌≤◌, ◌++◌, ◌+◌, ◌*◌, ◌⊎◌, IfOk, IfErr, OnOk, IsTrue, ◌↔◌, All, length, take, true, false, vec_len, vec_capacity};
+ghost use Rattle.std.specs.Prelude.{ℕ, List, [], ◌∷◌, ◌≡◌, ◌<◌, ◌≤◌, ◌++◌, ◌+◌, ◌*◌, ◌⊎◌, ◌||◌, IfOk, IfErr, OnOk, IsTrue, ◌↔◌, All, length, take, true, false, vec_len, vec_capacity};
 ghost use Rattle.spec_locks.specs.Kinds.{fits};
 ghost use Rattle.spec_locks.specs.Calls.{lock_in};
 ghost use Rattle.lot_steps.specs.Steps.{first_place};
@@ -21,6 +21,8 @@ ghost use Rattle.lot_laws.specs.Overtaking.{NobodyIsOvertaken};
 ghost use Rattle.lot_laws.specs.WorldRuns.{IsWorldRun, Tells, states_of, LooksNoMore, SleepersStay, TouchesOnlyByGoing, TriesAtOnce};
 ghost use Rattle.lot_laws.specs.Solo.{IsUnderWay, IsUnobstructed, HasWhatItReads, IsBarred, OnlyTries, Rests, EndsAlone, IsSoloRun};
 ghost use Rattle.lot_machine.specs.Views.{StandUnder, owners_of, queue_of, debts_of};
+ghost use Rattle.lot_rests.specs.Rests.{ComesToRest, GoesRound, Settles, is_turn};
+ghost use Rattle.spec_locks.specs.EachState as each_state;
 ghost use Rattle.lot_world.specs.Drains.{IsDrainable, IsDrain};
 ghost use Rattle.lot_world.specs.Drainable.{is_drainable};
 ghost use Rattle.lot_world.specs.Schedules.{schedule_of};
@@ -45,6 +47,16 @@ pub const SOLO_STEPS: usize = 64;
 #[derive(Clone, Copy, Debug, PartialEq, Eq)]
 pub struct Stopped {
     pub taken: usize,
+}
+
+/// Whether a turn was possible: one before, or that which told this.
+fn any_turn(before: bool, told: Outcome) -> bool
+    ensures { result ≡ (is_turn told || before) }
+{
+    match told {
+        Outcome::NotNow => before,
+        _ => true,
+    }
 }
 
 /// Threads over locks. No call but `new`, `run` and `drain` takes memory.
@@ -260,6 +272,10 @@ impl<Q: Queues + Drop> World<Q> {
         ensures refines { OnOk result (Tells outcomes.old.items outcomes.new.items
             (λ told. IsRun (locks_of self.old) steps.now told (locks_of self.new))) }
 
+        // From the state that it finds threads that begin nothing come to rest: in whatever order
+        // they take their turns, there are few, and then nobody is awake in a call.
+        ensures comes_to_rest { ComesToRest self.old }
+
         // In it nobody is forgotten, before, between and after its steps, and each step holds what
         // is promised of steps.
         ensures kept_before { IsKept self.old }
@@ -311,6 +327,37 @@ impl<Q: Queues + Drop> World<Q> {
             outcomes.push_reserved(self.step(*step));
         }
         Ok(())
+    }
+
+    /// Lets threads go on, one after another, round and round, until none can: then nobody waits for
+    /// a lock that is open.
+    pub fn settle(&mut self)
+        // The turns are few, and each was possible. None is possible afterwards.
+        ensures settles { Settles self.old self.new }
+
+        // Each thread in a call sleeps or runs a closure.
+        ensures quiet { each_state.IsQuiet (locks_of self.new) }
+        ensures rests { each_state.Rests (locks_of self.new) (filled_at self.new) }
+        ensures same_size { SameSize self.old self.new }
+    {
+        // The proof reads the world's invariant here.
+        let _ = &self.machine;
+        'rounds: while self.go_round() {}
+    }
+
+    /// One turn of each thread that can go on. It tells whether there was one.
+    fn go_round(&mut self) -> bool
+        ensures { GoesRound self.old result self.new }
+    {
+        let mut moved = false;
+        for thread in 0..self.threads() {
+            let told = self.step(Step {
+                thread,
+                turn: Turn::Go,
+            });
+            moved = any_turn(moved, told);
+        }
+        moved
     }
 
     /// Whether some steps drain the world: it has one lock, a mutex or a reader-writer lock, whose

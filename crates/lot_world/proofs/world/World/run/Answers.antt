@@ -9,6 +9,7 @@ use Rattle.lot_machine.specs.Machine.{after_steps, step_outcomes}
 use Rattle.lot_laws.proofs.alone.WorldRuns.{tells_run, tells_refines, world_kept}
 use Rattle.lot_laws.proofs.promises.Headline.{holds_after, tells_behaves, tells_guaranteed, tells_headline}
 use Rattle.lot_laws.proofs.promises.Overtaken.{nobody_is_overtaken}
+use Rattle.lot_rests.proofs.Rest.{worlds_come_to_rest}
 use Rattle.lot_world.proofs.world.World.run.Goals as goal
 
 pub loop-taken-preserved : goal.loop-taken-preserved
@@ -22,6 +23,16 @@ loop-taken-preserved g c =
       outcomes = rw (c.push_reserved.ensures.items, c.reserve.ensures.items, c.step.ensures.outcome)
           (run_outcomes c.args.self.now c.loop-taken.self (take c.loop-taken.taken c.args.steps.now) (take (c.loop-taken.taken + 1) c.args.steps.now) _ c.args.outcomes.now.items c.loop-taken.outcomes.items more before.state before.outcomes);
     }
+
+pub returns-then-is_err-clause-comes_to_rest : goal.returns-then-is_err-clause-comes_to_rest
+returns-then-is_err-clause-comes_to_rest g c =
+    let before : IsWorld c.self.inside.machine = c.self.invariant in
+    rw (← c.self.view_is) (worlds_come_to_rest c.self.inside.machine before)
+
+pub returns-clause-comes_to_rest : goal.returns-clause-comes_to_rest
+returns-clause-comes_to_rest g c =
+    let before : IsWorld c.self.inside.machine = c.self.invariant in
+    rw (← c.self.view_is) (worlds_come_to_rest c.self.inside.machine before)
 
 pub returns-then-is_err-clause-kept_before : goal.returns-then-is_err-clause-kept_before
 returns-then-is_err-clause-kept_before g c =
