@@ -1,5 +1,5 @@
 //! Worlds of mutexes.
-use super::scripts::Line::{Calls, GoesOn, IsWaitedFor, Rests, Shows, Takes};
+use super::scripts::Line::{Calls, GoesOn, IsWaitedFor, Rests, Settles, Shows, Takes};
 use super::scripts::{DONE, Line, plays, plays_anew, runs, world_of};
 use super::{check, check_eq};
 use core_base::{ListQueues, Want};
@@ -57,6 +57,23 @@ const WAKES_A_WAITER: &[Line] = &[
 #[test]
 fn a_waiter_is_woken_by_the_release(rt: HostRuntime) {
     plays_anew(&rt, rt.alloc(), &[Kind::Mutex], 2, WAKES_A_WAITER);
+}
+
+const SETTLES: &[Line] = &[
+    Takes(0, Turn::Begin(LOCK), Outcome::Step),
+    Takes(1, Turn::Begin(LOCK), Outcome::Step),
+    Settles,
+    IsWaitedFor(0, 0, 1),
+    Takes(0, Turn::Begin(UNLOCK), Outcome::Step),
+    Settles,
+    Rests(0, 1, Some((Owner::Exclusive, 1))),
+    Settles,
+    Rests(0, 1, Some((Owner::Exclusive, 1))),
+];
+
+#[test]
+fn a_settled_mutex_has_an_owner_where_somebody_waits(rt: HostRuntime) {
+    plays_anew(&rt, rt.alloc(), &[Kind::Mutex], 2, SETTLES);
 }
 
 /// The owners of a lock, of which the upgradable one is 2, and the others share it.

@@ -30,6 +30,8 @@ pub enum Line {
     Takes(usize, Turn, Outcome),
     /// A thread goes on alone until it rests.
     GoesOn(usize, Outcome),
+    /// All threads go on until none can.
+    Settles,
     /// A lock shows this.
     Shows(usize, Shown),
     /// A mutex has this owner and this first waiter, and no thread owes it a wake.
@@ -76,6 +78,10 @@ fn goes<Q: Queues + Drop>(world: &mut World<Q>, line: Line) -> (bool, Option<Out
         Line::Calls(thread, call, wanted) => (call_alone(world, thread, call), wanted),
         Line::Takes(thread, turn, wanted) => (world.step(Step { thread, turn }), wanted),
         Line::GoesOn(thread, wanted) => (world.solo(thread), wanted),
+        Line::Settles => {
+            world.settle();
+            return (true, None);
+        }
         Line::Shows(lock, shown) => return (look(world, lock) == Some(shown), None),
         Line::IsWaitedFor(lock, owner, waiter) => {
             return (look(world, lock) == Some(waited_for(owner, waiter)), None);
