@@ -3,3 +3,4 @@ mod Giving
 mod Pairs
 mod Sleeps
 mod Counting
+pub mod Blanks

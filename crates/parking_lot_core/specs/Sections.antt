@@ -8,6 +8,7 @@ use Rattle.core_base.specs.declared.wants.Want.{Want}
 use Rattle.core_queues.specs.Buckets.{both}
 use Rattle.parking_lot_core.specs.Pairs.{waiters_of}
 use Rattle.parking_lot_core.specs.declared.sections.Section.{Section}
+use Rattle.parking_lot_core.specs.declared.tellings.Telling.{Telling}
 use Rattle.parking_lot_core.specs.declared.tokens.Did.TheVariants.{Nothing}
 
 -- those in the first bucket
@@ -35,6 +36,10 @@ rightless_in section = (mutex_guard_value section.first).rightless.items
 -- how many it moved to another queue
 abbrev pub moved_in : Section → ℕ
 moved_in section = section.moved
+
+-- what it has told its thread
+abbrev pub told_in : Section → List Telling
+told_in section = section.told.list
 
 -- it is the same section, of the same thread
 abbrev pub StaysIn : Section → Section → Type 0

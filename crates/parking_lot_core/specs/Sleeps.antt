@@ -1,5 +1,5 @@
 -- How a sleep ends.
-use Rattle.std.specs.Prelude.{ℕ, ◌≡◌, Option, Some, None}
+use Rattle.std.specs.Prelude.{ℕ, ◌≡◌, List, [], Option, Some, None}
 use Rattle.core_words.specs.RightsOf.{IsRightOf, IsFor}
 use Rattle.core_words.specs.declared.rights.Right.{Right}
 use Rattle.core_words.specs.declared.words.Word.{Word}
@@ -7,7 +7,7 @@ use Rattle.core_base.specs.Lines.{queued_under}
 use Rattle.core_base.specs.declared.wants.Want.{Want}
 use Rattle.core_base.specs.declared.keys.Keys.TheVariants.{One}
 use Rattle.parking_lot_core.specs.Places.{IsPlaceOf}
-use Rattle.parking_lot_core.specs.Sections.{IsUntouched, waiting_in}
+use Rattle.parking_lot_core.specs.Sections.{IsUntouched, told_in, waiting_in}
 use Rattle.parking_lot_core.specs.declared.lot.ParkingLot.{ParkingLot}
 use Rattle.parking_lot_core.specs.declared.sections.Section.{Section}
 use Rattle.parking_lot_core.specs.declared.sleep.Slept.{Slept}
@@ -24,6 +24,7 @@ abbrev pub GivesUpAt : ParkingLot → ℕ → Section → ℕ → Type 0
 GivesUpAt lot thread section key =
     (section.lot.now ≡ lot) × (section.keys ≡ One key) × IsUntouched section
     × (queued_under thread (waiting_in section) ≡ Some key) × (section.thread ≡ thread)
+    × (told_in section ≡ [])
 
 -- it has its place still
 abbrev pub IsLate : ParkingLot → ℕ → Slept → Type 0

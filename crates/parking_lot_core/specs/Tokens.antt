@@ -5,6 +5,7 @@ use Rattle.core_words.specs.Lots.{IsSeatOf}
 use Rattle.core_words.specs.declared.table.LotWords.{LotWords}
 use Rattle.core_words.specs.declared.views.View.{View}
 use Rattle.parking_lot_core.specs.declared.lot.ParkingLot.{ParkingLot}
+use Rattle.parking_lot_core.specs.declared.tellings.Telling.{Telling}
 use Rattle.parking_lot_core.specs.declared.tokens.SectionRecord.{SectionRecord}
 use Rattle.parking_lot_core.specs.declared.tokens.Ticket.{Ticket}
 use Rattle.parking_lot_core.specs.declared.tokens.Token.{Token}
@@ -27,6 +28,10 @@ out_of token = token.seat.me.0.out
 -- the record of the section that it left last, if it has taken no step since
 abbrev pub last_of : Token → Option SectionRecord
 last_of token = if token.expected.unlocked == 0 then None else Some token.record
+
+-- what its sections and sleeps have told it
+abbrev pub told_of : Token → List Telling
+told_of token = token.told.list
 
 -- it is the same thread of the same lot
 abbrev pub IsSameThread : ParkingLot → Token → Token → Type 0

@@ -5,7 +5,7 @@
 //!
 //! No two threads wait for one another here: the lock of a bucket is taken before that of a record,
 //! and that of a lower bucket before that of a higher one.
-ghost use Rattle.std.specs.Prelude.{ℕ, ◌≡◌, ◌⊎◌, ◌<◌, None, length};
+ghost use Rattle.std.specs.Prelude.{ℕ, ◌≡◌, ◌⊎◌, ◌<◌, None, [], length};
 ghost use Rattle.std.specs.Sync.Mutex.{mutex_guard_value};
 ghost use Rattle.core_base.specs.Lines.{line};
 ghost use Rattle.core_queues.specs.Buckets.{AreApart};
@@ -18,6 +18,7 @@ ghost use Rattle.core_base.specs.declared.keys.Keys.TheVariants.{Two};
 use crate::lot::ParkingLot;
 use crate::pauses::pause;
 use crate::sections::Section;
+use crate::tellings::Tellings;
 use crate::tokens::{Did, Token};
 use core_base::{Key, Keys};
 use core_queues::{Queueing, bucket_among};
@@ -64,7 +65,7 @@ fn doubled(low: Key, high: Key, first: &Queueing, other: &Queueing) -> Option<us
 }
 
 impl ParkingLot {
-    ghost use Rattle.parking_lot_core.specs.Sections.{IsUntouched};
+    ghost use Rattle.parking_lot_core.specs.Sections.{IsUntouched, told_in};
     ghost use Rattle.parking_lot_core.specs.Tokens.{IsTokenOf, IsSameThread};
 
     // The bucket of a key.
@@ -154,7 +155,7 @@ impl ParkingLot {
         requires bucket { bucket < length self.now.buckets.items }
         requires keys { (key : ℕ) → IsKeyOf keys key → bucket_of self.now.bits key ≡ bucket }
         ensures { (result.lot.now ≡ self.now) × (result.keys ≡ keys) × IsUntouched result
-            × (result.thread ≡ thread) }
+            × (result.thread ≡ thread) × (told_in result ≡ []) }
     {
         Section {
             lot: self,
@@ -164,6 +165,7 @@ impl ParkingLot {
             thread,
             did: Did::Nothing,
             moved: 0,
+            told: Tellings::new(),
         }
     }
 
@@ -179,7 +181,7 @@ impl ParkingLot {
         requires keys { (key : ℕ) → IsKeyOf keys key → (key ≡ low) ⊎ (key ≡ high) }
         requires order { bucket_of self.now.bits low < bucket_of self.now.bits high }
         ensures { (result.lot.now ≡ self.now) × (result.keys ≡ keys) × IsUntouched result
-            × (result.thread ≡ thread) }
+            × (result.thread ≡ thread) × (told_in result ≡ []) }
     {
         let mut first = self.queues(rt, self.bucket(low));
         let mut other = self.queues_above(rt, &first, self.bucket(high));
@@ -192,13 +194,14 @@ impl ParkingLot {
             thread,
             did: Did::Nothing,
             moved: 0,
+            told: Tellings::new(),
         }
     }
 
     // The section of some keys, for a thread.
     pub(crate) fn locked<'a, R: Wait>(&'a self, rt: &R, thread: usize, keys: Keys) -> Section<'a>
         ensures { (result.lot.now ≡ self.now) × (result.keys ≡ keys) × IsUntouched result
-            × (result.thread ≡ thread) }
+            × (result.thread ≡ thread) × (told_in result ≡ []) }
     {
         match keys {
             Keys::One(key) => self.enter_one(rt, thread, keys, self.bucket(key)),
@@ -224,6 +227,7 @@ impl ParkingLot {
         ensures same { token.new ≡ token.old }
         ensures section { (result.lot.now ≡ self.now) × (result.keys ≡ keys) × IsUntouched result }
         ensures thread { result.thread ≡ token.old.number }
+        ensures untold { told_in result ≡ [] }
     {
         self.locked(rt, token.number, keys)
     }

@@ -12,11 +12,13 @@ ghost use Rattle.parking_lot_core.specs.Keys.{IsKeyOf, first_key};
 ghost use Rattle.std.specs.Option.{ForNone, ForSome};
 ghost use Rattle.parking_lot_core.specs.Pairs.{AreApartAt, AreBuckets, HasOneBucket, IsBegun};
 ghost use Rattle.parking_lot_core.specs.declared.tokens.Did.TheVariants.{Nothing, TakeFirst, TakeAll, TakePicked};
+ghost use Rattle.parking_lot_core.specs.declared.tellings.Telling.TheVariants.{Counted, Left, Stood, Took};
 
 use crate::enter::never;
 use crate::expected::Expected;
 use crate::lot::ParkingLot;
 use crate::places::QueuePlace;
+use crate::tellings::{Telling, Tellings, tell_taken};
 use crate::tokens::{Did, SectionRecord, Token};
 use core_base::{Key, Keys, Note, Requeue, Want};
 use core_queues::Queueing;
@@ -40,6 +42,8 @@ pub struct Section<'a> {
     pub(crate) did: Did,
     // How many it moved to another queue.
     pub(crate) moved: usize,
+    // What it has told its thread.
+    pub(crate) told: Tellings,
     ghost seated: { ((mutex_guard_value first).seats ≡ lot.now.records.count)
         × ((mutex_guard_value first).bits < 64) },
     ghost alone: { ForNone other (HasOneBucket keys (mutex_guard_value first)) },
@@ -65,9 +69,9 @@ fn first_of_keys(keys: Keys) -> Key
 
 impl<'a> Section<'a> {
     ghost use Rattle.parking_lot_core.specs.Places.{IsPlaceOf, thread_of};
-    ghost use Rattle.parking_lot_core.specs.Tokens.{IsTokenOf, IsSameThread, last_of};
+    ghost use Rattle.parking_lot_core.specs.Tokens.{IsTokenOf, IsSameThread, last_of, told_of};
     ghost use Rattle.parking_lot_core.specs.Sections.{others_in, IsUntouched};
-    ghost use Rattle.parking_lot_core.specs.Sections.{waiting_in, taken_in, wants_in, rightless_in, moved_in, StaysIn, TookAs, MayNote};
+    ghost use Rattle.parking_lot_core.specs.Sections.{waiting_in, taken_in, wants_in, rightless_in, moved_in, told_in, StaysIn, TookAs, MayNote};
     ghost use Rattle.parking_lot_core.specs.Tokens.{out_of, view_of};
     ghost use Rattle.parking_lot_core.specs.Giving.{owner_given_at, HasEach, less_each};
     ghost use Rattle.core_words.specs.Lots.{IsWordOf};
@@ -85,6 +89,7 @@ impl<'a> Section<'a> {
             ≡ (mutex_guard_value self.new.first).number }
         ensures none { HasNone key (others_in self.new) }
         ensures same { StaysIn self.old self.new × IsUntouched self.new }
+        ensures untold { told_in self.new ≡ told_in self.old }
     {
         if let Some(other) = &mut self.other {
             if other.holds(key) {
@@ -110,17 +115,21 @@ impl<'a> Section<'a> {
         ensures lines { lines (waiting_in self.new)
             ≡ lines (requeued op from to (waiting_in self.old)) }
         ensures did { StaysIn self.old self.new × (self.new.did ≡ Did.Requeue from to op) }
+        ensures told { told_in self.new
+            ≡ told_in self.old ++ Took (Did.Requeue from to op) (length (taken_in self.new)) result.1 ∷ [] }
     {
         self.did = Did::Requeue { from, to, op };
         match &mut self.other {
             Some(other) => {
                 let (first, moved) = self.first.requeue_beside(other, from, to, op);
                 self.moved = moved;
+                tell_taken(&self.first, self.did, moved, &mut self.told);
                 (first, moved)
             }
             None => {
                 let (first, moved) = self.first.requeue(from, to, op);
                 self.moved = moved;
+                tell_taken(&self.first, self.did, moved, &mut self.told);
                 (first, moved)
             }
         }
@@ -144,7 +153,10 @@ impl<'a> Section<'a> {
         ensures place { IsPlaceOf self.old.lot.now thread result }
         ensures same { StaysIn self.old self.new × TookAs self.old self.new
             × (rightless_in self.new ≡ rightless_in self.old) }
+        ensures told { told_in self.new ≡ told_in self.old ++ Stood key thread want ∷ [] }
     {
+        let telling = Telling::Stood { key, thread, want };
+        telling.tell(&mut self.told);
         match &mut self.other {
             Some(other) => self.first.append_beside(other, key, thread, want),
             None => self.first.append(key, thread, want),
@@ -160,8 +172,11 @@ impl<'a> Section<'a> {
             ≡ lines (without (thread_of place.entry) (waiting_in self.old)) }
         ensures same { StaysIn self.old self.new × TookAs self.old self.new
             × (rightless_in self.new ≡ rightless_in self.old) }
+        ensures told { told_in self.new ≡ told_in self.old ++ Left (thread_of place.entry) ∷ [] }
     {
         let thread = place.thread();
+        let telling = Telling::Left { thread };
+        telling.tell(&mut self.told);
         match &mut self.other {
             Some(other) => self.first.remove_beside(other, thread),
             None => self.first.remove(thread),
@@ -181,10 +196,14 @@ impl<'a> Section<'a> {
             ≡ lines (without_first key (waiting_in self.old)) }
         ensures did { StaysIn self.old self.new × (self.new.did ≡ TakeFirst key)
             × (moved_in self.new ≡ 0) }
+        ensures told { told_in self.new
+            ≡ told_in self.old ++ Took (TakeFirst key) (length (taken_in self.new)) 0 ∷ [] }
     {
         self.turn_to(key);
         self.did = Did::TakeFirst(key);
-        self.first.take_first(key)
+        let first = self.first.take_first(key);
+        tell_taken(&self.first, self.did, 0, &mut self.told);
+        first
     }
 
     /// Takes all under a key.
@@ -198,10 +217,13 @@ impl<'a> Section<'a> {
             ≡ lines (without_key key (waiting_in self.old)) }
         ensures did { StaysIn self.old self.new × (self.new.did ≡ TakeAll key)
             × (moved_in self.new ≡ 0) }
+        ensures told { told_in self.new
+            ≡ told_in self.old ++ Took (TakeAll key) (length (taken_in self.new)) 0 ∷ [] }
     {
         self.turn_to(key);
         self.did = Did::TakeAll(key);
         self.first.take_all(key);
+        tell_taken(&self.first, self.did, 0, &mut self.told);
     }
 
     /// Takes the waiters that are picked of the main queue of a reader-writer lock. The thread
@@ -218,6 +240,8 @@ impl<'a> Section<'a> {
             ≡ lines (without_lock_picked start recursive key (waiting_in self.old)) }
         ensures did { StaysIn self.old self.new × (self.new.did ≡ TakePicked key start recursive)
             × (moved_in self.new ≡ 0) }
+        ensures told { told_in self.new
+            ≡ told_in self.old ++ Took (TakePicked key start recursive) (length (taken_in self.new)) 0 ∷ [] }
     {
         self.turn_to(key);
         self.did = Did::TakePicked {
@@ -226,6 +250,7 @@ impl<'a> Section<'a> {
             recursive,
         };
         self.first.take_picked(key, start, recursive);
+        tell_taken(&self.first, self.did, 0, &mut self.told);
     }
 
     /// Moves waiters from under one of its keys behind the last under the other. Those that are
@@ -245,6 +270,8 @@ impl<'a> Section<'a> {
         ensures lines { lines (waiting_in self.new)
             ≡ lines (requeued op from to (waiting_in self.old)) }
         ensures did { StaysIn self.old self.new × (self.new.did ≡ Did.Requeue from to op) }
+        ensures told { told_in self.new
+            ≡ told_in self.old ++ Took (Did.Requeue from to op) (length (taken_in self.new)) result.1 ∷ [] }
     {
         self.turn_to(from);
         let (first, moved) = self.move_waiters(from, to, op);
@@ -261,6 +288,21 @@ impl<'a> Section<'a> {
             Some(other) => self.first.count_beside(other, key),
             None => self.first.count(key),
         }
+    }
+
+    /// Counts those under a key, and tells the thread.
+    pub fn tell_count(&mut self, key: Key) -> usize
+        requires { IsKeyOf self.old.keys key }
+        ensures count { result ≡ length (line key (waiting_in self.old)) }
+        ensures told { told_in self.new ≡ told_in self.old ++ Counted key result ∷ [] }
+        ensures same { StaysIn self.old self.new × TookAs self.old self.new
+            × (rightless_in self.new ≡ rightless_in self.old)
+            × (waiting_in self.new ≡ waiting_in self.old) }
+    {
+        let number = self.count(key);
+        let telling = Telling::Counted { key, number };
+        telling.tell(&mut self.told);
+        number
     }
 
     /// The key under which a thread stands.
@@ -311,6 +353,7 @@ impl<'a> Section<'a> {
             ≡ filter (λ x. not (x == thread)) (rightless_in self.old) }
         ensures same { StaysIn self.old self.new × TookAs self.old self.new
             × (waiting_in self.new ≡ waiting_in self.old) }
+        ensures untold { told_in self.new ≡ told_in self.old }
     {
         self.lay(rt, thread, right);
     }
@@ -324,6 +367,7 @@ impl<'a> Section<'a> {
             ≡ filter (λ x. not (x == result)) (rightless_in self.old) }
         ensures same { StaysIn self.old self.new × TookAs self.old self.new
             × (waiting_in self.new ≡ waiting_in self.old) }
+        ensures untold { told_in self.new ≡ told_in self.old }
     {
         let thread = self.first.rightless()[0];
         self.lay(rt, thread, right);
@@ -336,6 +380,7 @@ impl<'a> Section<'a> {
             ≡ filter (λ x. not (x == thread)) (rightless_in self.old) }
         ensures same { StaysIn self.old self.new × TookAs self.old self.new
             × (waiting_in self.new ≡ waiting_in self.old) }
+        ensures untold { told_in self.new ≡ told_in self.old }
     {
         self.lot.lay(rt, thread, right);
         self.first.note_right(thread);
@@ -358,6 +403,7 @@ impl<'a> Section<'a> {
             (view_of token.old).owns ≡ true }
         ensures own { IsSameThread self.old.lot.now token.old token.new
             × (last_of token.new ≡ last_of token.old) }
+        ensures token { told_of token.new ≡ told_of token.old }
         ensures left { view_of token.new
             ≡ left_over (named_by word (owner_given_at word left (wants_in self.old) place))
             (view_of token.old) }
@@ -365,6 +411,7 @@ impl<'a> Section<'a> {
             (λ x. not (x == slice_index (taken_in self.old) place)) (rightless_in self.old) }
         ensures same { StaysIn self.old self.new × TookAs self.old self.new
             × (waiting_in self.new ≡ waiting_in self.old) }
+        ensures untold { told_in self.new ≡ told_in self.old }
     {
         let owner = Owner::given(word.kind(), left, self.first.wants()[place]);
         let right = self.lot.split_owner(token, word, owner);
@@ -380,11 +427,13 @@ impl<'a> Section<'a> {
         requires ungiven { rightless_in self.old ≡ taken_in self.old }
         ensures own { IsSameThread self.old.lot.now token.old token.new
             × (last_of token.new ≡ last_of token.old) }
+        ensures token { told_of token.new ≡ told_of token.old }
         ensures left { view_of token.new
             ≡ less_each word left (wants_in self.old) (view_of token.old) }
         ensures given { rightless_in self.new ≡ [] }
         ensures same { StaysIn self.old self.new × TookAs self.old self.new
             × (waiting_in self.new ≡ waiting_in self.old) }
+        ensures untold { told_in self.new ≡ told_in self.old }
     {
         for place in 0..self.first.taken().len() {
             self.give_wanted(rt, token, word, left, place);
@@ -403,6 +452,7 @@ impl<'a> Section<'a> {
             thread: _,
             did: _,
             moved: _,
+            told: _,
         } = self;
         drop(other);
         drop(first);
@@ -417,6 +467,7 @@ impl<'a> Section<'a> {
         ensures own { IsSameThread self.entry.lot.now token.old token.new
             × (view_of token.new ≡ view_of token.old) × (out_of token.new ≡ out_of token.old) }
         ensures thread { self.entry.thread ≡ token.old.number }
+        ensures told { told_of token.new ≡ told_of token.old ++ told_in self.entry }
         ensures recorded { last_of token.new
             ≡ Some (record {
               key = first_key self.entry.keys;
@@ -432,6 +483,7 @@ impl<'a> Section<'a> {
             thread,
             did,
             moved,
+            told,
         } = self;
         if thread != token.number {
             never(rt)
@@ -446,6 +498,7 @@ impl<'a> Section<'a> {
             number: taken + moved,
         };
         token.expected = Expected::missing();
+        told.pass_on(&mut token.told);
         if let Some(woken) = woken {
             lot.wake_tied(rt, woken, taken, note);
         }

@@ -1,11 +1,13 @@
 //! Sleep, until somebody wakes the thread or its time is up.
-ghost use Rattle.std.specs.Prelude.{◌≡◌, ◌<◌, IfSome, None};
+ghost use Rattle.std.specs.Prelude.{◌≡◌, ◌<◌, ◌++◌, ◌∷◌, [], IfSome, None};
 ghost use Rattle.core_base.specs.Clocks.{IsUp};
+ghost use Rattle.parking_lot_core.specs.declared.tellings.Telling.TheVariants as tellings;
 
 use crate::lot::ParkingLot;
 use crate::pauses::pause;
 use crate::places::QueuePlace;
 use crate::sections::Section;
+use crate::tellings::Telling;
 use crate::tokens::Token;
 use crate::waiters::WakeRecord;
 use crate::wakes::WakeNote;
@@ -50,7 +52,7 @@ impl WakeRecord {
 
 impl ParkingLot {
     ghost use Rattle.parking_lot_core.specs.Places.{IsPlaceOf};
-    ghost use Rattle.parking_lot_core.specs.Tokens.{IsTokenOf, IsSameThread};
+    ghost use Rattle.parking_lot_core.specs.Tokens.{IsTokenOf, IsSameThread, last_of, told_of, view_of};
     ghost use Rattle.parking_lot_core.specs.Sleeps.{GivesUpAt, IsWoken, IsSlept, WasLate};
 
     // Waits a while, or until the thread may have been told something.
@@ -150,5 +152,31 @@ impl ParkingLot {
             }
         }
         unreachable!()
+    }
+
+    /// Sleeps so, and tells the thread that it did.
+    #[tactic(auto, unfolding(crate::specs::Tokens::view_of))]
+    pub fn sleep_told<'a, R: Wait, C: Clock>(
+        &'a self,
+        rt: &R,
+        token: &mut Token,
+        place: QueuePlace<'a>,
+        word: Word,
+        want: Want,
+        limit: Option<(&C, u64)>,
+    ) -> Slept<'a>
+        requires own { IsTokenOf self.now token.old }
+        requires queued { IsPlaceOf self.now token.old.number place }
+        ensures own { IsSameThread self.now token.old token.new
+            × (last_of token.new ≡ last_of token.old) }
+        ensures view { view_of token.new ≡ view_of token.old }
+        ensures told { told_of token.new ≡ told_of token.old ++ tellings.Slept ∷ [] }
+        ensures slept { IsSlept self.now token.old.number word want result }
+        ensures unlimited { limit.entry ≡ None → IsWoken self.now word want result }
+        ensures late { WasLate result → IsUp C.tells limit.entry }
+    {
+        let slept = self.sleep(rt, token, place, word, want, limit);
+        Telling::Slept.tell(&mut token.told);
+        slept
     }
 }

@@ -2,6 +2,7 @@
 ghost use Rattle.std.specs.Prelude.{◌≡◌, ◌==◌, not, None};
 
 use crate::expected::Expected;
+use crate::tellings::Tellings;
 use core_base::{Key, Requeue, Want};
 use core_words::Seat;
 use crossbeam_utils::sync::Parker;
@@ -69,6 +70,8 @@ pub struct Token {
     // The record of the section that it left last, if it has taken no step since.
     pub(crate) record: SectionRecord,
     pub(crate) expected: Expected,
+    // What its sections and sleeps told it.
+    pub(crate) told: Tellings,
     here: PhantomData<*const ()>,
 }
 
@@ -81,6 +84,7 @@ impl Drop for Token {
             parker: _parker,
             record: _record,
             expected: _expected,
+            told: _told,
             here: _here,
         } = self;
     }
@@ -112,13 +116,14 @@ impl Ticket {
             parker,
             record: NOTHING,
             expected: Expected::meeting(),
+            told: Tellings::new(),
             here: PhantomData,
         }
     }
 }
 
 impl Token {
-    ghost use Rattle.parking_lot_core.specs.Tokens.{last_of};
+    ghost use Rattle.parking_lot_core.specs.Tokens.{last_of, told_of};
 
     /// Takes the thread out of the lot. All that it owns stays with its ticket.
     pub fn leave(self) -> Ticket
@@ -130,6 +135,7 @@ impl Token {
             parker,
             record: _,
             expected: _,
+            told: _,
             here: _,
         } = self;
         Ticket {
@@ -160,6 +166,7 @@ impl Token {
     pub(crate) fn forget_section(&mut self)
         ensures same { (self.new.seat ≡ self.old.seat) × (self.new.number ≡ self.old.number) }
         ensures forgotten { last_of self.new ≡ None }
+        ensures untold { told_of self.new ≡ told_of self.old }
     {
         if self.is_recorded() {
             self.clear_record();
@@ -172,6 +179,7 @@ impl Token {
     pub(crate) fn forget_at_once(&mut self)
         ensures same { (self.new.seat ≡ self.old.seat) × (self.new.number ≡ self.old.number) }
         ensures forgotten { last_of self.new ≡ None }
+        ensures untold { told_of self.new ≡ told_of self.old }
     {
         self.expected = Expected::meeting();
     }
@@ -182,6 +190,7 @@ impl Token {
     pub(crate) fn clear_record(&mut self)
         ensures same { (self.new.seat ≡ self.old.seat) × (self.new.number ≡ self.old.number) }
         ensures forgotten { last_of self.new ≡ None }
+        ensures untold { told_of self.new ≡ told_of self.old }
     {
         self.expected = Expected::meeting();
     }

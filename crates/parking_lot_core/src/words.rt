@@ -15,7 +15,7 @@ ghost use Rattle.core_words.specs.RightsOf.{IsHeldOf, IsOpenOf, IsRightOf};
 ghost use Rattle.core_words.specs.declared.owners.Owner.TheVariants.{Exclusive};
 ghost use Rattle.core_words.specs.declared.words.WordKind.TheVariants.{Mutex, Condvar, Count, Semaphore};
 ghost use Rattle.core_base.specs.declared.ops.Op.TheVariants.{Add, Exchange, Load, Or, Sub};
-ghost use Rattle.parking_lot_core.specs.Tokens.{IsTokenOf, IsSameThread, view_of, out_of, last_of};
+ghost use Rattle.parking_lot_core.specs.Tokens.{IsTokenOf, IsSameThread, view_of, out_of, last_of, told_of};
 
 use crate::lot::ParkingLot;
 use crate::tokens::Token;
@@ -34,6 +34,7 @@ impl ParkingLot {
         requires may { MayStep word.kind (word_index word.number word.kind) op
             (view_of token.old).owns }
         ensures own { IsSameThread self.now token.old token.new × (last_of token.new ≡ None) }
+        ensures untold { told_of token.new ≡ told_of token.old }
         ensures stepped { view_of token.new
             ≡ after_step word.kind (word_index word.number word.kind) op result
             (view_of token.old) }
@@ -56,6 +57,7 @@ impl ParkingLot {
             (view_of token.old).owns }
         requires forgotten { last_of token.old ≡ None }
         ensures own { IsSameThread self.now token.old token.new × (last_of token.new ≡ None) }
+        ensures untold { told_of token.new ≡ told_of token.old }
         ensures stepped { view_of token.new
             ≡ after_step word.kind (word_index word.number word.kind) op result
             (view_of token.old) }
@@ -76,6 +78,7 @@ impl ParkingLot {
         requires may { MayStep word.kind (word_index word.number word.kind) Load
             (view_of token.old).owns }
         ensures own { IsSameThread self.now token.old token.new × (last_of token.new ≡ None) }
+        ensures untold { told_of token.new ≡ told_of token.old }
         ensures stepped { view_of token.new
             ≡ after_step word.kind (word_index word.number word.kind) Load result
             (view_of token.old) }
@@ -96,6 +99,7 @@ impl ParkingLot {
             × (condvar.number ≢ mutex.number) }
         requires owned { has (named_by mutex Exclusive) (view_of token.old).owns ≡ true }
         ensures own { IsSameThread self.now token.old token.new × (last_of token.new ≡ None) }
+        ensures untold { told_of token.new ≡ told_of token.old }
         ensures stepped { view_of token.new
             ≡ after_step Condvar (word_index condvar.number Condvar)
             (Exchange 0 (mutex.number + 1)) result (view_of token.old) }
@@ -114,6 +118,7 @@ impl ParkingLot {
         requires { IsTokenOf self.now token.old × IsWordOf self.now.words condvar
             × (condvar.kind ≡ Condvar) }
         ensures own { IsSameThread self.now token.old token.new × (last_of token.new ≡ None) }
+        ensures untold { told_of token.new ≡ told_of token.old }
         ensures stepped { view_of token.new
             ≡ after_step Condvar (word_index condvar.number Condvar) Load result
             (view_of token.old) }
@@ -147,6 +152,7 @@ impl ParkingLot {
         requires bare { permits_in kind ≡ 0 }
         ensures own { IsSameThread self.now token.old token.new
             × ((view_of token.new).owns ≡ (view_of token.old).owns) }
+        ensures untold { told_of token.new ≡ told_of token.old }
         ensures word { IfOk result (λ word. IsWordOf self.now.words word × (word.kind ≡ kind)) }
         ensures drawn { MatchResult result
             (λ word. IsDrawn self.now.words.count (kind ∷ []) word.number (view_of token.old)
@@ -168,6 +174,7 @@ impl ParkingLot {
         requires own { IsTokenOf self.now token.old }
         requires few { permits ≤ 2 ^ 62 }
         ensures own { IsSameThread self.now token.old token.new }
+        ensures untold { told_of token.new ≡ told_of token.old }
         ensures word { IfOk result
             (λ word. IsWordOf self.now.words word × (word.kind ≡ Semaphore permits)) }
         ensures held { MatchResult result
@@ -193,6 +200,7 @@ impl ParkingLot {
         requires { IsTokenOf self.now token.old × IsWordOf self.now.words semaphore
             × (plain semaphore.kind ≡ Semaphore 0) }
         ensures own { IsSameThread self.now token.old token.new × (last_of token.new ≡ None) }
+        ensures untold { told_of token.new ≡ told_of token.old }
         ensures stepped { view_of token.new
             ≡ after_step (Semaphore 0) (word_index semaphore.number (Semaphore 0)) Load result
             (view_of token.old) }
@@ -211,6 +219,7 @@ impl ParkingLot {
         requires { IsTokenOf self.now token.old }
         ensures own { IsSameThread self.now token.old token.new
             × ((view_of token.new).owns ≡ (view_of token.old).owns) }
+        ensures untold { told_of token.new ≡ told_of token.old }
         ensures words { IfOk result (λ pair. IsWordOf self.now.words pair.0 × (pair.0.kind ≡ Mutex)
             × IsWordOf self.now.words pair.1 × (pair.1.kind ≡ Count)
             × (pair.1.number ≡ pair.0.number + 1)) }
@@ -233,6 +242,7 @@ impl ParkingLot {
         requires named { has (named_by word (owner_for want)) (view_of token.old).owns ≡ true }
         ensures own { IsSameThread self.now token.old token.new
             × (last_of token.new ≡ last_of token.old) }
+        ensures untold { told_of token.new ≡ told_of token.old }
         ensures left { view_of token.new
             ≡ left_over (named_by word (owner_for want)) (view_of token.old) }
         ensures held { IsHeldOf self.now.words word (owner_for want) result }
@@ -248,6 +258,7 @@ impl ParkingLot {
             × IsHeldOf self.now.words word (owner_for want) held }
         ensures own { IsSameThread self.now token.old token.new
             × (last_of token.new ≡ last_of token.old) }
+        ensures untold { told_of token.new ≡ told_of token.old }
         ensures joined { view_of token.new
             ≡ takes_in (view_of token.old) (piece_of word (owner_for want)) }
     {
@@ -262,6 +273,7 @@ impl ParkingLot {
         requires named { has (named_by word (owner_for want)) (view_of token.old).owns ≡ true }
         ensures own { IsSameThread self.now token.old token.new
             × (last_of token.new ≡ last_of token.old) }
+        ensures untold { told_of token.new ≡ told_of token.old }
         ensures left { view_of token.new
             ≡ left_over (named_by word (owner_for want)) (view_of token.old) }
         ensures right { IsRightOf self.now.words result × (result.word ≡ word)
@@ -277,6 +289,7 @@ impl ParkingLot {
         requires named { has (named_by word owner) (view_of token.old).owns ≡ true }
         ensures own { IsSameThread self.now token.old token.new
             × (last_of token.new ≡ last_of token.old) }
+        ensures untold { told_of token.new ≡ told_of token.old }
         ensures left { view_of token.new ≡ left_over (named_by word owner) (view_of token.old) }
         ensures right { IsRightOf self.now.words result × (result.word ≡ word)
             × (result.owner ≡ owner) }
@@ -291,6 +304,7 @@ impl ParkingLot {
         requires { IsTokenOf self.now token.old × IsRightOf self.now.words right }
         ensures own { IsSameThread self.now token.old token.new
             × (last_of token.new ≡ last_of token.old) }
+        ensures untold { told_of token.new ≡ told_of token.old }
         ensures joined { view_of token.new
             ≡ takes_in (view_of token.old) (piece_of right.word right.owner) }
     {
@@ -304,6 +318,7 @@ impl ParkingLot {
         requires { IsTokenOf self.now token.old × IsWordOf self.now.words word
             × (word.kind ≡ Mutex) }
         ensures own { IsSameThread self.now token.old token.new × (last_of token.new ≡ None) }
+        ensures untold { told_of token.new ≡ told_of token.old }
         ensures stepped { MatchResult result
             (λ _. view_of token.new
             ≡ stepping (view_of token.old) (word_index word.number word.kind) (Exchange 0 1) 0)
@@ -335,6 +350,7 @@ impl ParkingLot {
         requires { IsTokenOf self.now token.old × IsWordOf self.now.words word
             × (word.kind ≡ Mutex) }
         ensures own { IsSameThread self.now token.old token.new × (last_of token.new ≡ None) }
+        ensures untold { told_of token.new ≡ told_of token.old }
         ensures stepped { view_of token.new
             ≡ stepping (view_of token.old) (word_index word.number word.kind) (Or 1) result.0 }
         ensures coded { CodesWith word.kind (word_index word.number word.kind) result.0
@@ -355,6 +371,7 @@ impl ParkingLot {
         requires opened { IsOpenOf self.now.words word opened
             × (permit.id ≡ permit_of self.now.words word) }
         ensures own { IsSameThread self.now token.old token.new × (last_of token.new ≡ None) }
+        ensures untold { told_of token.new ≡ told_of token.old }
         ensures stepped { view_of token.new
             ≡ stepping (view_of token.old) (word_index word.number word.kind) (Sub 1) result }
         ensures coded { (result ≡ 1) ⊎ (result ≡ 3) }
@@ -388,6 +405,7 @@ impl ParkingLot {
         requires opened { IsOpenOf self.now.words word opened
             × (permit.id ≡ permit_of self.now.words word) }
         ensures own { IsSameThread self.now token.old token.new × (last_of token.new ≡ None) }
+        ensures untold { told_of token.new ≡ told_of token.old }
         ensures stepped { view_of token.new ≡ leaving_alone (view_of token.old) word result }
         ensures coded { (result ≡ 1) ⊎ (result ≡ 3) }
     {
@@ -415,6 +433,7 @@ impl ParkingLot {
         requires named { has (named_by word Exclusive) (view_of token.old).owns ≡ true }
         ensures own { IsSameThread self.now token.old token.new
             × (last_of token.new ≡ last_of token.old) }
+        ensures untold { told_of token.new ≡ told_of token.old }
         ensures left { view_of token.new ≡ left_over (named_by word Exclusive) (view_of token.old) }
         ensures opened { IsOpenOf self.now.words word result.0
             × (result.1.id ≡ permit_of self.now.words word) }
@@ -432,6 +451,7 @@ impl ParkingLot {
             × (permit.id ≡ permit_of self.now.words word) }
         ensures own { IsSameThread self.now token.old token.new
             × (last_of token.new ≡ last_of token.old) }
+        ensures untold { told_of token.new ≡ told_of token.old }
         ensures joined { view_of token.new
             ≡ takes_in (view_of token.old) (piece_of word Exclusive) }
         ensures out { out_of token.new ≡ word_index word.number word.kind ∷ [] }

@@ -8,6 +8,7 @@ pub loop-place-init : goal.loop-place-init
 loop-place-init g c = record {
   own = search rules;
   same = search rules;
+  told = (refl, refl);
   named = c.requires.named;
   rest = refl;
   given = subst (λ (l : List ℕ). less (taken_in c.args.self.now) l ≡ []) (sym c.requires.ungiven) (none_left (taken_in c.args.self.now));
@@ -26,6 +27,7 @@ loop-place-preserved g c = let self = c.args.self.now in let i = c.loop-place.in
     let old = view_of c.loop-place.token in let new = view_of c.give_wanted.new.token in record {
       own = search rules;
       same = search rules;
+      told = (c.give_wanted.ensures.untold ∙ i.told.0, c.give_wanted.ensures.token ∙ i.told.1);
       named = has_rest c.args.word c.args.left (wants_in self) (wants_in c.loop-place.self) i.same.1.2 k lt old new c.give_wanted.ensures.left i.named;
       rest = same_rest c.args.word c.args.left (wants_in self) (wants_in c.loop-place.self) i.same.1.2 k lt old new c.give_wanted.ensures.left ∙ i.rest;
       given = less_given (taken_in self) (taken_in c.loop-place.self) i.same.1.1 k (omega (arith, c.loop-place-test.true, ap length taken)) (rightless_in c.loop-place.self) (rightless_in c.give_wanted.new.self) c.give_wanted.ensures.rightless i.given;

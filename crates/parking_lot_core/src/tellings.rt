@@ -1,0 +1,94 @@
+//! The tellings of a thread: what its acts on the queues found there, in their order. They have no
+//! bytes.
+ghost use Rattle.std.specs.Borrow.{ftrue};
+ghost use Rattle.std.specs.Prelude.{◌≡◌, ◌++◌, ◌∷◌, [], List, length};
+ghost use Rattle.parking_lot_core.specs.declared.tellings.Telling.{Telling};
+ghost use Rattle.parking_lot_core.specs.declared.tellings.Telling.TheVariants.{Took};
+
+use crate::tokens::Did;
+use core_base::{Key, Want};
+use core_queues::Queueing;
+use std::marker::Model;
+
+/// An act of a thread on the queues, with what it found or did there.
+#[derive(Clone, Copy)]
+pub enum Telling {
+    /// This thread stood behind the last under the key.
+    Stood {
+        key: Key,
+        thread: usize,
+        want: Want,
+    },
+    /// A section took so many waiters, and moved so many.
+    Took {
+        did: Did,
+        taken: usize,
+        moved: usize,
+    },
+    /// So many stood under the key.
+    Counted {
+        key: Key,
+        number: usize,
+    },
+    /// This thread left the queue where it stood.
+    Left {
+        thread: usize,
+    },
+    /// The thread slept, and its sleep ended.
+    Slept,
+}
+
+/// The tellings of a thread, or of a section that it is inside. Nothing else than sections and
+/// sleeps adds to them.
+pub struct Tellings {
+    pub ghost list: { List Telling },
+}
+
+impl Model for Tellings {
+    ghost also_owns = { λ _. ftrue };
+}
+
+// The drop is written, and not derived, so that it is proved here and not in each program.
+impl Drop for Tellings {
+    fn drop(self) {
+        let Self {} = self;
+    }
+}
+
+impl Telling {
+    /// Adds it to others.
+    #[inline]
+    pub(crate) fn tell(&self, told: &mut Tellings)
+        ensures { told.new.list ≡ told.old.list ++ self.now ∷ [] }
+    {}
+}
+
+impl Tellings {
+    /// Nothing was told yet.
+    #[inline]
+    pub(crate) fn new() -> Tellings
+        ensures { result.list ≡ [] }
+    {
+        Tellings {}
+    }
+
+    /// Adds all of them to others.
+    #[inline]
+    pub(crate) fn pass_on(&self, told: &mut Tellings)
+        ensures { told.new.list ≡ told.old.list ++ self.now.list }
+    {}
+}
+
+/// Tells what a section did by its first bucket.
+#[inline]
+pub(crate) fn tell_taken(queueing: &Queueing, did: Did, moved: usize, told: &mut Tellings)
+    ensures { told.new.list
+        ≡ told.old.list ++ Took did (length queueing.now.taken.items) moved ∷ [] }
+{
+    let telling = Telling::Took {
+        did,
+        taken: queueing.taken().len(),
+        moved,
+    };
+    telling.tell(told);
+}
