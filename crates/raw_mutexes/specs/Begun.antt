@@ -8,6 +8,7 @@ use Rattle.run_base.specs.Paths.{mutex_at, step}
 use Rattle.run_base.specs.Telling.{owns_of, steps_of}
 use Rattle.core_words.specs.declared.owners.Ownership.{Ownership}
 use Rattle.run_locks.specs.MutexCourses.{locked_and_parked}
+use Rattle.parking_lot_core.specs.Tokens.{told_of}
 use Rattle.parking_lot_core.specs.declared.tokens.Token.{Token}
 
 -- the ownership between, of a thread that owned these beside the guard that it spends: one that is to hand
@@ -28,3 +29,4 @@ abbrev pub HasBegun : ℕ → MutexCall → ℕ → Token → Token → Type 0
 HasBegun n c seen old new =
     (new.number ≡ old.number) × (steps_of new ≡ steps_of old ++ step (mutex_at n) (first_op c) seen)
     × (owns_of new ≡ owns_between n c (owns_of old)) × HasMore n c seen (owns_of new)
+    × (told_of new ≡ told_of old)

@@ -9,7 +9,6 @@ ghost use Rattle.core_words.specs.declared.words.WordKind.TheVariants.{Condvar};
 ghost use Rattle.parking_lot_core.specs.Tokens.{IsTokenOf};
 ghost use Rattle.parking_lot_core.specs.declared.tokens.Token.{Token};
 ghost use Rattle.run_base.specs.Drawing.{Drew};
-ghost use Rattle.run_base.specs.Telling.{steps_of};
 ghost use Rattle.run_locks.specs.CondvarCalls.{AnswersWait, HasLooked, NotifiesBy, TellsMoved, WaitsBy};
 ghost use Rattle.run_locks.specs.CondvarCalls as answers;
 ghost use Rattle.raw_mutexes.specs.Moved.{HasMoved, RecordsMoved};
@@ -113,8 +112,7 @@ impl RawCondvar {
         ensures token { IsTokenOf (lot_of self.now) token.new × StaysAs token.old token.new }
         ensures guard { IsGuardOf (lot_of self.now) (mutexes.word_of mutex.now) result.1 }
         ensures path { WaitsBy (word_of self.now).number
-            (mutexes.word_of mutex.now).number timed result.0
-            (steps_of token.old) (steps_of token.new) }
+            (mutexes.word_of mutex.now).number timed result.0 token.old token.new }
         ensures told { AnswersWait timed result.0 }
         ensures late { result.0 ≡ Answer.TimedOut → IsUp C.tells limit.entry }
     {
@@ -140,7 +138,7 @@ impl RawCondvar {
         ensures path { (before : Token)
             → HasLooked (lot_of self.now).words.count
             (word_of self.now).number seen before token.old
-            → NotifiesBy (word_of self.now).number all result (steps_of before) (steps_of token.new) }
+            → NotifiesBy (word_of self.now).number all result before token.new }
         ensures record { TellsMoved (word_of self.now).number all seen result token.old token.new }
     {
         notify_slow(rt, &self.lot, token, self.word, all, seen)
@@ -155,10 +153,10 @@ impl lock_raw::RawCondvar for RawCondvar {
     ghost drew = { λ condvar old new. Drew Condvar (arc_value condvar.lot) condvar.word old new };
 
     ghost waited = { λ condvar mutex timed answer old new.
-        WaitsBy condvar.word.number mutex.word.number timed answer (steps_of old) (steps_of new) };
+        WaitsBy condvar.word.number mutex.word.number timed answer old new };
 
     ghost notified = { λ condvar all answer old new.
-        NotifiesBy condvar.word.number all answer (steps_of old) (steps_of new) };
+        NotifiesBy condvar.word.number all answer old new };
 
     ghost looked = { λ condvar seen old new. HasLooked
         (arc_value condvar.lot).words.count condvar.word.number seen old new };

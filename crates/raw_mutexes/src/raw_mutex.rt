@@ -9,7 +9,7 @@ ghost use Rattle.core_words.specs.Lots.{IsWordOf};
 ghost use Rattle.core_words.specs.Plays.{piece, left_over, takes_in};
 ghost use Rattle.core_words.specs.Steps.{has};
 ghost use Rattle.core_words.specs.declared.words.WordKind.TheVariants.{Mutex};
-ghost use Rattle.parking_lot_core.specs.Tokens.{IsTokenOf, IsSameThread, view_of, last_of};
+ghost use Rattle.parking_lot_core.specs.Tokens.{IsTokenOf, IsSameThread, view_of, last_of, told_of};
 ghost use Rattle.parking_lot_core.specs.declared.tokens.Token.{Token};
 ghost use Rattle.run_locks.specs.MutexCourses.{locked_and_parked};
 ghost use Rattle.raw_mutexes.specs.Begun.{HasBegun};
@@ -70,6 +70,7 @@ impl RawMutex {
         requires held { has (mutex_ownership (word_of self.now).number) (view_of token.old).owns ≡ true }
         ensures own { IsSameThread (lot_of self.now) token.old token.new
             × (last_of token.new ≡ last_of token.old) }
+        ensures untold { told_of token.new ≡ told_of token.old }
         ensures left { view_of token.new
             ≡ left_over (mutex_ownership (word_of self.now).number) (view_of token.old) }
         ensures guard { IsGuardOf (lot_of self.now) (word_of self.now) result }
@@ -85,6 +86,7 @@ impl RawMutex {
             × IsGuardOf (lot_of self.now) (word_of self.now) guard }
         ensures own { IsSameThread (lot_of self.now) token.old token.new
             × (last_of token.new ≡ last_of token.old) }
+        ensures untold { told_of token.new ≡ told_of token.old }
         ensures joined { view_of token.new
             ≡ takes_in (view_of token.old) (piece (mutex_ownership (word_of self.now).number)) }
     {

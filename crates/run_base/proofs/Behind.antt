@@ -24,17 +24,21 @@ use Rattle.core_words.specs.Indices.{word_index}
 use Rattle.core_words.specs.declared.views.WordStep.{WordStep}
 use Rattle.core_words.specs.declared.words.Word.{Word}
 use Rattle.core_words.specs.declared.words.WordKind as kinds
+use Rattle.parking_lot_core.specs.Tokens.{told_of}
 use Rattle.parking_lot_core.specs.declared.tokens.SectionRecord.{SectionRecord}
-use Rattle.run_base.specs.Calls.{beginning, first_op, purpose_in, saw_waiter, IsUnfinished, TookIfSeen, TookIfParked}
+use Rattle.parking_lot_core.specs.declared.tokens.Token.{Token}
+use Rattle.run_base.specs.Calls.{HasWalkedMutex, beginning, first_op, purpose_in, saw_waiter, IsUnfinished, TookIfSeen, TookIfParked}
 use Rattle.run_base.specs.Fitting.{of_mutex, call_purpose, AreWordsFor, Fits, IsOver, IsStopped}
 use Rattle.run_base.specs.declared.driver.Stop.TheVariants.{Paused}
 use Rattle.run_base.proofs.Ending.{never_paused}
 use Rattle.spec_locks.specs.declared.outcomes.OnceState.{OnceState}
 use Rattle.run_base.specs.MutexFitting.{to_enter, IsMutexOver, Outside, TookAt, mutex_ownership, beside}
-use Rattle.run_base.specs.Paths.{mutex_at, mutexes, at_mutex, step, Walks}
+use Rattle.run_base.specs.Courses.{Courses, Trail, trail_of}
+use Rattle.run_base.specs.Paths.{mutex_at, mutexes, at_mutex, step}
+use Rattle.run_base.specs.Telling.{steps_of}
 use Rattle.run_base.specs.Stages.{Stage, stage}
 use Rattle.run_base.specs.Words.{single_word, kind_in, at_in}
-use Rattle.run_base.proofs.Paths.{goes_on, ends_at_once}
+use Rattle.run_base.proofs.Courses.{arrives_at_once, courses_from, trails}
 use Rattle.run_base.proofs.Turning.{words_on}
 
 -- the place behind the first step
@@ -101,12 +105,12 @@ module _ (n : ℕ) where
   begins_with call.Bump = refl
 
   -- the first step ends the call
-  pub path_at_once : (c : MutexCall) (seen : ℕ) (old new : List WordStep) → EndsAt c seen → new ≡ old ++ step (mutex_at n) (first_op c) seen → Walks (at_mutex n) (beginning n c) old new (success c)
-  path_at_once c seen old new e saw = ends_at_once (at_mutex n) (beginning n c) n (first_op c) seen old new (success c) (begins_with c) saw (ends_with c seen e)
+  pub path_at_once : (c : MutexCall) (seen : ℕ) (old new : Token) → EndsAt c seen → steps_of new ≡ steps_of old ++ step (mutex_at n) (first_op c) seen → told_of new ≡ told_of old → HasWalkedMutex n c (success c) old new
+  path_at_once c seen old new e saw untold = arrives_at_once (at_mutex n) old.number (beginning n c) n (first_op c) seen (steps_of old) (steps_of new) (told_of old) (told_of new) (success c) (begins_with c) saw untold (ends_with c seen e)
 
   -- a try ends with its one step
-  pub path_of_try : (locked : Bool) (seen : ℕ) (old new : List WordStep) → is_locked seen ≡ locked → new ≡ old ++ step (mutex_at n) (Or 1) seen → Walks (at_mutex n) (beginning n call.TryLock) old new (if locked then No else Yes)
-  path_of_try locked seen old new e saw = ends_at_once (at_mutex n) (beginning n call.TryLock) n (Or 1) seen old new (if locked then No else Yes) refl saw (by_bit locked e)
+  pub path_of_try : (locked : Bool) (seen : ℕ) (old new : Token) → is_locked seen ≡ locked → steps_of new ≡ steps_of old ++ step (mutex_at n) (Or 1) seen → told_of new ≡ told_of old → HasWalkedMutex n call.TryLock (if locked then No else Yes) old new
+  path_of_try locked seen old new e saw untold = arrives_at_once (at_mutex n) old.number (beginning n call.TryLock) n (Or 1) seen (steps_of old) (steps_of new) (told_of old) (told_of new) (if locked then No else Yes) refl saw untold (by_bit locked e)
     where
       by_bit : (locked : Bool) → is_locked seen ≡ locked → next_act (beginning n call.TryLock) (Value seen) ≡ act.TheVariants.End (if locked then No else Yes)
       by_bit true e = ap (λ (b : Bool). mutex_does n (if b then next.TheVariants.End No else next.TheVariants.End Yes)) e
@@ -125,8 +129,15 @@ module _ (n : ℕ) where
   pub never_pauses : (up : Type 0) (c : MutexCall) (seen : ℕ) (owns : List Ownership) (place : Place) (state : OnceState) (new : Stage) → IsUnfinished n c seen owns → IsStopped up owns (call_purpose (next_place (beginning n c) (Value seen))) (Paused place state) new → ⊥
   never_pauses up c seen owns place state new g stopped = never_paused up owns n (purpose_in c) place state new (subst (λ aim. IsStopped up owns aim (Paused place state) new) (ap call_purpose (goes_to c seen owns g) ∙ same_aim c) stopped)
 
-  pub path_behind : (c : MutexCall) (seen : ℕ) (old mid new : List WordStep) (answer : Answer) → Walks (at_mutex n) (next_place (beginning n c) (Value seen)) mid new answer → mid ≡ old ++ step (mutex_at n) (first_op c) seen → Walks (at_mutex n) (beginning n c) old new answer
-  path_behind c seen old mid new answer rest saw = goes_on (at_mutex n) (beginning n c) n (first_op c) seen old mid new answer (begins_with c) saw rest
+  pub path_behind : (c : MutexCall) (seen : ℕ) (before old new : Token) (answer : Answer) → Courses (at_mutex n) old.number (next_place (beginning n c) (Value seen)) (trail_of old None) (trail_of new None) answer → old.number ≡ before.number
+      → steps_of old ≡ steps_of before ++ step (mutex_at n) (first_op c) seen → told_of old ≡ told_of before → HasWalkedMutex n c answer before new
+  path_behind c seen before old new answer rest same saw untold =
+      courses_from (at_mutex n) before.number (beginning n c) n (first_op c) seen (steps_of before) (steps_of old) (told_of before) (told_of old) (trail_of new None) answer (begins_with c) saw untold
+      (subst (λ (me : ℕ). Courses (at_mutex n) me (next_place (beginning n c) (Value seen)) (trail_of old None) (trail_of new None) answer) same rest)
+
+  -- a token that gave a right away since has the same course
+  pub walked_then : (c : MutexCall) (answer : Answer) (old mid new : Token) → steps_of new ≡ steps_of mid → told_of new ≡ told_of mid → HasWalkedMutex n c answer old mid → HasWalkedMutex n c answer old new
+  walked_then c answer old mid new e told walked = subst (λ (x : Trail). Courses (at_mutex n) old.number (beginning n c) (trail_of old None) x answer) (trails (sym e) (sym told)) walked
 
   -- an untimed call has the mutex at its end
   pub has_entered : (up : Type 0) (e : Entry) (base : List Ownership) (answer : Answer) (st : Stage) → is_timed e ≡ false → IsMutexOver up n base (to_enter e) answer st → (answer ≡ entered e) × Outside (mutex_ownership n ∷ beside n e base) st

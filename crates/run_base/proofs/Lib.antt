@@ -20,6 +20,8 @@ pub mod SemaphoreLeading
 pub mod CondvarLeading
 pub mod Leading
 pub mod RwLockBeginning
+pub mod Courses
+pub mod Tellings
 pub mod Turning
 pub mod TurnsOn
 pub mod TakesFew

@@ -26,9 +26,9 @@ picked_few start recursive xs = let few : wanting_more (lock_picked start recurs
     let same : more_in (wants_of (lock_picked start recursive xs)) ≡ wanting_more (lock_picked start recursive xs) = same_number (lock_picked start recursive xs) in omega arith
 
 -- a list of threads that were taken is as long as that of the waiters
+pub all_threads : (xs : List Waiter) → length (threads_of xs) ≡ length xs
+all_threads [] = refl
+all_threads (x ∷ xs) = ap suc (all_threads xs)
+
 pub few_waiters : (xs : List Waiter) → length (threads_of xs) < 2 ^ 60 → length xs < 2 ^ 60
 few_waiters xs few = let same = all_threads xs in omega arith
-  where
-    all_threads : (xs : List Waiter) → length (threads_of xs) ≡ length xs
-    all_threads [] = refl
-    all_threads (x ∷ xs) = ap suc (all_threads xs)

@@ -18,9 +18,11 @@ use Rattle.parking_lot_core.specs.declared.lot.ParkingLot.{ParkingLot}
 use Rattle.parking_lot_core.specs.declared.tokens.SectionRecord.{SectionRecord}
 use Rattle.run_base.specs.MutexFitting.{MutexPurpose, to_enter, to_release, to_hand_over, TookAt, mutex_ownership}
 use Rattle.spec_locks.specs.declared.outcomes.Answer.{Answer}
-use Rattle.parking_lot_core.specs.Tokens.{IsTokenOf, view_of}
+use Rattle.parking_lot_core.specs.Tokens.{IsTokenOf, told_of}
 use Rattle.parking_lot_core.specs.declared.tokens.Token.{Token}
-use Rattle.run_base.specs.Paths.{step, mutex_at, at_mutex, Walks}
+use Rattle.run_base.specs.Courses.{Courses, trail_of}
+use Rattle.run_base.specs.Paths.{step, mutex_at, at_mutex}
+use Rattle.run_base.specs.Telling.{steps_of}
 
 -- a thread of the lot, and a mutex of it whose keys are numbers
 abbrev pub MeetAt : ParkingLot → Token → Word → Type 0
@@ -84,13 +86,14 @@ abbrev pub fairly : MutexCall → MutexCall
 fairly call.Unlock = call.UnlockFair
 fairly c = c
 
--- the steps of a call lead from its beginning to the answer
+-- the steps of a call, and what the queues told it, lead from its beginning to the answer
 abbrev pub HasWalkedMutex : ℕ → MutexCall → Answer → Token → Token → Type 0
 HasWalkedMutex n c answer old new =
-    Walks (at_mutex n) (beginning n c) (view_of old).steps (view_of new).steps answer
+    Courses (at_mutex n) old.number (beginning n c) (trail_of old None) (trail_of new None) answer
 
--- The steps of a call that follow the first, which was taken before and saw this.
+-- The call's steps and tellings behind its first step, which was taken before and saw this.
 abbrev pub WalksBehind : ℕ → MutexCall → ℕ → Token → Token → Answer → Type 0
-WalksBehind n c seen old new answer = (before : List WordStep)
-    → (view_of old).steps ≡ before ++ step (mutex_at n) (first_op c) seen
-    → Walks (at_mutex n) (beginning n c) before (view_of new).steps answer
+WalksBehind n c seen old new answer = (before : Token) → old.number ≡ before.number
+    → steps_of old ≡ steps_of before ++ step (mutex_at n) (first_op c) seen
+    → told_of old ≡ told_of before
+    → HasWalkedMutex n c answer before new

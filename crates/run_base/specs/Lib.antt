@@ -15,3 +15,4 @@ pub mod Calls
 pub mod RwLockCalls
 pub mod Drawing
 pub mod Queued
+pub mod Courses

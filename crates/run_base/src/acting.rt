@@ -11,15 +11,17 @@ ghost use Rattle.core_words.specs.Lots.{IsWordOf};
 ghost use Rattle.core_words.specs.Indices.{word_index};
 ghost use Rattle.core_words.specs.Steps.{MayStep, CodesWith, after_step};
 ghost use Rattle.parking_lot_core.specs.Keys.{AreKeys};
-ghost use Rattle.parking_lot_core.specs.Sections.{waiting_in};
-ghost use Rattle.parking_lot_core.specs.Tokens.{IsTokenOf, IsSameThread, view_of, last_of};
+ghost use Rattle.parking_lot_core.specs.Sections.{told_in, waiting_in};
+ghost use Rattle.parking_lot_core.specs.Tokens.{IsTokenOf, IsSameThread, view_of, last_of, told_of};
 ghost use Rattle.run_base.specs.Fitting.{sleeper_at};
 ghost use Rattle.run_base.specs.Paths.{closure_of, step};
 ghost use Rattle.parking_lot_core.specs.Places.{IsPlaceOf, thread_of};
 ghost use Rattle.run_base.specs.Queued.{HasPlace, KeepsPlace, needs_place, spends_place};
-ghost use Rattle.run_base.specs.Telling.{AreQueued, HasStepped, MayFind, MayTakeStep, MayTakeAt, StandsLast, TellsQueues, TellsTake, index_of, is_empty_at, owns_of, steps_of};
+ghost use Rattle.run_base.specs.Telling.{AreQueued, HasStepped, MayFind, MayTakeStep, MayTakeAt, StandsLast, TellsQueues, TellsTake, index_of, is_empty_at, line_in, owns_of, steps_of};
 ghost use Rattle.run_base.specs.Words.{AreWordsOf, word_among, kind_in, at_in};
-ghost use Rattle.run_base.specs.Stages.{Adds, Awoke, AwokeLate, HandsEach, HasKey, IsFresh, IsUngiven, MayLeave, IsSectionOf, IsLeft, TookBy, stage_handed, note_of, section_view, stage_of, waiting_of, wanted_in, entered_now, ActNeeds, Became};
+ghost use Rattle.run_base.specs.Courses.{HasTold, TellsIn, TellsLate, leaving, taking, told_within};
+ghost use Rattle.parking_lot_core.specs.declared.tellings.Telling.TheVariants as telling;
+ghost use Rattle.run_base.specs.Stages.{Adds, Awoke, AwokeLate, HandsEach, HasKey, IsFresh, IsUngiven, MayLeave, IsSectionOf, IsLeft, TookBy, stage_handed, note_of, section_view, stage_of, threads_taken, waiting_of, wanted_in, entered_now, ActNeeds, Became};
 
 use crate::sleepers::{Sleeper, sleeper_at};
 use crate::taking::{requeue, take_all, take_first, take_picked, tell_wants};
@@ -62,6 +64,10 @@ fn park<'a>(
         (waiting_of section.new ≡ waiting_of section.old) }
     ensures place { MatchBool result (HasPlace lot.now token.old.number queue.new)
         (queue.new ≡ queue.old) }
+    ensures told { (told_of token.new ≡ told_of token.old) × MatchBool result
+        (told_within section.new ≡ told_within section.old
+        ++ telling.Stood key token.old.number want ∷ [])
+        (told_within section.new ≡ told_within section.old) }
 {
     match section {
         Some(inside) => {
@@ -88,6 +94,8 @@ pub(crate) fn stand<'a>(
     ensures same { IsSectionOf lot.now section.new × (section_view section.new ≡ section_view section.old) }
     ensures stands { StandsLast key token.now.number want section.old section.new }
     ensures place { IsPlaceOf lot.now token.now.number result }
+    ensures told { told_within section.new ≡ told_within section.old
+        ++ telling.Stood key token.now.number want ∷ [] }
 {
     match section {
         Some(inside) => inside.append(key, token.number(), want),
@@ -116,6 +124,8 @@ fn hand_over<R: Wait>(
     ensures handed { stage_of token.new section.new
         ≡ stage_handed word.kind (index_of word) op result (stage_of token.old section.old) }
     ensures adds { steps_of token.new ≡ steps_of token.old ++ step (index_of word) op result }
+    ensures told { (told_of token.new ≡ told_of token.old)
+        × (told_within section.new ≡ told_within section.old) }
 {
     match section {
         Some(inside) => {
@@ -136,11 +146,13 @@ fn remove(_lot: &ParkingLot, section: &mut Option<Section>, key: Key, place: Que
     ensures same { IsSectionOf _lot.now section.new × (section_view section.new ≡ section_view section.old) }
     ensures left { AreQueued (without (thread_of place.entry) (waiting_of section.old)) section.new
         × (result ≡ is_empty_at key section.new) }
+    ensures told { told_within section.new ≡ told_within section.old
+        ++ leaving (thread_of place.entry) key (length (line_in key section.new)) }
 {
     match section {
         Some(inside) => {
             inside.remove(place);
-            inside.count(key) == 0
+            inside.tell_count(key) == 0
         }
         None => unreachable!(),
     }
@@ -157,6 +169,7 @@ pub(crate) fn enter<'a, R: Wait>(
     requires { IsTokenOf lot.now token.old × AreKeys keys × (section_view section.old ≡ None) }
     ensures same { token.new ≡ token.old }
     ensures entered { IsSectionOf lot.now section.new × (section_view section.new ≡ entered_now keys) }
+    ensures told { told_within section.new ≡ [] }
 {
     match section.replace(lot.enter(rt, token, keys)) {
         None => {}
@@ -187,6 +200,7 @@ pub(crate) fn leave<R: Wait>(
         × (view_of token.new ≡ view_of token.old) }
     ensures left { (section_view section.new ≡ None) × IsSectionOf lot.now section.new
         × IsLeft (section_view section.old) (last_of token.new) }
+    ensures told { told_of token.new ≡ told_of token.old ++ told_within section.old }
 {
     match section.take() {
         Some(inside) => inside.leave(rt, token, note),
@@ -200,6 +214,8 @@ fn take(lot: &ParkingLot, section: &mut Option<Section>, key: Key, whom: Whom) -
     ensures took { IsSectionOf lot.now section.new
         × TookBy key whom result (section_view section.old) (section_view section.new) }
     ensures told { TellsTake key whom result section.old section.new }
+    ensures tells { told_within section.new ≡ told_within section.old
+        ++ taking key whom (length (threads_taken section.new)) (length (line_in key section.new)) }
 {
     match whom {
         Whom::First => {
@@ -237,6 +253,7 @@ fn awake_late<'a, R: Wait>(
     requires place { IsPlaceOf inside.lot.now token.old.number place }
     requires late { section_view (Some inside) ≡ entered_now (One key) }
     requires stands { queued_under token.old.number (waiting_in inside) ≡ Some key }
+    requires untold { told_in inside ≡ [] }
     ensures own { IsSameThread inside.entry.lot.now token.old token.new
         × IsSectionOf inside.entry.lot.now section.new
         × (steps_of token.new ≡ steps_of token.old) }
@@ -245,6 +262,8 @@ fn awake_late<'a, R: Wait>(
     ensures queues { TellsQueues Sleep result token.old.number section.old section.new }
     ensures place { spends_place Sleep result ≡ false
         → HasPlace inside.entry.lot.now token.old.number queue.new }
+    ensures told { TellsLate token.old.number result (told_of token.old) (told_of token.new)
+        × (told_within section.new ≡ []) }
 {
     if sleeper.late == Some(key) {
         *queue = Some(place);
@@ -286,12 +305,14 @@ pub(crate) fn sleep<'a, R: Wait, C: Clock>(
         (stage_of token.old section.old) result (stage_of token.new section.new) }
     ensures queues { TellsQueues Sleep result token.old.number section.old section.new }
     ensures place { KeepsPlace lot.now token.old.number Sleep result queue.old queue.new }
+    ensures told { (told_within section.new ≡ [])
+        × HasTold token.old.number Sleep result (told_of token.old) (told_of token.new) }
 {
     let Some(place) = queue.take() else {
         unreachable!()
     };
     let limit = sleeper.late.and(limit);
-    match lot.sleep(rt, token, place, word, sleeper.want, limit) {
+    match lot.sleep_told(rt, token, place, word, sleeper.want, limit) {
         Slept::Woken(_) => Reply::Woken(Note::Normal),
         Slept::Handed(right) if sleeper.takes_over => {
             lot.join_right(token, right);
@@ -333,6 +354,7 @@ pub(crate) fn perform<'a, R: Wait, C: Clock>(
     ensures adds { Adds (at_in words) act result (steps_of token.old) (steps_of token.new) }
     ensures queues { TellsQueues act result token.old.number section.old section.new }
     ensures place { KeepsPlace lot.now token.old.number act result queue.old queue.new }
+    ensures told { TellsIn token.old.number act result token.old section.old token.new section.new }
 {
     match act {
         Act::Word { lock, op } => Reply::Value(lot.word(token, words.of(lock), op)),

@@ -7,12 +7,13 @@ ghost use Rattle.core_words.specs.Steps.{MayStep, CodesWith, after_step};
 ghost use Rattle.core_words.specs.declared.owners.Ownership.{Ownership};
 ghost use Rattle.core_words.specs.declared.views.WordStep.{WordStep};
 ghost use Rattle.core_words.specs.declared.words.WordKind.TheVariants.{Mutex};
-ghost use Rattle.parking_lot_core.specs.Tokens.{IsTokenOf, IsSameThread, view_of, last_of};
+ghost use Rattle.parking_lot_core.specs.Tokens.{IsTokenOf, IsSameThread, view_of, last_of, told_of};
 ghost use Rattle.run_base.specs.Calls.{MeetAt, beginning, purpose_in, IsUnfinished, WalksBehind};
 ghost use Rattle.run_base.specs.Fitting.{PlacesLead, AreWordsFor, AreWordsAfter, Fits, IsStopped, Reached, answer_of, call_purpose};
 ghost use Rattle.run_base.specs.MutexFitting.{IsMutexOver};
 ghost use Rattle.run_base.specs.Queued.{HasPlace, is_queued};
 ghost use Rattle.run_base.specs.Paths.{closure_of, mutex_at, GoesFrom, RunsTo, Told};
+ghost use Rattle.run_base.specs.Courses.{HasTold, RunsCourse, told_by, trail_of};
 ghost use Rattle.run_base.specs.Words.{AreWordsOf, kind_in, at_in};
 ghost use Rattle.run_base.specs.Stages.{IsSectionOf, stage_of};
 ghost use Rattle.run_base.specs.Telling.{TellsQueues, owns_of, steps_of};
@@ -87,6 +88,7 @@ pub fn step(lot: &ParkingLot, token: &mut Token, word: Word, op: Op) -> u64
     requires own { MeetAt lot.now token.old word }
     requires may { MayStep Mutex (mutex_at word.number) op (view_of token.old).owns }
     ensures own { IsSameThread lot.now token.old token.new × (last_of token.new ≡ None) }
+    ensures untold { told_of token.new ≡ told_of token.old }
     ensures stepped { view_of token.new
         ≡ after_step Mutex (mutex_at word.number) op result (view_of token.old) }
     ensures coded { CodesWith Mutex (mutex_at word.number) result (view_of token.old).owns }
@@ -153,6 +155,8 @@ fn turn<'a, R: Wait, C: Clock>(
     ensures own { IsSameThread lot.now token.old token.new × IsSectionOf lot.now section.new }
     ensures told { Told (at_in words) place result (steps_of token.old) (steps_of token.new) }
     ensures queues { TellsQueues act result token.old.number section.old section.new }
+    ensures tells { HasTold token.old.number (act_of place) result
+        (told_by token.old section.old) (told_by token.new section.new) }
     ensures queued { IsTrue (is_queued (next_place place result))
         → HasPlace lot.now token.new.number queue.new }
     ensures reached { (base : List Ownership)
@@ -192,6 +196,8 @@ pub fn run_from<'a, R: Wait, C: Clock>(
         → IsStopped (IsUp C.tells limit.entry) base (call_purpose start) result
         (stage_of token.new None) }
     ensures words { AreWordsAfter result (kind_in words) (at_in words) }
+    ensures course { RunsCourse (at_in words) token.old.number start
+        (trail_of token.old inside.entry) (trail_of token.new None) result }
 {
     let mut place = start;
     let mut act = start.act();
@@ -247,6 +253,8 @@ pub fn run<R: Wait, C: Clock>(
         → IsStopped (IsUp C.tells limit.entry) base (call_purpose start) result
         (stage_of token.new None) }
     ensures words { AreWordsAfter result (kind_in words) (at_in words) }
+    ensures course { RunsCourse (at_in words) token.old.number start
+        (trail_of token.old None) (trail_of token.new None) result }
 {
     run_from(rt, lot, token, words, limit, None, None, start)
 }

@@ -1,5 +1,5 @@
 //! Takes and moves of waiters, as acts.
-ghost use Rattle.std.specs.Prelude.{◌≡◌, ◌≢◌, ◌<◌, ◌+◌, ◌^◌, ◌==◌, not, length};
+ghost use Rattle.std.specs.Prelude.{◌≡◌, ◌≢◌, ◌<◌, ◌+◌, ◌++◌, ◌^◌, ◌==◌, not, length};
 ghost use Rattle.std.specs.List.{filter};
 ghost use Rattle.core_base.specs.Lines.{line, lines, without_first, without_key};
 ghost use Rattle.core_base.specs.Picks.{lock_picked, without_lock_picked};
@@ -9,6 +9,8 @@ ghost use Rattle.parking_lot_core.specs.declared.tokens.Did.TheVariants.{TakeFir
 ghost use Rattle.parking_lot_core.specs.declared.tokens.Did.TheVariants as did;
 ghost use Rattle.run_base.specs.Stages.{HasKey, IsFresh, IsSectionOf, front_waiter, section_view, is_there, listed, with_moved, taken_waiter, threads_taken, took_as, waiting_of, wants_taken};
 ghost use Rattle.run_base.specs.Telling.{AreQueued, WereTaken, MayTakeAt, is_empty_at, line_in};
+ghost use Rattle.run_base.specs.Courses.{moving, taking, told_within};
+ghost use Rattle.steps_base.specs.declared.acts.Whom.TheVariants as whom;
 ghost use Rattle.run_base.specs.Takes.{shares, sharers_in, successor_in};
 
 use parking_lot_core::{Key, ParkingLot, Requeue, Section, Want};
@@ -47,11 +49,14 @@ pub(crate) fn take_first(_lot: &ParkingLot, section: &mut Option<Section>, key: 
     ensures any { result.0 ≡ is_there (front_waiter (line_in key section.old)) }
     ensures left { AreQueued (without_first key (waiting_of section.old)) section.new
         × (result.1 ≡ is_empty_at key section.new) }
+    ensures told { told_within section.new ≡ told_within section.old
+        ++ taking key whom.First (length (threads_taken section.new))
+        (length (line_in key section.new)) }
 {
     match section {
         Some(inside) => {
             let first = inside.take_first(key);
-            (first.is_some(), inside.count(key) == 0)
+            (first.is_some(), inside.tell_count(key) == 0)
         }
         None => unreachable!(),
     }
@@ -65,11 +70,14 @@ pub(crate) fn take_all(_lot: &ParkingLot, section: &mut Option<Section>, key: Ke
     ensures any { result.0 ≡ not (is_empty_at key section.old) }
     ensures left { AreQueued (without_key key (waiting_of section.old)) section.new
         × (result.1 ≡ is_empty_at key section.new) }
+    ensures told { told_within section.new ≡ told_within section.old
+        ++ taking key whom.All (length (threads_taken section.new))
+        (length (line_in key section.new)) }
 {
     match section {
         Some(inside) => {
             inside.take_all(key);
-            (inside.taken().len() != 0, inside.count(key) == 0)
+            (inside.taken().len() != 0, inside.tell_count(key) == 0)
         }
         None => unreachable!(),
     }
@@ -91,11 +99,14 @@ pub(crate) fn take_picked(
     ensures left { AreQueued
         (without_lock_picked start recursive key (waiting_of section.old)) section.new
         × (result ≡ is_empty_at key section.new) }
+    ensures told { told_within section.new ≡ told_within section.old
+        ++ taking key (whom.Picked start recursive) (length (threads_taken section.new))
+        (length (line_in key section.new)) }
 {
     match section {
         Some(inside) => {
             inside.take_picked(key, start, recursive);
-            inside.count(key) == 0
+            inside.tell_count(key) == 0
         }
         None => unreachable!(),
     }
@@ -135,11 +146,16 @@ pub(crate) fn requeue(
         + length (moved_by how (line_in from section.old)) }
     ensures left { AreQueued (requeued how from to (waiting_of section.old)) section.new
         × (result.1 ≡ is_empty_at from section.new) }
+    ensures told { (told_within section.new ≡ told_within section.old
+        ++ moving from to how (length (threads_taken section.new))
+        (length (moved_by how (line_in from section.old))) (length (line_in from section.new)))
+        × (result.0 ≡ length (threads_taken section.new)
+        + length (moved_by how (line_in from section.old))) }
 {
     match section {
         Some(inside) => {
             inside.requeue(from, to, how);
-            (inside.number(), inside.count(from) == 0)
+            (inside.number(), inside.tell_count(from) == 0)
         }
         None => unreachable!(),
     }

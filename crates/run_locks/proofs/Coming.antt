@@ -55,7 +55,7 @@ module _ {up : Type 0} {lot : ParkingLot} {words : Words} {p : Place} {old : Tok
   -- An act that was done ends the call, or goes on.
   pub over : {a : Act} (reply : Reply) (new : Token) (now : Option Section) → HasActed up lot words a reply mid there new now → act_of q ≡ a
       → (answer : Answer) → answer_of (next_act q reply) ≡ Some answer → HasEnded up lot words p answer old section new
-  over reply new now done is answer some = came.ends answer new (turn_ends up lot words q reply mid new there now (done q came.at is) answer some)
+  over reply new now done is answer some = came.ends answer new (turn_ends up lot words q reply mid new there now (done q came.at is) came.at answer some)
 
 -- an act by the keys that it is about, and by those that were computed
 module _ {a n : ℕ} (e : a ≡ n) where

@@ -1,5 +1,5 @@
 -- The first step of a notification, and the rest behind it.
-use Rattle.std.proofs.Common.{ℕ, false, true, not, ◌&&◌, ◌≡◌, ◌≢◌, ◌==◌, ◌+◌, ◌-◌, ◌++◌, Bool, List, if◌then◌else◌, inl, inr, sym, refl, ap, ◌∙◌, subst, eq-eqb, ne_eqb, arith}
+use Rattle.std.proofs.Common.{ℕ, false, true, not, ◌&&◌, ◌≡◌, ◌≢◌, ◌==◌, ◌+◌, ◌-◌, ◌++◌, Bool, List, None, if◌then◌else◌, inl, inr, sym, refl, ap, ◌∙◌, subst, eq-eqb, ne_eqb, arith}
 use Rattle.std.proofs.lemmas.Bool.{false≢true}
 use Rattle.core_base.specs.declared.ops.Op.TheVariants.{Load}
 use Rattle.steps_base.specs.declared.acts.Act.TheVariants.{End}
@@ -13,27 +13,28 @@ use Rattle.lot_steps.specs.Steps.{condvar_goes, next_act, next_place}
 use Rattle.lot_steps.specs.declared.places.Place.{Place}
 use Rattle.lot_steps.specs.declared.places.Place.TheVariants.{Condvar}
 use Rattle.core_words.specs.declared.views.WordStep.{WordStep}
-use Rattle.parking_lot_core.specs.Tokens.{last_of}
+use Rattle.parking_lot_core.specs.Tokens.{last_of, told_of}
 use Rattle.parking_lot_core.specs.declared.tokens.Token.{Token}
 use Rattle.run_base.specs.CondvarFitting.{AnswersBy}
-use Rattle.run_base.specs.Paths.{Walks, condvar_at, mutex_at, step}
+use Rattle.run_base.specs.Courses.{Courses, trail_of}
+use Rattle.run_base.specs.Paths.{condvar_at, mutex_at, step}
 use Rattle.run_base.specs.Telling.{steps_of}
-use Rattle.run_base.proofs.Paths.{ends_at_once, goes_on}
+use Rattle.run_base.proofs.Courses.{arrives_at_once, courses_from}
 use Rattle.run_locks.specs.CondvarCalls.{HasNotified, NotifiesBy, TellsMoved, at_condvar, notify_begin, notify_slow}
 
 -- beside another mutex the word of the condition variable stands at its own place
 own_word : (n m : ℕ) → m ≢ n → at_condvar n m n ≡ condvar_at n
 own_word n m ne = ap (λ (b : Bool). if b then mutex_at m else condvar_at n) (ne_eqb m n ne)
 
-module _ (n : ℕ) (all : Bool) (seen : ℕ) (answer : Answer) (old mid : List WordStep) (added : mid ≡ old ++ step (condvar_at n) Load seen) where
-  beside : (m : ℕ) → m ≢ n → mid ≡ old ++ step (at_condvar n m n) Load seen
-  beside m ne = added ∙ ap (λ i. old ++ step i Load seen) (sym (own_word n m ne))
+module _ (n : ℕ) (all : Bool) (seen : ℕ) (answer : Answer) (old mid : Token) (added : steps_of mid ≡ steps_of old ++ step (condvar_at n) Load seen) (untold : told_of mid ≡ told_of old) (same : mid.number ≡ old.number) where
+  beside : (m : ℕ) → m ≢ n → steps_of mid ≡ steps_of old ++ step (at_condvar n m n) Load seen
+  beside m ne = added ∙ ap (λ i. steps_of old ++ step i Load seen) (sym (own_word n m ne))
 
   -- it saw that nobody waits
   pub nobody_waits : seen ≡ 0 → answer ≡ notified all 0 → NotifiesBy n all answer old mid
   nobody_waits zero told = (
     n + 1,
-    ends_at_once (at_condvar n (n + 1)) (notify_begin n all) n Load seen old mid answer refl (beside (n + 1) (λ e. omega arith))
+    arrives_at_once (at_condvar n (n + 1)) old.number (notify_begin n all) n Load seen (steps_of old) (steps_of mid) (told_of old) (told_of mid) answer refl (beside (n + 1) (λ e. omega arith)) untold
         (subst (λ v. next_act (notify_begin n all) (Value v) ≡ End answer) (sym zero) (ap End (sym told))),
   )
 
@@ -45,11 +46,12 @@ module _ (n : ℕ) (all : Bool) (seen : ℕ) (answer : Answer) (old mid : List W
       ∙ ap (λ k. Condvar n (Notify all k notify.Enter)) back
 
   -- A notification that did nothing saw that no mutex is shown.
-  pub some_wait : (m : ℕ) → m ≢ n → seen ≡ m + 1 → (new : List WordStep) → HasNotified n m all answer mid new → NotifiesBy n all answer old new
+  pub some_wait : (m : ℕ) → m ≢ n → seen ≡ m + 1 → (new : Token) → HasNotified n m all answer mid new → NotifiesBy n all answer old new
   some_wait m ne shown new behind = (
     m,
-    goes_on (at_condvar n m) (notify_begin n all) n Load seen old mid new answer refl (beside m ne)
-        (subst (λ (p : Place). Walks (at_condvar n m) p mid new answer) (sym (leads m shown)) behind),
+    courses_from (at_condvar n m) old.number (notify_begin n all) n Load seen (steps_of old) (steps_of mid) (told_of old) (told_of mid) (trail_of new None) answer refl (beside m ne) untold
+        (subst (λ (p : Place). Courses (at_condvar n m) old.number p (trail_of mid None) (trail_of new None) answer) (sym (leads m shown))
+        (subst (λ (me : ℕ). Courses (at_condvar n m) me (notify_slow n m all) (trail_of mid None) (trail_of new None) answer) same behind)),
   )
 
 -- a value that shows another mutex than one is another value

@@ -1,5 +1,5 @@
 -- The calls of a condition variable, by the steps that they took.
-use Rattle.std.specs.Prelude.{ℕ, ◌≡◌, ◌≢◌, ◌<◌, ◌==◌, ◌*◌, ◌+◌, ◌++◌, ◌⊎◌, Bool, true, false, cond, List, Ok, Err, if◌then◌else◌}
+use Rattle.std.specs.Prelude.{ℕ, ◌≡◌, ◌≢◌, ◌<◌, ◌==◌, ◌*◌, ◌+◌, ◌++◌, ◌⊎◌, Bool, true, false, cond, List, None, Ok, Err, if◌then◌else◌}
 use Rattle.std.specs.declared.result.Result.{Result}
 use Rattle.core_base.specs.declared.faults.Fault.{Fault}
 use Rattle.core_base.specs.declared.faults.Fault.TheVariants as faults
@@ -17,12 +17,13 @@ use Rattle.core_words.specs.Lots.{IsWordOf}
 use Rattle.core_words.specs.declared.views.WordStep.{WordStep}
 use Rattle.core_words.specs.declared.words.Word.{Word}
 use Rattle.core_words.specs.declared.words.WordKind.TheVariants as kind
-use Rattle.parking_lot_core.specs.Tokens.{IsTokenOf, last_of}
+use Rattle.parking_lot_core.specs.Tokens.{IsTokenOf, last_of, told_of}
 use Rattle.parking_lot_core.specs.declared.lot.ParkingLot.{ParkingLot}
 use Rattle.parking_lot_core.specs.declared.tokens.Token.{Token}
 use Rattle.run_base.specs.Calls.{MeetAt}
 use Rattle.run_base.specs.CondvarFitting.{move_did}
-use Rattle.run_base.specs.Paths.{Walks, condvar_at, mutex_at, step}
+use Rattle.run_base.specs.Courses.{Courses, trail_of}
+use Rattle.run_base.specs.Paths.{condvar_at, mutex_at, step}
 use Rattle.run_base.specs.Stages.{HasLeft, TookNobodyAt}
 use Rattle.run_base.specs.Telling.{owns_of, steps_of}
 
@@ -41,17 +42,19 @@ at_condvar number mutex lock = cond (mutex == lock) (mutex_at mutex) (condvar_at
 abbrev pub wait_begin : ℕ → ℕ → Bool → Place
 wait_begin c m timed = Condvar c (Wait m timed wait.Enter)
 
--- the steps that were added to a list lead from the beginning of a wait to its answer, on the words
--- of the condition variable and of the mutex
-abbrev pub HasWaited : ℕ → ℕ → Bool → Answer → List WordStep → List WordStep → Type 0
-HasWaited c m timed answer old new = Walks (at_condvar c m) (wait_begin c m timed) old new answer
+-- the steps that a thread took on the words of the condition variable and of the mutex, and what the
+-- queues told it, lead from the beginning of a wait to its answer
+abbrev pub HasWaited : ℕ → ℕ → Bool → Answer → Token → Token → Type 0
+HasWaited c m timed answer old new = Courses (at_condvar c m) old.number (wait_begin c m timed)
+    (trail_of old None) (trail_of new None) answer
 
 -- The place at which a notification goes on that has seen a mutex.
 abbrev pub notify_slow : ℕ → ℕ → Bool → Place
 notify_slow c m all = Condvar c (Notify all m notify.Enter)
 
-abbrev pub HasNotified : ℕ → ℕ → Bool → Answer → List WordStep → List WordStep → Type 0
-HasNotified c m all answer old new = Walks (at_condvar c m) (notify_slow c m all) old new answer
+abbrev pub HasNotified : ℕ → ℕ → Bool → Answer → Token → Token → Type 0
+HasNotified c m all answer old new = Courses (at_condvar c m) old.number (notify_slow c m all)
+    (trail_of old None) (trail_of new None) answer
 
 -- a thread of the lot, and a condition variable of it whose keys are numbers
 abbrev pub MeetsCondvar : ParkingLot → Token → Word → Type 0
@@ -65,11 +68,13 @@ notify_begin c all = Condvar c (Look all)
 abbrev pub HasLooked : ℕ → ℕ → ℕ → Token → Token → Type 0
 HasLooked words c seen old new =
     (steps_of new ≡ steps_of old ++ step (condvar_at c) Load seen) × (owns_of new ≡ owns_of old)
-    × ShowsBeside words c seen
+    × ShowsBeside words c seen × (told_of new ≡ told_of old) × (new.number ≡ old.number)
 
--- the steps of a notification lead to its answer, beside the mutex that it saw, if any
-abbrev pub NotifiesBy : ℕ → Bool → Answer → List WordStep → List WordStep → Type 0
-NotifiesBy c all answer old new = (m : ℕ) × Walks (at_condvar c m) (notify_begin c all) old new answer
+-- the steps of a notification, and what the queues told it, lead to its answer, beside the mutex that
+-- it saw, if any
+abbrev pub NotifiesBy : ℕ → Bool → Answer → Token → Token → Type 0
+NotifiesBy c all answer old new = (m : ℕ) × Courses (at_condvar c m) old.number (notify_begin c all)
+    (trail_of old None) (trail_of new None) answer
 
 -- a thread that had taken these steps has taken more since, or none
 abbrev pub HasGoneOn : List WordStep → Token → Type 0
@@ -92,11 +97,11 @@ TellsMoved c all first answer old new =
     × (answer ≡ (if all then Number number else Yes))
     × HasLeft (2 * c) (move_did all locked c m) number (last_of new) × HasGoneOn (steps_of old) new)
 
--- the steps of a raw wait lead to its answer; a mutex of the condition variable's own number, which
+-- the course of a raw wait leads to its answer; a mutex of the condition variable's own number, which
 -- nobody draws, is refused at once
-abbrev pub WaitsBy : ℕ → ℕ → Bool → Answer → List WordStep → List WordStep → Type 0
-WaitsBy c m timed answer old new =
-    HasWaited c m timed answer old new ⊎ ((c ≡ m) × (answer ≡ TwoMutexes) × (new ≡ old))
+abbrev pub WaitsBy : ℕ → ℕ → Bool → Answer → Token → Token → Type 0
+WaitsBy c m timed answer old new = HasWaited c m timed answer old new
+    ⊎ ((c ≡ m) × (answer ≡ TwoMutexes) × (steps_of new ≡ steps_of old))
 
 -- it tells of another mutex, or whether its time was up
 abbrev pub AnswersWait : Bool → Answer → Type 0

@@ -6,7 +6,7 @@ ghost use Rattle.parking_lot_core.specs.declared.tokens.Token.{Token};
 ghost use Rattle.steps_condvar.specs.CondvarSteps.{notified};
 ghost use Rattle.run_base.specs.CondvarFitting.{IsNotifyOver, IsWaitOver, OwnsIt};
 ghost use Rattle.run_base.specs.Stages.{stage_of};
-ghost use Rattle.run_base.specs.Telling.{owns_of, steps_of};
+ghost use Rattle.run_base.specs.Telling.{owns_of};
 ghost use Rattle.run_base.specs.Words.{word_pair};
 ghost use Rattle.run_locks.specs.CondvarCalls.{HasLooked, HasNotified, HasWaited, MeetBeside, MeetsCondvar, NotifiesBy, TellsMoved};
 
@@ -46,8 +46,7 @@ pub fn wait<R: Wait, C: Clock>(
     requires own { MeetBeside lot.now token.old condvar mutex }
     requires owned { OwnsIt mutex.number (owns_of token.old) }
     ensures own { IsSameThread lot.now token.old token.new }
-    ensures path { HasWaited condvar.number mutex.number timed result (steps_of token.old)
-        (steps_of token.new) }
+    ensures path { HasWaited condvar.number mutex.number timed result token.old token.new }
     ensures over { IsWaitOver (IsUp C.tells limit.entry) mutex.number timed
         (owns_of token.old) result
         (stage_of token.new None) }
@@ -69,8 +68,7 @@ fn notify_shown<R: Wait>(
 ) -> Answer
     requires own { MeetBeside lot.now token.old condvar mutex }
     ensures own { IsSameThread lot.now token.old token.new }
-    ensures path { HasNotified condvar.number mutex.number all result (steps_of token.old)
-        (steps_of token.new) }
+    ensures path { HasNotified condvar.number mutex.number all result token.old token.new }
     ensures over { IsNotifyOver condvar.number mutex.number all (owns_of token.old) result
         (stage_of token.new None) }
 {
@@ -85,7 +83,7 @@ pub fn notify_fast(lot: &ParkingLot, token: &mut Token, condvar: Word) -> u64
     ensures own { IsSameThread lot.now token.old token.new }
     ensures looked { HasLooked lot.now.words.count condvar.number result token.old token.new }
     ensures nobody { result ≡ 0 → (all : Bool)
-        → NotifiesBy condvar.number all (notified all 0) (steps_of token.old) (steps_of token.new) }
+        → NotifiesBy condvar.number all (notified all 0) token.old token.new }
 {
     lot.look_shown(token, condvar)
 }
@@ -110,7 +108,7 @@ pub fn notify_slow<R: Wait>(
     ensures own { IsSameThread lot.now token.old token.new }
     ensures path { (before : Token)
         → HasLooked lot.now.words.count condvar.number seen before token.old
-        → NotifiesBy condvar.number all result (steps_of before) (steps_of token.new) }
+        → NotifiesBy condvar.number all result before token.new }
     ensures owns { owns_of token.new ≡ owns_of token.old }
     ensures record { TellsMoved condvar.number all seen result token.old token.new }
 {

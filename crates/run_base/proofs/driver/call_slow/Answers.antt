@@ -8,7 +8,7 @@ use Rattle.run_base.specs.Calls.{beginning}
 use Rattle.run_base.specs.Fitting.{AreWordsFor, Fits, IsOver, IsStopped, call_purpose}
 use Rattle.run_base.specs.declared.driver.Stop.{Stop}
 use Rattle.run_base.specs.declared.driver.Stop.TheVariants.{Paused}
-use Rattle.run_base.specs.Paths.{RunsTo, Walks}
+use Rattle.run_base.specs.Courses.{Courses, RunsCourse, trail_of}
 use Rattle.run_base.specs.Queued.{is_queued}
 use Rattle.run_base.specs.Stages.{stage_of}
 use Rattle.run_base.specs.Words.{kind_in, at_in, single_word}
@@ -33,12 +33,12 @@ run-requires-clause-start g c = let v = view_of c.args.token.now in (
 )
 
 pub returns-clause-path : goal.returns-clause-path
-returns-clause-path g c = λ before saw. let n = c.args.word.number in let at = ap at_in c.alone.ensures ∙ alone_at c.args.word c.requires.own.2 in let answer = c.in-Ended.answer in
-    let walks : Walks (at_in c.alone.result) c.place_behind-start.result (view_of c.args.token.now).steps (view_of c.run.new.token).steps c.in-Ended.answer
-    = subst (RunsTo (at_in c.alone.result) c.place_behind-start.result (view_of c.args.token.now).steps (view_of c.run.new.token).steps) c.in-Ended.is c.run.ensures.path in
-    path_behind n c.args.call c.args.seen before (view_of c.args.token.now).steps (view_of c.run.new.token).steps answer
-    (subst (λ (at : ℕ → ℕ). Walks at (next_place (beginning c.args.word.number c.args.call) (Value c.args.seen)) (view_of c.args.token.now).steps (view_of c.run.new.token).steps c.in-Ended.answer) at
-    (subst (λ (p : Place). Walks (at_in c.alone.result) p (view_of c.args.token.now).steps (view_of c.run.new.token).steps c.in-Ended.answer) c.place_behind-start.ensures walks)) saw
+returns-clause-path g c = λ before same saw untold. let n = c.args.word.number in let at = ap at_in c.alone.ensures ∙ alone_at c.args.word c.requires.own.2 in let answer = c.in-Ended.answer in
+    let courses : Courses (at_in c.alone.result) c.args.token.now.number c.place_behind-start.result (trail_of c.args.token.now None) (trail_of c.run.new.token None) c.in-Ended.answer
+    = subst (RunsCourse (at_in c.alone.result) c.args.token.now.number c.place_behind-start.result (trail_of c.args.token.now None) (trail_of c.run.new.token None)) c.in-Ended.is c.run.ensures.course in
+    path_behind n c.args.call c.args.seen before c.args.token.now c.run.new.token answer
+    (subst (λ (at : ℕ → ℕ). Courses at c.args.token.now.number (next_place (beginning c.args.word.number c.args.call) (Value c.args.seen)) (trail_of c.args.token.now None) (trail_of c.run.new.token None) c.in-Ended.answer) at
+    (subst (λ (p : Place). Courses (at_in c.alone.result) c.args.token.now.number p (trail_of c.args.token.now None) (trail_of c.run.new.token None) c.in-Ended.answer) c.place_behind-start.ensures courses)) same saw untold
 
 pub returns-clause-over : goal.returns-clause-over
 returns-clause-over g c = let n = c.args.word.number in let owns = (view_of c.args.token.now).owns in let answer = c.in-Ended.answer in

@@ -2,7 +2,7 @@ use Rattle.std.proofs.Common.{Option, ap, ◌∙◌, refl, sym, subst}
 use Rattle.core_base.specs.Clocks.{IsUp}
 use Rattle.steps_base.specs.declared.acts.Act as act
 use Rattle.steps_base.specs.declared.acts.Reply.TheVariants.{Done}
-use Rattle.parking_lot_core.specs.Tokens.{IsSameThread, last_of, view_of}
+use Rattle.parking_lot_core.specs.Tokens.{IsSameThread, last_of, told_of, view_of}
 use Rattle.parking_lot_core.specs.declared.tokens.Token.{Token}
 use Rattle.run_base.specs.Stages.{SectionView, section_view, stage}
 use Rattle.run_base.specs.Telling.{steps_of}
@@ -17,4 +17,4 @@ returns g c = λ p at is.
     turned_by (IsUp g.C.Clock.tells c.args._limit) c.args.lot.now c.args._words p c.args.token.now c.enter.new.token c.args.section.now c.enter.new.section (act.TheVariants.Enter c.args.keys) Done is refl at
     (subst (IsSameThread c.args.lot.now c.args.token.now) (sym c.enter.ensures.same) (at.0, refl)) c.enter.ensures.entered.0
     (ap (λ (t : Token). stage (view_of t).owns (section_view c.enter.new.section) (last_of t) (view_of t).steps) c.enter.ensures.same ∙ ap (λ (i : Option SectionView). stage (view_of c.args.token.now).owns i (last_of c.args.token.now) (view_of c.args.token.now).steps) c.enter.ensures.entered.1)
-    (ap steps_of c.enter.ensures.same)
+    (ap steps_of c.enter.ensures.same) tt (ap told_of c.enter.ensures.same, c.enter.ensures.told)

@@ -16,3 +16,4 @@ returns g c = λ p at is.
     turned_by (IsUp g.C.Clock.tells c.args._limit) c.args.lot.now c.args._words p c.args.token.now c.leave.new.token c.args.section.now c.leave.new.section (act.TheVariants.Leave c.args._keys c.args.wakes) Done is refl at
     c.leave.ensures.own.0 c.leave.ensures.left.1
     (ap (λ (v : View). v.owns) c.leave.ensures.own.1, c.leave.ensures.left.0, c.leave.ensures.left.2, ap (λ (v : View). v.steps) c.leave.ensures.own.1) (ap (λ (v : View). v.steps) c.leave.ensures.own.1)
+    tt c.leave.ensures.told

@@ -30,7 +30,7 @@ returns g c =
     let became = subst (λ (s : Sleeper). Awoke (IsUp g.C.Clock.tells c.args.limit) (kind_in c.args.words s.lock) (at_in c.args.words s.lock) s (stage_of c.args.token.now c.args.section.now) c.sleep.result (stage_of c.sleep.new.token c.sleep.new.section)) c.sleeper_at-sleeper.ensures awoke in
     record {
       turned = turned_by (IsUp g.C.Clock.tells c.args.limit) c.args.lot.now c.args.words c.args.place c.args.token.now c.sleep.new.token c.args.section.now c.sleep.new.section act.TheVariants.Sleep c.sleep.result c.requires.act refl c.requires.at
-          c.sleep.ensures.own.0 c.sleep.ensures.own.1 became c.sleep.ensures.own.2;
+          c.sleep.ensures.own.0 c.sleep.ensures.own.1 became c.sleep.ensures.own.2 c.sleep.ensures.queues c.sleep.ensures.told;
       queues = c.sleep.ensures.queues;
       queued = slept_on (IsUp g.C.Clock.tells c.args.limit) c.args.lot.now c.args.words c.args.place c.args.token.now c.sleep.new.token c.args.section.now c.sleep.new.section c.sleep.result c.args.queue.now c.sleep.new.queue c.requires.at c.requires.act became c.sleep.ensures.own.0.1 c.sleep.ensures.place c.requires.queued;
     }

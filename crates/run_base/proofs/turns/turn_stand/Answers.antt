@@ -15,3 +15,4 @@ returns-clause-done g c = λ p at is.
     turned_by (IsUp g.C.Clock.tells c.args._limit) c.args.lot.now c.args._words p c.args.token.now c.args.token.now c.args.section.now c.stand.new.section (act.TheVariants.Stand c.args.key c.args.want) Done is refl at
     (at.0, refl) c.stand.ensures.same.0
     (ap (λ (i : Option SectionView). stage (view_of c.args.token.now).owns i (last_of c.args.token.now) (view_of c.args.token.now).steps) c.stand.ensures.same.1) refl
+    c.stand.ensures.stands (refl, c.stand.ensures.told)

@@ -16,3 +16,4 @@ returns-clause-done g c = λ p at is.
     turned_by (IsUp g.C.Clock.tells c.args._limit) c.args.lot.now c.args._words p c.args._token.now c.args._token.now c.args.section.now c.take_first.new.section (act.TheVariants.Take c.args.key whom.TheVariants.First) (Took c.take_first.result.0 c.take_first.result.1) is refl at
     (at.0, refl) c.take_first.ensures.did.0
     ((front_waiter (line_in c.args.key c.args.section.now), c.take_first.ensures.any, c.take_first.ensures.did.1), refl, refl, refl) refl
+    (c.take_first.ensures.any, c.take_first.ensures.left.0, c.take_first.ensures.left.1) (refl, c.take_first.ensures.told)

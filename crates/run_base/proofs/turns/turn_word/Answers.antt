@@ -15,4 +15,4 @@ word-requires-clause-may g c =
 
 pub returns : goal.returns
 returns g c = λ p at is.
-    word_turned (IsUp g.C.Clock.tells c.args._limit) c.args.lot.now c.args.words p c.args.token.now c.word.new.token c.args._section.now c.args.lock c.args.op c.word.result c.of.result c.of.ensures is at c.word.ensures.own.0 c.word.ensures.stepped c.word.ensures.own.1 c.word.ensures.coded
+    word_turned (IsUp g.C.Clock.tells c.args._limit) c.args.lot.now c.args.words p c.args.token.now c.word.new.token c.args._section.now c.args.lock c.args.op c.word.result c.of.result c.of.ensures is at c.word.ensures.own.0 c.word.ensures.stepped c.word.ensures.own.1 c.word.ensures.coded c.word.ensures.untold

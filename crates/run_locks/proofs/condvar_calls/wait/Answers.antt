@@ -1,8 +1,8 @@
 use Rattle.std.proofs.Common.{ℕ, None, refl, subst, sym}
 use Rattle.core_base.specs.Clocks.{IsUp}
 use Rattle.steps_condvar.specs.declared.wait.WaitAt.TheVariants as wait
-use Rattle.run_base.specs.Paths.{Walks}
-use Rattle.run_base.specs.Telling.{owns_of, steps_of}
+use Rattle.run_base.specs.Courses.{Courses, trail_of}
+use Rattle.run_base.specs.Telling.{owns_of}
 use Rattle.run_base.specs.Turns.{HasEnded, IsAtPlace}
 use Rattle.run_locks.specs.CondvarCalls.{wait_begin}
 use Rattle.run_locks.specs.CondvarCourses.{wait_at}
@@ -21,7 +21,7 @@ returns-clause-own g c = (subst (λ (pair : Pair). HasEnded (IsUp g.C.Clock.tell
 pub returns-clause-path : goal.returns-clause-path
 returns-clause-path g c = let own = c.requires.own in
     let ended = (subst (λ (pair : Pair). HasEnded (IsUp g.C.Clock.tells c.args.limit) c.args.lot.now pair.words (wait_at pair.condvar pair.mutex c.args.timed wait.Enter) c.wait_through.result c.args.token.now None c.wait_through.new.token) c.pair_of.ensures c.wait_through.ensures) in
-    subst (λ (at : ℕ → ℕ). Walks at (wait_begin c.args.condvar.number c.args.mutex.number c.args.timed) (steps_of c.args.token.now) (steps_of c.wait_through.new.token) c.wait_through.result) (at_both c.args.condvar c.args.mutex own.4 own.2 own.0.2) ended.1
+    subst (λ (at : ℕ → ℕ). Courses at c.args.token.now.number (wait_begin c.args.condvar.number c.args.mutex.number c.args.timed) (trail_of c.args.token.now None) (trail_of c.wait_through.new.token None) c.wait_through.result) (at_both c.args.condvar c.args.mutex own.4 own.2 own.0.2) ended.3
 
 pub returns-clause-over : goal.returns-clause-over
 returns-clause-over g c = (subst (λ (pair : Pair). HasEnded (IsUp g.C.Clock.tells c.args.limit) c.args.lot.now pair.words (wait_at pair.condvar pair.mutex c.args.timed wait.Enter) c.wait_through.result c.args.token.now None c.wait_through.new.token) c.pair_of.ensures c.wait_through.ensures).2 (owns_of c.args.token.now) (c.requires.owned, (refl, refl))

@@ -28,4 +28,4 @@ returns-then-seen-eq-LOCKED-clause-over c = let mutex = c.args.self.now in let n
       added ∙ sym (append-nil (steps_of old ++ step (mutex_at n) (Exchange 1 0) seen)),
       subst (λ b. TookIfParked n (not b) [] (last_of new)) (sym (eq-eqb seen 1 one)) (refl, c.leave_open_alone-seen.ensures.own.1),
     ) in
-    (stays, path_at_once n UnlockFair seen v.steps (view_of new).steps one added, released)
+    (stays, path_at_once n UnlockFair seen old new one added c.leave_open_alone-seen.ensures.untold, released)

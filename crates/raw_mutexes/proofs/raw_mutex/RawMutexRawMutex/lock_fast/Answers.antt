@@ -14,4 +14,4 @@ pub returns-in-Ok-clause-over : goal.returns-in-Ok-clause-over
 returns-in-Ok-clause-over c = let mutex = c.args.self.now in let n = mutex.word.number in let old = c.args.token.now in let new = c.enter_open.new.token in
     let added = ap (λ (v : View). v.steps) c.in-Ok.ensures.stepped ∙ ap (λ (k : WordKind). (view_of old).steps ++ step (word_index n k) (Exchange 0 1) 0) mutex.drawn.1 in
     let stays : StaysAs old new = search rules in
-    (stays, path_at_once n Lock 0 (view_of old).steps (view_of new).steps refl added, (search rules, search rules))
+    (stays, path_at_once n Lock 0 old new refl added c.enter_open.ensures.untold, (search rules, search rules))
