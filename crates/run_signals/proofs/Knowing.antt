@@ -24,6 +24,7 @@ use Rattle.run_base.specs.Fitting.{ReachedBy, call_purpose, answer_of}
 use Rattle.run_base.specs.OnceFitting.{LooksAnswer, OwnsBehind, OwnsKnowing, OwnsRun, knowing}
 use Rattle.run_base.specs.Paths.{once_at}
 use Rattle.run_base.specs.Stages.{stage_of}
+use Rattle.run_base.specs.Courses.{trail_of}
 use Rattle.run_base.specs.Telling.{owns_of, steps_of}
 use Rattle.run_signals.specs.OnceCalls.{EndedAndWoke, StepsLeadTo, EndsRun, HasLookedFirst, LookOwns, LooksBy, in_closure, once_begin}
 use Rattle.run_signals.specs.declared.once_calls.Look.TheVariants.{Ended}
@@ -74,7 +75,7 @@ module _ (n : ℕ) where
   answer_stays up c base owns answer last h = absurd h
 
   -- a call that ran nothing, by how it ended
-  pub came : (up : Type 0) (c : OnceCall) (old new : Token) (answer : Answer) → new.number ≡ old.number → LooksBy n c (Ended answer) (steps_of old) (steps_of new)
+  pub came : (up : Type 0) (c : OnceCall) (old new : Token) (answer : Answer) → new.number ≡ old.number → LooksBy n c (Ended answer) old new
       → LookOwns up n c (Ended answer) (owns_of old) (owns_of new) (last_of new) → CameTo up n c old new (came_by answer)
   came up c old new answers.Ok same by over = ((same, answer_stays up c (owns_of old) (owns_of new) answers.Ok (last_of new) over), subst (λ (a : Answer). RanNothing n c a old new) (sym (untimed c over.0)) by, over.1)
   came up c old new answers.Yes same by over = ((same, answer_stays up c (owns_of old) (owns_of new) answers.Yes (last_of new) over), subst (λ (a : Answer). RanNothing n c a old new) (sym (timed c over.0)) by, over.1)
@@ -85,12 +86,12 @@ module _ (n : ℕ) where
   -- a thread that finds it done knows it, and any call ends with that
   pub found_done : (seen : ℕ) (old new : Token) → is_done seen ≡ true → HasLookedFirst n seen old new → FoundDone n old new
   found_done seen old new done saw = let call = Wait true in let over = subst (λ (a : Act). ReachedBy ⊥ (owns_of old) (call_purpose (once_begin n call)) (next_place (once_begin n call) (Value seen)) (answer_of a) (stage_of new None)) (done_ends n call seen done) (saw.2 call) in
-      ((saw.0, stays_of true (owns_of old) (owns_of new) over.1.1), over.1.1, λ (c : OnceCall). looks_ended n c seen (steps_of old) (steps_of new) (when_done c) saw.1 (done_ends n c seen done))
+      ((saw.0, stays_of true (owns_of old) (owns_of new) over.1.1), over.1.1, λ (c : OnceCall). looks_ended n c seen old new (when_done c) saw.1 saw.3 (done_ends n c seen done))
 
   -- a call that came to its closure, and ended its run
-  pub has_run_by : (forced s : Bool) (state : OnceState) (old mid new : Token) → Began n (CallOnce forced) state old mid → EndsRun n forced s (steps_of mid) (steps_of new) → EndedAndWoke n s (steps_of mid) (steps_of new) (last_of new) → HasRun n forced s state old new
-  has_run_by forced s state old mid new b ends closes = let call : CallOnce forced ≡ CallOnce b.0 = b.2 in let same : b.0 ≡ forced = cc in
-      (b.1, steps_of mid, b.3, subst (λ (f : Bool). StepsLeadTo n (once_begin n (CallOnce forced)) (steps_of old) (steps_of mid) (in_closure n f b.1)) same b.4, ends, closes)
+  pub has_run_by : (forced s : Bool) (state : OnceState) (old mid new : Token) → mid.number ≡ old.number → Began n (CallOnce forced) state old mid → EndsRun n mid.number forced s (trail_of mid None) (trail_of new None) → EndedAndWoke n s (steps_of mid) (steps_of new) (last_of new) → HasRun n forced s state old new
+  has_run_by forced s state old mid new thread b ends closes = let call : CallOnce forced ≡ CallOnce b.0 = b.2 in let same : b.0 ≡ forced = cc in
+      (b.1, trail_of mid None, b.3, subst (λ (f : Bool). StepsLeadTo n old.number (once_begin n (CallOnce forced)) (trail_of old None) (trail_of mid None) (in_closure n f b.1)) same b.4, subst (λ (me : ℕ). EndsRun n me forced s (trail_of mid None) (trail_of new None)) thread ends, closes)
 
 -- a call that has a value knows that its `Once` is done, and one that failed tells its error
 pub by_result : {A B : Type 0} (P : Type 0) (Q : A → Type 0) (E : B → Type 0) (r : Result A B) → IfOk r (λ _. P) → MatchResult r Q E → MatchResult r (λ _. P) E

@@ -30,21 +30,26 @@ use Rattle.core_words.specs.Views.{owned, owning}
 use Rattle.core_words.specs.declared.owners.Owner.TheVariants.{Runner}
 use Rattle.core_words.specs.declared.owners.Ownership.{Ownership}
 use Rattle.core_words.specs.declared.views.WordStep.{WordStep}
+use Rattle.parking_lot_core.specs.Tokens.{told_of}
+use Rattle.parking_lot_core.specs.declared.tokens.Token.{Token}
 use Rattle.core_words.specs.declared.words.Word.{Word}
 use Rattle.core_words.specs.declared.words.WordKind as kinds
 use Rattle.core_words.proofs.Trades.{owned_some}
 use Rattle.run_base.specs.Fitting.{IsStopped, Reached, ReachedBy, answer_of, of_once, of_run}
 use Rattle.run_base.specs.OnceFitting.{LooksAnswer, OwnsBehind, OwnsRun}
-use Rattle.run_base.specs.Paths.{Brings, Path, Walks, at_once, once_at, onces, step, word}
+use Rattle.run_base.specs.Courses.{Course as Way, Courses, Trail, joined, trail_of}
+use Rattle.run_base.specs.Paths.{at_once, once_at, onces, step}
+use Rattle.run_base.specs.Telling.{steps_of}
 use Rattle.run_base.specs.Stages.{Stage, stage}
 use Rattle.run_base.specs.Words.{single_word, at_in, kind_in}
 use Rattle.run_base.specs.declared.driver.Stop.TheVariants.{Paused}
 use Rattle.core_words.proofs.OnceSteps.{each_once_code}
 use Rattle.run_base.proofs.OnceLeading.{lands}
-use Rattle.run_base.proofs.Paths.{comes_here, comes_then, comes_on, ends_at_once, goes_on}
+use Rattle.run_base.proofs.Courses.{begins, comes_after, courses_behind, goes_on, one, one_more, over_at_once, steps_first}
 use Rattle.run_base.proofs.RwLockLeading.{rwlock_no_closure}
 use Rattle.run_base.proofs.SemaphoreLeading.{semaphore_no_closure}
 use Rattle.run_signals.specs.OnceCalls.{StepsLeadTo, EndsRun, in_closure, once_begin, run_end}
+use Rattle.run_signals.specs.Ran.{RanNothing}
 
 -- a look runs no closure
 no_course : (n seen : ℕ) (course : Course) (state : OnceState) → course_act n seen course ≡ act.TheVariants.Closure state → ⊥
@@ -127,18 +132,17 @@ module _ (word : Word) (is : word.kind ≡ kinds.TheVariants.Once) where
 
 module _ (n : ℕ) where
   -- the first step of a call ends it, or leads on
-  pub looks_ended : (c : OnceCall) (seen : ℕ) (old mid : List WordStep) (answer : Answer) → mid ≡ old ++ step (once_at n) Load seen → next_act (once_begin n c) (Value seen) ≡ act.TheVariants.End answer → Walks (at_once n) (once_begin n c) old mid answer
-  looks_ended c seen old mid answer e ends = ends_at_once (at_once n) (once_begin n c) n Load seen old mid answer refl e ends
+  pub looks_ended : (c : OnceCall) (seen : ℕ) (old mid : Token) (answer : Answer) → steps_of mid ≡ steps_of old ++ step (once_at n) Load seen → told_of mid ≡ told_of old → next_act (once_begin n c) (Value seen) ≡ act.TheVariants.End answer → RanNothing n c answer old mid
+  looks_ended c seen old mid answer e told ends = over_at_once (at_once n) old.number (once_begin n c) n Load seen (trail_of old None) (trail_of mid None) answer refl (one_more _ _ _ _ _ e told) ends
 
-  pub looks_on : (c : OnceCall) (seen : ℕ) (old mid new : List WordStep) (answer : Answer) → mid ≡ old ++ step (once_at n) Load seen → Walks (at_once n) (next_place (once_begin n c) (Value seen)) mid new answer → Walks (at_once n) (once_begin n c) old new answer
-  looks_on c seen old mid new answer e rest = goes_on (at_once n) (once_begin n c) n Load seen old mid new answer refl e rest
+  pub looks_on : (c : OnceCall) (seen : ℕ) (old mid : Token) (new : Trail) (answer : Answer) → steps_of mid ≡ steps_of old ++ step (once_at n) Load seen → told_of mid ≡ told_of old → Courses (at_once n) old.number (next_place (once_begin n c) (Value seen)) (trail_of mid None) new answer
+      → Courses (at_once n) old.number (once_begin n c) (trail_of old None) new answer
+  looks_on c seen old mid new answer e told rest = courses_behind (at_once n) old.number (once_begin n c) n Load seen (trail_of old None) (trail_of mid None) new answer refl (one_more _ _ _ _ _ e told) rest
 
-  pub looks_to : (c : OnceCall) (seen : ℕ) (old mid new : List WordStep) (q : Place) → mid ≡ old ++ step (once_at n) Load seen → StepsLeadTo n (next_place (once_begin n c) (Value seen)) mid new q → StepsLeadTo n (once_begin n c) old new q
-  looks_to c seen old mid new q e rest = comes_then (at_once n) (once_begin n c) (next_place (once_begin n c) (Value seen)) q old mid new
-      (comes_on (at_once n) (once_begin n c) (once_begin n c) (next_place (once_begin n c) (Value seen)) old old mid (Value seen) (step (once_at n) Load seen) (comes_here (at_once n) (once_begin n c) old) e (word_tells c seen) refl) rest
-    where
-      word_tells : (c : OnceCall) (seen : ℕ) → Brings (at_once n) (once_begin n c) (step (once_at n) Load seen) (Value seen)
-      word_tells c seen = word (once_begin n c) n Load seen refl
+  pub looks_to : (c : OnceCall) (seen : ℕ) (old mid : Token) (new : Trail) (q : Place) → steps_of mid ≡ steps_of old ++ step (once_at n) Load seen → told_of mid ≡ told_of old → StepsLeadTo n old.number (next_place (once_begin n c) (Value seen)) (trail_of mid None) new q
+      → StepsLeadTo n old.number (once_begin n c) (trail_of old None) new q
+  looks_to c seen old mid new q e told rest = comes_after (at_once n) old.number (once_begin n c) (next_place (once_begin n c) (Value seen)) q (trail_of old None) (trail_of mid None) new
+      (goes_on (at_once n) old.number (once_begin n c) (once_begin n c) (next_place (once_begin n c) (Value seen)) (trail_of old None) (trail_of old None) (trail_of mid None) (Value seen) (one (once_at n) Load seen) (begins (at_once n) old.number (once_begin n c) (trail_of old None)) (one_more _ _ _ _ _ e told) (steps_first (at_once n) old.number (once_begin n c) n Load seen refl) refl) rest
 
   -- a thread that finds it done ends
   pub done_ends : (c : OnceCall) (seen : ℕ) → is_done seen ≡ true → next_act (once_begin n c) (Value seen) ≡ act.TheVariants.End (when_done c)
@@ -179,14 +183,14 @@ module _ (n : ℕ) where
   swapped false owns = each_once_code (Behind false owns) (λ h. absurd (omega arith)) (λ h. absurd (omega arith)) (λ h. absurd (omega arith)) (λ h. (0, refl)) (λ h. absurd (omega arith)) (λ h. absurd (omega arith)) (λ h. (0, refl))
 
   -- the step that ends a run, and the rest
-  pub closes_at_once : (forced s : Bool) (seen : ℕ) (old new : List WordStep) → is_marked seen ≡ false → new ≡ old ++ step (once_at n) (Swap (word_behind s)) seen → EndsRun n forced s old new
-  closes_at_once forced s seen old new unmarked e = ends_at_once (at_once n) (run_end n forced s) n (Swap (word_behind s)) seen old new (ended s) refl e
+  pub closes_at_once : (forced s : Bool) (seen me : ℕ) (old new : Trail) → is_marked seen ≡ false → new ≡ joined old (one (once_at n) (Swap (word_behind s)) seen) → EndsRun n me forced s old new
+  closes_at_once forced s seen me old new unmarked e = over_at_once (at_once n) me (run_end n forced s) n (Swap (word_behind s)) seen old new (ended s) refl e
       (ap (λ (b : Bool). once_does n (in_run forced (if b then next.TheVariants.At (run.Enter s) else next.TheVariants.End (ended s)))) unmarked)
 
-  pub closes_on : (forced s : Bool) (seen : ℕ) (old mid new : List WordStep) (answer : Answer) → is_marked seen ≡ true → mid ≡ old ++ step (once_at n) (Swap (word_behind s)) seen → answer ≡ ended s → Walks (at_once n) (Once n (Run forced (run.Enter s))) mid new answer → EndsRun n forced s old new
-  closes_on forced s seen old mid new answer marked e is rest = goes_on (at_once n) (run_end n forced s) n (Swap (word_behind s)) seen old mid new (ended s) refl e
-      (subst (λ (p : Place). Walks (at_once n) p mid new (ended s)) (sym (ap (λ (b : Bool). once_goes n (in_run forced (if b then next.TheVariants.At (run.Enter s) else next.TheVariants.End (ended s)))) marked))
-      (subst (Walks (at_once n) (Once n (Run forced (run.Enter s))) mid new) is rest))
+  pub closes_on : (forced s : Bool) (seen me : ℕ) (old mid new : Trail) (answer : Answer) → is_marked seen ≡ true → mid ≡ joined old (one (once_at n) (Swap (word_behind s)) seen) → answer ≡ ended s → Courses (at_once n) me (Once n (Run forced (run.Enter s))) mid new answer → EndsRun n me forced s old new
+  closes_on forced s seen me old mid new answer marked e is rest = courses_behind (at_once n) me (run_end n forced s) n (Swap (word_behind s)) seen old mid new (ended s) refl e
+      (subst (λ (p : Place). Courses (at_once n) me p mid new (ended s)) (sym (ap (λ (b : Bool). once_goes n (in_run forced (if b then next.TheVariants.At (run.Enter s) else next.TheVariants.End (ended s)))) marked))
+      (subst (Courses (at_once n) me (Once n (Run forced (run.Enter s))) mid new) is rest))
 
   pub word_left : (s : Bool) → (word_behind s ≡ 1) ⊎ (word_behind s ≡ 2)
   word_left true = inl refl
@@ -200,6 +204,6 @@ module _ (n : ℕ) where
   pub begins_by : (c : OnceCall) (base : List Ownership) (steps : List WordStep) (seen : ℕ) (new : Stage) → IsOnceWord seen → new ≡ stage (owns_after_step kinds.TheVariants.Once (once_at n) Load seen base) None None steps → Reached ⊥ base (once_begin n c) (Value seen) new
   begins_by c base steps seen new code x = lands n base (stage base None None steps) ⊥ new ((0, refl), refl) c false seen code (steps, x)
 
--- a path of the driver, where the places and words are known
-pub comes_by : (at : ℕ → ℕ) (n : ℕ) (p p2 q q2 : Place) (old new : List WordStep) → at ≡ at_once n → p ≡ p2 → q ≡ q2 → (more : List WordStep) × (new ≡ old ++ more) × Path at p more q → StepsLeadTo n p2 old new q2
-comes_by at n p p2 q q2 old new is e f c = (c.0, c.1, subst (λ (r : Place). Path (at_once n) p2 c.0 r) f (subst (λ (r : Place). Path (at_once n) r c.0 q) e (subst (λ (w : ℕ → ℕ). Path w p c.0 q) is c.2)))
+-- a course of the driver, where the places and words are known
+pub comes_by : (at : ℕ → ℕ) (n me : ℕ) (p p2 q q2 : Place) (old new : Trail) → at ≡ at_once n → p ≡ p2 → q ≡ q2 → (more : Trail) × (new ≡ joined old more) × Way at me p more q → StepsLeadTo n me p2 old new q2
+comes_by at n me p p2 q q2 old new is e f c = (c.0, c.1, subst (λ (r : Place). Way (at_once n) me p2 c.0 r) f (subst (λ (r : Place). Way (at_once n) me r c.0 q) e (subst (λ (w : ℕ → ℕ). Way w me p c.0 q) is c.2)))

@@ -1,5 +1,5 @@
 -- A call of a `Once`, up to its closure.
-use Rattle.std.specs.Prelude.{ℕ, ◌≡◌, Bool, true, false}
+use Rattle.std.specs.Prelude.{ℕ, ◌≡◌, Bool, true, false, None}
 use Rattle.spec_locks.specs.declared.calls.OnceCall.{OnceCall}
 use Rattle.spec_locks.specs.declared.calls.OnceCall.TheVariants.{CallOnce}
 use Rattle.spec_locks.specs.declared.outcomes.Answer.{Answer}
@@ -10,7 +10,8 @@ use Rattle.parking_lot_core.specs.Tokens.{last_of}
 use Rattle.parking_lot_core.specs.declared.tokens.Token.{Token}
 use Rattle.run_base.specs.OnceFitting.{KnowsIt, OwnsRun}
 use Rattle.run_base.specs.Stages.{TookNobodyAt}
-use Rattle.run_base.specs.Telling.{owns_of, steps_of}
+use Rattle.run_base.specs.Courses.{trail_of}
+use Rattle.run_base.specs.Telling.{owns_of}
 use Rattle.run_signals.specs.OnceCalls.{StepsLeadTo, in_closure, once_begin}
 use Rattle.run_signals.specs.Ran.{RanNothing, StaysKnowing}
 use Rattle.run_signals.specs.declared.once.Came.{Came}
@@ -27,7 +28,8 @@ came_by answer = Poisoned
 abbrev pub Began : ℕ → OnceCall → OnceState → Token → Token → Type 0
 Began n c state old new = (forced : Bool) × (poisoned : Bool) × (c ≡ CallOnce forced)
     × (state ≡ state_before poisoned)
-    × StepsLeadTo n (once_begin n c) (steps_of old) (steps_of new) (in_closure n forced poisoned)
+    × StepsLeadTo n old.number (once_begin n c) (trail_of old None) (trail_of new None)
+    (in_closure n forced poisoned)
 
 -- by what the call came to: its end, or its closure, where it owns the run; `up` says that its time
 -- is up

@@ -15,13 +15,14 @@ use Rattle.core_words.specs.declared.owners.Ownership.{Ownership}
 use Rattle.core_words.specs.declared.views.WordStep.{WordStep}
 use Rattle.core_words.specs.declared.words.Word.{Word}
 use Rattle.core_words.specs.declared.words.WordKind as kinds
-use Rattle.parking_lot_core.specs.Tokens.{IsTokenOf}
+use Rattle.parking_lot_core.specs.Tokens.{IsTokenOf, told_of}
 use Rattle.parking_lot_core.specs.declared.lot.ParkingLot.{ParkingLot}
 use Rattle.parking_lot_core.specs.declared.tokens.SectionRecord.{SectionRecord}
 use Rattle.parking_lot_core.specs.declared.tokens.Token.{Token}
 use Rattle.run_base.specs.Fitting.{Reached}
 use Rattle.run_base.specs.OnceFitting.{LooksAnswer, OwnsRun, WokeAll}
-use Rattle.run_base.specs.Paths.{Path, Walks, at_once, once_at, step}
+use Rattle.run_base.specs.Courses.{Course, Courses, Trail, joined, trail_of}
+use Rattle.run_base.specs.Paths.{at_once, once_at, step}
 use Rattle.run_base.specs.Stages.{stage_of}
 use Rattle.run_base.specs.Telling.{owns_of, steps_of}
 use Rattle.run_signals.specs.declared.once_calls.Look.{Look}
@@ -42,17 +43,20 @@ in_closure n forced poisoned = Once n (Run forced (run.Closure poisoned))
 abbrev pub run_end : ℕ → Bool → Bool → Place
 run_end n forced succeeded = Once n (Run forced (run.Close succeeded))
 
--- the steps that were added to a list lead from one place to another
-abbrev pub StepsLeadTo : ℕ → Place → List WordStep → List WordStep → Place → Type 0
-StepsLeadTo n p old new q = (more : List WordStep) × (new ≡ old ++ more) × Path (at_once n) p more q
+-- what was added to the trail of a thread leads from one place to another
+abbrev pub StepsLeadTo : ℕ → ℕ → Place → Trail → Trail → Place → Type 0
+StepsLeadTo n me p old new q =
+    (more : Trail) × (new ≡ joined old more) × Course (at_once n) me p more q
 
--- the steps of a call lead from its beginning to its answer, or to its closure, which is told of
--- the run before
-abbrev pub LooksBy : ℕ → OnceCall → Look → List WordStep → List WordStep → Type 0
-LooksBy n c (Ended answer) old new = Walks (at_once n) (once_begin n c) old new answer
+-- the steps of a call, and what the queues told it, lead from its beginning to its answer, or to its
+-- closure, which is told of the run before
+abbrev pub LooksBy : ℕ → OnceCall → Look → Token → Token → Type 0
+LooksBy n c (Ended answer) old new = Courses (at_once n) old.number (once_begin n c)
+    (trail_of old None) (trail_of new None) answer
 LooksBy n c (Runs state) old new = (forced : Bool) × (poisoned : Bool) × (c ≡ CallOnce forced)
     × (state ≡ state_before poisoned)
-    × StepsLeadTo n (once_begin n c) old new (in_closure n forced poisoned)
+    × StepsLeadTo n old.number (once_begin n c) (trail_of old None) (trail_of new None)
+    (in_closure n forced poisoned)
 
 -- What a thread owns after its look at a `Once`; it has left this section last; `up` says that its time is
 -- up.
@@ -72,13 +76,14 @@ EndedAndWoke n succeeded old new last = (seen : ℕ) × (more : List WordStep)
     × (new ≡ (old ++ step (once_at n) (Swap (word_behind succeeded)) seen) ++ more)
     × WokeIfMarked n (is_marked seen) more last
 
--- the steps that end a run lead from the end of its closure to the answer
-abbrev pub EndsRun : ℕ → Bool → Bool → List WordStep → List WordStep → Type 0
-EndsRun n forced succeeded old new =
-    Walks (at_once n) (run_end n forced succeeded) old new (ended succeeded)
+-- the trail of a thread that ends a run leads from the end of its closure to the answer
+abbrev pub EndsRun : ℕ → ℕ → Bool → Bool → Trail → Trail → Type 0
+EndsRun n me forced succeeded old new =
+    Courses (at_once n) me (run_end n forced succeeded) old new (ended succeeded)
 
 -- its thread loaded the word once and found this, and each call goes on from there
 abbrev pub HasLookedFirst : ℕ → ℕ → Token → Token → Type 0
 HasLookedFirst n seen old new =
     (new.number ≡ old.number) × (steps_of new ≡ steps_of old ++ step (once_at n) Load seen)
     × ((c : OnceCall) → Reached ⊥ (owns_of old) (once_begin n c) (Value seen) (stage_of new None))
+    × (told_of new ≡ told_of old)

@@ -1,5 +1,5 @@
 -- The calls of a `Once` that have run a closure, or waited for a run.
-use Rattle.std.specs.Prelude.{ℕ, ◌≡◌, ◌≢◌, ◌⊎◌, ◌++◌, Bool, true, false, List, Ok, Err, if◌then◌else◌}
+use Rattle.std.specs.Prelude.{ℕ, ◌≡◌, ◌≢◌, ◌⊎◌, ◌++◌, Bool, true, false, None, Ok, Err, if◌then◌else◌}
 use Rattle.std.specs.declared.result.Result.{Result}
 use Rattle.spec_locks.specs.Codes.{is_done, is_poisoned, is_running}
 use Rattle.core_base.specs.declared.faults.Fault.{Fault}
@@ -12,7 +12,6 @@ use Rattle.spec_locks.specs.declared.outcomes.Answer.TheVariants as answers
 use Rattle.spec_locks.specs.declared.outcomes.OnceState.{OnceState}
 use Rattle.spec_locks.specs.declared.outcomes.OnceState.TheVariants as states
 use Rattle.steps_once.specs.OnceSteps.{state_before}
-use Rattle.core_words.specs.declared.views.WordStep.{WordStep}
 use Rattle.core_words.specs.declared.words.Word.{Word}
 use Rattle.core_words.specs.declared.words.WordKind as kinds
 use Rattle.parking_lot_core.specs.Tokens.{last_of}
@@ -20,7 +19,8 @@ use Rattle.parking_lot_core.specs.declared.lot.ParkingLot.{ParkingLot}
 use Rattle.parking_lot_core.specs.declared.tokens.Token.{Token}
 use Rattle.run_base.specs.Drawing.{Drew}
 use Rattle.run_base.specs.OnceFitting.{KnowsIt, OwnsKnowing}
-use Rattle.run_base.specs.Paths.{Walks, at_once, once_at, step}
+use Rattle.run_base.specs.Courses.{Courses, Trail, trail_of}
+use Rattle.run_base.specs.Paths.{at_once, once_at, step}
 use Rattle.run_base.specs.Telling.{owns_of, steps_of}
 use Rattle.run_signals.specs.OnceCalls.{EndedAndWoke, StepsLeadTo, EndsRun, in_closure, once_begin}
 use Rattle.run_signals.specs.declared.once.OnceFault.{OnceFault}
@@ -59,19 +59,20 @@ state_of v = if is_done v then states.Done
 abbrev pub Loaded : ℕ → ℕ → Token → Token → Type 0
 Loaded n seen old new = steps_of new ≡ steps_of old ++ step (once_at n) Load seen
 
--- a call ran nothing, and its steps lead to its answer
+-- a call ran nothing, and its course leads to its answer
 abbrev pub RanNothing : ℕ → OnceCall → Answer → Token → Token → Type 0
-RanNothing n c answer old new =
-    Walks (at_once n) (once_begin n c) (steps_of old) (steps_of new) answer
+RanNothing n c answer old new = Courses (at_once n) old.number (once_begin n c)
+    (trail_of old None) (trail_of new None) answer
 
 -- a call ran its closure, which was told this state: its steps lead there, and from there to its
 -- end, and each thread that waited then was woken
 abbrev pub HasRun : ℕ → Bool → Bool → OnceState → Token → Token → Type 0
 HasRun n forced succeeded state old new =
-    (poisoned : Bool) × (mid : List WordStep) × (state ≡ state_before poisoned)
-    × StepsLeadTo n (once_begin n (CallOnce forced)) (steps_of old) mid (in_closure n forced poisoned)
-    × EndsRun n forced succeeded mid (steps_of new)
-    × EndedAndWoke n succeeded mid (steps_of new) (last_of new)
+    (poisoned : Bool) × (mid : Trail) × (state ≡ state_before poisoned)
+    × StepsLeadTo n old.number (once_begin n (CallOnce forced)) (trail_of old None) mid
+    (in_closure n forced poisoned)
+    × EndsRun n old.number forced succeeded mid (trail_of new None)
+    × EndedAndWoke n succeeded mid.steps (steps_of new) (last_of new)
 
 -- the answer of a call is true, by what its closure answers in a state: it is Ok where the call began no run
 -- and saw the `Once` done, or where its own closure succeeded

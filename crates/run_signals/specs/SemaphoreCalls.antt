@@ -16,12 +16,13 @@ use Rattle.core_words.specs.Lots.{IsWordOf}
 use Rattle.core_words.specs.declared.views.WordStep.{WordStep}
 use Rattle.core_words.specs.declared.words.Word.{Word}
 use Rattle.core_words.specs.declared.words.WordKind as kinds
-use Rattle.parking_lot_core.specs.Tokens.{IsTokenOf, last_of}
+use Rattle.parking_lot_core.specs.Tokens.{IsTokenOf, last_of, told_of}
 use Rattle.parking_lot_core.specs.declared.lot.ParkingLot.{ParkingLot}
 use Rattle.parking_lot_core.specs.declared.tokens.SectionRecord.{SectionRecord}
 use Rattle.parking_lot_core.specs.declared.tokens.Token.{Token}
 use Rattle.run_base.specs.MutexFitting.{TookAt}
-use Rattle.run_base.specs.Paths.{Walks, at_semaphore, semaphore_at, step}
+use Rattle.run_base.specs.Courses.{Courses, trail_of}
+use Rattle.run_base.specs.Paths.{at_semaphore, semaphore_at, step}
 use Rattle.run_base.specs.Telling.{owns_of, steps_of}
 
 -- a word of a semaphore, whatever its permits are
@@ -57,27 +58,32 @@ StaysAs old new = (new.number ≡ old.number) × (owns_of new ≡ owns_of old)
 -- its thread loaded the word once and found this
 abbrev pub HasLooked : ℕ → ℕ → Token → Token → Type 0
 HasLooked n seen old new = StaysAs old new × (last_of new ≡ None)
-    × (steps_of new ≡ steps_of old ++ step (semaphore_at n) Load seen)
+    × (steps_of new ≡ steps_of old ++ step (semaphore_at n) Load seen) × (told_of new ≡ told_of old)
 
 -- it exchanged a value for the one that has a permit less, and found this
 abbrev pub HasFound : ℕ → ℕ → ℕ → Token → Token → Type 0
 HasFound n seen found old new = (new.number ≡ old.number) × (last_of new ≡ None)
     × (steps_of new ≡ steps_of old ++ step (semaphore_at n) (Exchange seen (seen - 2)) found)
+    × (told_of new ≡ told_of old)
 
 -- it gave a permit back, and found this
 abbrev pub HasAdded : ℕ → ℕ → Token → Token → Type 0
 HasAdded n seen old new = (new.number ≡ old.number)
     × (steps_of new ≡ steps_of old ++ step (semaphore_at n) (Add 2) seen)
+    × (told_of new ≡ told_of old)
 
--- the steps of a call lead from its beginning to its answer
+-- the steps of a thread, and what the queues told it, lead from a place of its call to an answer
+abbrev pub HasGone : ℕ → Place → Answer → Token → Token → Type 0
+HasGone n p answer old new =
+    Courses (at_semaphore n) old.number p (trail_of old None) (trail_of new None) answer
+
+-- they lead from its beginning
 abbrev pub HasWalkedSemaphore : ℕ → SemaphoreCall → Answer → Token → Token → Type 0
-HasWalkedSemaphore n call answer old new =
-    Walks (at_semaphore n) (semaphore_begin n call) (steps_of old) (steps_of new) answer
+HasWalkedSemaphore n call answer old new = HasGone n (semaphore_begin n call) answer old new
 
 -- a call that waits, up to a deadline or without one
 abbrev pub HasAcquired : ℕ → Bool → Answer → Token → Token → Type 0
-HasAcquired n timed answer old new =
-    Walks (at_semaphore n) (waiting n timed) (steps_of old) (steps_of new) answer
+HasAcquired n timed answer old new = HasGone n (waiting n timed) answer old new
 
 -- the answer of a call that gives a permit, or none
 abbrev pub permit_answer : {P : Type 0} → Answer → Option P → Answer

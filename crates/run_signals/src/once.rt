@@ -1,5 +1,5 @@
 //! `Once`, and its calls.
-ghost use Rattle.std.specs.Prelude.{◌≡◌, ◌≢◌, ◌⊎◌, ◌<◌, ◌*◌, ◌∷◌, [], ℕ, List, true, false, IfErr, IfOk, MatchResult};
+ghost use Rattle.std.specs.Prelude.{◌≡◌, ◌≢◌, ◌⊎◌, ◌<◌, ◌*◌, ◌∷◌, [], ℕ, List, None, true, false, IfErr, IfOk, MatchResult};
 ghost use Rattle.std.specs.Arc.{arc_value};
 ghost use Rattle.std.specs.Duration.{as_nanos};
 ghost use Rattle.spec_locks.specs.Codes.{is_done};
@@ -14,6 +14,7 @@ ghost use Rattle.parking_lot_core.specs.Tokens.{IsTokenOf, last_of, view_of};
 ghost use Rattle.run_base.specs.Drawing.{FoundFull};
 ghost use Rattle.run_base.specs.OnceFitting.{OwnsBehind, OwnsKnowing, OwnsRun};
 ghost use Rattle.run_base.specs.Stages.{TookNobodyAt};
+ghost use Rattle.run_base.specs.Courses.{trail_of};
 ghost use Rattle.run_base.specs.Telling.{owns_of, steps_of};
 ghost use Rattle.parking_lot_core.specs.declared.tokens.Token.{Token};
 ghost use Rattle.run_signals.specs.OnceCalls.{EndedAndWoke, EndsRun, HasLookedFirst};
@@ -262,8 +263,8 @@ impl Once {
             × OwnsRun (number_of self.now) base (owns_of token.old) }
         ensures token { IsTokenOf (lot_of self.now) token.new
             × (token.new.number ≡ token.old.number) }
-        ensures ends { EndsRun (number_of self.now) forced succeeded (steps_of token.old)
-            (steps_of token.new) }
+        ensures ends { EndsRun (number_of self.now) token.old.number forced succeeded
+            (trail_of token.old None) (trail_of token.new None) }
         ensures closes { EndedAndWoke (number_of self.now) succeeded (steps_of token.old)
             (steps_of token.new) (last_of token.new) }
         ensures owns { (base : List Ownership)

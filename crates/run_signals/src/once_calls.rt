@@ -12,7 +12,8 @@ ghost use Rattle.core_words.specs.declared.owners.Ownership.{Ownership};
 ghost use Rattle.parking_lot_core.specs.Tokens.{IsSameThread, last_of};
 ghost use Rattle.parking_lot_core.specs.declared.tokens.Token.{Token};
 ghost use Rattle.run_base.specs.OnceFitting.{IsRunOver, OwnsBehind};
-ghost use Rattle.run_base.specs.Paths.{Walks, at_once, once_at};
+ghost use Rattle.run_base.specs.Courses.{Courses, trail_of};
+ghost use Rattle.run_base.specs.Paths.{at_once, once_at};
 ghost use Rattle.run_base.specs.Stages.{stage_of};
 ghost use Rattle.run_base.specs.Telling.{owns_of, steps_of};
 ghost use Rattle.run_signals.specs.OnceCalls.{EndedAndWoke, EndsRun, HasLookedFirst, LookOwns, LooksBy, MeetsOnce};
@@ -62,7 +63,7 @@ pub(crate) fn begin_slow<R: Wait, C: Clock>(
     requires seen { (before : Token) × HasLookedFirst word.number seen before token.old }
     ensures own { IsSameThread lot.now token.old token.new }
     ensures path { (before : Token) → HasLookedFirst word.number seen before token.old
-        → LooksBy word.number call result (steps_of before) (steps_of token.new) }
+        → LooksBy word.number call result before token.new }
     ensures over { (before : Token) → HasLookedFirst word.number seen before token.old
         → LookOwns (IsUp C.tells limit.entry) word.number call result (owns_of before)
         (owns_of token.new) (last_of token.new) }
@@ -96,8 +97,9 @@ fn wake<R: Wait>(
     requires owns { (base : List Ownership)
         × OwnsBehind word.number succeeded base (owns_of token.old) }
     ensures own { IsSameThread lot.now token.old token.new }
-    ensures path { Walks (at_once word.number) (Once word.number (Run forced (Enter succeeded)))
-        (steps_of token.old) (steps_of token.new) result }
+    ensures path { Courses (at_once word.number) token.old.number
+        (Once word.number (Run forced (Enter succeeded)))
+        (trail_of token.old None) (trail_of token.new None) result }
     ensures over { (base : List Ownership)
         → OwnsBehind word.number succeeded base (owns_of token.old)
         → IsRunOver word.number succeeded base result (stage_of token.new None) }
@@ -134,7 +136,8 @@ pub(crate) fn close<R: Wait>(
     requires own { MeetsOnce lot.now token.old word }
     requires runs { has (owning (once_at word.number) Runner) (owns_of token.old) ≡ true }
     ensures own { IsSameThread lot.now token.old token.new }
-    ensures path { EndsRun word.number forced succeeded (steps_of token.old) (steps_of token.new) }
+    ensures path { EndsRun word.number token.old.number forced succeeded
+        (trail_of token.old None) (trail_of token.new None) }
     ensures closed { EndedAndWoke word.number succeeded (steps_of token.old) (steps_of token.new)
         (last_of token.new) }
     ensures owns { OwnsBehind word.number succeeded

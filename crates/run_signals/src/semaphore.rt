@@ -13,13 +13,12 @@ ghost use Rattle.core_words.specs.RightsOf.{IsHeldOf};
 ghost use Rattle.core_words.specs.Steps.{has};
 ghost use Rattle.core_words.specs.declared.words.WordKind.TheVariants as kinds;
 ghost use Rattle.core_words.specs.declared.owners.Owner.TheVariants.{Shared};
-ghost use Rattle.parking_lot_core.specs.Tokens.{IsSameThread, IsTokenOf, last_of, view_of};
+ghost use Rattle.parking_lot_core.specs.Tokens.{IsSameThread, IsTokenOf, last_of, told_of, view_of};
 ghost use Rattle.run_base.specs.Drawing.{FoundFull};
-ghost use Rattle.run_base.specs.Paths.{Walks, at_semaphore};
 ghost use Rattle.run_base.specs.SemaphoreFitting.{SawNoneFree, permit};
 ghost use Rattle.run_base.specs.Stages.{TookNobodyAt};
 ghost use Rattle.run_base.specs.Telling.{owns_of, steps_of};
-ghost use Rattle.run_signals.specs.SemaphoreCalls.{HasReleased, HasAcquired, HasWalkedSemaphore, StaysAs, permit_answer, deciding, try_place};
+ghost use Rattle.run_signals.specs.SemaphoreCalls.{HasGone, HasReleased, HasAcquired, HasWalkedSemaphore, StaysAs, permit_answer, deciding, try_place};
 
 use crate::semaphore_calls::{acquire_slow, give, give_all, look, take, try_slow, wake_first};
 use core_base::{main_key, to_deadline};
@@ -95,9 +94,8 @@ impl Semaphore {
         requires free { is_free found ≡ true }
         ensures token { IsTokenOf (lot_of self.now) token.new × StaysAs token.old token.new }
         ensures permit { IfSome result (λ permit. semaphore_of permit ≡ self.now) }
-        ensures path { Walks (at_semaphore (number_of self.now))
-            (try_place (number_of self.now) found) (steps_of token.old) (steps_of token.new)
-            (permit_answer answers.Yes result) }
+        ensures path { HasGone (number_of self.now) (try_place (number_of self.now) found)
+            (permit_answer answers.Yes result) token.old token.new }
         ensures none { IfNone result (SawNoneFree (number_of self.now) (steps_of token.new)) }
     {
         let answer = try_slow(rt, &self.lot, token, self.word, found);
@@ -130,6 +128,7 @@ impl Semaphore {
             × (last_of token.new ≡ last_of token.old) }
         ensures left { view_of token.new
             ≡ left_over (permit (number_of self.now)) (view_of token.old) }
+        ensures untold { told_of token.new ≡ told_of token.old }
         ensures permit { semaphore_of result ≡ self.now }
     {
         let held = self.lot.split_held(token, self.word, Want::Shared);
@@ -183,9 +182,8 @@ impl Semaphore {
         requires { IsTokenOf (lot_of self.now) token.old }
         ensures token { IsTokenOf (lot_of self.now) token.new × StaysAs token.old token.new }
         ensures permit { IfSome result (λ permit. semaphore_of permit ≡ self.now) }
-        ensures path { Walks (at_semaphore (number_of self.now))
-            (deciding (number_of self.now) timed seen) (steps_of token.old) (steps_of token.new)
-            (permit_answer (acquired timed) result) }
+        ensures path { HasGone (number_of self.now) (deciding (number_of self.now) timed seen)
+            (permit_answer (acquired timed) result) token.old token.new }
         ensures left { IfNone result (TookNobodyAt (number_of self.now) (last_of token.new)) }
         ensures late { IfNone result ((timed ≡ true) × IsUp C.tells limit.now) }
     {

@@ -9,14 +9,14 @@ ghost use Rattle.core_words.specs.declared.owners.Ownership.{Ownership};
 ghost use Rattle.core_words.specs.declared.views.WordStep.{WordStep};
 ghost use Rattle.parking_lot_core.specs.Tokens.{IsSameThread, IsTokenOf, last_of};
 ghost use Rattle.run_base.specs.Fitting.{AreWordsFor, Fits, IsOver, call_purpose};
-ghost use Rattle.run_base.specs.Paths.{Walks, at_semaphore, semaphore_at, step};
+ghost use Rattle.run_base.specs.Paths.{semaphore_at, step};
 ghost use Rattle.run_base.specs.SemaphoreFitting.{FitsSemaphore, IsSemaphoreOver, to_acquire, permit, semaphore_purpose_at, to_release, to_try};
 ghost use Rattle.lot_steps.specs.declared.places.Place.TheVariants.{Semaphore};
 ghost use Rattle.run_base.specs.Queued.{is_queued};
 ghost use Rattle.run_base.specs.Stages.{stage_of};
 ghost use Rattle.run_base.specs.Telling.{owns_of, steps_of};
 ghost use Rattle.run_base.specs.Words.{single_word, at_in, kind_in};
-ghost use Rattle.run_signals.specs.SemaphoreCalls.{HasAdded, HasFound, HasLooked, MeetsSemaphore, deciding, try_place, waking};
+ghost use Rattle.run_signals.specs.SemaphoreCalls.{HasAdded, HasFound, HasGone, HasLooked, MeetsSemaphore, deciding, try_place, waking};
 
 use core_words::laws::{semaphore_may_step, semaphore_trades};
 use lot_steps::Place;
@@ -104,8 +104,7 @@ fn run_out<R: Wait, C: Clock>(
     requires fits { FitsSemaphore (IsUp C.tells limit) word.number (owns_of token.old) start
         (stage_of token.old None) }
     ensures own { IsSameThread lot.now token.old token.new }
-    ensures path { Walks (at_semaphore word.number) (Semaphore word.number start)
-        (steps_of token.old) (steps_of token.new) result }
+    ensures path { HasGone word.number (Semaphore word.number start) result token.old token.new }
     ensures over { IsSemaphoreOver (IsUp C.tells limit.entry) word.number (owns_of token.old)
         (semaphore_purpose_at start) result (stage_of token.new None) }
 {
@@ -134,8 +133,8 @@ pub(crate) fn acquire_slow<R: Wait, C: Clock>(
 ) -> Answer
     requires own { MeetsSemaphore lot.now token.old word }
     ensures own { IsSameThread lot.now token.old token.new }
-    ensures path { Walks (at_semaphore word.number) (deciding word.number timed seen)
-        (steps_of token.old) (steps_of token.new) result }
+    ensures path { HasGone word.number (deciding word.number timed seen) result
+        token.old token.new }
     ensures over { IsSemaphoreOver (IsUp C.tells limit.entry) word.number (owns_of token.old)
         (to_acquire timed) result (stage_of token.new None) }
 {
@@ -160,8 +159,7 @@ pub(crate) fn try_slow<R: Wait>(
     requires own { MeetsSemaphore lot.now token.old word }
     requires free { is_free seen ≡ true }
     ensures own { IsSameThread lot.now token.old token.new }
-    ensures path { Walks (at_semaphore word.number) (try_place word.number seen)
-        (steps_of token.old) (steps_of token.new) result }
+    ensures path { HasGone word.number (try_place word.number seen) result token.old token.new }
     ensures over { IsSemaphoreOver ⊥ word.number (owns_of token.old) to_try result
         (stage_of token.new None) }
 {
@@ -175,8 +173,7 @@ pub(crate) fn try_slow<R: Wait>(
 pub(crate) fn wake_first<R: Wait>(rt: &R, lot: &ParkingLot, token: &mut Token, word: Word) -> Answer
     requires own { MeetsSemaphore lot.now token.old word }
     ensures own { IsSameThread lot.now token.old token.new }
-    ensures path { Walks (at_semaphore word.number) (waking word.number) (steps_of token.old)
-        (steps_of token.new) result }
+    ensures path { HasGone word.number (waking word.number) result token.old token.new }
     ensures over { IsSemaphoreOver ⊥ word.number (owns_of token.old) to_release result
         (stage_of token.new None) }
 {

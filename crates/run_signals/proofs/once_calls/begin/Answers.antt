@@ -19,4 +19,5 @@ returns-clause-seen c = let n = c.args.word.number in let w = c.load in
       w.ensures.own.0.1,
       ap (λ (v : View). v.steps) c.load.ensures.stepped ∙ ap (λ (kind : WordKind). steps_of c.args.token.now ++ step (word_index c.args.word.number kind) Load c.load.result) c.requires.own.2,
       λ (call : OnceCall). begins_by n call (owns_of c.args.token.now) (steps_of c.args.token.now ++ step (once_at n) Load w.result) w.result (stage_of w.new.token None) code.1.0 is,
+      w.ensures.untold,
     )

@@ -5,14 +5,15 @@ use Rattle.lot_steps.specs.Steps.{next_act, next_place}
 use Rattle.lot_steps.specs.declared.places.Place.{Place}
 use Rattle.parking_lot_core.specs.declared.tokens.Token.{Token}
 use Rattle.run_base.specs.Fitting.{CallPurpose, Fits, IsStopped, call_purpose, answer_of}
-use Rattle.run_base.specs.Paths.{RunsTo, Walks}
+use Rattle.run_base.specs.Courses.{Courses, RunsCourse, trail_of}
+use Rattle.run_base.specs.Paths.{at_once}
 use Rattle.run_base.specs.Stages.{stage_of}
-use Rattle.run_base.specs.Telling.{owns_of, steps_of}
+use Rattle.run_base.specs.Telling.{owns_of}
 use Rattle.run_base.specs.Words.{at_in}
 use Rattle.run_base.specs.declared.driver.Stop.{Stop}
 use Rattle.run_base.specs.declared.driver.Stop.TheVariants.{Ended, Paused}
 use Rattle.run_base.proofs.Ending.{end_of}
-use Rattle.run_signals.specs.OnceCalls.{in_closure, once_begin}
+use Rattle.run_signals.specs.OnceCalls.{StepsLeadTo, in_closure, once_begin}
 use Rattle.run_signals.proofs.OnceCalling.{comes_by, looks_ended, looks_on, looks_to, on_aim, once_alone, paused}
 use Rattle.run_base.specs.Queued.{is_queued}
 use Rattle.run_base.proofs.Unqueued.{after_once}
@@ -21,15 +22,16 @@ use Rattle.run_signals.proofs.once_calls.begin_slow.Goals as goal
 pub returns-in-Some-clause-path : goal.returns-in-Some-clause-path
 returns-in-Some-clause-path g c = let n = c.args.word.number in let call = c.args.call in
     let some : answer_of (next_act (once_begin c.args.word.number c.args.call) (Value c.args.seen)) ≡ Some c.in-Some.answer = search rules in
-    λ before saw. looks_ended n call c.args.seen (steps_of before) (steps_of c.args.token.now) c.in-Some.answer saw.1 (end_of (next_act (once_begin n call) (Value c.args.seen)) c.in-Some.answer some)
+    λ before saw. looks_ended n call c.args.seen before c.args.token.now c.in-Some.answer saw.1 saw.3 (end_of (next_act (once_begin n call) (Value c.args.seen)) c.in-Some.answer some)
 
 pub returns-in-Ended-clause-path : goal.returns-in-Ended-clause-path
 returns-in-Ended-clause-path g c = let n = c.args.word.number in let call = c.args.call in
     let next : c.advance-next.result.0 ≡ next_place (once_begin c.args.word.number c.args.call) (Value c.args.seen) = search rules in
-    let walks = subst (RunsTo (at_in c.alone.result) c.advance-next.result.0 (steps_of c.args.token.now) (steps_of c.run.new.token)) c.in-Ended.is c.run.ensures.path in
-    λ before saw. looks_on n call c.args.seen (steps_of before) (steps_of c.args.token.now) (steps_of c.run.new.token) c.in-Ended.answer saw.1
-    (subst (λ (at : ℕ → ℕ). Walks at (next_place (once_begin c.args.word.number c.args.call) (Value c.args.seen)) (steps_of c.args.token.now) (steps_of c.run.new.token) c.in-Ended.answer) (ap at_in c.alone.ensures ∙ once_alone c.args.word c.requires.own.2)
-    (subst (λ (p : Place). Walks (at_in c.alone.result) p (steps_of c.args.token.now) (steps_of c.run.new.token) c.in-Ended.answer) next walks))
+    let courses = subst (RunsCourse (at_in c.alone.result) c.args.token.now.number c.advance-next.result.0 (trail_of c.args.token.now None) (trail_of c.run.new.token None)) c.in-Ended.is c.run.ensures.course in
+    λ (before : Token) saw. looks_on n call c.args.seen before c.args.token.now (trail_of c.run.new.token None) c.in-Ended.answer saw.1 saw.3
+    (subst (λ (me : ℕ). Courses (at_once c.args.word.number) me (next_place (once_begin c.args.word.number c.args.call) (Value c.args.seen)) (trail_of c.args.token.now None) (trail_of c.run.new.token None) c.in-Ended.answer) saw.0
+    (subst (λ (at : ℕ → ℕ). Courses at c.args.token.now.number (next_place (once_begin c.args.word.number c.args.call) (Value c.args.seen)) (trail_of c.args.token.now None) (trail_of c.run.new.token None) c.in-Ended.answer) (ap at_in c.alone.ensures ∙ once_alone c.args.word c.requires.own.2)
+    (subst (λ (p : Place). Courses (at_in c.alone.result) c.args.token.now.number p (trail_of c.args.token.now None) (trail_of c.run.new.token None) c.in-Ended.answer) next courses)))
 
 pub run-requires-clause-start : goal.run-requires-clause-start
 run-requires-clause-start g c = let n = c.args.word.number in let call = c.args.call in let base = owns_of c.requires.seen.0 in
@@ -56,9 +58,16 @@ returns-in-Paused-clause-path g c = let n = c.args.word.number in let call = c.a
     let stopped = subst (λ (stop : Stop). IsStopped (IsUp g.C.Clock.tells c.args.limit) (owns_of c.requires.seen.0) (call_purpose c.advance-next.result.0) stop (stage_of c.run.new.token None)) c.in-Paused.is (c.run.ensures.stopped base fits) in
     let closure = paused (IsUp g.C.Clock.tells c.args.limit) n call base c.in-Paused.place c.in-Paused.state (stage_of c.run.new.token None)
     (subst (λ (aim : CallPurpose). IsStopped (IsUp g.C.Clock.tells c.args.limit) (owns_of c.requires.seen.0) aim (Paused c.in-Paused.place c.in-Paused.state) (stage_of c.run.new.token None)) (ap call_purpose next ∙ on.1) stopped) in
-    let path = subst (RunsTo (at_in c.alone.result) c.advance-next.result.0 (steps_of c.args.token.now) (steps_of c.run.new.token)) c.in-Paused.is c.run.ensures.path in
-    let comes = comes_by (at_in c.alone.result) n c.advance-next.result.0 (next_place (once_begin n call) (Value c.args.seen)) c.in-Paused.place (in_closure n closure.forced closure.poisoned) (steps_of c.args.token.now) (steps_of c.run.new.token) (ap at_in c.alone.ensures ∙ once_alone c.args.word c.requires.own.2) next closure.there path in
-    λ before saw. (closure.forced, closure.poisoned, closure.call, closure.told, looks_to n call c.args.seen (steps_of before) (steps_of c.args.token.now) (steps_of c.run.new.token) (in_closure n closure.forced closure.poisoned) saw.1 comes)
+    let course = subst (RunsCourse (at_in c.alone.result) c.args.token.now.number c.advance-next.result.0 (trail_of c.args.token.now None) (trail_of c.run.new.token None)) c.in-Paused.is c.run.ensures.course in
+    let comes = comes_by (at_in c.alone.result) n c.args.token.now.number c.advance-next.result.0 (next_place (once_begin n call) (Value c.args.seen)) c.in-Paused.place (in_closure n closure.forced closure.poisoned) (trail_of c.args.token.now None) (trail_of c.run.new.token None) (ap at_in c.alone.ensures ∙ once_alone c.args.word c.requires.own.2) next closure.there course in
+    λ (before : Token) saw. (
+      closure.forced,
+      closure.poisoned,
+      closure.call,
+      closure.told,
+      looks_to n call c.args.seen before c.args.token.now (trail_of c.run.new.token None) (in_closure n closure.forced closure.poisoned) saw.1 saw.3
+          (subst (λ (me : ℕ). StepsLeadTo n me (next_place (once_begin n call) (Value c.args.seen)) (trail_of c.args.token.now None) (trail_of c.run.new.token None) (in_closure n closure.forced closure.poisoned)) saw.0 comes),
+    )
 
 pub returns-in-Paused-clause-over : goal.returns-in-Paused-clause-over
 returns-in-Paused-clause-over g c = let n = c.args.word.number in let call = c.args.call in

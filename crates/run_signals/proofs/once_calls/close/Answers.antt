@@ -1,4 +1,4 @@
-use Rattle.std.proofs.Common.{rules, ℕ, ◌≡◌, ◌++◌, ◌∙◌, Bool, List, true, false, ap, sym, subst}
+use Rattle.std.proofs.Common.{rules, ℕ, ◌≡◌, ◌++◌, ◌∙◌, Bool, List, None, true, false, ap, sym, subst}
 use Rattle.spec_locks.specs.Codes.{is_marked}
 use Rattle.core_base.specs.declared.ops.Op.TheVariants.{Swap}
 use Rattle.steps_once.specs.OnceSteps.{word_behind}
@@ -14,7 +14,12 @@ use Rattle.core_words.specs.declared.words.WordKind.TheVariants.{Once}
 use Rattle.core_words.proofs.OnceSteps.{once_steps}
 use Rattle.parking_lot_core.specs.Tokens.{last_of}
 use Rattle.run_base.specs.OnceFitting.{OwnsBehind}
-use Rattle.run_base.specs.Paths.{once_at, step}
+use Rattle.lot_steps.specs.declared.places.Place.TheVariants as place
+use Rattle.steps_once.specs.declared.places.OncePlace.TheVariants.{Run}
+use Rattle.steps_once.specs.declared.run.RunAt.TheVariants as run
+use Rattle.run_base.specs.Courses.{Courses, Trail, trail_of}
+use Rattle.run_base.specs.Paths.{at_once, once_at, step}
+use Rattle.run_base.proofs.Courses.{one_more}
 use Rattle.run_base.specs.Telling.{owns_of, steps_of}
 use Rattle.run_signals.specs.OnceCalls.{WokeIfMarked}
 use Rattle.run_signals.proofs.OnceCalling.{closes_at_once, closes_on, runs_found, swapped, word_left}
@@ -47,16 +52,17 @@ pub returns-then-is_marked-clause-path : goal.returns-then-is_marked-clause-path
 returns-then-is_marked-clause-path g c = let n = c.args.word.number in let s = c.args.succeeded in let w = c.word-seen in let owns = owns_of c.args.token.now in let old = steps_of c.args.token.now in let mid = steps_of c.word-seen.new.token in
     let marked : is_marked c.word-seen.result ≡ true = search rules in
     let over = c.wake.ensures.over (without (owning (once_at n) Runner) owns) (behind n s w.result c.word_behind.result c.args.word.kind owns (owns_of w.new.token) c.requires.own.2 c.word_behind.ensures w.ensures.coded c.requires.runs (ap (λ (v : View). v.owns) w.ensures.stepped)) in
-    closes_on n c.args.forced s w.result old mid (steps_of c.wake.new.token) c.wake.result marked (added n w.result c.word_behind.result s c.args.word.kind old mid c.requires.own.2 c.word_behind.ensures (ap (λ (v : View). v.steps) w.ensures.stepped)) over.1 c.wake.ensures.path
+    closes_on n c.args.forced s w.result c.args.token.now.number (trail_of c.args.token.now None) (trail_of w.new.token None) (trail_of c.wake.new.token None) c.wake.result marked (one_more _ _ _ _ _ (added n w.result c.word_behind.result s c.args.word.kind old mid c.requires.own.2 c.word_behind.ensures (ap (λ (v : View). v.steps) w.ensures.stepped)) w.ensures.untold) over.1
+    (subst (λ (me : ℕ). Courses (at_once c.args.word.number) me (place.Once c.args.word.number (Run c.args.forced (run.Enter c.args.succeeded))) (trail_of c.word-seen.new.token None) (trail_of c.wake.new.token None) c.wake.result) w.ensures.own.0.1 c.wake.ensures.path)
 
 pub returns-then-is_marked-clause-closed : goal.returns-then-is_marked-clause-closed
 returns-then-is_marked-clause-closed g c = let n = c.args.word.number in let s = c.args.succeeded in let w = c.word-seen in let owns = owns_of c.args.token.now in let old = steps_of c.args.token.now in let mid = steps_of c.word-seen.new.token in
     let marked : is_marked c.word-seen.result ≡ true = search rules in let path = c.wake.ensures.path in
     let over = c.wake.ensures.over (without (owning (once_at n) Runner) owns) (behind n s w.result c.word_behind.result c.args.word.kind owns (owns_of w.new.token) c.requires.own.2 c.word_behind.ensures w.ensures.coded c.requires.runs (ap (λ (v : View). v.owns) w.ensures.stepped)) in (
       w.result,
-      path.0,
-      path.1 ∙ ap (λ (l : List WordStep). l ++ c.wake.ensures.path.0) (added n w.result c.word_behind.result s c.args.word.kind old mid c.requires.own.2 c.word_behind.ensures (ap (λ (v : View). v.steps) w.ensures.stepped)),
-      subst (λ (b : Bool). WokeIfMarked c.args.word.number b c.wake.ensures.path.0 (last_of c.wake.new.token)) (sym marked) over.3,
+      path.0.steps,
+      ap (λ (t : Trail). t.steps) path.1 ∙ ap (λ (l : List WordStep). l ++ c.wake.ensures.path.0.steps) (added n w.result c.word_behind.result s c.args.word.kind old mid c.requires.own.2 c.word_behind.ensures (ap (λ (v : View). v.steps) w.ensures.stepped)),
+      subst (λ (b : Bool). WokeIfMarked c.args.word.number b c.wake.ensures.path.0.steps (last_of c.wake.new.token)) (sym marked) over.3,
     )
 
 pub returns-then-is_marked-clause-owns : goal.returns-then-is_marked-clause-owns
@@ -66,7 +72,7 @@ returns-then-is_marked-clause-owns g c = let n = c.args.word.number in let s = c
 pub returns-else-is_marked-clause-path : goal.returns-else-is_marked-clause-path
 returns-else-is_marked-clause-path g c = let n = c.args.word.number in let s = c.args.succeeded in let w = c.word-seen in let old = steps_of c.args.token.now in let mid = steps_of c.word-seen.new.token in
     let unmarked : is_marked c.word-seen.result ≡ false = search rules in
-    closes_at_once n c.args.forced s w.result old mid unmarked (added n w.result c.word_behind.result s c.args.word.kind old mid c.requires.own.2 c.word_behind.ensures (ap (λ (v : View). v.steps) w.ensures.stepped))
+    closes_at_once n c.args.forced s w.result c.args.token.now.number (trail_of c.args.token.now None) (trail_of w.new.token None) unmarked (one_more _ _ _ _ _ (added n w.result c.word_behind.result s c.args.word.kind old mid c.requires.own.2 c.word_behind.ensures (ap (λ (v : View). v.steps) w.ensures.stepped)) w.ensures.untold)
 
 pub returns-else-is_marked-clause-owns : goal.returns-else-is_marked-clause-owns
 returns-else-is_marked-clause-owns g c = let n = c.args.word.number in let w = c.word-seen in let owns = owns_of c.args.token.now in
