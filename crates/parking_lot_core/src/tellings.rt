@@ -25,7 +25,7 @@ pub enum Telling {
         taken: usize,
         moved: usize,
     },
-    /// So many stood under the key.
+    /// This many stood under the key.
     Counted {
         key: Key,
         number: usize,
