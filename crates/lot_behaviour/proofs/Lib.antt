@@ -1,0 +1,5 @@
+pub mod VerdictLemmas
+pub mod RunLemmas
+pub mod Kept
+pub mod Following
+pub mod Deadlocks

@@ -1,0 +1,5 @@
+pub mod Conducts
+pub mod Moves
+pub mod Rows
+pub mod Runs
+pub mod Searches
