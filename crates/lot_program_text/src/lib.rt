@@ -8,7 +8,9 @@ pub mod malformed;
 pub mod parser;
 pub mod properties;
 pub mod sections;
+pub mod warnings;
 pub mod words;
 
 pub use malformed::TextError;
 pub use parser::{ProgramText, parse};
+pub use warnings::{Warning, warnings_of};

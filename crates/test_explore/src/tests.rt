@@ -4,12 +4,13 @@ mod packs;
 mod programs;
 mod properties;
 mod texts;
+mod walks;
 
 use core_base::Queues;
-use lot_explore::{Followed, explore, follow};
-use lot_program::{Deadlines, Fault, Program};
+use lot_explore::{Walk, Wrong, explore};
+use lot_program::{Deadlines, Program};
 use lot_program_text::{TextError, parse};
-use state_search::{Limits, Unobserved, Verdict};
+use state_search::{Limits, NoRoom, Unobserved, Verdict};
 use std::alloc::Global;
 use std::fmt::Debug;
 use std::process::Abort;
@@ -34,6 +35,18 @@ enum Found {
     NoMemory(usize),
     /// The text is no program.
     NoProgram,
+}
+
+impl Found {
+    /// Returns what is wrong after so many moves.
+    fn of(wrong: Wrong, moves: usize) -> Found {
+        match wrong {
+            Wrong::Deadlock => Found::Deadlock(moves),
+            Wrong::Refused { thread: _ } => Found::Refused(moves),
+            Wrong::Failed { thread: _ } => Found::Assert(moves),
+            Wrong::Broken { property } => Found::Broken(property, moves),
+        }
+    }
 }
 
 // Asserts that the thing found is the thing wanted. All tests share this one assertion, since each
@@ -80,6 +93,7 @@ fn search_by<Q: Queues + Drop>(
         Ok(Verdict::Holds { states, depth: _ }) => Found::Nothing(states),
         Ok(Verdict::Limited { states, depth: _ }) => Found::Limit(states),
         Ok(Verdict::NoMemory { states, depth: _ }) => Found::NoMemory(states),
+        Ok(Verdict::Stopped { states, depth: _ }) => Found::Limit(states),
         Ok(Verdict::Broken { moves }) => broken::<Q>(alloc, &parsed.program, moves.as_slice()),
         Err(_) => Found::NoProgram,
     }
@@ -87,37 +101,25 @@ fn search_by<Q: Queues + Drop>(
 
 /// Returns what is wrong with the state after some moves.
 fn broken<Q: Queues + Drop>(alloc: Global, program: &Program, moves: &[usize]) -> Found {
-    if !program.is_fit() {
-        return Found::NoProgram;
-    }
     let number = moves.len();
-    let Ok(run) = follow::<Q>(alloc, program, moves) else {
-        return Found::Limit(number);
-    };
-    match fault_of(program, &run) {
-        Fault::Nothing => stuck_or_broken(program, &run, number),
-        Fault::Refused => Found::Refused(number),
-        Fault::Failed => Found::Assert(number),
+    match wrong_after::<Q>(alloc, program, moves) {
+        Ok(Some(wrong)) => Found::of(wrong, number),
+        Ok(None) => Found::Nothing(number),
+        Err(NoRoom) => Found::NoMemory(number),
     }
 }
 
-/// Returns the first property that is broken, or that no move is possible.
-fn stuck_or_broken<Q: Queues + Drop>(program: &Program, run: &Followed<Q>, number: usize) -> Found {
-    for (property, broken) in program.properties.iter().enumerate() {
-        if run.scene.breaks(program, *broken) {
-            return Found::Broken(property, number);
-        }
+fn wrong_after<Q: Queues + Drop>(
+    alloc: Global,
+    program: &Program,
+    moves: &[usize],
+) -> Result<Option<Wrong>, NoRoom> {
+    if !program.is_fit() {
+        return Ok(None);
     }
-    Found::Deadlock(number)
-}
-
-/// Returns the first fault of a thread, or that there is none.
-fn fault_of<Q: Queues + Drop>(program: &Program, run: &Followed<Q>) -> Fault {
-    for thread in 0..program.threads() {
-        let fault = run.scene.local(thread).fault;
-        if fault != Fault::Nothing {
-            return fault;
-        }
+    let mut walk = Walk::<Q>::new(alloc, program)?;
+    for by in moves {
+        walk.turn(*by)?;
     }
-    Fault::Nothing
+    walk.wrong()
 }

@@ -9,7 +9,7 @@ use std::test::Fail;
 
 /// Room for each program here.
 const ROOM: Limits = Limits {
-    states: 30_000,
+    states: 60_000,
     bytes: None,
 };
 
@@ -48,6 +48,82 @@ const PROGRAMS: &[Grained] = &[
         calls: Found::Deadlock(5),
         cut_calls: Found::Deadlock(6),
         steps: Found::Deadlock(14),
+    },
+    // A notification with its variable.
+    Grained {
+        text: "threads 2\nlock m mutex\nlock c condvar\nvar ready 0\n\
+               thread 0\nlock m\nwhile ready = 0\nwait c m\nend\nunlock m\n\
+               thread 1\nlock m\nset ready 1\nnotify_one c\nunlock m\n",
+        calls: Found::Nothing(23),
+        cut_calls: Found::Nothing(44),
+        steps: Found::Nothing(314),
+    },
+    // One condition variable for two conditions, with the wrong notification and with the right one.
+    Grained {
+        text: "threads 3\nlock m mutex\nlock c condvar\nvar full 0\n\
+               thread 0\nrepeat 2\nlock m\nwhile full = 1\nwait c m\nend\n\
+               set full 1\nnotify_one c\nunlock m\nend\n\
+               thread 1 2\nlock m\nwhile full = 0\nwait c m\nend\n\
+               set full 0\nnotify_one c\nunlock m\nfinally full = 0\n",
+        calls: Found::Deadlock(24),
+        cut_calls: Found::Deadlock(28),
+        steps: Found::Deadlock(72),
+    },
+    Grained {
+        text: "threads 3\nlock m mutex\nlock c condvar\nvar full 0\n\
+               thread 0\nrepeat 2\nlock m\nwhile full = 1\nwait c m\nend\n\
+               set full 1\nnotify_all c\nunlock m\nend\n\
+               thread 1 2\nlock m\nwhile full = 0\nwait c m\nend\n\
+               set full 0\nnotify_all c\nunlock m\nfinally full = 0\n",
+        calls: Found::Nothing(566),
+        cut_calls: Found::Nothing(2440),
+        steps: Found::Nothing(44202),
+    },
+    // Two upgrades, of which one at a time is upgradable.
+    Grained {
+        text: "threads 2\nlock r rwlock\nthread 0 1\nupgradable r\nupgrade r\nunlock_exclusive r\n",
+        calls: Found::Nothing(18),
+        cut_calls: Found::Nothing(18),
+        steps: Found::Nothing(209),
+    },
+    // Two readers that want to write.
+    Grained {
+        text: "threads 2\nlock r rwlock\nthread 0 1\nread r\nwrite r\n",
+        calls: Found::Deadlock(3),
+        cut_calls: Found::Deadlock(3),
+        steps: Found::Deadlock(18),
+    },
+    // Two orders of locks, without a gate and with one.
+    Grained {
+        text: "threads 2\nlock a mutex\nlock b mutex\n\
+               thread 0\nlock a\nlock b\nunlock b\nunlock a\n\
+               thread 1\nlock b\nlock a\nunlock a\nunlock b\n",
+        calls: Found::Deadlock(4),
+        cut_calls: Found::Deadlock(4),
+        steps: Found::Deadlock(18),
+    },
+    Grained {
+        text: "threads 2\nlock g mutex\nlock a mutex\nlock b mutex\n\
+               thread 0\nlock g\nlock a\nlock b\nunlock b\nunlock a\nunlock g\n\
+               thread 1\nlock g\nlock b\nlock a\nunlock a\nunlock b\nunlock g\n",
+        calls: Found::Nothing(36),
+        cut_calls: Found::Nothing(36),
+        steps: Found::Nothing(342),
+    },
+    // Two orders with deadlines.
+    Grained {
+        text: TIMED,
+        calls: Found::Nothing(58),
+        cut_calls: Found::Nothing(58),
+        steps: Found::Nothing(673),
+    },
+    // Readers that pass a pending writer for ever are no deadlock.
+    Grained {
+        text: "threads 3\nlock r recursive\nthread 0 1\nloop\nread r\nunlock_shared r\nend\n\
+               thread 2\nwrite r\nunlock_exclusive r\n",
+        calls: Found::Nothing(81),
+        cut_calls: Found::Nothing(81),
+        steps: Found::Nothing(4626),
     },
     // A reader's try fails while a timed writer has given up and not gone yet.
     Grained {

@@ -2,12 +2,11 @@
 
 use super::check_eq;
 use core_base::ListQueues;
-use lot_explore::Explorer;
+use lot_explore::{Explorer, Walk};
 use lot_program::Tables;
 use lot_program_text::parse;
 use state_search::{NoRoom, System};
 use std::alloc::Global;
-use std::marker::PhantomData;
 use std::process::Abort;
 use std::test::Fail;
 
@@ -54,11 +53,11 @@ fn known_start_of(alloc: Global, text: &str) -> Option<[bool; 2]> {
     if !program.is_fit() {
         return None;
     }
-    let mut explorer = Explorer::<ListQueues> {
+    let walk = Walk::<ListQueues>::new(alloc, program).ok()?;
+    let mut explorer = Explorer {
         alloc,
-        program,
+        walk: &walk,
         tables: Tables::new(alloc).ok()?,
-        queues: PhantomData,
     };
     known_start(alloc, &mut explorer).ok()
 }
