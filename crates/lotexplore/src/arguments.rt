@@ -8,6 +8,9 @@ use std::alloc::Global;
 /// The most states where no argument says otherwise.
 const MOST_STATES: &str = "2000000";
 
+/// The most turns of a walk where no argument says otherwise.
+pub const MOST_TURNS: u32 = 10000;
+
 /// The words for each grain.
 static GRAINS: [&str; 3] = ["step", "call", "auto"];
 
@@ -19,16 +22,46 @@ pub enum GrainName {
     Auto,
 }
 
+/// In what form is printed what was found.
+#[derive(Clone, Copy, Debug, PartialEq, Eq)]
+pub enum Form {
+    Words,
+    /// With a line for each turn.
+    Explained,
+    Json,
+    /// With an object for each second, too.
+    JsonLines,
+}
+
+/// Which schedules are tried.
+#[derive(Clone, Copy, Debug, PartialEq, Eq)]
+pub enum Way {
+    /// All, breadth first.
+    All,
+    /// Walks at random: how many, and from which seed on.
+    Random { walks: u64, seed: u64 },
+}
+
 /// What is searched, and what is printed of it.
-#[derive(Clone, Copy)]
-pub struct Arguments {
+#[derive(Clone, Copy, Drop)]
+pub struct Arguments<'a> {
+    /// The file of the program, if it is not on standard input.
+    pub program: Option<&'a str>,
+    pub way: Way,
     pub limits: Limits,
+    pub depth: Option<u32>,
+    pub seconds: Option<u64>,
     pub grain: GrainName,
     pub deadlines: Deadlines,
-    /// Whether the schedule alone goes to standard output.
-    pub is_bare: bool,
-    /// Whether each turn is told by a line.
-    pub is_explained: bool,
+    pub form: Form,
+    /// Whether moves are left out of what is found.
+    pub shrinks: bool,
+    /// Whether standard error is told how far the search is.
+    pub tells: bool,
+    /// The file that the schedule alone goes to, `-` for standard output.
+    pub schedule: Option<&'a str>,
+    /// The file that its picture goes to.
+    pub picture: Option<&'a str>,
 }
 
 impl GrainName {
@@ -55,32 +88,101 @@ impl GrainName {
 /// # Errors
 ///
 /// Clap's, also where help is asked for.
-pub fn arguments_from<'a>(alloc: Global, words: &'a [String]) -> Result<Arguments, Error> {
+pub fn arguments_from<'a>(alloc: Global, words: &'a [String]) -> Result<Arguments<'a>, Error> {
     let matches = command(alloc)?.try_get_matches_from(words)?;
     Ok(arguments_in(&matches))
 }
 
-fn arguments_in(matches: &ArgMatches<'_>) -> Arguments {
+fn arguments_in<'a>(matches: &ArgMatches<'a>) -> Arguments<'a> {
     Arguments {
+        program: matches.get_str("program"),
+        way: way_in(matches),
         limits: Limits {
             states: matches.get_one::<u32>("states").unwrap_or(0),
             bytes: matches.get_one::<u64>("bytes"),
         },
+        depth: matches.get_one::<u32>("depth"),
+        seconds: matches.get_one::<u64>("seconds"),
         grain: GrainName::of_word(matches.get_str("grain").unwrap_or("auto")),
         deadlines: if matches.get_flag("no-late") {
             Deadlines::Never
         } else {
             Deadlines::Pass
         },
-        is_bare: matches.get_flag("schedule"),
-        is_explained: matches.get_flag("explain"),
+        form: form_in(matches),
+        shrinks: matches.get_flag("shrink"),
+        tells: matches.get_flag("progress"),
+        schedule: matches.get_str("schedule"),
+        picture: matches.get_str("draw"),
+    }
+}
+
+fn way_in(matches: &ArgMatches<'_>) -> Way {
+    match matches.get_one::<u64>("random") {
+        Some(walks) => Way::Random {
+            walks,
+            seed: matches.get_one::<u64>("seed").unwrap_or(0),
+        },
+        None => Way::All,
+    }
+}
+
+fn form_in(matches: &ArgMatches<'_>) -> Form {
+    if matches.get_flag("json-lines") {
+        Form::JsonLines
+    } else if matches.get_flag("json") {
+        Form::Json
+    } else if matches.get_flag("explain") {
+        Form::Explained
+    } else {
+        Form::Words
     }
 }
 
 fn command<'a>(alloc: Global) -> Result<Command<'a>, Error> {
     let command = Command::new(alloc, "lotexplore")
-        .about("Searches all schedules of a program of lock calls, on standard input.")
-        .arg(grain(alloc))?
+        .about("Searches all schedules of a program of lock calls")
+        .arg(
+            Arg::new(alloc, "program").value_name("PROGRAM").help(
+                "The file of the program, else it is read from standard input",
+            ),
+        )?;
+    with_forms(alloc, with_limits(alloc, with_ways(alloc, command)?)?)
+}
+
+// The arguments that say which schedules are tried.
+fn with_ways<'a>(alloc: Global, command: Command<'a>) -> Result<Command<'a>, Error> {
+    let command = command
+        .arg(
+            Arg::new(alloc, "grain")
+                .long("grain")
+                .value_name("GRAIN")
+                .value_parser(GRAINS.as_slice())
+                .default_value("auto")
+                .help("Ends a turn after each step, or with the call, or as the program needs it"),
+        )?
+        .arg(flag(alloc, "no-late", "Lets no timed sleep end by its deadline"))?
+        .arg(number(
+            alloc,
+            "random",
+            "Takes so many walks at random in place of a search",
+        ))?
+        .arg(number(
+            alloc,
+            "seed",
+            "The seed of the first walk, 0 if nothing is said",
+        ))?
+        .arg(flag(
+            alloc,
+            "shrink",
+            "Leaves out turns of what is found while it goes wrong",
+        ))?;
+    Ok(command)
+}
+
+// The arguments that say how much is tried.
+fn with_limits<'a>(alloc: Global, command: Command<'a>) -> Result<Command<'a>, Error> {
+    let command = command
         .arg(
             Arg::new(alloc, "states")
                 .long("states")
@@ -89,39 +191,64 @@ fn command<'a>(alloc: Global) -> Result<Command<'a>, Error> {
                 .default_value(MOST_STATES)
                 .help("Keeps at most so many states"),
         )?
+        .arg(number(
+            alloc,
+            "bytes",
+            "Keeps as many states as so many bytes have room for",
+        ))?
         .arg(
-            Arg::new(alloc, "bytes")
-                .long("bytes")
+            Arg::new(alloc, "depth")
+                .long("depth")
                 .value_name("N")
-                .value_parser(value_parser!(u64))
-                .help("Keeps as many states as so many bytes have room for"),
+                .value_parser(value_parser!(u32))
+                .help("Tries at most so many turns one after another"),
         )?
-        .arg(
-            Arg::new(alloc, "no-late")
-                .long("no-late")
-                .action(ArgAction::SetTrue)
-                .help("Lets no timed sleep end by its deadline"),
-        )?
-        .arg(
-            Arg::new(alloc, "explain")
-                .long("explain")
-                .action(ArgAction::SetTrue)
-                .help("Prints a line for each turn"),
-        )?
-        .arg(
-            Arg::new(alloc, "schedule")
-                .long("schedule")
-                .action(ArgAction::SetTrue)
-                .help("Prints the schedule alone, and the first line to standard error"),
-        )?;
+        .arg(number(alloc, "seconds", "Ends after so many seconds"))?;
     Ok(command)
 }
 
-fn grain<'a>(alloc: Global) -> Arg<'a> {
-    Arg::new(alloc, "grain")
-        .long("grain")
-        .value_name("GRAIN")
-        .value_parser(GRAINS.as_slice())
-        .default_value("auto")
-        .help("Ends a turn after each step, or with the call, or as the program needs it")
+// The arguments that say what is printed.
+fn with_forms<'a>(alloc: Global, command: Command<'a>) -> Result<Command<'a>, Error> {
+    let command = command
+        .arg(flag(
+            alloc,
+            "explain",
+            "Prints a line for each turn, and the locks that it changed",
+        ))?
+        .arg(flag(alloc, "json", "Prints one JSON object"))?
+        .arg(flag(alloc, "json-lines", "Prints an object each second too"))?
+        .arg(flag(
+            alloc,
+            "progress",
+            "Tells each second on standard error how far it is",
+        ))?
+        .arg(file(
+            alloc,
+            "schedule",
+            "Writes the schedule to a file, - for standard output",
+        ))?
+        .arg(file(alloc, "draw", "Draws the schedule into a file, as SVG"))?;
+    Ok(command)
+}
+
+fn flag<'a>(alloc: Global, name: &'a str, help: &'a str) -> Arg<'a> {
+    Arg::new(alloc, name)
+        .long(name)
+        .action(ArgAction::SetTrue)
+        .help(help)
+}
+
+fn number<'a>(alloc: Global, name: &'a str, help: &'a str) -> Arg<'a> {
+    Arg::new(alloc, name)
+        .long(name)
+        .value_name("N")
+        .value_parser(value_parser!(u64))
+        .help(help)
+}
+
+fn file<'a>(alloc: Global, name: &'a str, help: &'a str) -> Arg<'a> {
+    Arg::new(alloc, name)
+        .long(name)
+        .value_name("FILE")
+        .help(help)
 }

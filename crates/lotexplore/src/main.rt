@@ -1,25 +1,26 @@
-//! A program of lock calls on standard input; what a search of all its schedules finds, on standard
-//! output.
+//! A program of lock calls; what a search of all its schedules finds, on standard output.
 #![tactic(auto)]
 
 mod arguments;
-mod explain;
-mod headline;
+mod picture;
 mod report;
 mod status;
-mod waits;
+mod watch;
 
 use crate::arguments::{Arguments, arguments_from};
 use crate::report::report;
 use lot_program_text::{TextError, parse};
 use std::io::ErrorKind;
 use std::process::ExitCode;
-use std::{env, io};
+use std::{env, fs, io};
 
 fn main(rt: HostRuntime) -> ExitCode {
     match run(&rt) {
         Ok(status) => ExitCode::from(status),
-        Err(_) => ExitCode::from(status::BROKEN),
+        Err(error) => {
+            eprintln!(rt; "lotexplore: {error}").unwrap_or(());
+            ExitCode::from(status::BROKEN)
+        }
     }
 }
 
@@ -33,7 +34,7 @@ fn run(rt: &HostRuntime) -> io::Result<u8> {
         Err(e) => return Err(e),
     };
     match arguments_from(rt.alloc(), words.as_slice()) {
-        Ok(arguments) => search_input(rt, arguments),
+        Ok(arguments) => search_program(rt, arguments),
         Err(error) => {
             error.print(rt)?;
             Ok(error.exit_code() as u8)
@@ -41,15 +42,19 @@ fn run(rt: &HostRuntime) -> io::Result<u8> {
     }
 }
 
-// Reads the program on standard input, and prints what a search of it finds.
-fn search_input(rt: &HostRuntime, arguments: Arguments) -> io::Result<u8> {
-    let text = match io::read_to_string(rt.alloc(), rt.reader()) {
+// Reads the program, and prints what a search of it finds.
+fn search_program(rt: &HostRuntime, arguments: Arguments<'_>) -> io::Result<u8> {
+    let text = match read_program(rt, arguments) {
         Ok(text) => text,
         Err(e) if e.kind() == ErrorKind::InvalidData => {
             println!(rt; "the program is not text")?;
             return Ok(status::MALFORMED);
         }
-        Err(e) => return Err(e),
+        Err(e) => {
+            let from = arguments.program.unwrap_or("standard input");
+            eprintln!(rt; "lotexplore: {from}: {e}")?;
+            return Ok(status::BROKEN);
+        }
     };
     match parse(rt.alloc(), text.as_str()) {
         Ok(parsed) => report(rt, parsed, text.as_str(), arguments),
@@ -61,5 +66,13 @@ fn search_input(rt: &HostRuntime, arguments: Arguments) -> io::Result<u8> {
             println!(rt; "{error}")?;
             Ok(status::MALFORMED)
         }
+    }
+}
+
+// Reads the program from its file, else from standard input.
+fn read_program(rt: &HostRuntime, arguments: Arguments<'_>) -> io::Result<String> {
+    match arguments.program {
+        Some(path) => fs::read_to_string(rt, path),
+        None => io::read_to_string(rt.alloc(), rt.reader()),
     }
 }

@@ -1,26 +1,35 @@
 //! The first line of what is printed, whose words don't change.
-use crate::arguments::GrainName;
 use std::fmt;
 
 /// What a search has found, in one line.
-#[derive(Clone, Copy)]
-pub enum Headline {
+#[derive(Clone, Copy, Drop)]
+pub enum Headline<'a> {
+    /// All states were searched.
     Nothing {
         states: usize,
-        grain: GrainName,
+        grain: &'a str,
     },
     /// Not all states were searched, for a reason.
     NotAll {
         states: usize,
         depth: usize,
-        grain: GrainName,
-        why: &'static str,
+        grain: &'a str,
+        why: &'a str,
+    },
+    /// Walks at random found nothing: how many, and from which seed on.
+    Walked {
+        walks: u64,
+        turns: usize,
+        seed: u64,
+        grain: &'a str,
     },
     /// A schedule of so many turns goes wrong.
     Wrong {
-        word: &'static str,
+        word: &'a str,
         turns: usize,
-        grain: GrainName,
+        grain: &'a str,
+        /// That of the walk that found it.
+        seed: Option<u64>,
     },
     /// One goes wrong, and there is no memory to print it.
     NoSchedule {
@@ -28,11 +37,10 @@ pub enum Headline {
     },
 }
 
-impl fmt::Display for Headline {
+impl fmt::Display for Headline<'_> {
     fn fmt<W: fmt::Write>(&self, f: &mut fmt::Formatter<W>) -> fmt::Result {
-        match self {
+        match *self {
             Headline::Nothing { states, grain } => {
-                let grain = grain.word();
                 write!(
                     f,
                     "nothing found: {states} states, all of them, grain {grain}"
@@ -44,15 +52,35 @@ impl fmt::Display for Headline {
                 grain,
                 why,
             } => {
-                let grain = grain.word();
                 write!(
                     f,
                     "nothing found in {states} states, complete to depth {depth}, "
                 )?;
                 write!(f, "grain {grain}; {why}")
             }
-            Headline::Wrong { word, turns, grain } => {
-                write!(f, "{word} after {turns} turns, grain {}", grain.word())
+            Headline::Walked {
+                walks,
+                turns,
+                seed,
+                grain,
+            } => {
+                write!(
+                    f,
+                    "nothing found in {walks} walks of at most {turns} turns, "
+                )?;
+                write!(f, "from seed {seed} on, grain {grain}; not all")
+            }
+            Headline::Wrong {
+                word,
+                turns,
+                grain,
+                seed,
+            } => {
+                write!(f, "{word} after {turns} turns, grain {grain}")?;
+                match seed {
+                    Some(seed) => write!(f, ", seed {seed}"),
+                    None => Ok(()),
+                }
             }
             Headline::NoSchedule { turns } => {
                 write!(f, "wrong after {turns} turns; no memory for the schedule")

@@ -1,0 +1,75 @@
+//! A run of a program that goes wrong.
+ghost use Rattle.lot_program.specs.Programs.{IsFit};
+
+use crate::source::Source;
+use core_base::ListQueues;
+use lot_explore::{Walk, Wrong, follow};
+use lot_program::Program;
+use lot_world::{Step, World};
+use state_search::NoRoom;
+use std::alloc::Global;
+
+/// A run that goes wrong: its turns, its steps, and the world to which they lead.
+#[derive(Drop)]
+pub struct Finding<'a> {
+    pub source: Source<'a>,
+    pub wrong: Wrong,
+    pub walk: Walk<'a, ListQueues>,
+    pub steps: Vec<Step>,
+    pub world: World<ListQueues>,
+}
+
+impl<'a> Finding<'a> {
+    /// Takes a walk to a state that is wrong.
+    ///
+    /// # Errors
+    ///
+    /// `NoRoom`, where memory was refused.
+    pub fn new(
+        alloc: Global,
+        source: Source<'a>,
+        mut walk: Walk<'a, ListQueues>,
+    ) -> Result<Finding<'a>, NoRoom> {
+        let wrong = walk.wrong()?.unwrap_or(Wrong::Deadlock);
+        let program = &source.parsed.program;
+        if !program.is_fit() {
+            return Err(NoRoom);
+        }
+        let run = follow::<ListQueues>(alloc, program, walk.moves())?;
+        let mut world = new_world(alloc, program)?;
+        for step in run.steps.iter() {
+            world.step(*step);
+        }
+        Ok(Finding {
+            source,
+            wrong,
+            walk,
+            steps: run.steps,
+            world,
+        })
+    }
+
+    /// Returns the word that the first line begins with.
+    pub fn word(&self) -> &'static str {
+        self.source.word(Some(self.wrong))
+    }
+
+    /// Returns the line of the property that is broken.
+    pub fn property_line(&self) -> Option<u32> {
+        match self.wrong {
+            Wrong::Broken { property } => self.source.parsed.property_lines.get(property).copied(),
+            Wrong::Deadlock | Wrong::Refused { .. } | Wrong::Failed { .. } => None,
+        }
+    }
+}
+
+/// Returns the world in which a program starts.
+///
+/// # Errors
+///
+/// `NoRoom`, where memory was refused.
+pub fn new_world(alloc: Global, program: &Program) -> Result<World<ListQueues>, NoRoom>
+    requires { IsFit program.now }
+{
+    World::new(alloc, program.kinds.as_slice(), program.threads()).map_err(|_| NoRoom)
+}
