@@ -1,5 +1,4 @@
 pub mod VerdictLemmas
 pub mod RunLemmas
 pub mod Kept
-pub mod Following
 pub mod Deadlocks

@@ -1,24 +1,22 @@
 -- Each move of a behaviour is a step of the world, or leaves it as it is.
-use Rattle.std.proofs.Common.{ℕ, zero, suc, ◌≡◌, ◌/◌, ◌%◌, Bool, true, false, Option, Some, None, List, [], ◌∷◌, ◌++◌, refl, sym, ap, subst, ◌∙◌}
+use Rattle.std.proofs.Common.{ℕ, zero, suc, ◌≡◌, ◌/◌, ◌%◌, Bool, true, false, Option, Some, None, refl, sym, ap, subst, ◌∙◌}
 use Rattle.std.specs.Prelude.{if◌then◌else◌, nat_lt}
-use Rattle.std.specs.Option.{unwrap_or}
 use Rattle.spec_locks.specs.declared.calls.Turn.TheVariants as turn
 use Rattle.spec_locks.specs.declared.calls.Turn.{Turn}
 use Rattle.spec_locks.specs.declared.calls.Step.{Step}
 use Rattle.spec_locks.specs.declared.outcomes.Outcome.{Outcome}
 use Rattle.spec_locks.specs.declared.outcomes.Outcome.TheVariants as outcome
-use Rattle.lot_machine.specs.Machine.{State, after, after_steps, step_outcome}
+use Rattle.lot_machine.specs.Machine.{after, after_steps, step_outcome}
 use Rattle.lot_laws.specs.SitesOf.{IsWorld}
 use Rattle.lot_laws.proofs.alone.Steps.{after_stuck}
 use Rattle.lot_laws.proofs.promises.Overtaken.{world_steps}
-use Rattle.state_search.specs.Rules.{Leads}
 use Rattle.state_search.proofs.Lists.{none_some, some_same}
 use Rattle.lot_scene.specs.Stages.{step_of, is_own}
 use Rattle.lot_behaviour.specs.declared.behaviour.Act.{Act}
 use Rattle.lot_behaviour.specs.declared.behaviour.Act.TheVariants as act
 use Rattle.lot_behaviour.specs.Conducts.{Conduct}
-use Rattle.lot_behaviour.specs.Moves.{SceneState, with_step, stepped_by, or_refused, world_move, closing, acted, own_move, next_at, local_at, thread_move, scene_next, rules_of_conduct}
-use Rattle.lot_behaviour.specs.Runs.{step_by, own_step, thread_step, step_taken, listed, steps_of}
+use Rattle.lot_behaviour.specs.Moves.{SceneState, with_step, stepped_by, or_refused, world_move, closing, acted, own_move, next_at, local_at, thread_move, scene_next}
+use Rattle.lot_behaviour.specs.Runs.{step_by, own_step, thread_step, listed, steps_taken}
 
 stepped_world : {S : Type 0} (c : Conduct S) (o : Outcome) (s u : SceneState S) (step : Step) (x : S)
     → stepped_by c o s step x ≡ Some u → u.world ≡ after s.world step
@@ -75,10 +73,10 @@ thread_world c s u t (suc zero) e = went_world c s u t turn.Spin e
 thread_world c s u t (suc (suc n)) e = went_world c s u t turn.Late e
 
 pub next_world : {S : Type 0} (c : Conduct S) (s u : SceneState S) (k : ℕ) → scene_next c s k ≡ Some u
-    → u.world ≡ after_steps s.world (listed (step_taken c s k))
+    → u.world ≡ after_steps s.world (steps_taken c s k)
 next_world c s u k e = by (nat_lt (k / 3) c.threads) e where
   by : (b : Bool) → (if b then thread_move c s (k / 3) (k % 3) else None) ≡ Some u
-      → u.world ≡ after_steps s.world (listed (step_taken c s k))
+      → u.world ≡ after_steps s.world (steps_taken c s k)
   by true f = thread_world c s u (k / 3) (k % 3) f
   by false f = absurd (none_some u f)
 
@@ -86,24 +84,4 @@ next_world c s u k e = by (nat_lt (k / 3) c.threads) e where
 pub next_stays : {S : Type 0} (c : Conduct S) (s u : SceneState S) (k : ℕ) → scene_next c s k ≡ Some u
     → IsWorld s.world → IsWorld u.world
 next_stays c s u k e world =
-    subst IsWorld (sym (next_world c s u k e)) (world_steps (listed (step_taken c s k)) s.world world)
-
-more_steps : (w : State) (xs ys : List Step) → after_steps w (xs ++ ys) ≡ after_steps (after_steps w xs) ys
-more_steps w [] ys = refl
-more_steps w (x ∷ xs) ys = more_steps (after w x) xs ys
-
--- each run of a behaviour is a run of the world
-pub run_is : {S : Type 0} (c : Conduct S) (s t : SceneState S) (ks : List ℕ)
-    → Leads (rules_of_conduct c) s ks t → t.world ≡ after_steps s.world (steps_of c s ks)
-run_is {S} c s t [] e = ap (λ (v : SceneState S). v.world) (sym e)
-run_is {S} c s t (k ∷ ks) h =
-    let u = h.0 in
-    let next : scene_next c s k ≡ Some u = h.1 in
-    let taken = listed (step_taken c s k) in
-    let there : u ≡ unwrap_or (scene_next c s k) s =
-    sym (ap (λ (o : Option (SceneState S)). unwrap_or o s) next) in
-    let first : u.world ≡ after_steps s.world taken = next_world c s u k next in
-    run_is c u t ks h.2
-    ∙ ap (λ w. after_steps w (steps_of c u ks)) first
-    ∙ ap (λ (v : SceneState S). after_steps (after_steps s.world taken) (steps_of c v ks)) there
-    ∙ sym (more_steps s.world taken (steps_of c (unwrap_or (scene_next c s k) s) ks))
+    subst IsWorld (sym (next_world c s u k e)) (world_steps (steps_taken c s k) s.world world)

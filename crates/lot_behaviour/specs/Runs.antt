@@ -1,6 +1,5 @@
 -- A run of a behaviour as a run of the world: the steps that its moves take.
-use Rattle.std.specs.Prelude.{ℕ, zero, suc, Option, Some, None, if◌then◌else◌, ◌≡◌, ◌/◌, ◌%◌, List, [], ◌∷◌, ◌++◌}
-use Rattle.std.specs.Option.{unwrap_or}
+use Rattle.std.specs.Prelude.{ℕ, zero, suc, Option, Some, None, if◌then◌else◌, ◌≡◌, ◌/◌, ◌%◌, List, [], ◌∷◌}
 use Rattle.spec_locks.specs.declared.calls.Turn.TheVariants as turn
 use Rattle.spec_locks.specs.declared.calls.Step.{Step}
 use Rattle.lot_machine.specs.Machine.{opening, after_steps}
@@ -9,7 +8,7 @@ use Rattle.lot_scene.specs.Stages.{step_of, is_own}
 use Rattle.lot_behaviour.specs.declared.behaviour.Act.{Act}
 use Rattle.lot_behaviour.specs.declared.behaviour.Act.TheVariants as act
 use Rattle.lot_behaviour.specs.Conducts.{Conduct}
-use Rattle.lot_behaviour.specs.Moves.{SceneState, closing, next_at, scene_next, scene_start, rules_of_conduct}
+use Rattle.lot_behaviour.specs.Moves.{SceneState, closing, next_at, scene_start, rules_of_conduct}
 
 -- an act that calls takes a step of the world, and any other takes none
 abbrev pub step_by : Act → ℕ → Option Step
@@ -36,16 +35,9 @@ abbrev pub listed : Option Step → List Step
 listed None = []
 listed (Some step) = step ∷ []
 
--- the steps of moves one after another
-abbrev pub steps_of : {S : Type 0} → Conduct S → SceneState S → List ℕ → List Step
-steps_of c s [] = []
-steps_of c s (k ∷ ks) =
-    listed (step_taken c s k) ++ steps_of c (unwrap_or (scene_next c s k) s) ks
-
--- the state after moves one after another, of which one that isn't possible changes nothing
-abbrev pub state_after : {S : Type 0} → Conduct S → SceneState S → List ℕ → SceneState S
-state_after c s [] = s
-state_after c s (k ∷ ks) = state_after c (unwrap_or (scene_next c s k) s) ks
+-- the steps of a move: one, or none
+abbrev pub steps_taken : {S : Type 0} → Conduct S → SceneState S → ℕ → List Step
+steps_taken c s k = listed (step_taken c s k)
 
 -- where the moves are possible, they lead to this state, and these steps lead a new world to its world
 abbrev pub Replays : {S : Type 0} → Conduct S → List ℕ → SceneState S → List Step → Type 0

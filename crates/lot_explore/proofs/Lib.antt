@@ -1,5 +1,4 @@
 pub mod Kept
-pub mod Following
 pub mod Deadlocks
 pub mod Counting
 pub mod Walking

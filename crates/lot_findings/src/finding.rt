@@ -2,6 +2,7 @@
 ghost use Rattle.lot_program.specs.Programs.{IsFit};
 
 use crate::source::Source;
+use crate::words::line_of;
 use core_base::ListQueues;
 use lot_explore::{Walk, Wrong, follow};
 use lot_program::Program;
@@ -9,18 +10,18 @@ use lot_world::{Step, World};
 use state_search::NoRoom;
 use std::alloc::Global;
 
-/// A run that goes wrong: its turns, its steps, and the world to which they lead.
+/// A run: its turns, its steps, the world to which they lead, and what is wrong there.
 #[derive(Drop)]
 pub struct Finding<'a> {
     pub source: Source<'a>,
-    pub wrong: Wrong,
+    pub wrong: Option<Wrong>,
     pub walk: Walk<'a, ListQueues>,
     pub steps: Vec<Step>,
     pub world: World<ListQueues>,
 }
 
 impl<'a> Finding<'a> {
-    /// Takes a walk to a state that is wrong.
+    /// Takes a walk, and looks what is wrong where it leads.
     ///
     /// # Errors
     ///
@@ -30,7 +31,7 @@ impl<'a> Finding<'a> {
         source: Source<'a>,
         mut walk: Walk<'a, ListQueues>,
     ) -> Result<Finding<'a>, NoRoom> {
-        let wrong = walk.wrong()?.unwrap_or(Wrong::Deadlock);
+        let wrong = walk.wrong()?;
         let program = &source.parsed.program;
         if !program.is_fit() {
             return Err(NoRoom);
@@ -51,14 +52,25 @@ impl<'a> Finding<'a> {
 
     /// Returns the word that the first line begins with.
     pub fn word(&self) -> &'static str {
-        self.source.word(Some(self.wrong))
+        self.source.word(self.wrong)
+    }
+
+    /// Returns the line of the assertion or the property that is broken.
+    pub fn broken_line(&self) -> Option<u32> {
+        match self.wrong {
+            Some(Wrong::Failed { thread }) => Some(line_of(&self.walk, thread)),
+            Some(Wrong::Broken { .. }) => self.property_line(),
+            Some(Wrong::Deadlock | Wrong::Refused { .. }) | None => None,
+        }
     }
 
     /// Returns the line of the property that is broken.
     pub fn property_line(&self) -> Option<u32> {
         match self.wrong {
-            Wrong::Broken { property } => self.source.parsed.property_lines.get(property).copied(),
-            Wrong::Deadlock | Wrong::Refused { .. } | Wrong::Failed { .. } => None,
+            Some(Wrong::Broken { property }) => {
+                self.source.parsed.property_lines.get(property).copied()
+            }
+            Some(Wrong::Deadlock | Wrong::Refused { .. } | Wrong::Failed { .. }) | None => None,
         }
     }
 }

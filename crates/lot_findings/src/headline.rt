@@ -1,4 +1,5 @@
 //! The first line of what is printed, whose words don't change.
+use state_search::Verdict;
 use std::fmt;
 
 /// What a search has found, in one line.
@@ -35,6 +36,43 @@ pub enum Headline<'a> {
     NoSchedule {
         turns: usize,
     },
+    /// After so many turns no thread in a call can go on.
+    Rests {
+        turns: usize,
+        grain: &'a str,
+    },
+}
+
+impl<'a> Headline<'a> {
+    /// Returns the line of a verdict, or the moves of the schedule that it found.
+    ///
+    /// # Errors
+    ///
+    /// Those moves.
+    pub fn of_verdict<'v>(
+        verdict: &'v Verdict,
+        grain: &'a str,
+        stopped: &'a str,
+    ) -> Result<Headline<'a>, &'v [usize]> {
+        let (states, depth, why) = match verdict {
+            Verdict::Broken { moves } => return Err(moves.as_slice()),
+            Verdict::Holds { states, depth: _ } => {
+                return Ok(Headline::Nothing {
+                    states: *states,
+                    grain,
+                });
+            }
+            Verdict::Limited { states, depth } => (*states, *depth, "the limit is reached"),
+            Verdict::NoMemory { states, depth } => (*states, *depth, "memory was refused"),
+            Verdict::Stopped { states, depth } => (*states, *depth, stopped),
+        };
+        Ok(Headline::NotAll {
+            states,
+            depth,
+            grain,
+            why,
+        })
+    }
 }
 
 impl fmt::Display for Headline<'_> {
@@ -84,6 +122,9 @@ impl fmt::Display for Headline<'_> {
             }
             Headline::NoSchedule { turns } => {
                 write!(f, "wrong after {turns} turns; no memory for the schedule")
+            }
+            Headline::Rests { turns, grain } => {
+                write!(f, "at rest after {turns} turns, grain {grain}")
             }
         }
     }

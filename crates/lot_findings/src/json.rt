@@ -160,6 +160,11 @@ fn report_of<'h, 'f, 's>(alloc: Global, headline: &Headline<'h>) -> Report<'h, '
             report.verdict = "wrong";
             report.turns = Some(turns);
         }
+        Headline::Rests { turns, grain } => {
+            report.verdict = "rest";
+            report.turns = Some(turns);
+            report.grain = Some(grain);
+        }
     }
     report
 }

@@ -1,13 +1,12 @@
 //! Turns, each with its line of the program and what became of it.
 use crate::finding::{Finding, new_world};
+use crate::shown::{lock_lines, write_changes};
 use crate::source::Source;
 use crate::words::{end_of, instruction_of};
 use core_base::ListQueues;
 use lot_explore::Walk;
 use lot_program::Program;
-use lot_replay::show::show_locks;
-use lot_text::Page;
-use lot_world::{MOST_LOCKS, Step, World};
+use lot_world::{Step, World};
 use state_search::NoRoom;
 use std::alloc::Global;
 use std::io;
@@ -54,7 +53,7 @@ impl<'a> Telling<'a> {
             return Err(NoRoom);
         }
         let world = new_world(alloc, program)?;
-        let shown = lines_of(alloc, source, &world);
+        let shown = lock_lines(alloc, source.parsed.locks.as_slice(), &world);
         Ok(Telling {
             source,
             walk: Walk::new(alloc, program)?,
@@ -65,6 +64,24 @@ impl<'a> Telling<'a> {
         })
     }
 
+    /// Begins after some moves.
+    ///
+    /// # Errors
+    ///
+    /// `NoRoom`, where memory was refused, and where the program isn't fit.
+    pub fn after(
+        alloc: Global,
+        source: Source<'a>,
+        moves: &[usize],
+    ) -> Result<Telling<'a>, NoRoom> {
+        let mut telling = Telling::new(alloc, source)?;
+        for by in moves {
+            telling.take(*by)?;
+        }
+        telling.shown = lock_lines(alloc, source.parsed.locks.as_slice(), &telling.world);
+        Ok(telling)
+    }
+
     /// Returns the walk.
     pub fn walk(&self) -> &Walk<'a, ListQueues> {
         &self.walk
@@ -73,6 +90,11 @@ impl<'a> Telling<'a> {
     /// Returns the walk, so that moves can be tried.
     pub fn walk_mut(&mut self) -> &mut Walk<'a, ListQueues> {
         &mut self.walk
+    }
+
+    /// Returns the walk alone.
+    pub fn into_walk(self) -> Walk<'a, ListQueues> {
+        self.walk
     }
 
     /// Returns the world that the walk has come to.
@@ -127,17 +149,6 @@ impl<'a> Telling<'a> {
         self.tell_locks(alloc, out)
     }
 
-    /// Takes a turn, and tells nothing.
-    ///
-    /// # Errors
-    ///
-    /// `NoRoom`, where memory was refused.
-    pub fn pass(&mut self, alloc: Global, by: usize) -> Result<(), NoRoom> {
-        self.take(by)?;
-        self.shown = lines_of(alloc, self.source, &self.world);
-        Ok(())
-    }
-
     // Takes a turn in the walk and in the world, and keeps what the variables had before.
     fn take(&mut self, by: usize) -> Result<(), NoRoom> {
         self.variables.clear();
@@ -168,27 +179,9 @@ impl<'a> Telling<'a> {
 
     // Tells the lines of `show` that are others than before.
     fn tell_locks<W: Write>(&mut self, alloc: Global, out: &mut W) -> io::Result<()> {
-        let shown = lines_of(alloc, self.source, &self.world);
-        let before = std::str::from_utf8(self.shown.as_slice()).unwrap_or("");
-        let now = std::str::from_utf8(shown.as_slice()).unwrap_or("");
-        for (old, new) in before.lines().zip(now.lines()) {
-            if old != new {
-                writeln!(out, "    {new}")?;
-            }
-        }
+        let shown = lock_lines(alloc, self.source.parsed.locks.as_slice(), &self.world);
+        write_changes(out, self.shown.as_slice(), shown.as_slice())?;
         self.shown = shown;
         Ok(())
     }
-}
-
-// Returns the lines that `show` prints of a world: none, where memory was refused.
-fn lines_of(alloc: Global, source: Source<'_>, world: &World<ListQueues>) -> Vec<u8> {
-    let names = source.parsed.locks.as_slice();
-    let mut lines = Vec::new(alloc);
-    if names.len() == world.locks() && names.len() <= MOST_LOCKS {
-        let mut page = Page::new();
-        show_locks(&mut page, &mut lines, names, world);
-        page.finish(&mut lines);
-    }
-    lines
 }

@@ -1,7 +1,6 @@
 -- Each move of a program is a step of the world, or leaves it as it is.
-use Rattle.std.proofs.Common.{ℕ, zero, suc, ◌≡◌, ◌/◌, ◌%◌, Bool, true, false, Option, Some, None, List, [], ◌∷◌, ◌++◌, refl, sym, ap, subst, ◌∙◌}
+use Rattle.std.proofs.Common.{ℕ, zero, suc, ◌≡◌, ◌/◌, ◌%◌, Bool, true, false, Option, Some, None, [], ◌∷◌, refl, sym, ap, subst, ◌∙◌}
 use Rattle.std.specs.Prelude.{if◌then◌else◌, nat_lt}
-use Rattle.std.specs.Option.{unwrap_or}
 use Rattle.spec_locks.specs.declared.calls.Turn.TheVariants as turn
 use Rattle.spec_locks.specs.declared.calls.Turn.{Turn}
 use Rattle.spec_locks.specs.declared.calls.Step.{Step}
@@ -11,7 +10,6 @@ use Rattle.lot_machine.specs.Machine.{State, after, after_steps, step_outcome}
 use Rattle.lot_laws.specs.SitesOf.{IsWorld}
 use Rattle.lot_laws.proofs.alone.Steps.{after_stuck}
 use Rattle.lot_laws.proofs.promises.Overtaken.{world_steps}
-use Rattle.state_search.specs.Rules.{Leads}
 use Rattle.state_search.proofs.Lists.{none_some, some_same}
 use Rattle.lot_program.specs.declared.cuts.Grain.{Grain}
 use Rattle.lot_program.specs.declared.states.Local.{Local}
@@ -21,8 +19,8 @@ use Rattle.lot_program.specs.declared.program.Instruction.{Instruction}
 use Rattle.lot_program.specs.declared.program.Instruction.TheVariants as instruction
 use Rattle.lot_program.specs.declared.program.Program.{Program}
 use Rattle.lot_program.specs.Programs.{threads_of, instruction_at}
-use Rattle.lot_program.specs.States.{ProgramState, step_of, turning, turned, with_turn, heard, is_barred, stepped_by, or_refused, world_move, late_move, closing, performed, going_on, asserted, is_own, own_move, local_at, thread_move, program_next, rules_of_program}
-use Rattle.lot_program.specs.Runs.{go_steps, turn_steps, steps_by, step_by, own_step, thread_step, steps_taken, steps_of}
+use Rattle.lot_program.specs.States.{ProgramState, step_of, turning, turned, with_turn, heard, is_barred, stepped_by, or_refused, world_move, late_move, closing, performed, going_on, asserted, is_own, own_move, local_at, thread_move, program_next}
+use Rattle.lot_program.specs.Runs.{go_steps, turn_steps, steps_by, step_by, own_step, thread_step, steps_taken}
 use Rattle.lot_program.proofs.TurnLemmas.{gone_world}
 
 -- the world after a turn
@@ -122,21 +120,3 @@ next_world p s u k e = by (nat_lt (k / 3) (threads_of p)) e where
 pub next_stays : (p : Program) (s u : ProgramState) (k : ℕ) → program_next p s k ≡ Some u → IsWorld s.world → IsWorld u.world
 next_stays p s u k e world =
     subst IsWorld (sym (next_world p s u k e)) (world_steps (steps_taken p s k) s.world world)
-
-more_steps : (w : State) (xs ys : List Step) → after_steps w (xs ++ ys) ≡ after_steps (after_steps w xs) ys
-more_steps w [] ys = refl
-more_steps w (x ∷ xs) ys = more_steps (after w x) xs ys
-
--- each run of a program is a run of the world
-pub run_is : (p : Program) (s t : ProgramState) (ks : List ℕ) → Leads (rules_of_program p) s ks t
-    → t.world ≡ after_steps s.world (steps_of p s ks)
-run_is p s t [] e = ap (λ (v : ProgramState). v.world) (sym e)
-run_is p s t (k ∷ ks) h =
-    let u = h.0 in
-    let next : program_next p s k ≡ Some u = h.1 in
-    let there : u ≡ unwrap_or (program_next p s k) s = sym (ap (λ (o : Option ProgramState). unwrap_or o s) next) in
-    let first : u.world ≡ after_steps s.world (steps_taken p s k) = next_world p s u k next in
-    run_is p u t ks h.2
-    ∙ ap (λ w. after_steps w (steps_of p u ks)) first
-    ∙ ap (λ (v : ProgramState). after_steps (after_steps s.world (steps_taken p s k)) (steps_of p v ks)) there
-    ∙ sym (more_steps s.world (steps_taken p s k) (steps_of p (unwrap_or (program_next p s k) s) ks))

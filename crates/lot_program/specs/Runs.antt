@@ -1,6 +1,5 @@
 -- A run of a program as a run of the world: the steps that its moves take.
-use Rattle.std.specs.Prelude.{ℕ, zero, suc, Option, Some, None, if◌then◌else◌, ◌/◌, ◌%◌, List, [], ◌∷◌, ◌++◌}
-use Rattle.std.specs.Option.{unwrap_or}
+use Rattle.std.specs.Prelude.{ℕ, zero, suc, Option, Some, None, if◌then◌else◌, ◌/◌, ◌%◌, List, [], ◌∷◌}
 use Rattle.spec_locks.specs.declared.calls.Turn.TheVariants as turn
 use Rattle.spec_locks.specs.declared.calls.Step.{Step}
 use Rattle.lot_program.specs.declared.program.Instruction.{Instruction}
@@ -9,7 +8,7 @@ use Rattle.lot_program.specs.declared.program.Program.{Program}
 use Rattle.lot_machine.specs.Machine.{State, after, step_outcome}
 use Rattle.lot_program.specs.declared.cuts.Grain.{Grain}
 use Rattle.lot_program.specs.Programs.{instruction_at}
-use Rattle.lot_program.specs.States.{ProgramState, step_of, closing, is_own, is_barred, turn_ends, local_at, program_next}
+use Rattle.lot_program.specs.States.{ProgramState, step_of, closing, is_own, is_barred, turn_ends, local_at}
 
 -- an instruction that calls takes a step of the world, and any other takes none
 abbrev pub step_by : Instruction → ℕ → Option Step
@@ -56,14 +55,3 @@ step_taken p s k = thread_step p s (k / 3) (k % 3)
 -- all its steps
 abbrev pub steps_taken : Program → ProgramState → ℕ → List Step
 steps_taken p s k = steps_by p.grain s.world (step_taken p s k)
-
--- the steps of moves one after another
-abbrev pub steps_of : Program → ProgramState → List ℕ → List Step
-steps_of p s [] = []
-steps_of p s (k ∷ ks) =
-    steps_taken p s k ++ steps_of p (unwrap_or (program_next p s k) s) ks
-
--- the state after moves one after another, of which one that isn't possible changes nothing
-abbrev pub state_behind : Program → ProgramState → List ℕ → ProgramState
-state_behind p s [] = s
-state_behind p s (k ∷ ks) = state_behind p (unwrap_or (program_next p s k) s) ks

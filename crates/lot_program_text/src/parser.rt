@@ -35,6 +35,41 @@ pub struct ProgramText {
     pub property_lines: Vec<u32>,
 }
 
+impl ProgramText {
+    /// Leaves out the assertion and the property of a line: the assertion becomes a step that tests nothing.
+    pub fn set_aside(&mut self, line: u32) {
+        self.drop_property(line);
+        let Program { code, lines, .. } = &mut self.program;
+        for (thread, own) in lines.iter().enumerate() {
+            if let Some(code) = code.get_mut(thread) {
+                drop_assertion(code.as_mut_slice(), own.as_slice(), line);
+            }
+        }
+    }
+
+    fn drop_property(&mut self, line: u32) {
+        let Some(property) = self.property_lines.iter().position(|own| *own == line) else {
+            return;
+        };
+        if property < self.program.properties.len() && property < self.property_lines.len() {
+            self.program.properties.remove(property);
+            self.property_lines.remove(property);
+        }
+    }
+}
+
+// Lets the assertions of a line test nothing.
+fn drop_assertion(code: &mut [Instruction], lines: &[u32], line: u32) {
+    for (at, own) in lines.iter().enumerate() {
+        if let Some(instruction) = code.get_mut(at) {
+            if *own == line && matches!(*instruction, Instruction::Assert(_)) {
+                let target = at.wrapping_add(1);
+                *instruction = Instruction::Jump { target };
+            }
+        }
+    }
+}
+
 // A text that is read up to a line.
 #[derive(Drop)]
 struct Parser {

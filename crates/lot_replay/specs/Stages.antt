@@ -81,6 +81,12 @@ action_of names w named.TheVariants.Solo = Some actions.TheVariants.Solo
 action_of names w (named.TheVariants.Do call name) =
     option_map actions.TheVariants.Do (call_named names w call name)
 
+-- the action of a turn at a stage
+abbrev pub action_at : ReplayStage → NamedTurn → Option Action
+action_at nothing turn = None
+action_at (declaring threads names kinds) turn = action_of names (opening kinds threads) turn
+action_at (running names w) turn = action_of names w turn
+
 -- where a step leads, and its outcome
 abbrev pub step_told : State → ℕ → Turn → State × Outcome
 step_told w t turn =

@@ -5,8 +5,8 @@ ghost use Rattle.lot_text.specs.Lines.{line_len};
 ghost use Rattle.lot_text.specs.Sent.{Puts};
 ghost use Rattle.lot_text.specs.Grammar.{meaning};
 ghost use Rattle.lot_text.specs.Turns.{Says, named_turn};
-ghost use Rattle.lot_replay.specs.Stages.{nothing, declaring, running, acted, played, obeyed, after_line};
-ghost use Rattle.lot_replay.specs.Sessions.{session_stage, session_world, replay_stage_of};
+ghost use Rattle.lot_replay.specs.Stages.{nothing, declaring, running, acted, action_at, played, obeyed, after_line};
+ghost use Rattle.lot_replay.specs.Sessions.{session_stage, session_world, replay_stage_of, stage_shown};
 ghost use Rattle.lot_replay.specs.Answers.{AnswersTo};
 
 use crate::actions::{Action, perform, plain_action};
@@ -14,7 +14,9 @@ use crate::drains::drain_world;
 use crate::session::Session;
 use crate::show::show_locks;
 use core_base::Queues;
-use lot_text::{Command, LINE_LEN, Line, Name, Names, Page, PlainTurn, meaning, print_turn};
+use lot_text::{
+    Command, LINE_LEN, Line, Name, NamedTurn, Names, Page, PlainTurn, meaning, print_turn,
+};
 use lot_world::{Kind, MOST_LOCKS, MOST_THREADS, World};
 use std::alloc::Global;
 use std::io::Write;
@@ -24,6 +26,24 @@ use std::io::Write;
 pub enum Refusal {
     Malformed,
     NoMemory,
+}
+
+/// The stage to which the lines of a replay have led, to be looked at.
+#[derive(Clone, Copy, Drop)]
+pub enum Stage<'a, Q: Queues + Drop> {
+    /// The threads are not there yet.
+    Nothing,
+    /// Locks of these names and kinds are declared, and no line has taken a turn.
+    Declaring {
+        threads: usize,
+        names: &'a [Name],
+        kinds: &'a [Kind],
+    },
+    /// A world of locks of these names.
+    Running {
+        names: &'a [Name],
+        world: &'a World<Q>,
+    },
 }
 
 /// The stage to which the lines of a replay have led: nothing before the threads are there.
@@ -47,6 +67,32 @@ impl<Q: Queues + Drop> State<Q> {
         let session = self.session.as_ref()?;
         let world = session.world.as_ref()?;
         Some((world, session.names.as_slice()))
+    }
+
+    /// Returns the stage, to be looked at.
+    pub fn stage(&self) -> Stage<'_, Q>
+        ensures { replay_stage_of self.now.session ≡ stage_shown result }
+    {
+        let Some(session) = &self.session else {
+            return Stage::Nothing;
+        };
+        let names = session.names.as_slice();
+        match &session.world {
+            Some(world) => Stage::Running { names, world },
+            None => Stage::Declaring {
+                threads: session.threads,
+                names,
+                kinds: session.kinds.as_slice(),
+            },
+        }
+    }
+
+    /// Returns the action of a turn whose locks are named, by their numbers: none where no lock has a name, or
+    /// a wait names no mutex that it wants.
+    pub fn action(&self, turn: NamedTurn) -> Option<Action>
+        ensures { result ≡ action_at (replay_stage_of self.now.session) turn }
+    {
+        self.session.as_ref()?.action_of(turn)
     }
 
     /// Answers a line that says this, and has the text `kept`. One that is refused changes nothing,

@@ -1,5 +1,5 @@
 -- The waits of a raw condition variable answer by what they give back.
-use Rattle.std.proofs.Common.{ℕ, ◌≡◌, ◌≢◌, ◌*◌, ◌+◌, ◌++◌, ◌∙◌, ap, Bool, true, false, List, None, inl, inr, refl, sym, subst}
+use Rattle.std.proofs.Common.{ℕ, ◌≡◌, ◌≢◌, ◌*◌, ◌+◌, ◌++◌, ◌∙◌, ap, Bool, true, false, List, inl, inr, refl, sym, subst}
 use Rattle.core_base.specs.declared.ops.Op.TheVariants.{Load}
 use Rattle.spec_locks.specs.declared.outcomes.Answer.{Answer}
 use Rattle.spec_locks.specs.declared.outcomes.Answer.TheVariants.{No, Number, TimedOut, TwoMutexes, Yes}
@@ -7,15 +7,12 @@ use Rattle.steps_condvar.specs.CondvarSteps.{waited}
 use Rattle.lock_raw.specs.Answers.{GivesBack, GivesBackTimed, LateByClock, timed_answer, waiting_answer}
 use Rattle.core_words.specs.declared.owners.Ownership.{Ownership}
 use Rattle.core_words.specs.declared.views.WordStep.{WordStep}
-use Rattle.parking_lot_core.specs.Tokens.{told_of}
 use Rattle.parking_lot_core.specs.declared.tokens.Token.{Token}
 use Rattle.run_base.specs.CondvarFitting.{IsWaitOver, LateIf, move_did}
-use Rattle.run_base.specs.Courses.{Courses, Trail, trail_of}
 use Rattle.run_base.specs.Paths.{condvar_at, step}
-use Rattle.run_base.proofs.Courses.{trails}
 use Rattle.run_base.specs.Stages.{Stage}
 use Rattle.run_base.specs.Telling.{steps_of}
-use Rattle.run_locks.specs.CondvarCalls.{AnswersWait, HasGoneOn, HasLooked, HasWaited, LookedElse, SawNoneToMove, TellsMoved, at_condvar, timed_given_back, given_back, wait_begin}
+use Rattle.run_locks.specs.CondvarCalls.{AnswersWait, HasGoneOn, HasLooked, LookedElse, SawNoneToMove, TellsMoved, timed_given_back, given_back}
 use Rattle.raw_mutexes.specs.Moved.{HasMoved, RecordsMoved}
 
 module _ {G : Type 0} (guard : G) where
@@ -94,11 +91,3 @@ module _ (words c first : ℕ) (before old new : Token) (looked : HasLooked word
   pub moved_none : (answer : Answer) → answer ≢ Yes → TellsMoved c false first answer old new → (answer ≡ No) × HasMoved c false 0 before new
   moved_none answer other (inl none) = (none.0, (inl (refl, saw_else none.1), λ some. absurd (some refl)))
   moved_none answer other (inr moved) = absurd (other moved.4)
-
--- a wait has the course of the wait of the token that has the guard meanwhile
-pub waited_between : (c m : ℕ) (timed : Bool) (answer : Answer) (old mid late new : Token) → mid.number ≡ old.number → steps_of mid ≡ steps_of old → told_of mid ≡ told_of old → steps_of new ≡ steps_of late → told_of new ≡ told_of late
-    → HasWaited c m timed answer mid late → HasWaited c m timed answer old new
-waited_between c m timed answer old mid late new same first told last then waits =
-    subst (λ (x : Trail). Courses (at_condvar c m) old.number (wait_begin c m timed) (trail_of old None) x answer) (trails (sym last) (sym then))
-    (subst (λ (x : Trail). Courses (at_condvar c m) old.number (wait_begin c m timed) x (trail_of late None) answer) (trails first told)
-    (subst (λ (me : ℕ). Courses (at_condvar c m) me (wait_begin c m timed) (trail_of mid None) (trail_of late None) answer) same waits))

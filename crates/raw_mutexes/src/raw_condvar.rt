@@ -1,8 +1,7 @@
 //! The condition variable, with whose guards of raw mutexes threads wait.
 ghost use Rattle.std.specs.Prelude.{◌≡◌, ◌≢◌, ◌<◌, ◌*◌};
 ghost use Rattle.std.specs.Arc.{arc_value};
-ghost use Rattle.std.specs.Duration.{as_nanos};
-ghost use Rattle.core_base.specs.Clocks.{HasElapsed, IsUp};
+ghost use Rattle.core_base.specs.Clocks.{IsUp};
 ghost use Rattle.spec_locks.specs.declared.outcomes.Answer.{Answer};
 ghost use Rattle.core_words.specs.Lots.{IsWordOf};
 ghost use Rattle.core_words.specs.declared.words.WordKind.TheVariants.{Condvar};
@@ -18,8 +17,9 @@ ghost use Rattle.raw_mutexes.specs.Words as mutexes;
 use crate::guards::RawGuard;
 use crate::raw_mutex::RawMutex;
 use core_base::main_key;
-use parking_lot_core::{Clock, Fault, Key, ParkingLot, Token, Word, WordKind, to_deadline};
+use parking_lot_core::{Clock, Fault, Key, ParkingLot, Token, Word, WordKind};
 use run_base::driver::NO_LIMIT;
+use run_base::limits::limit_in;
 use run_locks::condvar_calls::{notify_fast, notify_slow, wait};
 use spec_locks::Answer;
 use std::sync::{Arc, Wait};
@@ -61,14 +61,6 @@ fn ended(answer: Answer, guard: RawGuard) -> Result<(RawGuard, bool), (Fault, Ra
         Answer::TimedOut => Ok((guard, true)),
         _ => Ok((guard, false)),
     }
-}
-
-// The limit of a thread that waits for so long, from now on.
-fn limit_in<C: Clock>(clock: &C, timeout: Duration) -> Option<(&C, u64)>
-    ensures { IsUp C.tells result → HasElapsed (C.tells clock.now) (as_nanos timeout) }
-{
-    let deadline = to_deadline(clock.now(), timeout)?;
-    Some((clock, deadline))
 }
 
 // Goes on where the record of the last section says that it took or moved one. In no state of the

@@ -24,10 +24,9 @@ ghost use Rattle.run_base.specs.Telling.{owns_of, steps_of};
 
 use crate::guards::{OpenGuard, RawGuard};
 use core_base::main_key;
-use parking_lot_core::{
-    Clock, Fault, Key, Op, ParkingLot, Permit, Token, Word, WordKind, to_deadline,
-};
+use parking_lot_core::{Clock, Fault, Key, Op, ParkingLot, Permit, Token, Word, WordKind};
 use run_base::driver::{NO_LIMIT, call_slow, step};
+use run_base::limits::limit_in;
 use run_locks::unlocks::unlock_slow;
 use spec_locks::{Answer, MutexCall};
 use std::sync::{Arc, Wait};
@@ -413,8 +412,7 @@ impl lock_raw::RawMutexTimed for RawMutex {
         clock: &C,
         timeout: Duration,
     ) -> Option<RawGuard> {
-        let limit = to_deadline(clock.now(), timeout);
-        self.lock_timed(rt, token, limit.map(|deadline| (clock, deadline)))
+        self.lock_timed(rt, token, limit_in(clock, timeout))
     }
 
     #[inline]

@@ -2,8 +2,10 @@
 use Rattle.std.proofs.Common.{◌≡◌, List, refl, ap, ◌∙◌, subst}
 use Rattle.spec_locks.specs.declared.calls.Access.{Access}
 use Rattle.spec_locks.specs.declared.outcomes.Answer.{Answer}
-use Rattle.run_base.specs.Paths.{Walks, at_rwlock, rwlock_at}
-use Rattle.run_base.specs.RwLockCalls.{BeginsWith, Wakes, rwlock_begin}
+use Rattle.spec_locks.specs.declared.outcomes.Answer.TheVariants.{Ok as ok}
+use Rattle.run_base.specs.Paths.{at_rwlock, rwlock_at}
+use Rattle.run_base.specs.RwLockCalls.{BeginsWith, HasWalkedRwLock, Wakes, rwlock_begin}
+use Rattle.run_base.proofs.Courses.{courses_between}
 use Rattle.steps_rwlock.specs.RwLockSteps.{wanted}
 use Rattle.steps_rwlock.specs.declared.purposes.RwLockPurpose.TheVariants.{Release}
 use Rattle.core_words.specs.Plays.{piece, takes_in}
@@ -11,7 +13,7 @@ use Rattle.core_words.specs.Rights.{owner_for}
 use Rattle.core_words.specs.Views.{owning}
 use Rattle.core_words.specs.declared.views.View.{View}
 use Rattle.core_words.specs.declared.views.WordStep.{WordStep}
-use Rattle.parking_lot_core.specs.Tokens.{view_of, last_of}
+use Rattle.parking_lot_core.specs.Tokens.{view_of, last_of, told_of}
 use Rattle.parking_lot_core.specs.declared.tokens.Token.{Token}
 use Rattle.raw_rwlocks.specs.RwLockHalves.{HasReleased}
 use Rattle.raw_rwlocks.specs.declared.rwlock_rights.LotRwLock.{LotRwLock}
@@ -21,10 +23,15 @@ module _ (lock : LotRwLock) (x : Access) (old joined : Token) (same : joined.num
   pub begins_releasing : BeginsWith lock.word.number (Release x) (view_of old).owns (view_of joined).owns
   begins_releasing = (owner_for (wanted x), (view_of old).owns, refl, (λ settled. refl), ap (λ (v : View). v.owns) view)
 
-  pub released : (new : Token) (answer : Answer) → HasEndedRwLock ⊥ lock.word lock.settings.admission (Release x) answer joined new → HasReleased lock x old new
-  released new answer ended = let over = ended.2 (view_of old).owns begins_releasing in (
+  pub released : told_of joined ≡ told_of old → (new : Token) (answer : Answer)
+      → HasEndedRwLock ⊥ lock.word lock.settings.admission (Release x) answer joined new
+      → HasReleased lock x old new
+  released untold new answer ended = let over = ended.2 (view_of old).owns begins_releasing in (
     (ended.0 ∙ same, over.1),
-    subst (λ (a : Answer). Walks (at_rwlock lock.word.number) (rwlock_begin lock.word.number lock.settings.admission (Release x)) (view_of old).steps (view_of new).steps a) over.0
-        (subst (λ (steps : List WordStep). Walks (at_rwlock lock.word.number) (rwlock_begin lock.word.number lock.settings.admission (Release x)) steps (view_of new).steps answer) (ap (λ (v : View). v.steps) view) ended.1),
+    courses_between (at_rwlock lock.word.number)
+        (rwlock_begin lock.word.number lock.settings.admission (Release x)) ok old joined new new same
+        (ap (λ (v : View). v.steps) view) untold refl refl
+        (subst (λ (a : Answer). HasWalkedRwLock lock.word.number lock.settings.admission (Release x) a
+        joined new) over.0 ended.1),
     subst (λ (steps : List WordStep). Wakes lock.word.number lock.settings.admission (Release x) steps (view_of new).steps (last_of new)) (ap (λ (v : View). v.steps) view) ended.3,
   )

@@ -17,7 +17,7 @@ use Rattle.core_words.specs.Plays.{piece, takes_in}
 use Rattle.core_words.specs.Rights.{owner_for}
 use Rattle.core_words.specs.Views.{owning}
 use Rattle.core_words.specs.declared.rights.Held.{Held}
-use Rattle.parking_lot_core.specs.Tokens.{view_of}
+use Rattle.parking_lot_core.specs.Tokens.{told_of, view_of}
 use Rattle.parking_lot_core.specs.declared.tokens.Token.{Token}
 use Rattle.raw_rwlocks.specs.RwLockUsers.{admission_in, lot_in, word_in}
 use Rattle.raw_rwlocks.specs.declared.rwlock_rights.LotRwLock.{LotRwLock}
@@ -40,12 +40,13 @@ HasEntered up lock x how entered old new = StaysBeside (word_in lock).number old
     × IfOk entered
     (λ right. IfNone right (LeftGivingUp (word_in lock).number (admission_in lock) (Enter x how) new))
 
--- a release has joined the right that it spends, and has begun
+-- a release has joined the right that it spends, and has begun; no queue told it anything meanwhile
 abbrev pub HasBegunRelease : LotRwLock → Access → Rest → Token → Token → Type 0
 HasBegunRelease lock x rest old new = (joined : Token) × (joined.number ≡ old.number)
     × (view_of joined ≡ takes_in (view_of old)
     (piece (owning (rwlock_at (word_in lock).number) (owner_for (wanted x)))))
     × HasBegunRwLock (word_in lock) (admission_in lock) (Release x) rest joined new
+    × (told_of joined ≡ told_of old)
 
 -- a call of the world's language has begun, of those that go by halves
 abbrev pub HasBegunCall : LotRwLock → RwLockCall → Rest → Token → Token → Type 0

@@ -1,7 +1,8 @@
 //! Waits that end, of the reader-writer lock whose readers may read again while a writer waits for them.
 use crate::raw_rwlock::RawRwLock;
 use crate::rwlock_guards::{RawExclusiveGuard, RawSharedGuard, RawUpgradableGuard};
-use parking_lot_core::{Clock, Fault, Token, to_deadline};
+use parking_lot_core::{Clock, Fault, Token};
+use run_base::limits::limit_in;
 use std::sync::Wait;
 use std::time::Duration;
 
@@ -13,8 +14,7 @@ impl lock_raw::RawRwLockTimed for RawRwLock<true> {
         clock: &C,
         timeout: Duration,
     ) -> Result<Option<RawSharedGuard>, Fault> {
-        let limit = to_deadline(clock.now(), timeout);
-        self.read_in_time(rt, token, limit.map(|deadline| (clock, deadline)))
+        self.read_in_time(rt, token, limit_in(clock, timeout))
     }
 
     #[inline]
@@ -35,8 +35,7 @@ impl lock_raw::RawRwLockTimed for RawRwLock<true> {
         clock: &C,
         timeout: Duration,
     ) -> Option<RawExclusiveGuard> {
-        let limit = to_deadline(clock.now(), timeout);
-        self.write_in_time(rt, token, limit.map(|deadline| (clock, deadline)))
+        self.write_in_time(rt, token, limit_in(clock, timeout))
     }
 
     #[inline]
@@ -59,8 +58,7 @@ impl lock_raw::RawRwLockUpgradeTimed for RawRwLock<true> {
         clock: &C,
         timeout: Duration,
     ) -> Result<Option<RawUpgradableGuard>, Fault> {
-        let limit = to_deadline(clock.now(), timeout);
-        self.come_upgradable_in_time(rt, token, limit.map(|deadline| (clock, deadline)))
+        self.come_upgradable_in_time(rt, token, limit_in(clock, timeout))
     }
 
     #[inline]
@@ -82,8 +80,7 @@ impl lock_raw::RawRwLockUpgradeTimed for RawRwLock<true> {
         clock: &C,
         timeout: Duration,
     ) -> Result<RawExclusiveGuard, RawUpgradableGuard> {
-        let limit = to_deadline(clock.now(), timeout);
-        self.upgrade_in_time(rt, token, limit.map(|deadline| (clock, deadline)), guard)
+        self.upgrade_in_time(rt, token, limit_in(clock, timeout), guard)
     }
 
     #[inline]

@@ -19,7 +19,7 @@ ghost use Rattle.core_words.specs.Steps.{CodesWith, has};
 ghost use Rattle.core_words.specs.Views.{owning};
 ghost use Rattle.core_words.specs.declared.words.WordKind.TheVariants.{RwLock};
 ghost use Rattle.run_base.specs.Drawing.{Drew, FoundFull};
-ghost use Rattle.parking_lot_core.specs.Tokens.{IsTokenOf, IsSameThread, view_of, last_of};
+ghost use Rattle.parking_lot_core.specs.Tokens.{IsTokenOf, IsSameThread, view_of, last_of, told_of};
 ghost use Rattle.run_base.specs.Paths.{rwlock_at, step};
 ghost use Rattle.run_base.specs.RwLockCalls.{Exclude, HasWalkedCall, HasWalkedRwLock, IsRwLockRight, ReleasesFairly, StaysBeside, WakesBy, entry_answer, turn_answer};
 ghost use Rattle.run_base.specs.RwLockFitting.{IsCounted, MayGiveUp};
@@ -139,6 +139,7 @@ impl LotRwLock {
             (owns_of token.old) ≡ true }
         ensures own { IsSameThread (lot_in self.now) token.old token.new
             × (last_of token.new ≡ last_of token.old) }
+        ensures untold { told_of token.new ≡ told_of token.old }
         ensures left { view_of token.new
             ≡ left_over (owning (rwlock_at (word_in self.now).number) (owner_for want))
             (view_of token.old) }
@@ -155,6 +156,7 @@ impl LotRwLock {
         requires right { IsRwLockRight (lot_in self.now) (word_in self.now) (owner_for want) right }
         ensures own { IsSameThread (lot_in self.now) token.old token.new
             × (last_of token.new ≡ last_of token.old) }
+        ensures untold { told_of token.new ≡ told_of token.old }
         ensures joined { view_of token.new
             ≡ takes_in (view_of token.old)
             (piece (owning (rwlock_at (word_in self.now).number) (owner_for want))) }

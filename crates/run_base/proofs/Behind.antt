@@ -33,13 +33,14 @@ use Rattle.run_base.specs.declared.driver.Stop.TheVariants.{Paused}
 use Rattle.run_base.proofs.Ending.{never_paused}
 use Rattle.spec_locks.specs.declared.outcomes.OnceState.{OnceState}
 use Rattle.run_base.specs.MutexFitting.{to_enter, IsMutexOver, Outside, TookAt, mutex_ownership, beside}
-use Rattle.run_base.specs.Courses.{Courses, Trail, trail_of}
+use Rattle.run_base.specs.Courses.{Courses, trail_of}
 use Rattle.run_base.specs.Paths.{mutex_at, mutexes, at_mutex, step}
 use Rattle.run_base.specs.Telling.{steps_of}
 use Rattle.run_base.specs.Stages.{Stage, stage}
 use Rattle.run_base.specs.Words.{single_word, kind_in, at_in}
-use Rattle.run_base.proofs.Courses.{arrives_at_once, courses_from, trails}
+use Rattle.run_base.proofs.Courses.{arrives_at_once, courses_between, courses_from}
 use Rattle.run_base.proofs.Turning.{words_on}
+use Rattle.run_base.proofs.Unqueued.{after_first}
 
 -- the place behind the first step
 abbrev rest : MutexCall → MutexPlace
@@ -106,11 +107,11 @@ module _ (n : ℕ) where
 
   -- the first step ends the call
   pub path_at_once : (c : MutexCall) (seen : ℕ) (old new : Token) → EndsAt c seen → steps_of new ≡ steps_of old ++ step (mutex_at n) (first_op c) seen → told_of new ≡ told_of old → HasWalkedMutex n c (success c) old new
-  path_at_once c seen old new e saw untold = arrives_at_once (at_mutex n) old.number (beginning n c) n (first_op c) seen (steps_of old) (steps_of new) (told_of old) (told_of new) (success c) (begins_with c) saw untold (ends_with c seen e)
+  path_at_once c seen old new e saw untold = arrives_at_once (at_mutex n) old.number (beginning n c) n (first_op c) seen (steps_of old) (steps_of new) (told_of old) (told_of new) (success c) (begins_with c) (after_first n c seen) saw untold (ends_with c seen e)
 
   -- a try ends with its one step
   pub path_of_try : (locked : Bool) (seen : ℕ) (old new : Token) → is_locked seen ≡ locked → steps_of new ≡ steps_of old ++ step (mutex_at n) (Or 1) seen → told_of new ≡ told_of old → HasWalkedMutex n call.TryLock (if locked then No else Yes) old new
-  path_of_try locked seen old new e saw untold = arrives_at_once (at_mutex n) old.number (beginning n call.TryLock) n (Or 1) seen (steps_of old) (steps_of new) (told_of old) (told_of new) (if locked then No else Yes) refl saw untold (by_bit locked e)
+  path_of_try locked seen old new e saw untold = arrives_at_once (at_mutex n) old.number (beginning n call.TryLock) n (Or 1) seen (steps_of old) (steps_of new) (told_of old) (told_of new) (if locked then No else Yes) refl (after_first n call.TryLock seen) saw untold (by_bit locked e)
     where
       by_bit : (locked : Bool) → is_locked seen ≡ locked → next_act (beginning n call.TryLock) (Value seen) ≡ act.TheVariants.End (if locked then No else Yes)
       by_bit true e = ap (λ (b : Bool). mutex_does n (if b then next.TheVariants.End No else next.TheVariants.End Yes)) e
@@ -132,12 +133,13 @@ module _ (n : ℕ) where
   pub path_behind : (c : MutexCall) (seen : ℕ) (before old new : Token) (answer : Answer) → Courses (at_mutex n) old.number (next_place (beginning n c) (Value seen)) (trail_of old None) (trail_of new None) answer → old.number ≡ before.number
       → steps_of old ≡ steps_of before ++ step (mutex_at n) (first_op c) seen → told_of old ≡ told_of before → HasWalkedMutex n c answer before new
   path_behind c seen before old new answer rest same saw untold =
-      courses_from (at_mutex n) before.number (beginning n c) n (first_op c) seen (steps_of before) (steps_of old) (told_of before) (told_of old) (trail_of new None) answer (begins_with c) saw untold
+      courses_from (at_mutex n) before.number (beginning n c) n (first_op c) seen (steps_of before) (steps_of old) (told_of before) (told_of old) (trail_of new None) answer (begins_with c) (after_first n c seen) saw untold
       (subst (λ (me : ℕ). Courses (at_mutex n) me (next_place (beginning n c) (Value seen)) (trail_of old None) (trail_of new None) answer) same rest)
 
   -- a token that gave a right away since has the same course
   pub walked_then : (c : MutexCall) (answer : Answer) (old mid new : Token) → steps_of new ≡ steps_of mid → told_of new ≡ told_of mid → HasWalkedMutex n c answer old mid → HasWalkedMutex n c answer old new
-  walked_then c answer old mid new e told walked = subst (λ (x : Trail). Courses (at_mutex n) old.number (beginning n c) (trail_of old None) x answer) (trails (sym e) (sym told)) walked
+  walked_then c answer old mid new e told walked =
+      courses_between (at_mutex n) (beginning n c) answer old old mid new refl refl refl e told walked
 
   -- an untimed call has the mutex at its end
   pub has_entered : (up : Type 0) (e : Entry) (base : List Ownership) (answer : Answer) (st : Stage) → is_timed e ≡ false → IsMutexOver up n base (to_enter e) answer st → (answer ≡ entered e) × Outside (mutex_ownership n ∷ beside n e base) st

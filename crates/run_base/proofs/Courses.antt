@@ -1,5 +1,6 @@
 -- Courses that go on.
-use Rattle.std.proofs.Common.{ℕ, ◌≡◌, List, [], ◌++◌, None, inl, inr, sym, refl, ap, ◌∙◌, subst}
+use Rattle.std.proofs.Common.{ℕ, ◌≡◌, true, false, List, [], ◌++◌, None, inl, inr, sym, refl, ap, ◌∙◌, subst}
+use Rattle.std.proofs.lemmas.Bool.{false≢true}
 use Rattle.std.proofs.lemmas.List.{append_assoc, append-nil}
 use Rattle.core_base.specs.declared.ops.Op.{Op}
 use Rattle.core_words.specs.declared.views.WordStep.{WordStep}
@@ -12,8 +13,9 @@ use Rattle.lot_steps.specs.declared.places.Place.{Place}
 use Rattle.parking_lot_core.specs.Tokens.{told_of}
 use Rattle.parking_lot_core.specs.declared.tellings.Telling.{Telling}
 use Rattle.parking_lot_core.specs.declared.tokens.Token.{Token}
-use Rattle.run_base.specs.Courses.{Arrival, BringsTold, Course, Courses, HasTold, Tells, Trail, goes, joined, no_trail, rests, sees, trail, trail_of}
-use Rattle.run_base.specs.Paths.{GoesFrom, Path, Told, Walks, here, looks, on, step, word}
+use Rattle.run_base.specs.Courses.{BringsTold, Course, Courses, CoursesAfterReply, HasTold, Tells, Trail, goes, joined, no_trail, rests, sees, trail, trail_of}
+use Rattle.run_base.specs.Paths.{GoesFrom, Told, step, word}
+use Rattle.run_base.specs.Queued.{StaysQueued, is_queued, needs_place}
 use Rattle.run_base.specs.Telling.{steps_of}
 
 pub trails : {a b : List WordStep} {s t : List Telling} → a ≡ b → s ≡ t → trail a s ≡ trail b t
@@ -47,8 +49,9 @@ module _ (at : ℕ → ℕ) (me : ℕ) where
   begins_from p q r old new c (inr is) = (c.0, c.1, sees p q r c.0 c.2 is)
 
   -- a turn's steps and tellings bring its reply
-  pub brought : (p : Place) (reply : Reply) (a b : List WordStep) (s t : List Telling) → Told at p reply a b → HasTold me (act_of p) reply s t → (more : Trail) × (trail b t ≡ joined (trail a s) more) × BringsTold at me p more reply
-  brought p reply a b s t steps told = (trail steps.0 told.0, trails steps.1 told.1, (steps.2, told.2))
+  pub brought : (p : Place) (reply : Reply) (a b : List WordStep) (s t : List Telling) → Told at p reply a b → HasTold me (act_of p) reply s t → StaysQueued p reply → (more : Trail) × (trail b t ≡ joined (trail a s) more) × BringsTold at me p more reply
+  brought p reply a b s t steps told stays =
+      (trail steps.0 told.0, trails steps.1 told.1, (steps.2, told.2, stays))
 
   -- one reply more
   pub goes_on : (p q r : Place) (old mid new : Trail) (reply : Reply) (then : Trail) → ComesBy at me p old mid q → new ≡ joined mid then → BringsTold at me q then reply → r ≡ next_place q reply → ComesBy at me p old new r
@@ -79,41 +82,56 @@ module _ (at : ℕ → ℕ) (me : ℕ) where
     record { last = rest.last; before = joined c.0 rest.before; more = rest.more; reply = rest.reply; course = both p q rest.last c.0 rest.before c.2 rest.course; brings = rest.brings; whole = ap (λ (x : Trail). joined c.0 x) rest.whole ∙ sym (joined_assoc c.0 rest.before rest.more); ends = rest.ends },
   )
 
-  -- the first step of a call on its word tells nothing
-  pub steps_first : (p : Place) (l : ℕ) (op : Op) (seen : ℕ) → act_of p ≡ act.TheVariants.Word l op → BringsTold at me p (one (at l) op seen) (Value seen)
-  steps_first p l op seen is = (word p l op seen is, subst (λ a. Tells me a (Value seen) []) (sym is) refl)
+  -- a step on a word behind which nobody is queued tells nothing
+  pub steps_first : (p : Place) (l : ℕ) (op : Op) (seen : ℕ) → act_of p ≡ act.TheVariants.Word l op
+      → is_queued (next_place p (Value seen)) ≡ false → BringsTold at me p (one (at l) op seen) (Value seen)
+  steps_first p l op seen is calm = (
+    word p l op seen is,
+    subst (λ a. Tells me a (Value seen) []) (sym is) refl,
+    (
+      λ needs. absurd (false≢true (subst (λ a. needs_place a ≡ true) is needs)),
+      λ queued. absurd (false≢true (sym calm ∙ queued)),
+    ),
+  )
 
   -- a call whose first step ends it
-  pub arrives_at_once : (p : Place) (l : ℕ) (op : Op) (seen : ℕ) (a b : List WordStep) (s t : List Telling) (answer : Answer) → act_of p ≡ act.TheVariants.Word l op → b ≡ a ++ step (at l) op seen → t ≡ s → next_act p (Value seen) ≡ act.TheVariants.End answer → Courses at me p (trail a s) (trail b t) answer
-  arrives_at_once p l op seen a b s t answer is e same ends =
-      arrives p p (trail a s) (trail a s) (trail b t) (Value seen) (trail (step (at l) op seen) []) answer (begins p (trail a s)) (trails e (same ∙ sym (append-nil s))) (steps_first p l op seen is) ends
+  pub arrives_at_once : (p : Place) (l : ℕ) (op : Op) (seen : ℕ) (a b : List WordStep) (s t : List Telling) (answer : Answer) → act_of p ≡ act.TheVariants.Word l op → is_queued (next_place p (Value seen)) ≡ false → b ≡ a ++ step (at l) op seen → t ≡ s → next_act p (Value seen) ≡ act.TheVariants.End answer → Courses at me p (trail a s) (trail b t) answer
+  arrives_at_once p l op seen a b s t answer is calm e same ends =
+      arrives p p (trail a s) (trail a s) (trail b t) (Value seen) (trail (step (at l) op seen) []) answer (begins p (trail a s)) (trails e (same ∙ sym (append-nil s))) (steps_first p l op seen is calm) ends
 
   -- the first step of a call, and then the rest
-  pub courses_from : (p : Place) (l : ℕ) (op : Op) (seen : ℕ) (a b : List WordStep) (s t : List Telling) (new : Trail) (answer : Answer) → act_of p ≡ act.TheVariants.Word l op → b ≡ a ++ step (at l) op seen → t ≡ s → Courses at me (next_place p (Value seen)) (trail b t) new answer → Courses at me p (trail a s) new answer
-  courses_from p l op seen a b s t new answer is e same rest =
+  pub courses_from : (p : Place) (l : ℕ) (op : Op) (seen : ℕ) (a b : List WordStep) (s t : List Telling) (new : Trail) (answer : Answer) → act_of p ≡ act.TheVariants.Word l op → is_queued (next_place p (Value seen)) ≡ false → b ≡ a ++ step (at l) op seen → t ≡ s → Courses at me (next_place p (Value seen)) (trail b t) new answer → Courses at me p (trail a s) new answer
+  courses_from p l op seen a b s t new answer is calm e same rest =
       courses_on p (next_place p (Value seen)) (trail a s) (trail b t) new answer
-      (goes_on p p (next_place p (Value seen)) (trail a s) (trail a s) (trail b t) (Value seen) (trail (step (at l) op seen) []) (begins p (trail a s)) (trails e (same ∙ sym (append-nil s))) (steps_first p l op seen is) refl) rest
+      (goes_on p p (next_place p (Value seen)) (trail a s) (trail a s) (trail b t) (Value seen) (trail (step (at l) op seen) []) (begins p (trail a s)) (trails e (same ∙ sym (append-nil s))) (steps_first p l op seen is calm) refl) rest
 
   -- the same, by trails
-  pub over_at_once : (p : Place) (l : ℕ) (op : Op) (seen : ℕ) (old new : Trail) (answer : Answer) → act_of p ≡ act.TheVariants.Word l op → new ≡ joined old (one (at l) op seen) → next_act p (Value seen) ≡ act.TheVariants.End answer → Courses at me p old new answer
-  over_at_once p l op seen old new answer is e ends = arrives p p old old new (Value seen) (one (at l) op seen) answer (begins p old) e (steps_first p l op seen is) ends
+  pub over_at_once : (p : Place) (l : ℕ) (op : Op) (seen : ℕ) (old new : Trail) (answer : Answer) → act_of p ≡ act.TheVariants.Word l op → is_queued (next_place p (Value seen)) ≡ false → new ≡ joined old (one (at l) op seen) → next_act p (Value seen) ≡ act.TheVariants.End answer → Courses at me p old new answer
+  over_at_once p l op seen old new answer is calm e ends = arrives p p old old new (Value seen) (one (at l) op seen) answer (begins p old) e (steps_first p l op seen is calm) ends
 
-  pub courses_behind : (p : Place) (l : ℕ) (op : Op) (seen : ℕ) (old mid new : Trail) (answer : Answer) → act_of p ≡ act.TheVariants.Word l op → mid ≡ joined old (one (at l) op seen) → Courses at me (next_place p (Value seen)) mid new answer → Courses at me p old new answer
-  courses_behind p l op seen old mid new answer is e rest = courses_on p (next_place p (Value seen)) old mid new answer (goes_on p p (next_place p (Value seen)) old old mid (Value seen) (one (at l) op seen) (begins p old) e (steps_first p l op seen is) refl) rest
+  pub courses_behind : (p : Place) (l : ℕ) (op : Op) (seen : ℕ) (old mid new : Trail) (answer : Answer) → act_of p ≡ act.TheVariants.Word l op → is_queued (next_place p (Value seen)) ≡ false → mid ≡ joined old (one (at l) op seen) → Courses at me (next_place p (Value seen)) mid new answer → Courses at me p old new answer
+  courses_behind p l op seen old mid new answer is calm e rest = courses_on p (next_place p (Value seen)) old mid new answer (goes_on p p (next_place p (Value seen)) old old mid (Value seen) (one (at l) op seen) (begins p old) e (steps_first p l op seen is calm) refl) rest
+
+  -- a step, and what is left of the call after it
+  pub courses_rest : (p : Place) (l : ℕ) (op : Op) (seen : ℕ) (old mid new : Trail) (answer : Answer)
+      → act_of p ≡ act.TheVariants.Word l op → is_queued (next_place p (Value seen)) ≡ false
+      → mid ≡ joined old (one (at l) op seen) → CoursesAfterReply at me p (Value seen) mid new answer → Courses at me p old new answer
+  courses_rest p l op seen old mid new answer is calm e (inl ended) =
+      over_at_once p l op seen old new answer is calm (ended.0 ∙ e) ended.1
+  courses_rest p l op seen old mid new answer is calm e (inr rest) =
+      courses_behind p l op seen old mid new answer is calm e rest
 
   -- one course behind another
   pub comes_after : (p q r : Place) (old mid new : Trail) → ComesBy at me p old mid q → ComesBy at me q mid new r → ComesBy at me p old new r
   comes_after p q r old mid new c d = (joined c.0 d.0, d.1 ∙ ap (λ (x : Trail). joined x d.0) c.1 ∙ joined_assoc old c.0 d.0, both p q r c.0 d.0 c.2 d.2)
 
-  -- the path of the steps alone
-  forgets : (p q : Place) (x : Trail) → Course at me p x q → Path at p x.steps q
-  forgets p _ _ (rests _) = here p
-  forgets p _ _ (goes _ q x y reply u brings) = on p q x.steps y.steps reply (forgets p q x u) brings.0
-  forgets p r x (sees _ q _ _ u is) = looks p q r x.steps (forgets p q x u) is
-
-  pub walks_of : (p : Place) (old new : Trail) (answer : Answer) → Courses at me p old new answer → Walks at p old.steps new.steps answer
-  walks_of p old new answer c = let end = c.2 in (
-    c.0.steps,
-    ap (λ (x : Trail). x.steps) c.1,
-    record { last = end.last; before = end.before.steps; then = end.more.steps; reply = end.reply; path = forgets p end.last end.before end.course; tells = end.brings.0; all = ap (λ (x : Trail). x.steps) end.whole; ends = end.ends },
-  )
+-- a token that got a right before, or gave one away since, has the same course
+pub courses_between : (at : ℕ → ℕ) (p : Place) (answer : Answer) (old mid late new : Token)
+    → mid.number ≡ old.number → steps_of mid ≡ steps_of old → told_of mid ≡ told_of old
+    → steps_of new ≡ steps_of late → told_of new ≡ told_of late
+    → Courses at mid.number p (trail_of mid None) (trail_of late None) answer
+    → Courses at old.number p (trail_of old None) (trail_of new None) answer
+courses_between at p answer old mid late new same first told last then course =
+    subst (λ (x : Trail). Courses at old.number p (trail_of old None) x answer) (trails (sym last) (sym then))
+    (subst (λ (x : Trail). Courses at old.number p x (trail_of late None) answer) (trails first told)
+    (subst (λ (me : ℕ). Courses at me p (trail_of mid None) (trail_of late None) answer) same course))

@@ -1,4 +1,3 @@
-pub mod Paths
 pub mod Queueing
 pub mod Queued
 pub mod Unqueued
@@ -21,6 +20,7 @@ pub mod CondvarLeading
 pub mod Leading
 pub mod RwLockBeginning
 pub mod Courses
+pub mod Standing
 pub mod Tellings
 pub mod Turning
 pub mod TurnsOn

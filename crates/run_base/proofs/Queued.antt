@@ -1,12 +1,9 @@
 -- A thread has its place in a queue wherever it sleeps, or leaves the queue.
 use Rattle.std.proofs.Common.{ℕ, ◌≡◌, ◌≢◌, ◌⊎◌, ◌==◌, ◌&&◌, Bool, true, false, not, if◌then◌else◌, List, Option, Some, None, inl, inr, refl, sym, ap, ◌∙◌, subst}
 use Rattle.std.proofs.lemmas.Bool.{false≢true}
-use Rattle.core_base.specs.declared.keys.Line.TheVariants.{Main, Second}
-use Rattle.core_base.specs.declared.notes.Note.TheVariants.{Normal, HandOff}
-use Rattle.core_base.specs.declared.wants.Want.{Want}
+use Rattle.core_base.specs.declared.notes.Note.TheVariants.{HandOff}
 use Rattle.spec_locks.specs.declared.calls.Access.{Access}
 use Rattle.spec_locks.specs.declared.calls.Access.TheVariants as access
-use Rattle.spec_locks.specs.declared.calls.OnceCall.{OnceCall}
 use Rattle.spec_locks.specs.declared.calls.Patience.TheVariants.{Patient, Timed, Try}
 use Rattle.spec_locks.specs.Codes.{is_running, has_aside}
 use Rattle.steps_base.specs.declared.acts.Act.{Act}
@@ -14,12 +11,11 @@ use Rattle.steps_base.specs.declared.acts.Act as act
 use Rattle.steps_base.specs.declared.acts.Next.{Next}
 use Rattle.steps_base.specs.declared.acts.Next.TheVariants.{At, End}
 use Rattle.steps_base.specs.declared.acts.Reply.{Reply}
-use Rattle.steps_base.specs.declared.acts.Reply.TheVariants.{Done, Value, Parked, Took, Requeued, Removed, TakenBy, MovedTo, HandedBy, Late, Woken}
+use Rattle.steps_base.specs.declared.acts.Reply.TheVariants.{Done, Value, Took, Woken}
 use Rattle.steps_base.specs.declared.acts.Whom.TheVariants as whom
-use Rattle.steps_mutex.specs.MutexSteps.{decided, hand_off_act, is_locked, lock_act, mutex_act, mutex_looking, mutex_next, unlock_act}
+use Rattle.steps_mutex.specs.MutexSteps.{decided, is_locked, lock_act, mutex_act, mutex_looking, mutex_next, unlock_act}
 use Rattle.steps_mutex.specs.declared.places.MutexPlace.{MutexPlace}
 use Rattle.steps_mutex.specs.declared.places.MutexPlace.TheVariants.{Lock, TryLock, Unlock, UnlockFair, Bump, HandOff}
-use Rattle.steps_mutex.specs.declared.hand_off.HandOffAt.{HandOffAt}
 use Rattle.steps_mutex.specs.declared.hand_off.HandOffAt.TheVariants as hand_off
 use Rattle.steps_mutex.specs.declared.lock.Entry.{Entry}
 use Rattle.steps_mutex.specs.declared.lock.Entry.TheVariants as entry
@@ -32,7 +28,6 @@ use Rattle.steps_once.specs.declared.places.OncePlace.{OncePlace}
 use Rattle.steps_once.specs.declared.places.OncePlace.TheVariants as onces
 use Rattle.steps_once.specs.declared.look.Course.{Course}
 use Rattle.steps_once.specs.declared.look.Course.TheVariants.{Ends, Runs, Marks, Parks}
-use Rattle.steps_once.specs.declared.look.LookAt.{LookAt}
 use Rattle.steps_once.specs.declared.look.LookAt.TheVariants as look
 use Rattle.steps_once.specs.declared.run.RunAt.TheVariants as run
 use Rattle.steps_once.specs.declared.give_up.GiveUpAt.TheVariants as give_up
@@ -41,7 +36,6 @@ use Rattle.steps_rwlock.specs.RwLockProfiles.{gone_to, is_mark, looking_at, rwlo
 use Rattle.steps_rwlock.specs.RwLockSteps as rw
 use Rattle.steps_rwlock.specs.declared.enter.Decision.{Decision}
 use Rattle.steps_rwlock.specs.declared.enter.Decision.TheVariants as decisions
-use Rattle.steps_rwlock.specs.declared.park.ParkAt.{ParkAt}
 use Rattle.steps_rwlock.specs.declared.park.ParkAt.TheVariants as parking
 use Rattle.steps_rwlock.specs.declared.places.Admission.{Admission}
 use Rattle.steps_rwlock.specs.declared.places.RwLockAt.{RwLockAt}
@@ -49,11 +43,9 @@ use Rattle.steps_rwlock.specs.declared.places.RwLockAt.TheVariants as at
 use Rattle.steps_rwlock.specs.declared.places.RwLockPlace.{RwLockPlace}
 use Rattle.steps_rwlock.specs.declared.purposes.RwLockPurpose.{RwLockPurpose}
 use Rattle.steps_rwlock.specs.declared.purposes.RwLockPurpose.TheVariants as purpose
-use Rattle.steps_rwlock.specs.declared.release.WakeAt.{WakeAt}
 use Rattle.steps_rwlock.specs.declared.release.WakeAt.TheVariants as waking
 use Rattle.steps_rwlock_fair.specs.FairProfiles.{call_looking, in_call}
 use Rattle.steps_rwlock_fair.specs.FairSteps as fair
-use Rattle.steps_rwlock_fair.specs.declared.handed.HandedAt.{HandedAt}
 use Rattle.steps_rwlock_fair.specs.declared.handed.HandedAt.TheVariants as handed
 use Rattle.steps_rwlock_fair.specs.declared.hand_over.HandOverAt.{HandOverAt}
 use Rattle.steps_rwlock_fair.specs.declared.hand_over.HandOverAt.TheVariants as handing
@@ -62,16 +54,13 @@ use Rattle.steps_rwlock_fair.specs.declared.places.RwLockCallPlace.TheVariants a
 use Rattle.steps_semaphore.specs.SemaphoreSteps as semaphores
 use Rattle.steps_semaphore.specs.declared.places.SemaphorePlace.{SemaphorePlace}
 use Rattle.steps_semaphore.specs.declared.places.SemaphorePlace.TheVariants as semaphore
-use Rattle.steps_semaphore.specs.declared.acquire.AcquireAt.{AcquireAt}
 use Rattle.steps_semaphore.specs.declared.acquire.AcquireAt.TheVariants as acquire
 use Rattle.steps_semaphore.specs.declared.release.ReleaseAt.TheVariants as release
 use Rattle.steps_semaphore.specs.declared.tries.TryAt.TheVariants as tries
 use Rattle.steps_condvar.specs.CondvarSteps as condvar
-use Rattle.steps_condvar.specs.declared.notify.NotifyAt.{NotifyAt}
 use Rattle.steps_condvar.specs.declared.notify.NotifyAt.TheVariants as notify
 use Rattle.steps_condvar.specs.declared.places.CondvarPlace.{CondvarPlace}
 use Rattle.steps_condvar.specs.declared.places.CondvarPlace.TheVariants as condvars
-use Rattle.steps_condvar.specs.declared.wait.Stands.{Stands}
 use Rattle.steps_condvar.specs.declared.wait.Stands.TheVariants as stands
 use Rattle.steps_condvar.specs.declared.wait.WaitAt.{WaitAt}
 use Rattle.steps_condvar.specs.declared.wait.WaitAt.TheVariants as wait
@@ -82,17 +71,17 @@ use Rattle.core_words.specs.declared.owners.Ownership.{Ownership}
 use Rattle.core_words.specs.declared.words.WordKind.{WordKind}
 use Rattle.parking_lot_core.specs.declared.lot.ParkingLot.{ParkingLot}
 use Rattle.parking_lot_core.specs.declared.places.QueuePlace.{QueuePlace}
-use Rattle.run_base.specs.CondvarFitting.{FitsWait, FitsRelock, FitsMutexRelease, FitsAsleep}
+use Rattle.run_base.specs.CondvarFitting.{FitsWait}
 use Rattle.run_base.specs.Fitting.{Fits, sleeper_at}
 use Rattle.run_base.specs.MutexFitting.{FitsLock, FitsMutex}
-use Rattle.run_base.specs.OnceFitting.{FitsLook, FitsOnce}
-use Rattle.run_base.specs.RwLockFitting.{FitsBump, FitsCall, FitsHanded, FitsRwLock, awaits_right}
-use Rattle.run_base.specs.SemaphoreFitting.{FitsAcquire, FitsSemaphore}
+use Rattle.run_base.specs.OnceFitting.{FitsOnce}
+use Rattle.run_base.specs.RwLockFitting.{FitsBump, FitsCall, awaits_right}
+use Rattle.run_base.specs.SemaphoreFitting.{FitsSemaphore}
 use Rattle.run_base.specs.Paths.{GoesFrom}
-use Rattle.run_base.specs.Queued.{HasPlace, KeepsPlace, gets_place, is_queued, needs_place, spends_place}
+use Rattle.run_base.specs.Queued.{GoesOn, HasPlace, KeepsPlace, StaysQueued, gets_place, is_queued, needs_place, spends_place}
 use Rattle.run_base.specs.Stages.{Became, Stage}
 use Rattle.run_base.specs.declared.sleepers.Sleeper.{Sleeper}
-use Rattle.run_base.proofs.Queueing.{CallMayGo, CondvarMayGo, GoesOn, InNoHand, MayBeHanded, MutexInNoHand, OnceInNoHand, SemaphoreInNoHand, WaitMayGo, after, beside_same, call_on, call_queued, condvar_on, condvar_queued, mutex_on, mutex_queued, once_on, once_queued, same, semaphore_on, semaphore_queued}
+use Rattle.run_base.proofs.Queueing.{CallMayGo, CondvarMayGo, InNoHand, MayBeHanded, MutexInNoHand, OnceInNoHand, SemaphoreInNoHand, WaitMayGo, after, beside_same, call_on, call_queued, condvar_on, condvar_queued, mutex_on, mutex_queued, once_on, once_queued, same, semaphore_on, semaphore_queued}
 
 -- ---------------------------------------------------------------- what fits at a place
 
@@ -208,7 +197,7 @@ pub condvar_same : (l : ℕ) (n : Next CondvarPlace) → is_queued (condvar_goes
 condvar_same l (At at) = refl
 condvar_same l (End answer) = refl
 
-semaphore_same : (l : ℕ) (n : Next SemaphorePlace) → is_queued (semaphore_goes l n) ≡ after semaphore_queued n
+pub semaphore_same : (l : ℕ) (n : Next SemaphorePlace) → is_queued (semaphore_goes l n) ≡ after semaphore_queued n
 semaphore_same l (At at) = refl
 semaphore_same l (End answer) = refl
 
@@ -469,3 +458,9 @@ keeps_on lot n a reply old new was is goes keeps had queued = by_goes (goes queu
     by_goes : (gets_place a reply ≡ true) ⊎ ((spends_place a reply ≡ false) × (was ≡ true)) → HasPlace lot n new
     by_goes (inl e) = keeps.0 e
     by_goes (inr e) = keeps.1 e.0 (had e.1)
+
+-- a turn at what fits there
+pub stays_queued : (up : Type 0) (kinds : ℕ → WordKind) (at' : ℕ → ℕ) (base : List Ownership) (p : Place) (st new : Stage) (reply : Reply)
+    → Fits up base p st → Became up kinds at' (sleeper_at p) st (act_of p) reply new → StaysQueued p reply
+stays_queued up kinds at' base p st new reply fits became =
+    (needs_queue up base p st fits, queued_on up kinds at' base st new reply p fits became)

@@ -1,25 +1,24 @@
 -- A thread is queued at a place only where the act before gave it a place in a queue, or left it there.
-use Rattle.std.proofs.Common.{ℕ, ◌≡◌, ◌≢◌, ◌⊎◌, ◌==◌, ◌&&◌, ◌||◌, Bool, true, false, not, if◌then◌else◌, is_some, Option, Some, None, inl, inr, refl, sym, ap, ◌∙◌, subst, nat_lt}
+use Rattle.std.proofs.Common.{ℕ, ◌≡◌, ◌≢◌, ◌==◌, ◌&&◌, ◌||◌, Bool, true, false, not, if◌then◌else◌, is_some, Some, None, inl, inr, refl, sym, ◌∙◌, subst}
 use Rattle.std.proofs.lemmas.Bool.{false≢true}
 use Rattle.core_base.specs.declared.keys.Line.{Line}
 use Rattle.core_base.specs.declared.keys.Line.TheVariants.{Main, Second}
 use Rattle.core_base.specs.declared.notes.Note.TheVariants.{Normal, HandOff}
 use Rattle.core_base.specs.declared.wants.Want.{Want}
-use Rattle.spec_locks.specs.declared.outcomes.Answer.{Answer}
 use Rattle.spec_locks.specs.declared.outcomes.Answer.TheVariants.{Ok}
 use Rattle.spec_locks.specs.declared.calls.Access.{Access}
 use Rattle.spec_locks.specs.declared.calls.Access.TheVariants as access
 use Rattle.spec_locks.specs.declared.calls.Patience.{Patience}
 use Rattle.spec_locks.specs.declared.calls.Patience.TheVariants.{Patient, Timed, Try}
 use Rattle.spec_locks.specs.declared.calls.OnceCall.{OnceCall}
-use Rattle.spec_locks.specs.Codes.{count_in, has_aside, has_parked, is_marked}
+use Rattle.spec_locks.specs.Codes.{count_in, has_aside, has_parked}
 use Rattle.steps_base.specs.Profiles.{hand_owner}
 use Rattle.steps_base.specs.declared.acts.Act.{Act}
 use Rattle.steps_base.specs.declared.acts.Act as act
 use Rattle.steps_base.specs.declared.acts.Next.{Next}
 use Rattle.steps_base.specs.declared.acts.Next.TheVariants.{At, End}
 use Rattle.steps_base.specs.declared.acts.Reply.{Reply}
-use Rattle.steps_base.specs.declared.acts.Reply.TheVariants.{Done, Value, Parked, Took, Picked, Requeued, Removed, TakenBy, MovedTo, HandedBy, Late, Woken, Closed}
+use Rattle.steps_base.specs.declared.acts.Reply.TheVariants.{Done, Value, Parked, Took, Picked, Removed, HandedBy, Late, Woken}
 use Rattle.steps_mutex.specs.MutexSteps.{in_lock, lock_act, unlock_act, mutex_act, mutex_next, next_lock, next_unlock, next_hand_off, in_unlock, in_hand_off, still_retries, is_locked, is_parked, looked}
 use Rattle.steps_mutex.specs.MutexProfiles.{mutex_profile, lock_row}
 use Rattle.steps_mutex.specs.declared.places.MutexPlace.{MutexPlace}
@@ -69,7 +68,6 @@ use Rattle.steps_rwlock_fair.specs.FairSteps as fair
 use Rattle.steps_rwlock_fair.specs.FairProfiles.{call_profile}
 use Rattle.steps_rwlock_fair.specs.declared.places.RwLockCallPlace.{RwLockCallPlace}
 use Rattle.steps_rwlock_fair.specs.declared.places.RwLockCallPlace.TheVariants as places
-use Rattle.steps_rwlock_fair.specs.declared.handed.HandedAt.{HandedAt}
 use Rattle.steps_rwlock_fair.specs.declared.handed.HandedAt.TheVariants as handed
 use Rattle.steps_rwlock_fair.specs.declared.hand_over.HandOverAt.{HandOverAt}
 use Rattle.steps_rwlock_fair.specs.declared.hand_over.HandOverAt.TheVariants as handing
@@ -83,11 +81,7 @@ use Rattle.steps_condvar.specs.declared.wait.Stands.TheVariants as stands
 use Rattle.steps_condvar.specs.declared.wait.WaitAt.{WaitAt}
 use Rattle.steps_condvar.specs.declared.wait.WaitAt.TheVariants as wait
 use Rattle.lot_steps.specs.Steps.{or_else}
-use Rattle.run_base.specs.Queued.{is_queued, gets_place, spends_place}
-
--- by whether it was queued before, and whether it is after
-abbrev pub GoesOn : Bool → Bool → Act → Reply → Type 0
-GoesOn was is a reply = is ≡ true → (gets_place a reply ≡ true) ⊎ ((spends_place a reply ≡ false) × (was ≡ true))
+use Rattle.run_base.specs.Queued.{GoesOn, spends_place}
 
 -- it is not queued after
 never : {A : Type 0} {is : Bool} → is ≡ false → is ≡ true → A

@@ -21,7 +21,7 @@ use Rattle.parking_lot_core.specs.declared.tokens.Token.{Token}
 use Rattle.run_base.specs.Fitting.{CallPurpose, AreWordsFor, Fits, IsOver, ReachedBy, call_purpose, answer_of, sleeper_at}
 use Rattle.run_base.specs.Paths.{closure_of}
 use Rattle.parking_lot_core.specs.declared.places.QueuePlace.{QueuePlace}
-use Rattle.run_base.specs.Queued.{HasPlace, KeepsPlace, is_queued}
+use Rattle.run_base.specs.Queued.{GoesOn, HasPlace, KeepsPlace, is_queued}
 use Rattle.run_base.specs.Stages.{ActNeeds, Adds, Became, IsSectionOf, section_view, stage_of}
 use Rattle.run_base.specs.Courses.{BringsTold, Courses, HasTold, TellsIn, Trail, joined, told_by, trail, trail_of}
 use Rattle.run_base.specs.Telling.{TellsQueues, steps_of}
@@ -30,10 +30,8 @@ use Rattle.run_base.specs.Words.{at_in, kind_in, word_among}
 use Rattle.run_base.specs.declared.words.Words.{Words}
 use Rattle.run_base.proofs.Courses.{arrives, begins, brought, courses_on, goes_on}
 use Rattle.run_base.proofs.Ending.{end_of, ended, outside}
-use Rattle.run_base.proofs.Paths.{comes_here, comes_on, comes_to_end, walks_on}
 use Rattle.run_base.proofs.Leading.{places_lead}
-use Rattle.run_base.proofs.Queued.{keeps_on, queued_on}
-use Rattle.run_base.proofs.Queueing.{GoesOn}
+use Rattle.run_base.proofs.Queued.{keeps_on, queued_on, stays_queued}
 use Rattle.run_base.proofs.Tellings.{by_outside, has_told}
 use Rattle.run_base.proofs.Turning.{by_stage, told, words_on}
 
@@ -52,6 +50,8 @@ module _ (up : Type 0) (lot : ParkingLot) (words : Words) (p : Place) (old new :
         (subst (λ (b : Act). Became up (kind_in words) (at_in words) (sleeper_at p) (stage_of old section) b reply (stage_of new now)) (sym is) became),
     subst (λ (b : Act). HasTold old.number b reply (told_by old section) (told_by new now)) (sym is)
         (has_told old.number old new section now up (kind_in words) (at_in words) (sleeper_at p) a reply (needs_by up lot words p a old section at is) became queues tells),
+    stays_queued up (kind_in words) (at_in words) at.4.0 p (stage_of old section) (stage_of new now) reply at.4.1
+        (subst (λ (b : Act). Became up (kind_in words) (at_in words) (sleeper_at p) (stage_of old section) b reply (stage_of new now)) (sym is) became),
   )
 
 -- a sleeper has its place still where it is queued
@@ -81,7 +81,7 @@ module _ (up : Type 0) (lot : ParkingLot) (words : Words) (p : Place) (reply : R
 
   -- a turn's steps and tellings bring its reply
   turn_brought : (more : Trail) × (trail_of new now ≡ joined (trail_of old section) more) × BringsTold (at_in words) old.number p more reply
-  turn_brought = brought (at_in words) old.number p reply (steps_of old) (steps_of new) (told_by old section) (told_by new now) turned.2 turned.4
+  turn_brought = brought (at_in words) old.number p reply (steps_of old) (steps_of new) (told_by old section) (told_by new now) turned.2 turned.4 turned.5
 
   pub turn_leads : IsAtPlace up lot words p old section → (q : Place) → next_place p reply ≡ q → answer_of (next_act p reply) ≡ None → IsAtPlace up lot words q new now
   turn_leads at q is none = (
@@ -96,19 +96,16 @@ module _ (up : Type 0) (lot : ParkingLot) (words : Words) (p : Place) (reply : R
   pub turn_then : (q : Place) → next_place p reply ≡ q → answer_of (next_act p reply) ≡ None → (answer : Answer) (last : Token) → HasEnded up lot words q answer new now last → HasEnded up lot words p answer old section last
   turn_then q is none answer last rest = (
     (rest.0.0, rest.0.1 ∙ turned.0.1),
-    walks_on (at_in words) p q (steps_of old) (steps_of new) (steps_of last) answer
-        (comes_on (at_in words) p p q (steps_of old) (steps_of old) (steps_of new) reply turned.2.0 (comes_here (at_in words) p (steps_of old)) turned.2.1 turned.2.2 (sym is)) rest.1,
-    λ base fits. let on = fits_on q is none base fits in subst (λ (aim : CallPurpose). IsOver up base aim answer (stage_of last None)) on.1 (rest.2 base on.0),
+    λ base fits. let on = fits_on q is none base fits in subst (λ (aim : CallPurpose). IsOver up base aim answer (stage_of last None)) on.1 (rest.1 base on.0),
     courses_on (at_in words) old.number p q (trail_of old section) (trail_of new now) (trail_of last None) answer
         (goes_on (at_in words) old.number p p q (trail_of old section) (trail_of old section) (trail_of new now) reply turn_brought.0 (begins (at_in words) old.number p (trail_of old section)) turn_brought.1 turn_brought.2 (sym is))
-        (subst (λ (me : ℕ). Courses (at_in words) me q (trail_of new now) (trail_of last None) answer) turned.0.1 rest.3),
+        (subst (λ (me : ℕ). Courses (at_in words) me q (trail_of new now) (trail_of last None) answer) turned.0.1 rest.2),
   )
 
   -- a turn that ends its call
   pub turn_ends : IsAtPlace up lot words p old section → (answer : Answer) → answer_of (next_act p reply) ≡ Some answer → HasEnded up lot words p answer old section new
   turn_ends at answer some = (
     turned.0,
-    comes_to_end (at_in words) p p (steps_of old) (steps_of old) (steps_of new) reply turned.2.0 answer (comes_here (at_in words) p (steps_of old)) turned.2.1 turned.2.2 (end_of (next_act p reply) answer some),
     λ base fits. let over = subst (λ (o : Option Answer). ReachedBy up base (call_purpose p) (next_place p reply) o (stage_of new now)) some (turned.3 base fits) in
         ended up base (stage_of new now).owns (call_purpose p) answer (section_view now) (stage_of new now).last (stage_of new now).steps over,
     let over = subst (λ (o : Option Answer). ReachedBy up at.4.0 (call_purpose p) (next_place p reply) o (stage_of new now)) some (turned.3 at.4.0 at.4.1) in

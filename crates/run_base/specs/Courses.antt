@@ -1,5 +1,5 @@
 -- The word steps of a call and what the queues told it are a course of its transitions.
-use Rattle.std.specs.Prelude.{ℕ, ◌≡◌, ◌==◌, ◌+◌, ◌++◌, ◌∷◌, [], not, Bool, List, Option, Some, None, length, MatchBool, if◌then◌else◌}
+use Rattle.std.specs.Prelude.{ℕ, ◌≡◌, ◌==◌, ◌+◌, ◌++◌, ◌∷◌, ◌⊎◌, [], not, Bool, true, false, List, Option, Some, None, length, MatchBool, if◌then◌else◌}
 use Rattle.core_base.specs.Requeues.{moved_by}
 use Rattle.core_base.specs.declared.requeues.Requeue.{Requeue}
 use Rattle.core_words.specs.declared.views.WordStep.{WordStep}
@@ -21,6 +21,7 @@ use Rattle.parking_lot_core.specs.declared.tokens.Did.{Did}
 use Rattle.parking_lot_core.specs.declared.tokens.Did as did
 use Rattle.parking_lot_core.specs.declared.tokens.Token.{Token}
 use Rattle.run_base.specs.Paths.{Brings}
+use Rattle.run_base.specs.Queued.{StaysQueued, is_queued}
 use Rattle.run_base.specs.Stages.{threads_taken}
 use Rattle.run_base.specs.Telling.{line_in, steps_of}
 use Rattle.run_base.specs.declared.driver.Stop.{Stop}
@@ -114,9 +115,10 @@ joined x y = trail (x.steps ++ y.steps) (x.told ++ y.told)
 abbrev pub trail_of : Token → Option Section → Trail
 trail_of token section = trail (steps_of token) (told_by token section)
 
--- these bring the reply at a place
+-- these bring the reply at a place, where the thread stays queued or not
 abbrev pub BringsTold : (ℕ → ℕ) → ℕ → Place → Trail → Reply → Type 0
 BringsTold at me p x reply = Brings at p x.steps reply × Tells me (act_of p) reply x.told
+    × StaysQueued p reply
 
 -- these steps and tellings lead from one place to another
 pub data Course (at : ℕ → ℕ) (me : ℕ) : Place → Trail → Place → Type 0 where
@@ -142,11 +144,32 @@ abbrev pub Courses : (ℕ → ℕ) → ℕ → Place → Trail → Trail → Ans
 Courses at me p old new answer =
     (more : Trail) × (new ≡ joined old more) × Arrival at me p more answer
 
+-- after a reply that ended its call there is no more, and else it goes on from where the reply led
+abbrev pub CoursesAfterReply : (ℕ → ℕ) → ℕ → Place → Reply → Trail → Trail → Answer → Type 0
+CoursesAfterReply at me p reply old new answer =
+    ((new ≡ old) × (next_act p reply ≡ act.TheVariants.End answer))
+    ⊎ Courses at me (next_place p reply) old new answer
+
 -- a run ends its call so, or comes to its closure
 abbrev pub RunsCourse : (ℕ → ℕ) → ℕ → Place → Trail → Trail → Stop → Type 0
 RunsCourse at me p old new (Ended answer) = Courses at me p old new answer
 RunsCourse at me p old new (Paused place state) =
     (more : Trail) × (new ≡ joined old more) × Course at me p more place
+
+-- each sleep among these follows a stand of the thread, which has not left its queue by itself since. It
+-- stands in a queue at their beginning, or not
+abbrev pub EachSleepStands : Bool → List Telling → Type 0
+EachSleepStands stands [] = Unit {0}
+EachSleepStands stands (telling.TheVariants.Stood _ _ _ ∷ more) = EachSleepStands true more
+EachSleepStands stands (telling.TheVariants.Left _ ∷ more) = EachSleepStands false more
+EachSleepStands stands (telling.TheVariants.Slept ∷ more) = (stands ≡ true) × EachSleepStands stands more
+EachSleepStands stands (telling.TheVariants.Took _ _ _ ∷ more) = EachSleepStands stands more
+EachSleepStands stands (telling.TheVariants.Counted _ _ ∷ more) = EachSleepStands stands more
+
+-- so in each call that came to its answer
+abbrev pub SleepersStood : Type 0
+SleepersStood = (at : ℕ → ℕ) (me : ℕ) (p : Place) (all : Trail) (answer : Answer)
+    → Arrival at me p all answer → EachSleepStands (is_queued p) all.told
 
 -- an act at the thread's hand: what it told its thread, and what its section tells
 abbrev pub TellsIn : ℕ → Act → Reply → Token → Option Section → Token → Option Section → Type 0

@@ -7,18 +7,15 @@ use Rattle.core_words.specs.Indices.{word_index}
 use Rattle.core_words.specs.declared.views.WordStep.{WordStep}
 use Rattle.core_words.specs.declared.words.WordKind as kinds
 use Rattle.steps_base.specs.Acts.{holds}
-use Rattle.lot_steps.specs.Steps.{act_of, next_place, next_act, looking}
+use Rattle.lot_steps.specs.Steps.{act_of, looking}
 use Rattle.steps_base.specs.declared.acts.Act.{Act}
 use Rattle.steps_base.specs.declared.acts.Act as act
 use Rattle.steps_base.specs.declared.acts.Check.{Check}
 use Rattle.steps_base.specs.declared.acts.Reply.{Reply}
 use Rattle.steps_base.specs.declared.acts.Reply.TheVariants.{Done, Value, Parked, Took, Picked, Requeued, Removed, TakenBy, MovedTo, HandedBy, Late, Woken, Closed}
-use Rattle.spec_locks.specs.declared.outcomes.Answer.{Answer}
 use Rattle.spec_locks.specs.declared.outcomes.OnceState.{OnceState}
 use Rattle.lot_steps.specs.declared.places.Place.{Place}
 use Rattle.run_base.specs.Sleepers.{late_key_at}
-use Rattle.run_base.specs.declared.driver.Stop.{Stop}
-use Rattle.run_base.specs.declared.driver.Stop.TheVariants.{Ended, Paused}
 
 -- where the word of a mutex stands
 abbrev pub mutex_at : ℕ → ℕ
@@ -127,41 +124,6 @@ abbrev pub Told : (ℕ → ℕ) → Place → Reply → List WordStep → List W
 Told at p reply before behind =
     (then : List WordStep) × (behind ≡ before ++ then) × Brings at p then reply
 
--- these steps lead from one place to another
-pub data Path (at : ℕ → ℕ) : Place → List WordStep → Place → Type 0 where
-  here : (p : Place) → Path at p [] p
-  on : (p q : Place) (xs ys : List WordStep) (reply : Reply) → Path at p xs q → Brings at q ys reply
-      → Path at p (xs ++ ys) (next_place q reply)
-  -- it looks at the word once more in place of an act that leads to sleep
-  looks : (p q r : Place) (xs : List WordStep) → Path at p xs q → looking q ≡ Some r
-      → Path at p xs r
-
 -- where a thread goes on from: where it stands, or from where it looks
 abbrev pub GoesFrom : Place → Place → Type 0
 GoesFrom p q = (q ≡ p) ⊎ (looking p ≡ Some q)
-
--- the last reply of a call, which ends it by an answer
-pub record Ending (at : ℕ → ℕ) (p : Place) (steps : List WordStep) (answer : Answer) : Type 0 where
-  pub last : Place
-  pub before : List WordStep
-  pub then : List WordStep
-  pub reply : Reply
-  pub path : Path at p before last
-  pub tells : Brings at last then reply
-  pub all : steps ≡ before ++ then
-  pub ends : next_act last reply ≡ act.TheVariants.End answer
-
--- the steps that were added to a list lead from a place to the end of its call
-abbrev pub Walks : (ℕ → ℕ) → Place → List WordStep → List WordStep → Answer → Type 0
-Walks at p old new answer = (more : List WordStep) × (new ≡ old ++ more) × Ending at p more answer
-
--- after a reply that ended its call there are no further steps, and else they go on from where it led
-abbrev pub WalksAfterReply : (ℕ → ℕ) → Place → Reply → List WordStep → List WordStep → Answer → Type 0
-WalksAfterReply at p reply old new answer = ((new ≡ old) × (next_act p reply ≡ act.TheVariants.End answer))
-    ⊎ Walks at (next_place p reply) old new answer
-
--- The steps of a run end the call, or come to its closure.
-abbrev pub RunsTo : (ℕ → ℕ) → Place → List WordStep → List WordStep → Stop → Type 0
-RunsTo at p old new (Ended answer) = Walks at p old new answer
-RunsTo at p old new (Paused place state) =
-    (more : List WordStep) × (new ≡ old ++ more) × Path at p more place

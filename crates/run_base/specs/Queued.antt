@@ -1,10 +1,10 @@
 -- The places of calls at which a thread has a place in a queue, and what its acts do to it.
-use Rattle.std.specs.Prelude.{ℕ, ◌≡◌, Bool, true, false, Option, Some, None, is_some, ◌||◌}
+use Rattle.std.specs.Prelude.{ℕ, ◌≡◌, Bool, true, false, Option, Some, None, is_some, ◌||◌, ◌⊎◌}
 use Rattle.steps_base.specs.declared.acts.Act.{Act}
 use Rattle.steps_base.specs.declared.acts.Act as act
 use Rattle.steps_base.specs.declared.acts.Reply.{Reply}
 use Rattle.steps_base.specs.declared.acts.Reply.TheVariants.{Done, Parked, Removed, Woken}
-use Rattle.lot_steps.specs.Steps.{or_else, profile, profile_beside, taker}
+use Rattle.lot_steps.specs.Steps.{act_of, next_place, or_else, profile, profile_beside, taker}
 use Rattle.lot_steps.specs.declared.places.Place.{Place}
 use Rattle.parking_lot_core.specs.Places.{IsPlaceOf}
 use Rattle.parking_lot_core.specs.declared.lot.ParkingLot.{ParkingLot}
@@ -31,6 +31,17 @@ abbrev pub spends_place : Act → Reply → Bool
 spends_place act.TheVariants.Sleep (Woken note) = true
 spends_place (act.TheVariants.Remove key) (Removed none_left) = true
 spends_place _ _ = false
+
+-- by whether it was queued before, and whether it is after: it stood last by the act, or was queued and
+-- has neither been woken nor left
+abbrev pub GoesOn : Bool → Bool → Act → Reply → Type 0
+GoesOn was is a reply = is ≡ true
+    → (gets_place a reply ≡ true) ⊎ ((spends_place a reply ≡ false) × (was ≡ true))
+
+-- a thread sleeps, and leaves a queue, only where it is queued, and goes on so by the reply
+abbrev pub StaysQueued : Place → Reply → Type 0
+StaysQueued p reply = (needs_place (act_of p) ≡ true → is_queued p ≡ true)
+    × GoesOn (is_queued p) (is_queued (next_place p reply)) (act_of p) reply
 
 -- the thread of this number has a place in a queue of the lot
 abbrev pub HasPlace : ParkingLot → ℕ → Option QueuePlace → Type 0

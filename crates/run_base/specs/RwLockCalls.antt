@@ -42,7 +42,8 @@ use Rattle.parking_lot_core.specs.Tokens.{IsTokenOf, view_of, last_of}
 use Rattle.parking_lot_core.specs.declared.lot.ParkingLot.{ParkingLot}
 use Rattle.parking_lot_core.specs.declared.tokens.SectionRecord.{SectionRecord}
 use Rattle.parking_lot_core.specs.declared.tokens.Token.{Token}
-use Rattle.run_base.specs.Paths.{at_rwlock, rwlock_at, step, Walks}
+use Rattle.run_base.specs.Courses.{Courses, trail_of}
+use Rattle.run_base.specs.Paths.{at_rwlock, rwlock_at, step}
 use Rattle.run_base.specs.RwLockFitting.{Answers, GaveFairly, IsBeside, AwaitsNoReaders, OwnsBeside, OwnsRight, TookWoken}
 use Rattle.run_base.specs.Stages.{Stage}
 
@@ -77,10 +78,10 @@ AnswersCall up l base a (purpose.Downgrade d) answer st =
     (answer ≡ answers.Ok) × OwnsRight l (wanted (to_of d)) base st.owns
 AnswersCall up l base a q answer st = Answers up l base a q answer st
 
--- the steps of a call lead from its beginning to the answer
+-- the steps of a call, and what the queues told it, lead from its beginning to the answer
 abbrev pub HasWalkedRwLock : ℕ → Admission → RwLockPurpose → Answer → Token → Token → Type 0
-HasWalkedRwLock l a c answer old new =
-    Walks (at_rwlock l) (rwlock_begin l a c) (view_of old).steps (view_of new).steps answer
+HasWalkedRwLock l a c answer old new = Courses (at_rwlock l) old.number (rwlock_begin l a c)
+    (trail_of old None) (trail_of new None) answer
 
 -- where its first step did not end it, a release or a downgrade took those that it wakes, and else
 -- there was no further step
@@ -167,11 +168,10 @@ ReleasesFairly l a accesses.Exclusive old new =
 
 -- ---------------------------------------------------------------- calls of the world's language
 
--- the steps of a call lead from where a call of a world begins to the answer
+-- the same, from where a call of a world begins
 abbrev pub HasWalkedCall : ℕ → Admission → RwLockCall → Answer → Token → Token → Type 0
-HasWalkedCall l a call answer old new =
-    Walks (at_rwlock l) (RwLock l a (call_first call)) (view_of old).steps
-    (view_of new).steps answer
+HasWalkedCall l a call answer old new = Courses (at_rwlock l) old.number
+    (RwLock l a (call_first call)) (trail_of old None) (trail_of new None) answer
 
 abbrev pub WakesByCall : ℕ → Admission → RwLockCall → Token → Token → Type 0
 WakesByCall l a (calls.Release x) old new = WakesBy l a (purpose.Release x) old new

@@ -13,7 +13,8 @@ use Rattle.parking_lot_core.specs.declared.sections.Section.{Section}
 use Rattle.parking_lot_core.specs.declared.tokens.Token.{Token}
 use Rattle.run_base.specs.Fitting.{AreWordsFor, Fits, IsOver, Reached, call_purpose}
 use Rattle.run_base.specs.Courses.{Courses, HasTold, told_by, trail_of}
-use Rattle.run_base.specs.Paths.{Told, Walks}
+use Rattle.run_base.specs.Paths.{Told}
+use Rattle.run_base.specs.Queued.{StaysQueued}
 use Rattle.run_base.specs.Stages.{IsSectionOf, stage_of}
 use Rattle.run_base.specs.Telling.{steps_of}
 use Rattle.run_base.specs.Words.{AreWordsOf, at_in, kind_in}
@@ -34,6 +35,7 @@ HasTurned up lot words p reply old section new now = IsSameThread lot old new ×
     × ((base : List Ownership) → Fits up base p (stage_of old section)
     → Reached up base p reply (stage_of new now))
     × HasTold old.number (act_of p) reply (told_by old section) (told_by new now)
+    × StaysQueued p reply
 
 -- it is at a place whose act is this
 abbrev pub MayAct : Type 0 → ParkingLot → Words → Act → Token → Option Section → Type 0
@@ -51,7 +53,6 @@ HasActed up lot words a reply old section new now = (p : Place) → IsAtPlace up
 abbrev pub HasEnded : Type 0 → ParkingLot → Words → Place → Answer → Token → Option Section → Token
     → Type 0
 HasEnded up lot words p answer old section new = IsSameThread lot old new
-    × Walks (at_in words) p (steps_of old) (steps_of new) answer
     × ((base : List Ownership) → Fits up base p (stage_of old section)
     → IsOver up base (call_purpose p) answer (stage_of new None))
     × Courses (at_in words) old.number p (trail_of old section) (trail_of new None) answer

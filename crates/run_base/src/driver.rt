@@ -11,8 +11,8 @@ ghost use Rattle.parking_lot_core.specs.Tokens.{IsTokenOf, IsSameThread, view_of
 ghost use Rattle.run_base.specs.Calls.{MeetAt, beginning, purpose_in, IsUnfinished, WalksBehind};
 ghost use Rattle.run_base.specs.Fitting.{PlacesLead, AreWordsFor, AreWordsAfter, Fits, IsStopped, Reached, answer_of, call_purpose};
 ghost use Rattle.run_base.specs.MutexFitting.{IsMutexOver};
-ghost use Rattle.run_base.specs.Queued.{HasPlace, is_queued};
-ghost use Rattle.run_base.specs.Paths.{closure_of, mutex_at, GoesFrom, RunsTo, Told};
+ghost use Rattle.run_base.specs.Queued.{HasPlace, StaysQueued, is_queued};
+ghost use Rattle.run_base.specs.Paths.{closure_of, mutex_at, GoesFrom, Told};
 ghost use Rattle.run_base.specs.Courses.{HasTold, RunsCourse, told_by, trail_of};
 ghost use Rattle.run_base.specs.Words.{AreWordsOf, kind_in, at_in};
 ghost use Rattle.run_base.specs.Stages.{IsSectionOf, stage_of};
@@ -157,6 +157,7 @@ fn turn<'a, R: Wait, C: Clock>(
     ensures queues { TellsQueues act result token.old.number section.old section.new }
     ensures tells { HasTold token.old.number (act_of place) result
         (told_by token.old section.old) (told_by token.new section.new) }
+    ensures stays { StaysQueued place result }
     ensures queued { IsTrue (is_queued (next_place place result))
         → HasPlace lot.now token.new.number queue.new }
     ensures reached { (base : List Ownership)
@@ -190,13 +191,12 @@ pub fn run_from<'a, R: Wait, C: Clock>(
     requires start { (base : List Ownership)
         × Fits (IsUp C.tells limit) base start (stage_of token.old inside) }
     ensures own { IsSameThread lot.now token.old token.new }
-    ensures path { RunsTo (at_in words) start (steps_of token.old) (steps_of token.new) result }
     ensures stopped { (base : List Ownership)
         → Fits (IsUp C.tells limit.entry) base start (stage_of token.old inside.entry)
         → IsStopped (IsUp C.tells limit.entry) base (call_purpose start) result
         (stage_of token.new None) }
     ensures words { AreWordsAfter result (kind_in words) (at_in words) }
-    ensures course { RunsCourse (at_in words) token.old.number start
+    ensures path { RunsCourse (at_in words) token.old.number start
         (trail_of token.old inside.entry) (trail_of token.new None) result }
 {
     let mut place = start;
@@ -247,13 +247,12 @@ pub fn run<R: Wait, C: Clock>(
     requires start { (base : List Ownership)
         × Fits (IsUp C.tells limit) base start (stage_of token.old None) }
     ensures own { IsSameThread lot.now token.old token.new }
-    ensures path { RunsTo (at_in words) start (steps_of token.old) (steps_of token.new) result }
     ensures stopped { (base : List Ownership)
         → Fits (IsUp C.tells limit.entry) base start (stage_of token.old None)
         → IsStopped (IsUp C.tells limit.entry) base (call_purpose start) result
         (stage_of token.new None) }
     ensures words { AreWordsAfter result (kind_in words) (at_in words) }
-    ensures course { RunsCourse (at_in words) token.old.number start
+    ensures path { RunsCourse (at_in words) token.old.number start
         (trail_of token.old None) (trail_of token.new None) result }
 {
     run_from(rt, lot, token, words, limit, None, None, start)

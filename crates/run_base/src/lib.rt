@@ -4,6 +4,8 @@
 
 mod acting;
 pub mod driver;
+pub mod laws;
+pub mod limits;
 mod sleepers;
 mod taking;
 pub mod turns;

@@ -18,6 +18,7 @@ use Rattle.parking_lot_core.specs.declared.tokens.Token.{Token}
 use Rattle.run_base.specs.CondvarFitting.{AnswersBy}
 use Rattle.run_base.specs.Courses.{Courses, trail_of}
 use Rattle.run_base.specs.Paths.{condvar_at, mutex_at, step}
+use Rattle.run_base.specs.Queued.{is_queued}
 use Rattle.run_base.specs.Telling.{steps_of}
 use Rattle.run_base.proofs.Courses.{arrives_at_once, courses_from}
 use Rattle.run_locks.specs.CondvarCalls.{HasNotified, NotifiesBy, TellsMoved, at_condvar, notify_begin, notify_slow}
@@ -30,11 +31,19 @@ module _ (n : ℕ) (all : Bool) (seen : ℕ) (answer : Answer) (old mid : Token)
   beside : (m : ℕ) → m ≢ n → steps_of mid ≡ steps_of old ++ step (at_condvar n m n) Load seen
   beside m ne = added ∙ ap (λ i. steps_of old ++ step i Load seen) (sym (own_word n m ne))
 
+  looked_off : is_queued (next_place (notify_begin n all) (Value seen)) ≡ false
+  looked_off = by_test (seen == 0)
+    where
+      by_test : (b : Bool)
+          → is_queued (condvar_goes n (if b then Over (notified all 0) else At (Notify all (seen - 1) notify.Enter))) ≡ false
+      by_test true = refl
+      by_test false = refl
+
   -- it saw that nobody waits
   pub nobody_waits : seen ≡ 0 → answer ≡ notified all 0 → NotifiesBy n all answer old mid
   nobody_waits zero told = (
     n + 1,
-    arrives_at_once (at_condvar n (n + 1)) old.number (notify_begin n all) n Load seen (steps_of old) (steps_of mid) (told_of old) (told_of mid) answer refl (beside (n + 1) (λ e. omega arith)) untold
+    arrives_at_once (at_condvar n (n + 1)) old.number (notify_begin n all) n Load seen (steps_of old) (steps_of mid) (told_of old) (told_of mid) answer refl looked_off (beside (n + 1) (λ e. omega arith)) untold
         (subst (λ v. next_act (notify_begin n all) (Value v) ≡ End answer) (sym zero) (ap End (sym told))),
   )
 
@@ -49,7 +58,7 @@ module _ (n : ℕ) (all : Bool) (seen : ℕ) (answer : Answer) (old mid : Token)
   pub some_wait : (m : ℕ) → m ≢ n → seen ≡ m + 1 → (new : Token) → HasNotified n m all answer mid new → NotifiesBy n all answer old new
   some_wait m ne shown new behind = (
     m,
-    courses_from (at_condvar n m) old.number (notify_begin n all) n Load seen (steps_of old) (steps_of mid) (told_of old) (told_of mid) (trail_of new None) answer refl (beside m ne) untold
+    courses_from (at_condvar n m) old.number (notify_begin n all) n Load seen (steps_of old) (steps_of mid) (told_of old) (told_of mid) (trail_of new None) answer refl looked_off (beside m ne) untold
         (subst (λ (p : Place). Courses (at_condvar n m) old.number p (trail_of mid None) (trail_of new None) answer) (sym (leads m shown))
         (subst (λ (me : ℕ). Courses (at_condvar n m) me (notify_slow n m all) (trail_of mid None) (trail_of new None) answer) same behind)),
   )

@@ -206,4 +206,4 @@ module _ (a : Admission) (x : Access) where
 
 -- a whole bump is refused so too
 pub bump_sees_full : (x : Access) (l : ℕ) (a : Admission) (old new : Token) → HasWalkedCall l a (calls.Bump x) ReadersFull old new → SawReadersFull l a x old new
-bump_sees_full x l a old new w = walked_full a x Patient (IsOfBump a x) (bump_keeps a x, bump_going a x, looks_on a x) l (RwLock l a (Glance x)) old new (refl, refl) w
+bump_sees_full x l a old new w = walked_full a x Patient (IsOfBump a x) (bump_keeps a x, bump_going a x, looks_on a x) l old.number (RwLock l a (Glance x)) old new (refl, refl) w

@@ -28,19 +28,22 @@ use Rattle.core_words.specs.declared.views.WordStep.{WordStep}
 use Rattle.core_words.specs.declared.words.Word.{Word}
 use Rattle.core_words.specs.declared.words.WordKind.{WordKind}
 use Rattle.core_words.specs.declared.words.WordKind.TheVariants as kinds
-use Rattle.parking_lot_core.specs.Tokens.{view_of, last_of}
+use Rattle.parking_lot_core.specs.Tokens.{view_of, last_of, told_of}
 use Rattle.parking_lot_core.specs.declared.tokens.Token.{Token}
 use Rattle.run_base.specs.Fitting.{CallPurpose, AreWordsFor, Fits, IsOver, call_purpose, answer_of, of_rwlock}
-use Rattle.run_base.specs.Paths.{Walks, at_rwlock, rwlock_at, rwlocks, step}
-use Rattle.run_base.specs.RwLockCalls.{AnswersCall, BeginsWith, TookUnlessEnded, Wakes, WakesBy, first_op, rwlock_begin}
+use Rattle.run_base.specs.Courses.{Courses, trail_of}
+use Rattle.run_base.specs.Paths.{at_rwlock, rwlock_at, rwlocks, step}
+use Rattle.run_base.specs.RwLockCalls.{AnswersCall, BeginsWith, HasWalkedRwLock, TookUnlessEnded, Wakes, WakesBy, first_op, rwlock_begin}
 use Rattle.run_base.specs.RwLockFitting.{Answers, IsBeside, IsCounted, IsRwLockOver, LeftBy, MayGiveUp, OwnsRight, TookWoken}
 use Rattle.run_base.specs.Stages.{Stage, Stepped, stage_of}
+use Rattle.run_base.specs.Telling.{steps_of}
 use Rattle.run_base.specs.Words.{single_word, at_in, kind_in}
 use Rattle.run_base.proofs.Ending.{end_of}
-use Rattle.run_base.proofs.Paths.{ends_at_once, goes_on}
+use Rattle.run_base.proofs.Courses.{courses_behind, one_more, over_at_once}
 use Rattle.run_base.proofs.RwLockBeginning.{Begun, begins_with, begun, may_begin}
 use Rattle.run_base.proofs.RwLockGoing as leading
 use Rattle.run_base.proofs.Turning.{by_stage, words_on}
+use Rattle.run_base.proofs.Unqueued.{after_begin}
 
 module _ (word : Word) (is : word.kind ≡ kinds.RwLock) where
   pub rwlock_kinds : kind_in (single_word word) ≡ rwlocks
@@ -136,12 +139,26 @@ wakes_later up l base a c seen answer old mid new saw more rest none over = by_c
     by_call (purpose.Enter x how) saw none over = tt
     by_call (purpose.Upgrade how) saw none over = tt
 
--- the steps of a call that its first step ended, and of one that went on
-pub path_ended : (l : ℕ) (a : Admission) (c : RwLockPurpose) (seen : ℕ) (answer : Answer) (old new : List WordStep) → new ≡ old ++ step (rwlock_at l) (first_op c) seen → answer_of (next_act (rwlock_begin l a c) (Value seen)) ≡ Some answer → Walks (at_rwlock l) (rwlock_begin l a c) old new answer
-path_ended l a c seen answer old new saw some = ends_at_once (at_rwlock l) (rwlock_begin l a c) l (first_op c) seen old new answer (begins_with l a c) saw (end_of (next_act (rwlock_begin l a c) (Value seen)) answer some)
+-- the course of a call that its first step ended, and of one that went on
+module _ (l : ℕ) (a : Admission) (c : RwLockPurpose) (seen : ℕ) (answer : Answer) (old mid : Token)
+    (saw : steps_of mid ≡ steps_of old ++ step (rwlock_at l) (first_op c) seen)
+    (untold : told_of mid ≡ told_of old) where
+  pub path_ended : answer_of (next_act (rwlock_begin l a c) (Value seen)) ≡ Some answer
+      → HasWalkedRwLock l a c answer old mid
+  path_ended some = over_at_once (at_rwlock l) old.number (rwlock_begin l a c) l (first_op c) seen
+      (trail_of old None) (trail_of mid None) answer (begins_with l a c) (after_begin l a c seen)
+      (one_more old mid (rwlock_at l) (first_op c) seen saw untold)
+      (end_of (next_act (rwlock_begin l a c) (Value seen)) answer some)
 
-pub path_later : (l : ℕ) (a : Admission) (c : RwLockPurpose) (seen : ℕ) (answer : Answer) (old mid new : List WordStep) → mid ≡ old ++ step (rwlock_at l) (first_op c) seen → Walks (at_rwlock l) (next_place (rwlock_begin l a c) (Value seen)) mid new answer → Walks (at_rwlock l) (rwlock_begin l a c) old new answer
-path_later l a c seen answer old mid new saw rest = goes_on (at_rwlock l) (rwlock_begin l a c) l (first_op c) seen old mid new answer (begins_with l a c) saw rest
+  pub path_later : (new : Token) → mid.number ≡ old.number
+      → Courses (at_rwlock l) mid.number (next_place (rwlock_begin l a c) (Value seen))
+      (trail_of mid None) (trail_of new None) answer
+      → HasWalkedRwLock l a c answer old new
+  path_later new same rest = courses_behind (at_rwlock l) old.number (rwlock_begin l a c) l (first_op c)
+      seen (trail_of old None) (trail_of mid None) (trail_of new None) answer (begins_with l a c)
+      (after_begin l a c seen) (one_more old mid (rwlock_at l) (first_op c) seen saw untold)
+      (subst (λ (me : ℕ). Courses (at_rwlock l) me (next_place (rwlock_begin l a c) (Value seen))
+      (trail_of mid None) (trail_of new None) answer) same rest)
 
 -- each thread that enters begins with what it owns
 pub begins_entering : (l : ℕ) (x : Access) (how : Patience) (owns : List Ownership) → BeginsWith l (purpose.Enter x how) owns owns
@@ -207,8 +224,10 @@ module _ (up : Type 0) (word : Word) (is : word.kind ≡ kinds.RwLock) (a : Admi
   rest_fits base b = fits_on up word.number a base c (stage_of old None) (stage_of mid None) seen refl room b start (none base b)
 
   module _ (answer : Answer) (new : Token) where
-    pub rest_path : Walks (at_rwlock word.number) next (view_of mid).steps (view_of new).steps answer → Walks (at_rwlock word.number) (rwlock_begin word.number a c) (view_of old).steps (view_of new).steps answer
-    rest_path w = path_later word.number a c seen answer (view_of old).steps (view_of mid).steps (view_of new).steps steps_saw w
+    pub rest_path : told_of mid ≡ told_of old → mid.number ≡ old.number
+        → Courses (at_rwlock word.number) mid.number next (trail_of mid None) (trail_of new None) answer
+        → HasWalkedRwLock word.number a c answer old new
+    rest_path untold same rest = path_later word.number a c seen answer old mid steps_saw untold new same rest
 
     module _ (base : List Ownership) (b : BeginsWith word.number c base (view_of old).owns) (over : Fits up base next (stage_of mid None) → IsOver up base (call_purpose next) answer (stage_of new None)) where
       is_over : IsRwLockOver up word.number base a c answer (stage_of new None)
@@ -217,5 +236,7 @@ module _ (up : Type 0) (word : Word) (is : word.kind ≡ kinds.RwLock) (a : Admi
       pub rest_over : AnswersCall up word.number base a c answer (stage_of new None)
       rest_over = over_call up word.number base a c answer (stage_of new None) is_over
 
-      pub rest_record : Walks (at_rwlock word.number) next (view_of mid).steps (view_of new).steps answer → WakesBy word.number a c old new
-      rest_record w = wakes_later up word.number base a c seen answer old mid new steps_saw w.0 w.1 (none base b) is_over
+      pub rest_record : (more : List WordStep) → steps_of new ≡ steps_of mid ++ more
+          → WakesBy word.number a c old new
+      rest_record more rest = wakes_later up word.number base a c seen answer old mid new steps_saw more rest
+          (none base b) is_over

@@ -20,7 +20,8 @@ use Rattle.steps_rwlock_fair.specs.FairSteps.{gives_up_at, gives_way, glance_nex
 use Rattle.steps_rwlock_fair.specs.declared.hand_over.HandOverAt.TheVariants as handing
 use Rattle.steps_rwlock_fair.specs.declared.places.RwLockCallPlace.{RwLockCallPlace}
 use Rattle.steps_rwlock_fair.specs.declared.places.RwLockCallPlace.TheVariants.{Glance, HandOver}
-use Rattle.lot_steps.specs.Steps.{rwlock_does, rwlock_goes}
+use Rattle.steps_base.specs.declared.acts.Reply.TheVariants.{Value}
+use Rattle.lot_steps.specs.Steps.{next_place, rwlock_does, rwlock_goes}
 use Rattle.lot_steps.specs.declared.places.Place.{Place}
 use Rattle.lot_steps.specs.declared.places.Place.TheVariants.{RwLock}
 use Rattle.core_words.proofs.RwLockKinds.{rwlock_steps}
@@ -37,18 +38,22 @@ use Rattle.core_words.specs.declared.views.WordStep.{WordStep}
 use Rattle.core_words.specs.declared.words.Word.{Word}
 use Rattle.core_words.specs.declared.words.WordKind.{WordKind}
 use Rattle.core_words.specs.declared.words.WordKind.TheVariants as kinds
-use Rattle.parking_lot_core.specs.Tokens.{last_of, view_of}
+use Rattle.parking_lot_core.specs.Tokens.{last_of, told_of, view_of}
 use Rattle.parking_lot_core.specs.declared.tokens.SectionRecord.{SectionRecord}
 use Rattle.parking_lot_core.specs.declared.tokens.Token.{Token}
 use Rattle.run_base.specs.Fitting.{Fits, call_purpose, of_rwlock}
-use Rattle.run_base.specs.Paths.{Walks, at_rwlock, rwlock_at, step}
+use Rattle.run_base.specs.Courses.{Courses, joined, trail_of}
+use Rattle.run_base.specs.Paths.{at_rwlock, rwlock_at, step}
+use Rattle.run_base.specs.Queued.{is_queued}
 use Rattle.run_base.specs.RwLockCalls.{LeftFairly, TookUnlessFree}
 use Rattle.run_base.specs.RwLockFitting.{Answers, IsBeside, IsCounted, OwnsRight, TookWoken}
 use Rattle.run_base.specs.Stages.{Stage, Stepped, stage_of}
-use Rattle.run_base.proofs.Paths.{ends_at_once, goes_on}
+use Rattle.run_base.specs.Telling.{steps_of}
+use Rattle.run_base.proofs.Courses.{courses_behind, one, one_more, over_at_once}
 use Rattle.run_base.proofs.RwLockKeeping.{alone_pends, kept, look_alone, look_upgradable, missed_looks, missed_same}
 use Rattle.run_base.proofs.RwLockNeeds.{has_right, left_beside}
 use Rattle.run_base.proofs.Turning.{by_stage}
+use Rattle.run_base.proofs.Unqueued.{unqueued_call}
 
 -- ---------------------------------------------------------------- looks
 
@@ -117,24 +122,49 @@ module _ (l : ℕ) (a : Admission) (base : List Ownership) (st new : Stage) (see
     ),
   )
 
--- its path and its record
-module _ (l : ℕ) (a : Admission) (seen : ℕ) (old mid new : List WordStep) (saw : mid ≡ old ++ step (rwlock_at l) (Exchange 8 0) seen) where
+-- its path
+module _ (l : ℕ) (a : Admission) (seen : ℕ) (old mid : Token)
+    (saw : steps_of mid ≡ steps_of old ++ step (rwlock_at l) (Exchange 8 0) seen)
+    (untold : told_of mid ≡ told_of old) where
   abbrev frees : Place
   frees = RwLock l a (HandOver access.Exclusive false (handing.Free 8))
 
   abbrev hands : Place
   hands = RwLock l a (HandOver access.Exclusive false handing.Enter)
 
-  pub path_free : seen ≡ 8 → Walks (at_rwlock l) frees old mid Ok
-  path_free same = ends_at_once (at_rwlock l) frees l (Exchange 8 0) seen old mid Ok refl saw
-      (ap (λ (b : Bool). rwlock_does l a (if b then End Ok else At (HandOver access.Exclusive false handing.Enter))) (eq-eqb seen 8 same))
+  calm : is_queued (next_place frees (Value seen)) ≡ false
+  calm = unqueued_call l a (HandOver access.Exclusive false (handing.Free 8)) seen tt refl
 
-  pub path_handing : seen ≢ 8 → Walks (at_rwlock l) hands mid new Ok → Walks (at_rwlock l) frees old new Ok
-  path_handing other w = goes_on (at_rwlock l) frees l (Exchange 8 0) seen old mid new Ok refl saw
-      (subst (λ (p : Place). Walks (at_rwlock l) p mid new Ok) (sym (ap (λ (b : Bool). rwlock_goes l a (if b then End Ok else At (HandOver access.Exclusive false handing.Enter))) (ne_eqb seen 8 other))) w)
+  gave : trail_of mid None ≡ joined (trail_of old None) (one (rwlock_at l) (Exchange 8 0) seen)
+  gave = one_more old mid (rwlock_at l) (Exchange 8 0) seen saw untold
 
+  pub path_free : seen ≡ 8
+      → Courses (at_rwlock l) old.number frees (trail_of old None) (trail_of mid None) Ok
+  path_free same = over_at_once (at_rwlock l) old.number frees l (Exchange 8 0) seen
+      (trail_of old None) (trail_of mid None) Ok refl calm gave
+      (ap (λ (b : Bool). rwlock_does l a
+      (if b then End Ok else At (HandOver access.Exclusive false handing.Enter))) (eq-eqb seen 8 same))
+
+  pub path_handing : (new : Token) → mid.number ≡ old.number → seen ≢ 8
+      → Courses (at_rwlock l) mid.number hands (trail_of mid None) (trail_of new None) Ok
+      → Courses (at_rwlock l) old.number frees (trail_of old None) (trail_of new None) Ok
+  path_handing new same other rest = courses_behind (at_rwlock l) old.number frees l (Exchange 8 0) seen
+      (trail_of old None) (trail_of mid None) (trail_of new None) Ok refl calm gave
+      (subst (λ (p : Place). Courses (at_rwlock l) old.number p (trail_of mid None) (trail_of new None) Ok)
+      (sym (ap (λ (b : Bool). rwlock_goes l a
+      (if b then End Ok else At (HandOver access.Exclusive false handing.Enter))) (ne_eqb seen 8 other)))
+      (subst (λ (me : ℕ). Courses (at_rwlock l) me hands (trail_of mid None) (trail_of new None) Ok) same rest))
+
+-- its record
+module _ (l : ℕ) (a : Admission) (seen : ℕ) (old mid new : List WordStep)
+    (saw : mid ≡ old ++ step (rwlock_at l) (Exchange 8 0) seen) where
   pub record_free : seen ≡ 8 → LeftFairly l a old mid None
-  record_free same = (seen, [], saw ∙ sym (append-nil (old ++ step (rwlock_at l) (Exchange 8 0) seen)), subst (λ (b : Bool). TookUnlessFree l a b [] None) (sym (eq-eqb seen 8 same)) (refl, refl))
+  record_free same = (
+    seen,
+    [],
+    saw ∙ sym (append-nil (old ++ step (rwlock_at l) (Exchange 8 0) seen)),
+    subst (λ (b : Bool). TookUnlessFree l a b [] None) (sym (eq-eqb seen 8 same)) (refl, refl),
+  )
 
   pub record_handing : (last : Option SectionRecord) → seen ≢ 8 → (more : List WordStep) → new ≡ mid ++ more → TookWoken l a (purpose.Release access.Exclusive) last → LeftFairly l a old new last
   record_handing last other more e took = (seen, more, e ∙ ap (λ (x : List WordStep). x ++ more) saw, subst (λ (b : Bool). TookUnlessFree l a b more last) (sym (ne_eqb seen 8 other)) took)
@@ -149,15 +179,33 @@ module _ (word : Word) (is : word.kind ≡ kinds.RwLock) (op : Op) (seen : ℕ) 
   has_taken last code = subst (λ (k : WordKind). Stepped k (word_index word.number k) op seen (stage_of old None) (stage_of new None)) is (by_stage word op seen old None new stepped last code)
 
 -- where a bump went on, and where its look ended it
-module _ (l : ℕ) (a : Admission) (x : Access) (seen : ℕ) (old mid new : List WordStep) (saw : mid ≡ old ++ step (rwlock_at l) Load seen) (answer : Answer) where
+module _ (l : ℕ) (a : Admission) (x : Access) (seen : ℕ) (old mid : Token)
+    (saw : steps_of mid ≡ steps_of old ++ step (rwlock_at l) Load seen)
+    (untold : told_of mid ≡ told_of old) (answer : Answer) where
   abbrev glance : Place
   glance = RwLock l a (Glance x)
 
-  pub bump_ends : glance_next a x seen ≡ End answer → Walks (at_rwlock l) glance old mid answer
-  bump_ends e = ends_at_once (at_rwlock l) glance l Load seen old mid answer refl saw (ap (rwlock_does l a) e)
+  unqueued : is_queued (next_place glance (Value seen)) ≡ false
+  unqueued = unqueued_call l a (Glance x) seen tt refl
 
-  pub bump_goes_on : (c : RwLockCallPlace) → glance_next a x seen ≡ At c → Walks (at_rwlock l) (RwLock l a c) mid new answer → Walks (at_rwlock l) glance old new answer
-  bump_goes_on c e w = goes_on (at_rwlock l) glance l Load seen old mid new answer refl saw (subst (λ (p : Place). Walks (at_rwlock l) p mid new answer) (sym (ap (rwlock_goes l a) e)) w)
+  looked : trail_of mid None ≡ joined (trail_of old None) (one (rwlock_at l) Load seen)
+  looked = one_more old mid (rwlock_at l) Load seen saw untold
+
+  pub bump_ends : glance_next a x seen ≡ End answer
+      → Courses (at_rwlock l) old.number glance (trail_of old None) (trail_of mid None) answer
+  bump_ends e = over_at_once (at_rwlock l) old.number glance l Load seen (trail_of old None)
+      (trail_of mid None) answer refl unqueued looked (ap (rwlock_does l a) e)
+
+  pub bump_goes_on : (new : Token) (c : RwLockCallPlace) → mid.number ≡ old.number
+      → glance_next a x seen ≡ At c
+      → Courses (at_rwlock l) mid.number (RwLock l a c) (trail_of mid None) (trail_of new None) answer
+      → Courses (at_rwlock l) old.number glance (trail_of old None) (trail_of new None) answer
+  bump_goes_on new c same e rest = courses_behind (at_rwlock l) old.number glance l Load seen
+      (trail_of old None) (trail_of mid None) (trail_of new None) answer refl unqueued looked
+      (subst (λ (p : Place). Courses (at_rwlock l) old.number p (trail_of mid None) (trail_of new None) answer)
+      (sym (ap (rwlock_goes l a) e))
+      (subst (λ (me : ℕ). Courses (at_rwlock l) me (RwLock l a c) (trail_of mid None) (trail_of new None) answer)
+      same rest))
 
 -- the first step of an exclusive owner is one that it may take
 pub may_leave_alone : (l : ℕ) (base owns : List Ownership) → OwnsRight l wants.Exclusive base owns → MayStep kinds.RwLock (rwlock_at l) (Exchange 8 0) owns

@@ -48,7 +48,9 @@ use Rattle.lot_steps.specs.declared.places.Place.TheVariants.{Idle, Mutex, Once,
 use Rattle.core_words.specs.declared.views.WordStep.{WordStep}
 use Rattle.parking_lot_core.specs.Tokens.{view_of}
 use Rattle.parking_lot_core.specs.declared.tokens.Token.{Token}
-use Rattle.run_base.specs.Paths.{Brings, Path, at_rwlock, Walks, hands, here, is_valueless, looks, on, other, parks, rwlock_at, step, word}
+use Rattle.run_base.specs.Paths.{Brings, at_rwlock, hands, is_valueless, other, parks, rwlock_at, step, word}
+use Rattle.run_base.specs.Courses.{Course, Courses, Trail, trail_of}
+use Rattle.run_base.specs.Courses as courses
 use Rattle.run_base.specs.RwLockCalls.{HasWalkedRwLock, rwlock_begin}
 use Rattle.run_locks.specs.RwLockRefusals.{SawReadersFull}
 
@@ -498,22 +500,38 @@ module _ (a : Admission) (x : Access) (how : Patience) (Is : RwLockCallPlace →
     looks_keep (Semaphore l to) r e w = absurd w
     looks_keep (RwLock l b c) r e w = leads.2 l c r (subst (λ (y : Admission). looking (RwLock l y c) ≡ Some r) w.0 e) w.1
 
-    path_keeps : (at : ℕ → ℕ) (p r : Place) (xs : List WordStep) → Path at p xs r → IsIn p → IsIn r
-    path_keeps at p _ _ (here _) w = w
-    path_keeps at p _ _ (on _ r xs ys told path tells) w = (place_keeps r told (path_keeps at p r xs path w)).0
-    path_keeps at p s xs (looks _ r _ _ path is) w = looks_keep r s is (path_keeps at p r xs path w)
+    course_keeps : (at : ℕ → ℕ) (me : ℕ) (p r : Place) (x : Trail) → Course at me p x r → IsIn p → IsIn r
+    course_keeps at me p _ _ (courses.rests _) w = w
+    course_keeps at me p _ _ (courses.goes _ r x y told course brings) w =
+        (place_keeps r told (course_keeps at me p r x course w)).0
+    course_keeps at me p s x (courses.sees _ r _ _ course is) w =
+        looks_keep r s is (course_keeps at me p r x course w)
 
-    ended_by : (at : ℕ → ℕ) (p last : Place) (xs : List WordStep) (told : Reply) → Path at p xs last → IsIn p → next_act last told ≡ act.End ReadersFull → ToldFull a enters told
-    ended_by at p last xs told path w ends = subst (EndsActBy told) ends (place_keeps last told (path_keeps at p last xs path w)).1
+    ended_by : (at : ℕ → ℕ) (me : ℕ) (p last : Place) (x : Trail) (told : Reply) → Course at me p x last
+        → IsIn p → next_act last told ≡ act.End ReadersFull → ToldFull a enters told
+    ended_by at me p last x told course w ends =
+        subst (EndsActBy told) ends (place_keeps last told (course_keeps at me p last x course w)).1
 
     -- a thread that finds the lock full by them saw so by its last step
-    pub walked_full : (l : ℕ) (start : Place) (old new : Token) → IsIn start → Walks (at_rwlock l) start (view_of old).steps (view_of new).steps ReadersFull → SawReadersFull l a x old new
-    walked_full l start old new begins w =
-        let told = ended_by (at_rwlock l) start w.2.last w.2.before w.2.reply w.2.path begins w.2.ends in
-        let value = told_value a enters w.2.reply told in
-        let by = value_seen l w.2.last w.2.then w.2.reply w.2.tells value.0 value.1 in
-        let is = found a how value.0 x value.2 in
-        (w.2.before, by.0, value.0, w.1 ∙ ap (λ (s : List WordStep). (view_of old).steps ++ s) (w.2.all ∙ ap (λ (s : List WordStep). w.2.before ++ s) by.1) ∙ sym (append_assoc (view_of old).steps w.2.before (step (rwlock_at l) by.0 value.0)), is.0, is.1)
+    pub walked_full : (l : ℕ) (me : ℕ) (start : Place) (old new : Token) → IsIn start
+        → Courses (at_rwlock l) me start (trail_of old None) (trail_of new None) ReadersFull
+        → SawReadersFull l a x old new
+    walked_full l me start old new begins w =
+        let end = w.2 in
+        let told = ended_by (at_rwlock l) me start end.last end.before end.reply end.course begins end.ends in
+        let value = told_value a enters end.reply told in
+        let by = value_seen l end.last end.more.steps end.reply end.brings.0 value.0 value.1 in
+        let is = found a how value.0 x value.2 in (
+          end.before.steps,
+          by.0,
+          value.0,
+          ap (λ (t : Trail). t.steps) w.1
+              ∙ ap (λ (s : List WordStep). (view_of old).steps ++ s)
+              (ap (λ (t : Trail). t.steps) end.whole ∙ ap (λ (s : List WordStep). end.before.steps ++ s) by.1)
+              ∙ sym (append_assoc (view_of old).steps end.before.steps (step (rwlock_at l) by.0 value.0)),
+          is.0,
+          is.1,
+        )
 
 -- ---------------------------------------------------------------- a call that enters
 
@@ -536,4 +554,4 @@ module _ (x : Access) (how : Patience) (a : Admission) where
 
 -- a whole call that found the lock full is refused so too
 pub sees_full : (x : Access) (how : Patience) (l : ℕ) (a : Admission) (old new : Token) → HasWalkedRwLock l a (purpose.Enter x how) ReadersFull old new → SawReadersFull l a x old new
-sees_full x how l a old new w = walked_full a x how (IsCall a (purpose.Enter x how)) (call_keeps a (purpose.Enter x how), call_going a (purpose.Enter x how), looks_on x how a) l (rwlock_begin l a (purpose.Enter x how)) old new (begins x how a x l) w
+sees_full x how l a old new w = walked_full a x how (IsCall a (purpose.Enter x how)) (call_keeps a (purpose.Enter x how), call_going a (purpose.Enter x how), looks_on x how a) l old.number (rwlock_begin l a (purpose.Enter x how)) old new (begins x how a x l) w

@@ -1,11 +1,12 @@
 -- The halves of a reader-writer call make the whole.
-use Rattle.std.proofs.Common.{ℕ, List, None, ◌≡◌, ◌-◌, ◌^◌, ◌<◌, refl, subst}
+use Rattle.std.proofs.Common.{ℕ, List, None, ◌≡◌, ◌-◌, ◌^◌, ◌<◌, ap, refl, subst}
 use Rattle.steps_base.specs.declared.acts.Next.TheVariants.{At}
 use Rattle.steps_base.specs.declared.acts.Reply.TheVariants.{Value}
 use Rattle.core_base.specs.declared.ops.Op.TheVariants.{Exchange}
 use Rattle.spec_locks.specs.declared.outcomes.Answer.{Answer}
 use Rattle.run_base.specs.Fitting.{Fits, IsOver, Reached, call_purpose, of_rwlock}
-use Rattle.run_base.specs.Paths.{WalksAfterReply, Walks, at_rwlock}
+use Rattle.run_base.specs.Courses.{Courses, CoursesAfterReply, Trail, trail_of}
+use Rattle.run_base.specs.Paths.{at_rwlock}
 use Rattle.run_base.specs.RwLockCalls.{BeginsWith, first_op, rwlock_begin, rwlock_deciding}
 use Rattle.run_base.specs.Stages.{stage_of}
 use Rattle.steps_rwlock.specs.RwLockBegins.{rwlock_first}
@@ -32,28 +33,34 @@ module _ (up : Type 0) (word : Word) (is : word.kind ≡ kinds.RwLock) (a : Admi
   abbrev came : Type 0
   came = (p : RwLockPlace) × (rwlock_next a (rwlock_first c) (Value seen) ≡ At p)
 
+  -- the course of the rest of a call, from where its first step has led it
+  abbrev RestCourse : Token → Token → Answer → Type 0
+  RestCourse mid new answer = Courses (at_rwlock word.number) mid.number
+      (next_place (rwlock_begin word.number a c) (Value seen)) (trail_of mid None) (trail_of new None) answer
+
   -- tells what the rest of a call does from where its first step has led it
   module _ (old mid : Token) (stepped : SteppedAndFound word (first_op c) seen old mid) (goes : came) where
     pub fits_behind : (base : List Ownership) → begins old base → Fits up base (next_place (rwlock_begin word.number a c) (Value seen)) (stage_of mid None)
     fits_behind base b = (rest_fits up word is a room c (first_op c) seen old mid refl stepped.1 stepped.2 stepped.3 goes base b).0
 
     pub ended_behind : (answer : Answer) (new : Token) → new.number ≡ old.number → (base : List Ownership) → begins old base
-        → Walks (at_rwlock word.number) (next_place (rwlock_begin word.number a c) (Value seen)) (view_of mid).steps (view_of new).steps answer
+        → RestCourse mid new answer
         → ((more : List Ownership) → Fits up more (next_place (rwlock_begin word.number a c) (Value seen)) (stage_of mid None)
         → IsOver up more (call_purpose (next_place (rwlock_begin word.number a c) (Value seen))) answer (stage_of new None))
         → HasEndedRwLock up word a c answer old new
     ended_behind answer new same base b walks over = (
       same,
-      rest_path up word is a room c (first_op c) seen old mid refl stepped.1 stepped.2 stepped.3 goes answer new walks,
+      rest_path up word is a room c (first_op c) seen old mid refl stepped.1 stepped.2 stepped.3 goes answer new stepped.4 stepped.0 walks,
       (λ more begun. rest_over up word is a room c (first_op c) seen old mid refl stepped.1 stepped.2 stepped.3 goes answer new more begun (over more)),
-      rest_record up word is a room c (first_op c) seen old mid refl stepped.1 stepped.2 stepped.3 goes answer new base b (over base) walks,
+      rest_record up word is a room c (first_op c) seen old mid refl stepped.1 stepped.2 stepped.3 goes answer new base b (over base)
+          walks.0.steps (ap (λ (x : Trail). x.steps) walks.1),
     )
 
   pub fits_on : (old mid : Token) → HasBegunRwLock word a c (GoesOn seen) old mid → (base : List Ownership) → begins old base → Fits up base (next_place (rwlock_begin word.number a c) (Value seen)) (stage_of mid None)
   fits_on old mid begun = fits_behind old mid begun.0 (waits_at word.number a c seen begun.1)
 
   pub ended_on_going : (old mid new : Token) (answer : Answer) → HasBegunRwLock word a c (GoesOn seen) old mid → new.number ≡ mid.number → (base : List Ownership) → begins old base
-      → Walks (at_rwlock word.number) (next_place (rwlock_begin word.number a c) (Value seen)) (view_of mid).steps (view_of new).steps answer
+      → RestCourse mid new answer
       → ((more : List Ownership) → Fits up more (next_place (rwlock_begin word.number a c) (Value seen)) (stage_of mid None)
       → IsOver up more (call_purpose (next_place (rwlock_begin word.number a c) (Value seen))) answer (stage_of new None))
       → HasEndedRwLock up word a c answer old new
@@ -68,12 +75,13 @@ module _ (up : Type 0) (word : Word) (is : word.kind ≡ kinds.RwLock) (a : Admi
         word_takes_on word is a c seen begun.2 (Exchange seen (word_taken c seen)) refl found mid last step.1 step.2 step.3 up base (fits_behind old mid begun.1 (takes_at word.number a c seen begun.2) base b)
 
     pub ended_missed : (new : Token) (answer : Answer) → new.number ≡ last.number → (base : List Ownership) → begins old base
-        → WalksAfterReply (at_rwlock word.number) (rwlock_deciding word.number a c seen) (Value found) (view_of last).steps (view_of new).steps answer
+        → CoursesAfterReply (at_rwlock word.number) last.number (rwlock_deciding word.number a c seen)
+        (Value found) (trail_of last None) (trail_of new None) answer
         → ((more : List Ownership) → Reached up more (rwlock_deciding word.number a c seen) (Value found) (stage_of last None)
         → IsOver up more (of_rwlock word.number a c) answer (stage_of new None))
         → HasEndedRwLock up word a c answer old new
     ended_missed new answer same base b rests over = let step = begun.3 in
         ended_behind old mid begun.1 (takes_at word.number a c seen begun.2) answer new
         (subst (λ (n : ℕ). new.number ≡ n) begun.1.0 (subst (λ (n : ℕ). new.number ≡ n) step.0 same)) base b
-        (path_missed word is a c seen begun.2 (Exchange seen (word_taken c seen)) refl found mid last step.1 step.2 step.3 answer new rests)
+        (path_missed word is a c seen begun.2 (Exchange seen (word_taken c seen)) refl found mid last step.1 step.2 step.3 answer new step.4 step.0 rests)
         (λ more fits. over_missed word is a c seen begun.2 (Exchange seen (word_taken c seen)) refl found mid last step.1 step.2 step.3 answer new up more fits (over more))

@@ -21,11 +21,11 @@ use Rattle.core_words.specs.Views.{owning}
 use Rattle.core_words.specs.declared.owners.Ownership.{Ownership}
 use Rattle.core_words.specs.declared.words.Word.{Word}
 use Rattle.core_words.specs.declared.words.WordKind.TheVariants as kinds
-use Rattle.parking_lot_core.specs.Tokens.{view_of, last_of}
+use Rattle.parking_lot_core.specs.Tokens.{view_of, last_of, told_of}
 use Rattle.parking_lot_core.specs.declared.tokens.Token.{Token}
 use Rattle.run_base.specs.Fitting.{answer_of}
-use Rattle.run_base.specs.Paths.{Walks, at_rwlock, rwlock_at}
-use Rattle.run_base.specs.RwLockCalls.{BeginsWith, rwlock_begin}
+use Rattle.run_base.specs.Paths.{rwlock_at}
+use Rattle.run_base.specs.RwLockCalls.{BeginsWith, HasWalkedRwLock, rwlock_begin}
 use Rattle.run_base.specs.RwLockFitting.{Answers, LeftBy, MayGiveUp, OwnsRight}
 use Rattle.run_base.specs.Stages.{Stage, stage_of}
 use Rattle.run_locks.proofs.RwLockCalling.{begins_entering, ended_on, entered_right, path_ended, saw, started}
@@ -78,8 +78,10 @@ module _ (word : Word) (is : word.kind ≡ kinds.RwLock) (a : Admission) (room :
   answered true e = rw e refl
   answered false e = rw e refl
 
-  pub tried : (b : Bool) → (seen == 0) ≡ b → Walks (at_rwlock word.number) (rwlock_begin word.number a try) (view_of old).steps (view_of new).steps (told b)
-  tried b e = path_ended word.number a try seen (told b) (view_of old).steps (view_of new).steps (saw word is try (Exchange 0 8) seen old new refl stepped) (answered b e)
+  pub tried : told_of new ≡ told_of old → (b : Bool) → (seen == 0) ≡ b
+      → HasWalkedRwLock word.number a try (told b) old new
+  tried untold b e = path_ended word.number a try seen (told b) old new
+      (saw word is try (Exchange 0 8) seen old new refl stepped) untold (answered b e)
 
   pub took : last_of new ≡ None → CodesWith word.kind (word_index word.number word.kind) seen (view_of old).owns → seen ≡ 0 → OwnsRight word.number wants.Exclusive (view_of old).owns (view_of new).owns
   took last code zero = let owns = (view_of old).owns in

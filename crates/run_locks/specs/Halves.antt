@@ -12,19 +12,20 @@ use Rattle.core_words.specs.Indices.{word_index}
 use Rattle.core_words.specs.Steps.{CodesWith, after_step}
 use Rattle.core_words.specs.declared.owners.Ownership.{Ownership}
 use Rattle.core_words.specs.declared.words.Word.{Word}
-use Rattle.parking_lot_core.specs.Tokens.{view_of, last_of}
+use Rattle.parking_lot_core.specs.Tokens.{view_of, last_of, told_of}
 use Rattle.parking_lot_core.specs.declared.tokens.Token.{Token}
 use Rattle.run_locks.specs.Courses.{course_of}
 use Rattle.run_locks.specs.declared.rwlock_calls.Rest.{Rest}
 use Rattle.run_locks.specs.declared.rwlock_calls.Rest.TheVariants.{GoesOn, Missed}
 use Rattle.run_locks.specs.declared.rwlock_courses.Course.TheVariants as courses
 
--- the thread took one step on the word, which found this
+-- the thread took one step on the word, which found this, and no queue told it anything
 abbrev pub SteppedAndFound : Word → Op → ℕ → Token → Token → Type 0
 SteppedAndFound word op found old new = (new.number ≡ old.number)
     × (view_of new ≡ after_step word.kind (word_index word.number word.kind) op found (view_of old))
     × (last_of new ≡ None)
     × CodesWith word.kind (word_index word.number word.kind) found (view_of old).owns
+    × (told_of new ≡ told_of old)
 
 -- the thread took what the fast half of a call takes, which is not over by it: its first step, and
 -- where that saw that it may take its right, an exchange by what was seen, which found another value

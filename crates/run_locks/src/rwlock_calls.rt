@@ -12,11 +12,12 @@ ghost use Rattle.parking_lot_core.specs.declared.tokens.Token.{Token};
 ghost use Rattle.run_locks.specs.Halves.{HasBegunRwLock, HasEndedRwLock};
 ghost use Rattle.run_locks.specs.declared.rwlock_calls.Rest.TheVariants.{GoesOn, Missed};
 ghost use Rattle.run_base.specs.Fitting.{AreWordsFor, Fits, IsOver, Reached, call_purpose, of_rwlock};
-ghost use Rattle.run_base.specs.Paths.{WalksAfterReply, Walks, at_rwlock};
+ghost use Rattle.run_base.specs.Courses.{Courses, CoursesAfterReply, trail_of};
+ghost use Rattle.run_base.specs.Paths.{at_rwlock};
 ghost use Rattle.run_base.specs.RwLockCalls.{AnswersCall, BeginsWith, HasWalkedRwLock, MeetsAt, WakesBy, rwlock_begin, rwlock_deciding};
 ghost use Rattle.run_base.specs.Queued.{is_queued};
 ghost use Rattle.run_base.specs.Stages.{stage_of};
-ghost use Rattle.run_base.specs.Telling.{owns_of, steps_of};
+ghost use Rattle.run_base.specs.Telling.{owns_of};
 ghost use Rattle.run_base.specs.Words.{single_word, kind_in, at_in};
 
 use crate::rwlock_courses::{Course, Settings, answer_with, course_of, opening};
@@ -56,8 +57,8 @@ pub(crate) fn run_out<R: Wait, C: Clock>(
     requires fits { (base : List Ownership)
         × Fits (IsUp C.tells limit) base start (stage_of token.old None) }
     ensures own { IsSameThread lot.now token.old token.new }
-    ensures path { Walks (at_in (single_word word)) start (steps_of token.old)
-        (steps_of token.new) result }
+    ensures path { Courses (at_in (single_word word)) token.old.number start
+        (trail_of token.old None) (trail_of token.new None) result }
     ensures over { (base : List Ownership)
         → Fits (IsUp C.tells limit.entry) base start (stage_of token.old None)
         → IsOver (IsUp C.tells limit.entry) base (call_purpose start) result (stage_of token.new None) }
@@ -182,9 +183,9 @@ fn rest_slow<R: Wait, C: Clock>(
     requires fits { (base : List Ownership) × Fits (IsUp C.tells limit.now) base
         (next_place (rwlock_begin word.now.number admission.now purpose.now) (Value seen)) (stage_of token.old None) }
     ensures own { IsSameThread lot.now token.old token.new }
-    ensures path { Walks (at_rwlock word.now.number)
+    ensures path { Courses (at_rwlock word.now.number) token.old.number
         (next_place (rwlock_begin word.now.number admission.now purpose.now) (Value seen))
-        (steps_of token.old) (steps_of token.new) result }
+        (trail_of token.old None) (trail_of token.new None) result }
     ensures over { (base : List Ownership) → Fits (IsUp C.tells limit.now) base
         (next_place (rwlock_begin word.now.number admission.now purpose.now) (Value seen)) (stage_of token.old None)
         → IsOver (IsUp C.tells limit.now) base
@@ -248,9 +249,9 @@ fn rest_missed<R: Wait, C: Clock>(
     requires reached { (base : List Ownership) × Reached (IsUp C.tells limit.now) base
         (rwlock_deciding word.now.number admission.now purpose.now expected) (Value found) (stage_of token.old None) }
     ensures own { IsSameThread lot.now token.old token.new }
-    ensures path { WalksAfterReply (at_rwlock word.now.number)
+    ensures path { CoursesAfterReply (at_rwlock word.now.number) token.old.number
         (rwlock_deciding word.now.number admission.now purpose.now expected) (Value found)
-        (steps_of token.old) (steps_of token.new) result }
+        (trail_of token.old None) (trail_of token.new None) result }
     ensures over { (base : List Ownership) → Reached (IsUp C.tells limit.now) base
         (rwlock_deciding word.now.number admission.now purpose.now expected) (Value found) (stage_of token.old None)
         → IsOver (IsUp C.tells limit.now) base

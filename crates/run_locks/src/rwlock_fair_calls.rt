@@ -11,12 +11,13 @@ ghost use Rattle.lot_steps.specs.declared.places.Place.TheVariants.{RwLock};
 ghost use Rattle.core_words.specs.declared.owners.Ownership.{Ownership};
 ghost use Rattle.parking_lot_core.specs.Tokens.{IsSameThread};
 ghost use Rattle.run_base.specs.Fitting.{Fits, IsOver, call_purpose};
-ghost use Rattle.run_base.specs.Paths.{Walks, at_rwlock};
+ghost use Rattle.run_base.specs.Courses.{Courses, trail_of};
+ghost use Rattle.run_base.specs.Paths.{at_rwlock};
 ghost use Rattle.run_base.specs.RwLockCalls.{HasWalkedCall, MeetsAt, ReleasesFairly};
 ghost use Rattle.run_base.specs.RwLockFitting.{Answers, IsBeside, OwnsRight};
 ghost use Rattle.run_base.specs.Queued.{is_queued};
 ghost use Rattle.run_base.specs.Stages.{stage_of};
-ghost use Rattle.run_base.specs.Telling.{owns_of, steps_of};
+ghost use Rattle.run_base.specs.Telling.{owns_of};
 
 use crate::rwlock_calls::run_out;
 use lot_steps::{Next, Place, Reply};
@@ -57,8 +58,9 @@ fn rest<R: Wait>(
     requires fits { (base : List Ownership)
         × Fits ⊥ base (RwLock word.now.number admission.now at.now) (stage_of token.old None) }
     ensures own { IsSameThread lot.now token.old token.new }
-    ensures path { Walks (at_rwlock word.now.number) (RwLock word.now.number admission.now at.now)
-        (steps_of token.old) (steps_of token.new) result }
+    ensures path { Courses (at_rwlock word.now.number) token.old.number
+        (RwLock word.now.number admission.now at.now)
+        (trail_of token.old None) (trail_of token.new None) result }
     ensures over { (base : List Ownership)
         → Fits ⊥ base (RwLock word.now.number admission.now at.now) (stage_of token.old None)
         → IsOver ⊥ base (call_purpose (RwLock word.now.number admission.now at.now)) result

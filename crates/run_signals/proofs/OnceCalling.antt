@@ -45,6 +45,7 @@ use Rattle.run_base.specs.Words.{single_word, at_in, kind_in}
 use Rattle.run_base.specs.declared.driver.Stop.TheVariants.{Paused}
 use Rattle.core_words.proofs.OnceSteps.{each_once_code}
 use Rattle.run_base.proofs.OnceLeading.{lands}
+use Rattle.run_base.proofs.Unqueued.{after_once, unqueued_once}
 use Rattle.run_base.proofs.Courses.{begins, comes_after, courses_behind, goes_on, one, one_more, over_at_once, steps_first}
 use Rattle.run_base.proofs.RwLockLeading.{rwlock_no_closure}
 use Rattle.run_base.proofs.SemaphoreLeading.{semaphore_no_closure}
@@ -133,16 +134,16 @@ module _ (word : Word) (is : word.kind ≡ kinds.TheVariants.Once) where
 module _ (n : ℕ) where
   -- the first step of a call ends it, or leads on
   pub looks_ended : (c : OnceCall) (seen : ℕ) (old mid : Token) (answer : Answer) → steps_of mid ≡ steps_of old ++ step (once_at n) Load seen → told_of mid ≡ told_of old → next_act (once_begin n c) (Value seen) ≡ act.TheVariants.End answer → RanNothing n c answer old mid
-  looks_ended c seen old mid answer e told ends = over_at_once (at_once n) old.number (once_begin n c) n Load seen (trail_of old None) (trail_of mid None) answer refl (one_more _ _ _ _ _ e told) ends
+  looks_ended c seen old mid answer e told ends = over_at_once (at_once n) old.number (once_begin n c) n Load seen (trail_of old None) (trail_of mid None) answer refl (after_once n c seen) (one_more _ _ _ _ _ e told) ends
 
   pub looks_on : (c : OnceCall) (seen : ℕ) (old mid : Token) (new : Trail) (answer : Answer) → steps_of mid ≡ steps_of old ++ step (once_at n) Load seen → told_of mid ≡ told_of old → Courses (at_once n) old.number (next_place (once_begin n c) (Value seen)) (trail_of mid None) new answer
       → Courses (at_once n) old.number (once_begin n c) (trail_of old None) new answer
-  looks_on c seen old mid new answer e told rest = courses_behind (at_once n) old.number (once_begin n c) n Load seen (trail_of old None) (trail_of mid None) new answer refl (one_more _ _ _ _ _ e told) rest
+  looks_on c seen old mid new answer e told rest = courses_behind (at_once n) old.number (once_begin n c) n Load seen (trail_of old None) (trail_of mid None) new answer refl (after_once n c seen) (one_more _ _ _ _ _ e told) rest
 
   pub looks_to : (c : OnceCall) (seen : ℕ) (old mid : Token) (new : Trail) (q : Place) → steps_of mid ≡ steps_of old ++ step (once_at n) Load seen → told_of mid ≡ told_of old → StepsLeadTo n old.number (next_place (once_begin n c) (Value seen)) (trail_of mid None) new q
       → StepsLeadTo n old.number (once_begin n c) (trail_of old None) new q
   looks_to c seen old mid new q e told rest = comes_after (at_once n) old.number (once_begin n c) (next_place (once_begin n c) (Value seen)) q (trail_of old None) (trail_of mid None) new
-      (goes_on (at_once n) old.number (once_begin n c) (once_begin n c) (next_place (once_begin n c) (Value seen)) (trail_of old None) (trail_of old None) (trail_of mid None) (Value seen) (one (once_at n) Load seen) (begins (at_once n) old.number (once_begin n c) (trail_of old None)) (one_more _ _ _ _ _ e told) (steps_first (at_once n) old.number (once_begin n c) n Load seen refl) refl) rest
+      (goes_on (at_once n) old.number (once_begin n c) (once_begin n c) (next_place (once_begin n c) (Value seen)) (trail_of old None) (trail_of old None) (trail_of mid None) (Value seen) (one (once_at n) Load seen) (begins (at_once n) old.number (once_begin n c) (trail_of old None)) (one_more _ _ _ _ _ e told) (steps_first (at_once n) old.number (once_begin n c) n Load seen refl (after_once n c seen)) refl) rest
 
   -- a thread that finds it done ends
   pub done_ends : (c : OnceCall) (seen : ℕ) → is_done seen ≡ true → next_act (once_begin n c) (Value seen) ≡ act.TheVariants.End (when_done c)
@@ -184,11 +185,11 @@ module _ (n : ℕ) where
 
   -- the step that ends a run, and the rest
   pub closes_at_once : (forced s : Bool) (seen me : ℕ) (old new : Trail) → is_marked seen ≡ false → new ≡ joined old (one (once_at n) (Swap (word_behind s)) seen) → EndsRun n me forced s old new
-  closes_at_once forced s seen me old new unmarked e = over_at_once (at_once n) me (run_end n forced s) n (Swap (word_behind s)) seen old new (ended s) refl e
+  closes_at_once forced s seen me old new unmarked e = over_at_once (at_once n) me (run_end n forced s) n (Swap (word_behind s)) seen old new (ended s) refl (unqueued_once n (Run forced (run.Close s)) seen tt refl) e
       (ap (λ (b : Bool). once_does n (in_run forced (if b then next.TheVariants.At (run.Enter s) else next.TheVariants.End (ended s)))) unmarked)
 
   pub closes_on : (forced s : Bool) (seen me : ℕ) (old mid new : Trail) (answer : Answer) → is_marked seen ≡ true → mid ≡ joined old (one (once_at n) (Swap (word_behind s)) seen) → answer ≡ ended s → Courses (at_once n) me (Once n (Run forced (run.Enter s))) mid new answer → EndsRun n me forced s old new
-  closes_on forced s seen me old mid new answer marked e is rest = courses_behind (at_once n) me (run_end n forced s) n (Swap (word_behind s)) seen old mid new (ended s) refl e
+  closes_on forced s seen me old mid new answer marked e is rest = courses_behind (at_once n) me (run_end n forced s) n (Swap (word_behind s)) seen old mid new (ended s) refl (unqueued_once n (Run forced (run.Close s)) seen tt refl) e
       (subst (λ (p : Place). Courses (at_once n) me p mid new (ended s)) (sym (ap (λ (b : Bool). once_goes n (in_run forced (if b then next.TheVariants.At (run.Enter s) else next.TheVariants.End (ended s)))) marked))
       (subst (Courses (at_once n) me (Once n (Run forced (run.Enter s))) mid new) is rest))
 

@@ -1,6 +1,7 @@
 -- The calls of a semaphore: on which words they step, and how their steps lead on.
 use Rattle.std.proofs.Common.{ℕ, ◌≡◌, ◌≢◌, ◌<◌, ◌++◌, ◌∙◌, ◌+◌, ◌-◌, ◌*◌, ◌/◌, ◌≤◌, ◌^◌, Bool, true, false, List, None, if◌then◌else◌, not, ◌==◌, ◌&&◌, refl, sym, ap, subst, arith, eq-eqb, ne_eqb}
 use Rattle.steps_semaphore.specs.declared.places.SemaphorePlace.{SemaphorePlace}
+use Rattle.steps_semaphore.specs.declared.places.SemaphorePlace.TheVariants.{Acquire, Release, Try}
 use Rattle.spec_locks.specs.Codes.{has_parked}
 use Rattle.core_base.specs.declared.keys.Keys.TheVariants.{One}
 use Rattle.core_base.specs.declared.ops.Op.TheVariants.{Add, Exchange, Load}
@@ -29,6 +30,7 @@ use Rattle.parking_lot_core.specs.declared.tokens.Token.{Token}
 use Rattle.run_base.specs.Courses.{Courses, Trail, joined, trail_of}
 use Rattle.run_base.specs.Paths.{at_semaphore, semaphore_at}
 use Rattle.run_base.specs.Words.{single_word, at_in, kind_in}
+use Rattle.run_base.proofs.Unqueued.{unqueued_semaphore}
 use Rattle.run_base.proofs.Courses.{ComesBy, arrives, begins, courses_on, goes_on, one, over_at_once, steps_first}
 use Rattle.run_signals.specs.SemaphoreCalls.{HasGone, IsSemaphore, deciding, semaphore_begin, try_place, waiting, waking}
 
@@ -67,7 +69,7 @@ module _ (n permits p : ℕ) (kind : kinds.WordKind) (is : kind ≡ kinds.TheVar
 module _ (n : ℕ) (timed : Bool) (seen found : ℕ) (me : ℕ) (old mid new : Trail) where
   -- the first look
   comes : mid ≡ joined old (one (semaphore_at n) Load seen) → ComesBy (at_semaphore n) me (waiting n timed) old mid (deciding n timed seen)
-  comes e = goes_on (at_semaphore n) me (waiting n timed) (waiting n timed) (deciding n timed seen) old old mid (Value seen) (one (semaphore_at n) Load seen) (begins (at_semaphore n) me (waiting n timed) old) e (steps_first (at_semaphore n) me (waiting n timed) n Load seen refl) refl
+  comes e = goes_on (at_semaphore n) me (waiting n timed) (waiting n timed) (deciding n timed seen) old old mid (Value seen) (one (semaphore_at n) Load seen) (begins (at_semaphore n) me (waiting n timed) old) e (steps_first (at_semaphore n) me (waiting n timed) n Load seen refl (unqueued_semaphore n (Acquire timed false acquire.Load) seen tt refl)) refl
 
   act_there : is_free seen ≡ true → act_of (deciding n timed seen) ≡ act.Word n (Exchange seen (seen - 2))
   act_there free = ap (λ (b : Bool). if b then act.Word n (Exchange seen (seen - 2)) else if seen == 0 then act.Word n (Exchange 0 1) else act.Enter (One (2 * n))) free
@@ -78,7 +80,7 @@ module _ (n : ℕ) (timed : Bool) (seen found : ℕ) (me : ℕ) (old mid new : T
 
   -- the exchange took a permit
   pub takes : is_free seen ≡ true → mid ≡ joined old (one (semaphore_at n) Load seen) → new ≡ joined mid (one (semaphore_at n) (Exchange seen (seen - 2)) found) → found ≡ seen → Courses (at_semaphore n) me (waiting n timed) old new (acquired timed)
-  takes free e x same = arrives (at_semaphore n) me (waiting n timed) (deciding n timed seen) old mid new (Value found) (one (semaphore_at n) (Exchange seen (seen - 2)) found) (acquired timed) (comes e) x (steps_first (at_semaphore n) me (deciding n timed seen) n (Exchange seen (seen - 2)) found (act_there free)) ends
+  takes free e x same = arrives (at_semaphore n) me (waiting n timed) (deciding n timed seen) old mid new (Value found) (one (semaphore_at n) (Exchange seen (seen - 2)) found) (acquired timed) (comes e) x (steps_first (at_semaphore n) me (deciding n timed seen) n (Exchange seen (seen - 2)) found (act_there free) (unqueued_semaphore n (Acquire timed false (acquire.Decide seen)) found tt refl)) ends
     where
       ends : next_act (deciding n timed seen) (Value found) ≡ act.End (acquired timed)
       ends = ap (λ (b : Bool). semaphore_does n (in_acquire timed false (if not b then At (acquire.Decide found) else if is_free found then End (acquired timed) else At (acquire.Decide 1)))) (eq-eqb found seen same)
@@ -87,7 +89,7 @@ module _ (n : ℕ) (timed : Bool) (seen found : ℕ) (me : ℕ) (old mid new : T
   -- A try whose exchange missed goes on after that.
   pub misses : (rest : Trail) (answer : Answer) → is_free seen ≡ true → mid ≡ joined old (one (semaphore_at n) Load seen) → new ≡ joined mid (one (semaphore_at n) (Exchange seen (seen - 2)) found) → found ≢ seen → Courses (at_semaphore n) me (deciding n timed found) new rest answer → Courses (at_semaphore n) me (waiting n timed) old rest answer
   misses rest answer free e x ne walks = courses_on (at_semaphore n) me (waiting n timed) (deciding n timed found) old new rest answer
-      (goes_on (at_semaphore n) me (waiting n timed) (deciding n timed seen) (deciding n timed found) old mid new (Value found) (one (semaphore_at n) (Exchange seen (seen - 2)) found) (comes e) x (steps_first (at_semaphore n) me (deciding n timed seen) n (Exchange seen (seen - 2)) found (act_there free)) is)
+      (goes_on (at_semaphore n) me (waiting n timed) (deciding n timed seen) (deciding n timed found) old mid new (Value found) (one (semaphore_at n) (Exchange seen (seen - 2)) found) (comes e) x (steps_first (at_semaphore n) me (deciding n timed seen) n (Exchange seen (seen - 2)) found (act_there free) (unqueued_semaphore n (Acquire timed false (acquire.Decide seen)) found tt refl)) is)
       walks
     where
       is : deciding n timed found ≡ next_place (deciding n timed seen) (Value found)
@@ -96,11 +98,11 @@ module _ (n : ℕ) (timed : Bool) (seen found : ℕ) (me : ℕ) (old mid new : T
 module _ (n : ℕ) (seen found : ℕ) (me : ℕ) (old mid new : Trail) where
   -- a try that saw none free
   pub sees_none : is_free seen ≡ false → mid ≡ joined old (one (semaphore_at n) Load seen) → Courses (at_semaphore n) me (semaphore_begin n (calls.Acquire OnlyTry)) old mid answers.No
-  sees_none full e = over_at_once (at_semaphore n) me (semaphore_begin n (calls.Acquire OnlyTry)) n Load seen old mid answers.No refl e
+  sees_none full e = over_at_once (at_semaphore n) me (semaphore_begin n (calls.Acquire OnlyTry)) n Load seen old mid answers.No refl (unqueued_semaphore n (Try tries.Load) seen tt refl) e
       (ap (λ (b : Bool). semaphore_does n (in_try (if b then At (tries.Decide seen) else End answers.No))) full)
 
   tries_it : is_free seen ≡ true → mid ≡ joined old (one (semaphore_at n) Load seen) → ComesBy (at_semaphore n) me (semaphore_begin n (calls.Acquire OnlyTry)) old mid (try_place n seen)
-  tries_it free e = goes_on (at_semaphore n) me (semaphore_begin n (calls.Acquire OnlyTry)) (semaphore_begin n (calls.Acquire OnlyTry)) (try_place n seen) old old mid (Value seen) (one (semaphore_at n) Load seen) (begins (at_semaphore n) me (semaphore_begin n (calls.Acquire OnlyTry)) old) e (steps_first (at_semaphore n) me (semaphore_begin n (calls.Acquire OnlyTry)) n Load seen refl)
+  tries_it free e = goes_on (at_semaphore n) me (semaphore_begin n (calls.Acquire OnlyTry)) (semaphore_begin n (calls.Acquire OnlyTry)) (try_place n seen) old old mid (Value seen) (one (semaphore_at n) Load seen) (begins (at_semaphore n) me (semaphore_begin n (calls.Acquire OnlyTry)) old) e (steps_first (at_semaphore n) me (semaphore_begin n (calls.Acquire OnlyTry)) n Load seen refl (unqueued_semaphore n (Try tries.Load) seen tt refl))
       (sym (ap (λ (b : Bool). semaphore_goes n (in_try (if b then At (tries.Decide seen) else End answers.No))) free))
 
   try_there : is_free seen ≡ true → act_of (try_place n seen) ≡ act.Word n (Exchange seen (seen - 2))
@@ -108,7 +110,7 @@ module _ (n : ℕ) (seen found : ℕ) (me : ℕ) (old mid new : Trail) where
 
   -- one that took a permit
   pub tries_well : is_free seen ≡ true → mid ≡ joined old (one (semaphore_at n) Load seen) → new ≡ joined mid (one (semaphore_at n) (Exchange seen (seen - 2)) found) → found ≡ seen → Courses (at_semaphore n) me (semaphore_begin n (calls.Acquire OnlyTry)) old new answers.Yes
-  tries_well free e x same = arrives (at_semaphore n) me (semaphore_begin n (calls.Acquire OnlyTry)) (try_place n seen) old mid new (Value found) (one (semaphore_at n) (Exchange seen (seen - 2)) found) answers.Yes (tries_it free e) x (steps_first (at_semaphore n) me (try_place n seen) n (Exchange seen (seen - 2)) found (try_there free)) ends
+  tries_well free e x same = arrives (at_semaphore n) me (semaphore_begin n (calls.Acquire OnlyTry)) (try_place n seen) old mid new (Value found) (one (semaphore_at n) (Exchange seen (seen - 2)) found) answers.Yes (tries_it free e) x (steps_first (at_semaphore n) me (try_place n seen) n (Exchange seen (seen - 2)) found (try_there free) (unqueued_semaphore n (Try (tries.Decide seen)) found tt refl)) ends
     where
       ends : next_act (try_place n seen) (Value found) ≡ act.End answers.Yes
       ends = ap (λ (b : Bool). semaphore_does n (in_try (if b && is_free found then End answers.Yes else looked found))) (eq-eqb found seen same)
@@ -116,7 +118,7 @@ module _ (n : ℕ) (seen found : ℕ) (me : ℕ) (old mid new : Trail) where
 
   -- one that missed it, and found none free
   pub misses_all : is_free seen ≡ true → is_free found ≡ false → mid ≡ joined old (one (semaphore_at n) Load seen) → new ≡ joined mid (one (semaphore_at n) (Exchange seen (seen - 2)) found) → found ≢ seen → Courses (at_semaphore n) me (semaphore_begin n (calls.Acquire OnlyTry)) old new answers.No
-  misses_all free full e x ne = arrives (at_semaphore n) me (semaphore_begin n (calls.Acquire OnlyTry)) (try_place n seen) old mid new (Value found) (one (semaphore_at n) (Exchange seen (seen - 2)) found) answers.No (tries_it free e) x (steps_first (at_semaphore n) me (try_place n seen) n (Exchange seen (seen - 2)) found (try_there free)) ends
+  misses_all free full e x ne = arrives (at_semaphore n) me (semaphore_begin n (calls.Acquire OnlyTry)) (try_place n seen) old mid new (Value found) (one (semaphore_at n) (Exchange seen (seen - 2)) found) answers.No (tries_it free e) x (steps_first (at_semaphore n) me (try_place n seen) n (Exchange seen (seen - 2)) found (try_there free) (unqueued_semaphore n (Try (tries.Decide seen)) found tt refl)) ends
     where
       ends : next_act (try_place n seen) (Value found) ≡ act.End answers.No
       ends = ap (λ (b : Bool). semaphore_does n (in_try (if b && is_free found then End answers.Yes else looked found))) (ne_eqb found seen ne)
@@ -125,7 +127,7 @@ module _ (n : ℕ) (seen found : ℕ) (me : ℕ) (old mid new : Trail) where
   -- A try that found a permit free goes on after that.
   pub tries_on : (rest : Trail) (answer : Answer) → is_free seen ≡ true → is_free found ≡ true → mid ≡ joined old (one (semaphore_at n) Load seen) → new ≡ joined mid (one (semaphore_at n) (Exchange seen (seen - 2)) found) → found ≢ seen → Courses (at_semaphore n) me (try_place n found) new rest answer → Courses (at_semaphore n) me (semaphore_begin n (calls.Acquire OnlyTry)) old rest answer
   tries_on rest answer free more e x ne walks = courses_on (at_semaphore n) me (semaphore_begin n (calls.Acquire OnlyTry)) (try_place n found) old new rest answer
-      (goes_on (at_semaphore n) me (semaphore_begin n (calls.Acquire OnlyTry)) (try_place n seen) (try_place n found) old mid new (Value found) (one (semaphore_at n) (Exchange seen (seen - 2)) found) (tries_it free e) x (steps_first (at_semaphore n) me (try_place n seen) n (Exchange seen (seen - 2)) found (try_there free)) is)
+      (goes_on (at_semaphore n) me (semaphore_begin n (calls.Acquire OnlyTry)) (try_place n seen) (try_place n found) old mid new (Value found) (one (semaphore_at n) (Exchange seen (seen - 2)) found) (tries_it free e) x (steps_first (at_semaphore n) me (try_place n seen) n (Exchange seen (seen - 2)) found (try_there free) (unqueued_semaphore n (Try (tries.Decide seen)) found tt refl)) is)
       walks
     where
       is : try_place n found ≡ next_place (try_place n seen) (Value found)
@@ -135,12 +137,12 @@ module _ (n : ℕ) (seen found : ℕ) (me : ℕ) (old mid new : Trail) where
 module _ (n seen : ℕ) (me : ℕ) (old mid new : Trail) where
   -- a release that saw nobody parked
   pub releases_at_once : has_parked seen ≡ false → mid ≡ joined old (one (semaphore_at n) (Add 2) seen) → Courses (at_semaphore n) me (semaphore_begin n calls.Release) old mid answers.Ok
-  releases_at_once none e = over_at_once (at_semaphore n) me (semaphore_begin n calls.Release) n (Add 2) seen old mid answers.Ok refl e
+  releases_at_once none e = over_at_once (at_semaphore n) me (semaphore_begin n calls.Release) n (Add 2) seen old mid answers.Ok refl (unqueued_semaphore n (Release release.Add) seen tt refl) e
       (ap (λ (b : Bool). semaphore_does n (in_release (if b then At release.Enter else End answers.Ok))) none)
 
   -- A release that saw waiters goes on after its addition.
   pub releases_on : (answer : Answer) → has_parked seen ≡ true → mid ≡ joined old (one (semaphore_at n) (Add 2) seen) → Courses (at_semaphore n) me (waking n) mid new answer → Courses (at_semaphore n) me (semaphore_begin n calls.Release) old new answer
   releases_on answer parked e rest = courses_on (at_semaphore n) me (semaphore_begin n calls.Release) (waking n) old mid new answer
-      (goes_on (at_semaphore n) me (semaphore_begin n calls.Release) (semaphore_begin n calls.Release) (waking n) old old mid (Value seen) (one (semaphore_at n) (Add 2) seen) (begins (at_semaphore n) me (semaphore_begin n calls.Release) old) e (steps_first (at_semaphore n) me (semaphore_begin n calls.Release) n (Add 2) seen refl)
+      (goes_on (at_semaphore n) me (semaphore_begin n calls.Release) (semaphore_begin n calls.Release) (waking n) old old mid (Value seen) (one (semaphore_at n) (Add 2) seen) (begins (at_semaphore n) me (semaphore_begin n calls.Release) old) e (steps_first (at_semaphore n) me (semaphore_begin n calls.Release) n (Add 2) seen refl (unqueued_semaphore n (Release release.Add) seen tt refl))
       (sym (ap (λ (b : Bool). semaphore_goes n (in_release (if b then At release.Enter else End answers.Ok))) parked)))
       rest

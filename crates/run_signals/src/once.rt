@@ -21,10 +21,11 @@ ghost use Rattle.run_signals.specs.OnceCalls.{EndedAndWoke, EndsRun, HasLookedFi
 ghost use Rattle.run_signals.specs.Looks.{CameTo, FoundDone, came_by};
 
 use crate::once_calls::{Look, begin, begin_slow, close};
-use core_base::{main_key, to_deadline};
+use core_base::main_key;
 use core_words::laws::once_may_step;
 use parking_lot_core::{Clock, Fault, Key, Op, ParkingLot, Token, Word, WordKind};
 use run_base::driver::FOR_EVER;
+use run_base::limits::limit_in;
 use spec_locks::{Answer, OnceCall, OnceState};
 use std::sync::{Arc, Wait};
 use std::time::Duration;
@@ -380,8 +381,7 @@ impl Once {
             → HasElapsed (C.tells clock.now) (as_nanos timeout)) }
         ensures poisoned { IfErr result (λ fault. fault ≡ Fault.Poisoned) }
     {
-        let limit = to_deadline(clock.now(), timeout);
-        self.wait_timed(rt, token, limit.map(|deadline| (clock, deadline)))
+        self.wait_timed(rt, token, limit_in(clock, timeout))
     }
 
     /// Waits until a run has succeeded. False only where the clock had come to the deadline.

@@ -1,5 +1,5 @@
 //! `OnceCell`: a value that the first that asks for it makes.
-ghost use Rattle.std.specs.Prelude.{◌≡◌, ◌⊎◌, ◌∷◌, [], List, Ok, Err, true, IfErr, IfOk, MatchResult};
+ghost use Rattle.std.specs.Prelude.{◌≡◌, ◌⊎◌, ◌∷◌, [], List, Ok, Err, true, IfErr, IfOk, IfSome, MatchResult};
 ghost use Rattle.std.specs.Arc.{arc_value};
 ghost use Rattle.core_words.specs.Draws.{IsDrawn, IsDrawRefused};
 ghost use Rattle.core_words.specs.declared.words.WordKind.TheVariants as kinds;
@@ -16,13 +16,24 @@ use run_base::driver::FOR_EVER;
 use spec_locks::OnceCall;
 use std::convert::Infallible;
 use std::marker::Model;
-use std::sync::{Arc, OnceLock, Wait};
+use std::sync::{Arc, OnceLock, OnceToken, Wait};
 use steps_base::bits::is_done;
 
 // Such a thread has met a value that no run made.
 fn never<R: Wait>(rt: &R) -> ! {
     for _ in rt.forever() {}
     unreachable!()
+}
+
+// Shows the value of a cell whose `Once` is done.
+fn shown_when_done<'a, T, R: Wait>(rt: &R, value: &'a OnceLock<T>) -> OnceToken<'a, T>
+    ensures { result.of ≡ value.now.id }
+{
+    match value.witness() {
+        Some(shown) => shown,
+        // A run sets the value before it ends.
+        None => never(rt),
+    }
 }
 
 /// A value that is made once, by the first that asks for it, and then read by all.
@@ -35,14 +46,14 @@ pub struct OnceCell<T> {
     value: OnceLock<T>,
 }
 
-// In a clause a cell is its `Once`: the value comes behind a shared reference, so none tells it.
+// In a clause a cell is a pair: its `Once`, and the name of what holds its value.
 impl<T> Model for OnceCell<T> {
-    ghost use Rattle.std.specs.Prelude.{◌≡◌};
+    ghost use Rattle.std.specs.Prelude.{◌≡◌, ℕ};
     ghost use Rattle.run_signals.specs.declared.once.Once.{Once};
 
-    ghost Value = { Once };
+    ghost Value = { Once × ℕ };
 
-    ghost view = { λ cell. cell.made };
+    ghost view = { λ cell. (cell.made, cell.value.id) };
 }
 
 impl<T: Drop> OnceCell<T> {
@@ -59,10 +70,10 @@ impl<T: Drop> OnceCell<T> {
         ensures token { IsTokenOf (arc_value lot.now) token.new
             × (token.new.number ≡ token.old.number)
             × ((view_of token.new).owns ≡ (view_of token.old).owns) }
-        ensures made { MatchResult result (λ cell. lot_of cell ≡ arc_value lot.now)
+        ensures made { MatchResult result (λ cell. lot_of cell.0 ≡ arc_value lot.now)
             (λ fault. (fault ≡ Fault.NoMemory) ⊎ (fault ≡ Fault.LotFull)) }
         ensures drawn { MatchResult result
-            (λ cell. IsDrawn (arc_value lot.now).words.count (kinds.Once ∷ []) (number_of cell)
+            (λ cell. IsDrawn (arc_value lot.now).words.count (kinds.Once ∷ []) (number_of cell.0)
             (view_of token.old)
             (view_of token.new))
             (λ fault. ((fault ≡ Fault.NoMemory) × (token.new ≡ token.old))
@@ -83,6 +94,26 @@ impl<T: Drop> OnceCell<T> {
         self.value.get()
     }
 
+    /// What shows the value, once it is made. That is one load, and never waits.
+    ///
+    /// It has no bytes. Any two that show the value of one cell agree, whichever threads have them:
+    /// `OnceToken::agrees`.
+    #[inline]
+    pub fn witness(&self) -> Option<OnceToken<'_, T>>
+        ensures { IfSome result (λ shown. shown.of ≡ self.now.1) }
+    {
+        self.value.witness()
+    }
+
+    /// The value, by what shows it.
+    #[inline]
+    pub fn value<'a>(&'a self, shown: &OnceToken<'a, T>) -> &'a T
+        requires { shown.now.of ≡ self.now.1 }
+        ensures { result.now ≡ shown.now.value }
+    {
+        self.value.value(shown)
+    }
+
     /// The value, for a thread that has the cell alone.
     pub fn get_mut(&mut self) -> Option<&mut T> {
         self.value.get_mut()
@@ -93,8 +124,59 @@ impl<T: Drop> OnceCell<T> {
         self.value.into_inner()
     }
 
-    /// The value. Where there is none the closure makes it, or another thread's does, and the call
-    /// waits for that one.
+    /// Shows the value. Where there is none the closure makes it, or another thread's does, and the
+    /// call waits for that one.
+    ///
+    /// # Errors
+    ///
+    /// The error of a closure that makes no value. The cell stays empty then.
+    #[inline]
+    pub fn show_or_try_init<R: Wait, E, F: FnOnce() -> Result<T, E> + Drop>(
+        &self,
+        rt: &R,
+        token: &mut Token,
+        f: F,
+    ) -> Result<OnceToken<'_, T>, E>
+        requires token { IsTokenOf (lot_of self.now.0) token.old }
+        requires callable { F.IsAlwaysCallable f }
+        ensures token { IsTokenOf (lot_of self.now.0) token.new
+            × StaysKnowing (number_of self.now.0) token.old token.new }
+        ensures shown { IfOk result (λ shown. shown.of ≡ self.now.1) }
+        ensures failed { IfErr result (λ error. F.post f (Err error)) }
+        ensures made { IfOk result (λ _. FoundOrMade (number_of self.now.0) token.old token.new) }
+        ensures value { IfOk result (λ shown. F.post f (Ok shown.value)
+            ⊎ FoundAnothers (number_of self.now.0) token.old token.new) }
+    {
+        match self.value.witness() {
+            Some(shown) => Ok(shown),
+            None => self.made.make(rt, token, &self.value, f),
+        }
+    }
+
+    /// Shows the value, where the closure can't fail.
+    #[inline]
+    pub fn show_or_init<R: Wait, F: FnOnce() -> T + Drop>(
+        &self,
+        rt: &R,
+        token: &mut Token,
+        f: F,
+    ) -> OnceToken<'_, T>
+        requires token { IsTokenOf (lot_of self.now.0) token.old }
+        requires callable { F.IsAlwaysCallable f }
+        ensures token { IsTokenOf (lot_of self.now.0) token.new
+            × StaysKnowing (number_of self.now.0) token.old token.new }
+        ensures shown { result.of ≡ self.now.1 }
+        ensures made { FoundOrMade (number_of self.now.0) token.old token.new }
+        ensures value { F.post f result.value
+            ⊎ FoundAnothers (number_of self.now.0) token.old token.new }
+    {
+        match self.show_or_try_init(rt, token, move || Ok::<T, Infallible>(f())) {
+            Ok(shown) => shown,
+            Err(never) => match never {},
+        }
+    }
+
+    /// The value. It is made as by `show_or_try_init`.
     ///
     /// # Errors
     ///
@@ -106,19 +188,19 @@ impl<T: Drop> OnceCell<T> {
         token: &mut Token,
         f: F,
     ) -> Result<&T, E>
-        requires token { IsTokenOf (lot_of self.now) token.old }
+        requires token { IsTokenOf (lot_of self.now.0) token.old }
         requires callable { F.IsAlwaysCallable f }
-        ensures token { IsTokenOf (lot_of self.now) token.new
-            × StaysKnowing (number_of self.now) token.old token.new }
+        ensures token { IsTokenOf (lot_of self.now.0) token.new
+            × StaysKnowing (number_of self.now.0) token.old token.new }
         ensures failed { IfErr result (λ error. F.post f (Err error)) }
-        ensures made { IfOk result (λ _. FoundOrMade (number_of self.now) token.old token.new) }
+        ensures made { IfOk result (λ _. FoundOrMade (number_of self.now.0) token.old token.new) }
         ensures value { IfOk result (λ value. F.post f (Ok value.now)
-            ⊎ FoundAnothers (number_of self.now) token.old token.new) }
+            ⊎ FoundAnothers (number_of self.now.0) token.old token.new) }
     {
-        if let Some(value) = self.value.get() {
-            return Ok(value);
+        match self.show_or_try_init(rt, token, f) {
+            Ok(shown) => Ok(self.value.value(&shown)),
+            Err(error) => Err(error),
         }
-        self.made.make(rt, token, &self.value, f)
     }
 
     /// The value, where the closure can't fail.
@@ -129,18 +211,16 @@ impl<T: Drop> OnceCell<T> {
         token: &mut Token,
         f: F,
     ) -> &T
-        requires token { IsTokenOf (lot_of self.now) token.old }
+        requires token { IsTokenOf (lot_of self.now.0) token.old }
         requires callable { F.IsAlwaysCallable f }
-        ensures token { IsTokenOf (lot_of self.now) token.new
-            × StaysKnowing (number_of self.now) token.old token.new }
-        ensures made { FoundOrMade (number_of self.now) token.old token.new }
+        ensures token { IsTokenOf (lot_of self.now.0) token.new
+            × StaysKnowing (number_of self.now.0) token.old token.new }
+        ensures made { FoundOrMade (number_of self.now.0) token.old token.new }
         ensures value { F.post f result.now
-            ⊎ FoundAnothers (number_of self.now) token.old token.new }
+            ⊎ FoundAnothers (number_of self.now.0) token.old token.new }
     {
-        match self.get_or_try_init(rt, token, move || Ok::<T, Infallible>(f())) {
-            Ok(value) => value,
-            Err(never) => match never {},
-        }
+        let shown = self.show_or_init(rt, token, f);
+        self.value.value(&shown)
     }
 }
 
@@ -155,7 +235,7 @@ impl Once {
         token: &mut Token,
         value: &'a OnceLock<T>,
         f: F,
-    ) -> Result<&'a T, E>
+    ) -> Result<OnceToken<'a, T>, E>
         requires token { IsTokenOf (lot_of self.now) token.old }
         requires callable { F.IsAlwaysCallable f }
         requires runs { (base : List Ownership)
@@ -166,7 +246,8 @@ impl Once {
             → OwnsRun (number_of self.now) base (owns_of token.old)
             → OwnsKnowing (number_of self.now) base (owns_of token.new)
             × IfOk result (λ _. KnowsIt (number_of self.now) base (owns_of token.new)) }
-        ensures value { MatchResult result (λ value. F.post f (Ok value.now))
+        ensures shown { IfOk result (λ shown. shown.of ≡ value.now.id) }
+        ensures value { MatchResult result (λ shown. F.post f (Ok shown.value))
             (λ error. F.post f (Err error)) }
     {
         match f() {
@@ -174,7 +255,7 @@ impl Once {
                 let set = value.try_set(made);
                 self.end_run(rt, token, true, true);
                 match set {
-                    Ok(witness) => Ok(value.value(&witness)),
+                    Ok(shown) => Ok(shown),
                     // Only a thread that runs sets the value, and none runs after it.
                     Err(_) => never(rt),
                 }
@@ -195,23 +276,24 @@ impl Once {
         token: &mut Token,
         value: &'a OnceLock<T>,
         f: F,
-    ) -> Result<&'a T, E>
+    ) -> Result<OnceToken<'a, T>, E>
         requires token { IsTokenOf (lot_of self.now) token.old }
         requires callable { F.IsAlwaysCallable f }
         ensures token { IsTokenOf (lot_of self.now) token.new
             × StaysKnowing (number_of self.now) token.old token.new }
         ensures ended { MatchResult result (λ _. SawDone (number_of self.now) token.old token.new)
             (λ error. F.post f (Err error)) }
-        ensures value { IfOk result (λ value. F.post f (Ok value.now)
+        ensures shown { IfOk result (λ shown. shown.of ≡ value.now.id) }
+        ensures value { IfOk result (λ shown. F.post f (Ok shown.value)
             ⊎ RanNothing (number_of self.now) (CallOnce true) answers.Ok token.old token.new) }
     {
         let seen = self.begin(token);
         if is_done(seen) {
-            return Ok(value.wait(rt));
+            return Ok(shown_when_done(rt, value));
         }
         let call = OnceCall::CallOnce { forced: true };
         match self.go_on(rt, token, FOR_EVER, call, seen) {
-            Came::Done => Ok(value.wait(rt)),
+            Came::Done => Ok(shown_when_done(rt, value)),
             Came::Runs(_) => self.fill(rt, token, value, f),
             Came::Poisoned | Came::Late => unreachable!(),
         }

@@ -21,9 +21,10 @@ ghost use Rattle.run_base.specs.Telling.{owns_of, steps_of};
 ghost use Rattle.run_signals.specs.SemaphoreCalls.{HasGone, HasReleased, HasAcquired, HasWalkedSemaphore, StaysAs, permit_answer, deciding, try_place};
 
 use crate::semaphore_calls::{acquire_slow, give, give_all, look, take, try_slow, wake_first};
-use core_base::{main_key, to_deadline};
+use core_base::main_key;
 use parking_lot_core::{Clock, Fault, Held, Key, ParkingLot, Token, Want, Word};
 use run_base::driver::FOR_EVER;
+use run_base::limits::limit_in;
 use spec_locks::Answer;
 use std::sync::{Arc, Wait};
 use std::time::Duration;
@@ -252,8 +253,7 @@ impl Semaphore {
         ensures left { IfNone result (TookNobodyAt (number_of self.now) (last_of token.new)) }
         ensures late { IfNone result (HasElapsed (C.tells clock.now) (as_nanos timeout)) }
     {
-        let limit = to_deadline(clock.now(), timeout);
-        self.wait(rt, token, &limit.map(|deadline| (clock, deadline)), true)
+        self.wait(rt, token, &limit_in(clock, timeout), true)
     }
 
     /// Waits for a permit. None only where the clock had come to the deadline, in nanoseconds.

@@ -1,4 +1,5 @@
 //! Programs, and what a search of all their schedules finds.
+mod damaged;
 mod grains;
 mod packs;
 mod programs;

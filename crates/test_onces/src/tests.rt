@@ -66,7 +66,7 @@ fn once_of<A: Abort>(rt: &A, lot: &Arc<ParkingLot>, token: &mut Token) -> Once
 fn cell_of<A: Abort>(rt: &A, lot: &Arc<ParkingLot>, token: &mut Token) -> OnceCell<u64>
     requires { IsTokenOf (arc_value lot.now) token.old }
     ensures token { IsTokenOf (arc_value lot.now) token.new }
-    ensures cell { lot_of result ≡ arc_value lot.now }
+    ensures cell { lot_of result.0 ≡ arc_value lot.now }
 {
     match OnceCell::new(lot, token) {
         Ok(cell) => cell,

@@ -1,5 +1,6 @@
 //! Rates that are read from a text once, by the thread that asks first. A text that can't be read
 //! leaves the cell empty.
+ghost use Rattle.std.specs.Prelude.{◌≡◌};
 ghost use Rattle.parking_lot.specs.Names.{IsTokenOf, lot_of_once};
 
 use super::{all_are, check, check_eq};
@@ -26,8 +27,8 @@ fn rate_of<'a, R: Wait>(
     text: &str,
     reads: &AtomicUsize,
 ) -> Result<&'a Rate, ParseIntError>
-    requires { IsTokenOf (lot_of_once rate.now) token.old }
-    ensures { IsTokenOf (lot_of_once rate.now) token.new }
+    requires { IsTokenOf (lot_of_once rate.now.0) token.old }
+    ensures { IsTokenOf (lot_of_once rate.now.0) token.new }
 {
     rate.get_or_try_init(rt, token, move || {
         reads.fetch_add(1, SeqCst);
@@ -43,10 +44,31 @@ fn taxed<R: Wait>(
     token: &mut Token,
     reads: &AtomicUsize,
 ) -> Option<u64>
-    requires { IsTokenOf (lot_of_once rate.now) token.old }
+    requires { IsTokenOf (lot_of_once rate.now.0) token.old }
 {
     let percent = rate_of(rt, rate, token, RATES, reads).ok()?.percent;
     u64::from(percent).checked_mul(10)?.checked_add(1000)
+}
+
+// Shows the rate twice, and tells that both times it is one.
+fn shown_twice<R: Wait>(rt: &R, rate: &OnceCell<Rate>, token: &mut Token) -> (u32, u32)
+    requires { IsTokenOf (lot_of_once rate.now.0) token.old }
+    ensures { result.0 ≡ result.1 }
+{
+    let one = rate.show_or_init(rt, token, || Rate { percent: 7 });
+    let other = rate.show_or_init(rt, token, || Rate { percent: 8 });
+    one.agrees(&other);
+    (rate.value(&one).percent, rate.value(&other).percent)
+}
+
+#[test]
+fn a_value_that_is_shown_twice_is_one(rt: HostRuntime) -> Result<(), Fail> {
+    let (team, mut token) = Team::new(rt.alloc(), 1)?;
+    let rate = OnceCell::new(team.lot(), &mut token)?;
+    check(&rt, rate.witness().is_none());
+    check_eq(&rt, shown_twice(&rt, &rate, &mut token), (7, 7));
+    check(&rt, rate.witness().is_some());
+    Ok(())
 }
 
 #[test]

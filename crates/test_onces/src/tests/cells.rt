@@ -34,8 +34,8 @@ fn value_of<R: Wait>(
     runs: &AtomicUsize,
     ask: Ask,
 ) -> Option<u64>
-    requires { IsTokenOf (lot_of cell.now) token.old }
-    ensures { IsTokenOf (lot_of cell.now) token.new }
+    requires { IsTokenOf (lot_of cell.now.0) token.old }
+    ensures { IsTokenOf (lot_of cell.now.0) token.new }
 {
     if let Ask::MakesSurely = ask {
         return Some(*cell.get_or_init(rt, token, move || 7 + runs.fetch_add(1, SeqCst) as u64 % 2));
@@ -58,7 +58,7 @@ fn asks<R: Wait + Abort>(
     script: &[Line],
     runs: usize,
 )
-    requires { IsTokenOf (lot_of cell.now) token.old }
+    requires { IsTokenOf (lot_of cell.now.0) token.old }
 {
     let ran = AtomicUsize::new(0);
     check_eq(rt, cell.get().copied(), None);
@@ -76,7 +76,7 @@ fn asks<R: Wait + Abort>(
 
 // A cell that one thread has for itself.
 fn cell_alone<A: Abort>(rt: &A, alloc: Global) -> (OnceCell<u64>, Token)
-    ensures { IsTokenOf (lot_of result.0) result.1 }
+    ensures { IsTokenOf (lot_of result.0.0) result.1 }
 {
     let (lot, mut token, _others) = seats(rt, alloc, 1);
     let cell = cell_of(rt, &lot, &mut token);
@@ -133,8 +133,8 @@ pub(super) fn shared_value_of<R: Wait>(
     came: &AtomicUsize,
     runs: &AtomicUsize,
 ) -> Option<u64>
-    requires { IsTokenOf (lot_of cell.now) token.old }
-    ensures { IsTokenOf (lot_of cell.now) token.new }
+    requires { IsTokenOf (lot_of cell.now.0) token.old }
+    ensures { IsTokenOf (lot_of cell.now.0) token.new }
 {
     let found: Result<&u64, u32> = cell.get_or_try_init(rt, token, move || {
         await_askers(came);

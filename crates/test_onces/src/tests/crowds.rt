@@ -20,7 +20,7 @@ use std::thread::{Threads, map_vec};
 struct Room {
     once: Once,
     cell: OnceCell<u64>,
-    ghost together: { lot_of cell ≡ lot_of once },
+    ghost together: { lot_of cell.0 ≡ lot_of once },
 }
 
 /// The part of each thread.

@@ -35,7 +35,7 @@ run-requires-clause-start g c = let v = view_of c.args.token.now in (
 pub returns-clause-path : goal.returns-clause-path
 returns-clause-path g c = λ before same saw untold. let n = c.args.word.number in let at = ap at_in c.alone.ensures ∙ alone_at c.args.word c.requires.own.2 in let answer = c.in-Ended.answer in
     let courses : Courses (at_in c.alone.result) c.args.token.now.number c.place_behind-start.result (trail_of c.args.token.now None) (trail_of c.run.new.token None) c.in-Ended.answer
-    = subst (RunsCourse (at_in c.alone.result) c.args.token.now.number c.place_behind-start.result (trail_of c.args.token.now None) (trail_of c.run.new.token None)) c.in-Ended.is c.run.ensures.course in
+    = subst (RunsCourse (at_in c.alone.result) c.args.token.now.number c.place_behind-start.result (trail_of c.args.token.now None) (trail_of c.run.new.token None)) c.in-Ended.is c.run.ensures.path in
     path_behind n c.args.call c.args.seen before c.args.token.now c.run.new.token answer
     (subst (λ (at : ℕ → ℕ). Courses at c.args.token.now.number (next_place (beginning c.args.word.number c.args.call) (Value c.args.seen)) (trail_of c.args.token.now None) (trail_of c.run.new.token None) c.in-Ended.answer) at
     (subst (λ (p : Place). Courses (at_in c.alone.result) c.args.token.now.number p (trail_of c.args.token.now None) (trail_of c.run.new.token None) c.in-Ended.answer) c.place_behind-start.ensures courses)) same saw untold

@@ -17,7 +17,6 @@ use Rattle.run_base.proofs.Courses.{ComesBy, arrives, begins, begins_from, broug
 use Rattle.run_base.proofs.Tellings.{by_outside}
 use Rattle.run_base.proofs.Ending.{closed, closes_outside, end_of, ended, outside}
 use Rattle.run_base.proofs.Leading.{places_lead, fits_from, words_from}
-use Rattle.run_base.proofs.Paths.{comes_here, comes_on, comes_from, comes_to_end}
 use Rattle.run_base.proofs.Queued.{queued_from}
 use Rattle.run_base.proofs.Turning.{does_next, shows_keys, words_on}
 use Rattle.run_base.proofs.driver.run_from.Goals as goal
@@ -26,8 +25,7 @@ pub loop-init : goal.loop-init
 loop-init g c = record {
   turns = (tt, tt);
   own = search rules;
-  path = comes_here (at_in c.args.words) c.args.start (view_of c.args.token.now).steps;
-  course = begins (at_in c.args.words) c.args.token.now.number c.args.start (trail_of c.args.token.now c.args.inside);
+  path = begins (at_in c.args.words) c.args.token.now.number c.args.start (trail_of c.args.token.now c.args.inside);
   queued = c.requires.queued;
   words = c.requires.words;
   fits = λ base fits. fits;
@@ -47,11 +45,10 @@ loop-preserved g c = let p = c.loop.place in let t = c.turn-reply in let reply =
     (subst (λ (q : Place). Fits (IsUp g.C.Clock.tells c.args.limit) base q (stage_of c.turn-reply.new.token c.turn-reply.new.section)) (sym next) (reached base fits).0) in
     let me = c.args.token.now.number in
     let told = subst (λ (n : ℕ). HasTold n (act_of c.loop.place) c.turn-reply.result (told_by c.loop.token c.loop.section) (told_by c.turn-reply.new.token c.turn-reply.new.section)) before.own.0.1 t.ensures.tells in
-    let brings = brought (at_in c.args.words) me p reply (steps_of c.loop.token) (steps_of new) (told_by c.loop.token c.loop.section) (told_by new t.new.section) t.ensures.told told in record {
+    let brings = brought (at_in c.args.words) me p reply (steps_of c.loop.token) (steps_of new) (told_by c.loop.token c.loop.section) (told_by new t.new.section) t.ensures.told told t.ensures.stays in record {
       turns = (tt, tt);
       own = ((t.ensures.own.0.0, t.ensures.own.0.1 ∙ before.own.0.1), t.ensures.own.1);
-      path = comes_from (at_in c.args.words) c.args.start c.advance_in_place-act.new.self c.go_from-act.new.place (view_of c.args.token.now).steps (view_of new).steps (comes_on (at_in c.args.words) c.args.start p c.advance_in_place-act.new.self (view_of c.args.token.now).steps (view_of c.loop.token).steps (view_of new).steps reply t.ensures.told.0 before.path t.ensures.told.1 t.ensures.told.2 next) from;
-      course = begins_from (at_in c.args.words) me c.args.start c.advance_in_place-act.new.self c.go_from-act.new.place (trail_of c.args.token.now c.args.inside) (trail_of new t.new.section) (goes_on (at_in c.args.words) me c.args.start p c.advance_in_place-act.new.self (trail_of c.args.token.now c.args.inside) (trail_of c.loop.token c.loop.section) (trail_of new t.new.section) reply brings.0 before.course brings.1 brings.2 next) from;
+      path = begins_from (at_in c.args.words) me c.args.start c.advance_in_place-act.new.self c.go_from-act.new.place (trail_of c.args.token.now c.args.inside) (trail_of new t.new.section) (goes_on (at_in c.args.words) me c.args.start p c.advance_in_place-act.new.self (trail_of c.args.token.now c.args.inside) (trail_of c.loop.token c.loop.section) (trail_of new t.new.section) reply brings.0 before.path brings.1 brings.2 next) from;
       queued = λ queued. t.ensures.queued (subst (λ (q : Place). is_queued q ≡ true) next (queued_from c.advance_in_place-act.new.self c.go_from-act.new.place from queued));
       words = words_from (kind_in c.args.words) (at_in c.args.words) c.advance_in_place-act.new.self c.go_from-act.new.place from words_then;
       fits = λ (base : List Ownership) fits. (goes_from base fits).0;
@@ -60,26 +57,21 @@ loop-preserved g c = let p = c.loop.place in let t = c.turn-reply in let reply =
     }
 
 pub returns-in-Some-answer_of-clause-path : goal.returns-in-Some-answer_of-clause-path
-returns-in-Some-answer_of-clause-path g c = let p = c.loop.place in let t = c.turn-reply in let new = t.new.token in let answer = c.in-Some-answer_of.answer in
-    let is : answer_of (next_act c.loop.place c.turn-reply.result) ≡ Some c.in-Some-answer_of.answer = search rules in
-    comes_to_end (at_in c.args.words) c.args.start p (view_of c.args.token.now).steps (view_of c.loop.token).steps (view_of new).steps t.result t.ensures.told.0 answer c.loop.invariant.path t.ensures.told.1 t.ensures.told.2 (end_of (next_act p t.result) answer is)
-
-pub returns-in-Some-answer_of-clause-course : goal.returns-in-Some-answer_of-clause-course
-returns-in-Some-answer_of-clause-course g c = let p = c.loop.place in let t = c.turn-reply in let new = t.new.token in let answer = c.in-Some-answer_of.answer in let before = c.loop.invariant in let start = c.requires.start in let me = c.args.token.now.number in
+returns-in-Some-answer_of-clause-path g c = let p = c.loop.place in let t = c.turn-reply in let new = t.new.token in let answer = c.in-Some-answer_of.answer in let before = c.loop.invariant in let start = c.requires.start in let me = c.args.token.now.number in
     let is : answer_of (next_act c.loop.place c.turn-reply.result) ≡ Some c.in-Some-answer_of.answer = search rules in
     let over = subst (λ (o : Option Answer). ReachedBy (IsUp g.C.Clock.tells c.args.limit) c.requires.start.0 (call_purpose c.loop.place) (next_place c.loop.place c.turn-reply.result) o (stage_of c.turn-reply.new.token c.turn-reply.new.section)) is (t.ensures.reached start.0 (before.fits start.0 start.1)) in
     let none = outside (IsUp g.C.Clock.tells c.args.limit) start.0 (view_of new).owns (call_purpose p) answer (section_view t.new.section) (last_of new) (view_of new).steps over in
     let told = subst (λ (n : ℕ). HasTold n (act_of c.loop.place) c.turn-reply.result (told_by c.loop.token c.loop.section) (told_by c.turn-reply.new.token c.turn-reply.new.section)) before.own.0.1 t.ensures.tells in
-    let brings = brought (at_in c.args.words) me p t.result (steps_of c.loop.token) (steps_of new) (told_by c.loop.token c.loop.section) (told_by new t.new.section) t.ensures.told told in
+    let brings = brought (at_in c.args.words) me p t.result (steps_of c.loop.token) (steps_of new) (told_by c.loop.token c.loop.section) (told_by new t.new.section) t.ensures.told told t.ensures.stays in
     subst (λ (l : List Telling). Courses (at_in c.args.words) c.args.token.now.number c.args.start (trail_of c.args.token.now c.args.inside) (trail (steps_of c.turn-reply.new.token) l) c.in-Some-answer_of.answer) (by_outside new t.new.section none)
-    (arrives (at_in c.args.words) me c.args.start p (trail_of c.args.token.now c.args.inside) (trail_of c.loop.token c.loop.section) (trail_of new t.new.section) t.result brings.0 answer before.course brings.1 brings.2 (end_of (next_act p t.result) answer is))
+    (arrives (at_in c.args.words) me c.args.start p (trail_of c.args.token.now c.args.inside) (trail_of c.loop.token c.loop.section) (trail_of new t.new.section) t.result brings.0 answer before.path brings.1 brings.2 (end_of (next_act p t.result) answer is))
 
-pub returns-in-Some-closure_of-clause-course : goal.returns-in-Some-closure_of-clause-course
-returns-in-Some-closure_of-clause-course g c = let start = c.requires.start in let p = c.loop.place in let words = c.args.words in let st = stage_of c.loop.token c.loop.section in
+pub returns-in-Some-closure_of-clause-path : goal.returns-in-Some-closure_of-clause-path
+returns-in-Some-closure_of-clause-path g c = let start = c.requires.start in let p = c.loop.place in let words = c.args.words in let st = stage_of c.loop.token c.loop.section in
     let is : closure_of (act_of c.loop.place) ≡ Some c.in-Some-closure_of.state = sym (ap closure_of c.loop.invariant.act) ∙ sym c.closure_of.ensures ∙ c.in-Some-closure_of.is in
     let none = closes_outside (kind_in words) (at_in words) st (act_of p) c.in-Some-closure_of.state is
     (places_lead (IsUp g.C.Clock.tells c.args.limit) (kind_in words) (at_in words) start.0 p st c.loop.invariant.words (c.loop.invariant.fits start.0 start.1)).0 in
-    subst (λ (l : List Telling). ComesBy (at_in c.args.words) c.args.token.now.number c.args.start (trail_of c.args.token.now c.args.inside) (trail (steps_of c.loop.token) l) c.loop.place) (by_outside c.loop.token c.loop.section none) c.loop.invariant.course
+    subst (λ (l : List Telling). ComesBy (at_in c.args.words) c.args.token.now.number c.args.start (trail_of c.args.token.now c.args.inside) (trail (steps_of c.loop.token) l) c.loop.place) (by_outside c.loop.token c.loop.section none) c.loop.invariant.path
 
 pub returns-in-Some-answer_of-clause-stopped : goal.returns-in-Some-answer_of-clause-stopped
 returns-in-Some-answer_of-clause-stopped g c = let p = c.loop.place in let t = c.turn-reply in let new = t.new.token in let before = c.loop.invariant in let answer = c.in-Some-answer_of.answer in

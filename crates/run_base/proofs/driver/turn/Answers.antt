@@ -9,7 +9,7 @@ use Rattle.run_base.specs.Queued.{HasPlace, KeepsPlace, is_queued, needs_place}
 use Rattle.run_base.specs.Stages.{ActNeeds, Became, Adds, stage_of}
 use Rattle.run_base.specs.Words.{kind_in, at_in}
 use Rattle.run_base.proofs.Leading.{places_lead}
-use Rattle.run_base.proofs.Queued.{keeps_on, needs_queue, queued_on}
+use Rattle.run_base.proofs.Queued.{keeps_on, needs_queue, queued_on, stays_queued}
 use Rattle.run_base.specs.Courses.{TellsIn}
 use Rattle.run_base.specs.Telling.{TellsQueues}
 use Rattle.run_base.proofs.Tellings.{has_told}
@@ -39,6 +39,12 @@ pub returns-clause-reached : goal.returns-clause-reached
 returns-clause-reached g c = let words = c.args.words in let st = stage_of c.args.token.now c.args.section.now in
     let became = subst (λ (a : Act). Became (IsUp g.C.Clock.tells c.args.limit) (kind_in c.args.words) (at_in c.args.words) (sleeper_at c.args.place) (stage_of c.args.token.now c.args.section.now) a c.perform.result (stage_of c.perform.new.token c.perform.new.section)) c.requires.act c.perform.ensures.became in
     λ (base : List Ownership) fits. (places_lead (IsUp g.C.Clock.tells c.args.limit) (kind_in words) (at_in words) base c.args.place st c.requires.words fits).2 c.perform.result (stage_of c.perform.new.token c.perform.new.section) became
+
+pub returns-clause-stays : goal.returns-clause-stays
+returns-clause-stays g c = let words = c.args.words in let fits = c.requires.fits in
+    let became = subst (λ (a : Act). Became (IsUp g.C.Clock.tells c.args.limit) (kind_in c.args.words) (at_in c.args.words) (sleeper_at c.args.place) (stage_of c.args.token.now c.args.section.now) a c.perform.result (stage_of c.perform.new.token c.perform.new.section)) c.requires.act c.perform.ensures.became in
+    stays_queued (IsUp g.C.Clock.tells c.args.limit) (kind_in words) (at_in words) fits.0 c.args.place (stage_of c.args.token.now c.args.section.now)
+    (stage_of c.perform.new.token c.perform.new.section) c.perform.result fits.1 became
 
 pub perform-requires-clause-queued : goal.perform-requires-clause-queued
 perform-requires-clause-queued g c = let fits = c.requires.fits in λ needs. c.requires.queued

@@ -21,7 +21,7 @@ returns-clause-own g c = (subst (λ (pair : Pair). HasEnded (IsUp g.C.Clock.tell
 pub returns-clause-path : goal.returns-clause-path
 returns-clause-path g c = let own = c.requires.own in
     let ended = (subst (λ (pair : Pair). HasEnded (IsUp g.C.Clock.tells c.args.limit) c.args.lot.now pair.words (wait_at pair.condvar pair.mutex c.args.timed wait.Enter) c.wait_through.result c.args.token.now None c.wait_through.new.token) c.pair_of.ensures c.wait_through.ensures) in
-    subst (λ (at : ℕ → ℕ). Courses at c.args.token.now.number (wait_begin c.args.condvar.number c.args.mutex.number c.args.timed) (trail_of c.args.token.now None) (trail_of c.wait_through.new.token None) c.wait_through.result) (at_both c.args.condvar c.args.mutex own.4 own.2 own.0.2) ended.3
+    subst (λ (at : ℕ → ℕ). Courses at c.args.token.now.number (wait_begin c.args.condvar.number c.args.mutex.number c.args.timed) (trail_of c.args.token.now None) (trail_of c.wait_through.new.token None) c.wait_through.result) (at_both c.args.condvar c.args.mutex own.4 own.2 own.0.2) ended.2
 
 pub returns-clause-over : goal.returns-clause-over
-returns-clause-over g c = (subst (λ (pair : Pair). HasEnded (IsUp g.C.Clock.tells c.args.limit) c.args.lot.now pair.words (wait_at pair.condvar pair.mutex c.args.timed wait.Enter) c.wait_through.result c.args.token.now None c.wait_through.new.token) c.pair_of.ensures c.wait_through.ensures).2 (owns_of c.args.token.now) (c.requires.owned, (refl, refl))
+returns-clause-over g c = (subst (λ (pair : Pair). HasEnded (IsUp g.C.Clock.tells c.args.limit) c.args.lot.now pair.words (wait_at pair.condvar pair.mutex c.args.timed wait.Enter) c.wait_through.result c.args.token.now None c.wait_through.new.token) c.pair_of.ensures c.wait_through.ensures).1 (owns_of c.args.token.now) (c.requires.owned, (refl, refl))

@@ -28,7 +28,7 @@ returns-in-Ends-clause-over g c = let ends : course_of c.args.settings.now.admis
     let start = started c.args.word.now c.requires.own.2 c.args.purpose c.opening.result c.word-seen.result c.args.token.now c.word-seen.new.token c.opening.ensures c.word-seen.ensures.stepped c.word-seen.ensures.own.1 c.word-seen.ensures.coded in
     let on = ended_on (IsUp g.C.Clock.tells c.args._limit.now) c.args.word.now.number c.args.settings.now.admission in (
       c.word-seen.ensures.own.0.1,
-      path_ended c.args.word.now.number c.args.settings.now.admission c.args.purpose c.word-seen.result c.in-Ends.answer (view_of c.args.token.now).steps (view_of c.word-seen.new.token).steps first with,
+      path_ended c.args.word.now.number c.args.settings.now.admission c.args.purpose c.word-seen.result c.in-Ends.answer c.args.token.now c.word-seen.new.token first c.word-seen.ensures.untold with,
       (λ (base : List Ownership) begins. (on base c.args.purpose (stage_of c.args.token.now None) (stage_of c.word-seen.new.token None) c.word-seen.result refl c.requires.own.4 c.in-Ends.answer begins start with).0),
       wakes_at_once c.args.word.now.number c.args.settings.now.admission c.args.purpose c.word-seen.result c.in-Ends.answer c.args.token.now c.word-seen.new.token first c.word-seen.ensures.own.1
           (on c.requires.right.0 c.args.purpose (stage_of c.args.token.now None) (stage_of c.word-seen.new.token None) c.word-seen.result refl c.requires.own.4 c.in-Ends.answer c.requires.right.1 start with).1,
@@ -36,7 +36,7 @@ returns-in-Ends-clause-over g c = let ends : course_of c.args.settings.now.admis
 
 pub returns-in-GoesOn-clause-over : goal.returns-in-GoesOn-clause-over
 returns-in-GoesOn-clause-over g c = let goes : course_of c.args.settings.now.admission c.args.purpose c.word-seen.result ≡ GoesOn = search rules in
-    ((c.word-seen.ensures.own.0.1, subst (λ (o : Op). view_of c.word-seen.new.token ≡ after_step c.args.word.now.kind (word_index c.args.word.now.number c.args.word.now.kind) o c.word-seen.result (view_of c.args.token.now)) c.opening.ensures c.word-seen.ensures.stepped, c.word-seen.ensures.own.1, c.word-seen.ensures.coded), goes)
+    ((c.word-seen.ensures.own.0.1, subst (λ (o : Op). view_of c.word-seen.new.token ≡ after_step c.args.word.now.kind (word_index c.args.word.now.number c.args.word.now.kind) o c.word-seen.result (view_of c.args.token.now)) c.opening.ensures c.word-seen.ensures.stepped, c.word-seen.ensures.own.1, c.word-seen.ensures.coded, c.word-seen.ensures.untold), goes)
 
 pub word_again-found-requires-clause-may : goal.word_again-found-requires-clause-may
 word_again-found-requires-clause-may g c = let goes : course_of c.args.settings.now.admission c.args.purpose c.word-seen.result ≡ Takes = search rules in
@@ -49,16 +49,16 @@ returns-then-found-seen-clause-over g c = let goes : course_of c.args.settings.n
     let up = IsUp g.C.Clock.tells c.args._limit.now in let exchange = Exchange c.word-seen.result c.taken-to.result in let by = ap (Exchange c.word-seen.result) c.taken-to.ensures in
     subst (λ (answer : Answer). HasEndedRwLock (IsUp g.C.Clock.tells c.args._limit.now) c.args.word.now c.args.settings.now.admission c.args.purpose answer c.args.token.now c.word_again-found.new.token) (sym c.answer_with.ensures)
     (ended_behind up c.args.word.now c.requires.own.2 c.args.settings.now.admission c.requires.own.4 c.args.purpose c.word-seen.result c.args.token.now c.word-seen.new.token
-    (c.word-seen.ensures.own.0.1, subst (λ (o : Op). view_of c.word-seen.new.token ≡ after_step c.args.word.now.kind (word_index c.args.word.now.number c.args.word.now.kind) o c.word-seen.result (view_of c.args.token.now)) c.opening.ensures c.word-seen.ensures.stepped, c.word-seen.ensures.own.1, c.word-seen.ensures.coded)
+    (c.word-seen.ensures.own.0.1, subst (λ (o : Op). view_of c.word-seen.new.token ≡ after_step c.args.word.now.kind (word_index c.args.word.now.number c.args.word.now.kind) o c.word-seen.result (view_of c.args.token.now)) c.opening.ensures c.word-seen.ensures.stepped, c.word-seen.ensures.own.1, c.word-seen.ensures.coded, c.word-seen.ensures.untold)
     (takes_at c.args.word.now.number c.args.settings.now.admission c.args.purpose c.word-seen.result goes) (entered (patience_of c.args.purpose)) c.word_again-found.new.token (search rules) c.requires.right.0 c.requires.right.1
-    (path_taken c.args.word.now c.requires.own.2 c.args.settings.now.admission c.args.purpose c.word-seen.result goes exchange by c.word_again-found.result c.word-seen.new.token c.word_again-found.new.token c.word_again-found.ensures.stepped c.word_again-found.ensures.own.1 c.word_again-found.ensures.coded found)
+    (path_taken c.args.word.now c.requires.own.2 c.args.settings.now.admission c.args.purpose c.word-seen.result goes exchange by c.word_again-found.result c.word-seen.new.token c.word_again-found.new.token c.word_again-found.ensures.stepped c.word_again-found.ensures.own.1 c.word_again-found.ensures.coded c.word_again-found.ensures.untold found)
     (λ base fits. over_taken c.args.word.now c.requires.own.2 c.args.settings.now.admission c.args.purpose c.word-seen.result goes exchange by c.word_again-found.result c.word-seen.new.token c.word_again-found.new.token c.word_again-found.ensures.stepped c.word_again-found.ensures.own.1 c.word_again-found.ensures.coded found up base fits))
 
 pub returns-else-found-seen-clause-over : goal.returns-else-found-seen-clause-over
 returns-else-found-seen-clause-over g c = let goes : course_of c.args.settings.now.admission c.args.purpose c.word-seen.result ≡ Takes = search rules in (
   c.word-seen.new.token,
-  (c.word-seen.ensures.own.0.1, subst (λ (o : Op). view_of c.word-seen.new.token ≡ after_step c.args.word.now.kind (word_index c.args.word.now.number c.args.word.now.kind) o c.word-seen.result (view_of c.args.token.now)) c.opening.ensures c.word-seen.ensures.stepped, c.word-seen.ensures.own.1, c.word-seen.ensures.coded),
+  (c.word-seen.ensures.own.0.1, subst (λ (o : Op). view_of c.word-seen.new.token ≡ after_step c.args.word.now.kind (word_index c.args.word.now.number c.args.word.now.kind) o c.word-seen.result (view_of c.args.token.now)) c.opening.ensures c.word-seen.ensures.stepped, c.word-seen.ensures.own.1, c.word-seen.ensures.coded, c.word-seen.ensures.untold),
   goes,
-  (c.word_again-found.ensures.own.0.1, subst (λ (n : ℕ). view_of c.word_again-found.new.token ≡ after_step c.args.word.now.kind (word_index c.args.word.now.number c.args.word.now.kind) (Exchange c.word-seen.result n) c.word_again-found.result (view_of c.word-seen.new.token)) c.taken-to.ensures c.word_again-found.ensures.stepped, c.word_again-found.ensures.own.1, c.word_again-found.ensures.coded),
+  (c.word_again-found.ensures.own.0.1, subst (λ (n : ℕ). view_of c.word_again-found.new.token ≡ after_step c.args.word.now.kind (word_index c.args.word.now.number c.args.word.now.kind) (Exchange c.word-seen.result n) c.word_again-found.result (view_of c.word-seen.new.token)) c.taken-to.ensures c.word_again-found.ensures.stepped, c.word_again-found.ensures.own.1, c.word_again-found.ensures.coded, c.word_again-found.ensures.untold),
   search rules,
 )

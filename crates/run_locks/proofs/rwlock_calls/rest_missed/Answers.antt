@@ -5,9 +5,8 @@ use Rattle.spec_locks.specs.declared.outcomes.Answer.{Answer}
 use Rattle.lot_steps.specs.Steps.{next_act, next_place}
 use Rattle.lot_steps.specs.declared.places.Place.{Place}
 use Rattle.core_words.specs.declared.owners.Ownership.{Ownership}
-use Rattle.parking_lot_core.specs.Tokens.{view_of}
 use Rattle.run_base.specs.Fitting.{CallPurpose, AreWordsFor, Fits, IsOver, ReachedBy, call_purpose, answer_of, of_rwlock}
-use Rattle.run_base.specs.Paths.{Walks}
+use Rattle.run_base.specs.Courses.{Courses, trail_of}
 use Rattle.run_base.specs.RwLockCalls.{rwlock_deciding}
 use Rattle.run_base.specs.Stages.{stage_of}
 use Rattle.run_base.specs.Words.{single_word, at_in, kind_in}
@@ -39,8 +38,8 @@ returns-in-Some-clause-over g c = let some : answer_of (next_act (rwlock_decidin
 
 pub returns-in-None-clause-path : goal.returns-in-None-clause-path
 returns-in-None-clause-path g c = let next : c.advance-next.result.0 ≡ next_place (rwlock_deciding c.args.word.now.number c.args.admission.now c.args.purpose.now c.args.expected) (Value c.args.found) = search rules in
-    inr (subst (λ (at : ℕ → ℕ). Walks at (next_place (rwlock_deciding c.args.word.now.number c.args.admission.now c.args.purpose.now c.args.expected) (Value c.args.found)) (view_of c.args.token.now).steps (view_of c.run_out.new.token).steps c.run_out.result) (rwlock_alone c.args.word.now c.requires.own.2)
-    (subst (λ (p : Place). Walks (at_in (single_word c.args.word.now)) p (view_of c.args.token.now).steps (view_of c.run_out.new.token).steps c.run_out.result) next c.run_out.ensures.path))
+    inr (subst (λ (at : ℕ → ℕ). Courses at c.args.token.now.number (next_place (rwlock_deciding c.args.word.now.number c.args.admission.now c.args.purpose.now c.args.expected) (Value c.args.found)) (trail_of c.args.token.now None) (trail_of c.run_out.new.token None) c.run_out.result) (rwlock_alone c.args.word.now c.requires.own.2)
+    (subst (λ (p : Place). Courses (at_in (single_word c.args.word.now)) c.args.token.now.number p (trail_of c.args.token.now None) (trail_of c.run_out.new.token None) c.run_out.result) next c.run_out.ensures.path))
 
 pub returns-in-None-clause-over : goal.returns-in-None-clause-over
 returns-in-None-clause-over g c = let next : c.advance-next.result.0 ≡ next_place (rwlock_deciding c.args.word.now.number c.args.admission.now c.args.purpose.now c.args.expected) (Value c.args.found) = search rules in

@@ -4,9 +4,8 @@ use Rattle.core_base.specs.Clocks.{IsUp}
 use Rattle.lot_steps.specs.Steps.{next_place}
 use Rattle.lot_steps.specs.declared.places.Place.{Place}
 use Rattle.core_words.specs.declared.owners.Ownership.{Ownership}
-use Rattle.parking_lot_core.specs.Tokens.{view_of}
 use Rattle.run_base.specs.Fitting.{AreWordsFor, Fits, IsOver, call_purpose}
-use Rattle.run_base.specs.Paths.{Walks}
+use Rattle.run_base.specs.Courses.{Courses, trail_of}
 use Rattle.run_base.specs.RwLockCalls.{rwlock_begin}
 use Rattle.run_base.specs.Stages.{stage_of}
 use Rattle.run_base.specs.Words.{single_word, at_in, kind_in}
@@ -26,8 +25,8 @@ run_out-requires-clause-fits g c = let start : c.place_behind-start.result ≡ n
 
 pub returns-clause-path : goal.returns-clause-path
 returns-clause-path g c = let start : c.place_behind-start.result ≡ next_place (rwlock_begin c.args.word.now.number c.args.admission.now c.args.purpose.now) (Value c.args.seen) = search rules in
-    subst (λ (at : ℕ → ℕ). Walks at (next_place (rwlock_begin c.args.word.now.number c.args.admission.now c.args.purpose.now) (Value c.args.seen)) (view_of c.args.token.now).steps (view_of c.run_out.new.token).steps c.run_out.result) (rwlock_alone c.args.word.now c.requires.own.2)
-    (subst (λ (p : Place). Walks (at_in (single_word c.args.word.now)) p (view_of c.args.token.now).steps (view_of c.run_out.new.token).steps c.run_out.result) start c.run_out.ensures.path)
+    subst (λ (at : ℕ → ℕ). Courses at c.args.token.now.number (next_place (rwlock_begin c.args.word.now.number c.args.admission.now c.args.purpose.now) (Value c.args.seen)) (trail_of c.args.token.now None) (trail_of c.run_out.new.token None) c.run_out.result) (rwlock_alone c.args.word.now c.requires.own.2)
+    (subst (λ (p : Place). Courses (at_in (single_word c.args.word.now)) c.args.token.now.number p (trail_of c.args.token.now None) (trail_of c.run_out.new.token None) c.run_out.result) start c.run_out.ensures.path)
 
 pub returns-clause-over : goal.returns-clause-over
 returns-clause-over g c = λ (base : List Ownership) fits. let start : c.place_behind-start.result ≡ next_place (rwlock_begin c.args.word.now.number c.args.admission.now c.args.purpose.now) (Value c.args.seen) = search rules in

@@ -5,11 +5,9 @@ use Rattle.core_base.specs.declared.ops.Op.TheVariants.{Load}
 use Rattle.steps_rwlock_fair.specs.FairSteps.{gives_way, glance_next}
 use Rattle.steps_rwlock_fair.specs.declared.places.RwLockCallPlace.{RwLockCallPlace}
 use Rattle.core_words.specs.declared.owners.Ownership.{Ownership}
-use Rattle.parking_lot_core.specs.Tokens.{view_of}
 use Rattle.run_base.specs.Fitting.{CallPurpose, IsOver}
 use Rattle.run_base.specs.Stages.{stage_of}
 use Rattle.run_locks.proofs.RwLockFairCalls.{Glanced, bump_ends, bump_goes_on, glanced, has_taken, saw_step}
-use Rattle.run_base.specs.Queued.{is_queued}
 use Rattle.run_base.proofs.Queueing.{after, call_queued, glance_off}
 use Rattle.run_locks.proofs.rwlock_fair_calls.bump.Goals as goal
 
@@ -23,10 +21,11 @@ rest-requires-clause-fits g c = let l = c.args.word.now.number in let a = c.args
     (c.requires.right.0, here.0)
 
 pub returns-in-End-clause-path : goal.returns-in-End-clause-path
-returns-in-End-clause-path g c = let old = view_of c.args.token.now in let new = view_of c.word-seen.new.token in
+returns-in-End-clause-path g c =
     let ends : glance_next c.args.admission.now c.args.access c.word-seen.result ≡ End c.in-End.answer = sym c.next.ensures ∙ c.in-End.is in
     let saw = saw_step c.args.word.now c.requires.own.2 Load c.word-seen.result c.args.token.now c.word-seen.new.token c.word-seen.ensures.stepped in
-    bump_ends c.args.word.now.number c.args.admission.now c.args.access c.word-seen.result old.steps new.steps new.steps saw c.in-End.answer ends
+    bump_ends c.args.word.now.number c.args.admission.now c.args.access c.word-seen.result c.args.token.now c.word-seen.new.token saw c.word-seen.ensures.untold
+    c.in-End.answer ends
 
 pub returns-in-End-clause-over : goal.returns-in-End-clause-over
 returns-in-End-clause-over g c = λ (base : List Ownership) right. let l = c.args.word.now.number in let a = c.args.admission.now in let seen = c.word-seen.result in let step = c.word-seen.ensures in
@@ -38,11 +37,11 @@ returns-in-End-clause-over g c = λ (base : List Ownership) right. let l = c.arg
     inl here
 
 pub returns-in-At-clause-path : goal.returns-in-At-clause-path
-returns-in-At-clause-path g c = let old = view_of c.args.token.now in let mid = view_of c.word-seen.new.token in let new = view_of c.rest.new.token in
+returns-in-At-clause-path g c =
     let goes : glance_next c.args.admission.now c.args.access c.word-seen.result ≡ At c.in-At.at = sym c.next.ensures ∙ c.in-At.is in
     let saw = saw_step c.args.word.now c.requires.own.2 Load c.word-seen.result c.args.token.now c.word-seen.new.token c.word-seen.ensures.stepped in
-    bump_goes_on c.args.word.now.number c.args.admission.now c.args.access c.word-seen.result old.steps mid.steps new.steps saw c.rest.result
-    c.in-At.at goes c.rest.ensures.path
+    bump_goes_on c.args.word.now.number c.args.admission.now c.args.access c.word-seen.result c.args.token.now c.word-seen.new.token saw c.word-seen.ensures.untold
+    c.rest.result c.rest.new.token c.in-At.at c.word-seen.ensures.own.0.1 goes c.rest.ensures.path
 
 pub returns-in-At-clause-over : goal.returns-in-At-clause-over
 returns-in-At-clause-over g c = λ (base : List Ownership) right. let l = c.args.word.now.number in let a = c.args.admission.now in let seen = c.word-seen.result in let step = c.word-seen.ensures in

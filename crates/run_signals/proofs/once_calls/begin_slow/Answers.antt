@@ -27,7 +27,7 @@ returns-in-Some-clause-path g c = let n = c.args.word.number in let call = c.arg
 pub returns-in-Ended-clause-path : goal.returns-in-Ended-clause-path
 returns-in-Ended-clause-path g c = let n = c.args.word.number in let call = c.args.call in
     let next : c.advance-next.result.0 ≡ next_place (once_begin c.args.word.number c.args.call) (Value c.args.seen) = search rules in
-    let courses = subst (RunsCourse (at_in c.alone.result) c.args.token.now.number c.advance-next.result.0 (trail_of c.args.token.now None) (trail_of c.run.new.token None)) c.in-Ended.is c.run.ensures.course in
+    let courses = subst (RunsCourse (at_in c.alone.result) c.args.token.now.number c.advance-next.result.0 (trail_of c.args.token.now None) (trail_of c.run.new.token None)) c.in-Ended.is c.run.ensures.path in
     λ (before : Token) saw. looks_on n call c.args.seen before c.args.token.now (trail_of c.run.new.token None) c.in-Ended.answer saw.1 saw.3
     (subst (λ (me : ℕ). Courses (at_once c.args.word.number) me (next_place (once_begin c.args.word.number c.args.call) (Value c.args.seen)) (trail_of c.args.token.now None) (trail_of c.run.new.token None) c.in-Ended.answer) saw.0
     (subst (λ (at : ℕ → ℕ). Courses at c.args.token.now.number (next_place (once_begin c.args.word.number c.args.call) (Value c.args.seen)) (trail_of c.args.token.now None) (trail_of c.run.new.token None) c.in-Ended.answer) (ap at_in c.alone.ensures ∙ once_alone c.args.word c.requires.own.2)
@@ -58,7 +58,7 @@ returns-in-Paused-clause-path g c = let n = c.args.word.number in let call = c.a
     let stopped = subst (λ (stop : Stop). IsStopped (IsUp g.C.Clock.tells c.args.limit) (owns_of c.requires.seen.0) (call_purpose c.advance-next.result.0) stop (stage_of c.run.new.token None)) c.in-Paused.is (c.run.ensures.stopped base fits) in
     let closure = paused (IsUp g.C.Clock.tells c.args.limit) n call base c.in-Paused.place c.in-Paused.state (stage_of c.run.new.token None)
     (subst (λ (aim : CallPurpose). IsStopped (IsUp g.C.Clock.tells c.args.limit) (owns_of c.requires.seen.0) aim (Paused c.in-Paused.place c.in-Paused.state) (stage_of c.run.new.token None)) (ap call_purpose next ∙ on.1) stopped) in
-    let course = subst (RunsCourse (at_in c.alone.result) c.args.token.now.number c.advance-next.result.0 (trail_of c.args.token.now None) (trail_of c.run.new.token None)) c.in-Paused.is c.run.ensures.course in
+    let course = subst (RunsCourse (at_in c.alone.result) c.args.token.now.number c.advance-next.result.0 (trail_of c.args.token.now None) (trail_of c.run.new.token None)) c.in-Paused.is c.run.ensures.path in
     let comes = comes_by (at_in c.alone.result) n c.args.token.now.number c.advance-next.result.0 (next_place (once_begin n call) (Value c.args.seen)) c.in-Paused.place (in_closure n closure.forced closure.poisoned) (trail_of c.args.token.now None) (trail_of c.run.new.token None) (ap at_in c.alone.ensures ∙ once_alone c.args.word c.requires.own.2) next closure.there course in
     λ (before : Token) saw. (
       closure.forced,

@@ -15,4 +15,4 @@ run-requires-clause-words g c = subst (λ (words : Words). AreWordsFor (Semaphor
 pub returns-clause-path : goal.returns-clause-path
 returns-clause-path g c =
     subst (λ (at : ℕ → ℕ). Courses at c.args.token.now.number (Semaphore c.args.word.number c.args.start) (trail_of c.args.token.now None) (trail_of c.run.new.token None) c.in-Ended.answer) (ap at_in c.alone.ensures ∙ semaphore_at_alone c.args.word c.requires.own.2)
-    (subst (λ (n : ℕ). Courses (at_in c.alone.result) c.args.token.now.number (Semaphore n c.args.start) (trail_of c.args.token.now None) (trail_of c.run.new.token None) c.in-Ended.answer) c.number.ensures c.in-Ended.ensures.course)
+    (subst (λ (n : ℕ). Courses (at_in c.alone.result) c.args.token.now.number (Semaphore n c.args.start) (trail_of c.args.token.now None) (trail_of c.run.new.token None) c.in-Ended.answer) c.number.ensures c.in-Ended.ensures.path)

@@ -1,4 +1,4 @@
-use Rattle.std.proofs.Common.{rules, ◌≡◌, true, List, ap, ◌∙◌, sym, subst}
+use Rattle.std.proofs.Common.{rules, ◌≡◌, true, ap, ◌∙◌, sym, subst}
 use Rattle.core_base.specs.declared.wants.Want.{Want}
 use Rattle.steps_rwlock.specs.declared.purposes.RwLockPurpose.TheVariants.{Downgrade}
 use Rattle.spec_locks.specs.declared.outcomes.Answer.{Answer}
@@ -8,10 +8,10 @@ use Rattle.core_words.specs.Rights.{owner_for}
 use Rattle.core_words.specs.Steps.{has, without}
 use Rattle.core_words.specs.Views.{owning}
 use Rattle.core_words.specs.declared.views.View.{View}
-use Rattle.core_words.specs.declared.views.WordStep.{WordStep}
 use Rattle.parking_lot_core.specs.Tokens.{view_of}
-use Rattle.run_base.specs.Paths.{Walks, at_rwlock, rwlock_at}
-use Rattle.run_base.specs.RwLockCalls.{rwlock_begin}
+use Rattle.run_base.specs.Paths.{at_rwlock, rwlock_at}
+use Rattle.run_base.specs.RwLockCalls.{HasWalkedRwLock, rwlock_begin}
+use Rattle.run_base.proofs.Courses.{courses_between}
 use Rattle.run_base.specs.RwLockFitting.{IsBeside}
 use Rattle.run_base.proofs.RwLockNeeds.{has_right, left_beside}
 use Rattle.run_locks.proofs.RwLockRights.{joined_beside}
@@ -35,6 +35,8 @@ returns-clause-token g c = let n = c.args.self.now.word.number in let owns = (vi
 pub returns-clause-path : goal.returns-clause-path
 returns-clause-path g c = let n = c.args.self.now.word.number in let owns = (view_of c.args.token.now).owns in
     let over = c.call.ensures.over owns (joined_beside n c.greater.result (wanted (from_of c.args.downgrade)) owns (view_of c.join.new.token).owns c.greater.ensures (ap (λ (v : View). v.owns) c.join.ensures.joined)) in
-    subst (λ (steps : List WordStep). Walks (at_rwlock c.args.self.now.word.number) (rwlock_begin c.args.self.now.word.number c.args.self.now.settings.admission (Downgrade c.args.downgrade)) (view_of c.args.token.now).steps steps Ok) (sym (ap (λ (v : View). v.steps) c.split.ensures.left))
-    (subst (λ (answer : Answer). Walks (at_rwlock c.args.self.now.word.number) (rwlock_begin c.args.self.now.word.number c.args.self.now.settings.admission (Downgrade c.args.downgrade)) (view_of c.args.token.now).steps (view_of c.call.new.token).steps answer) over.0
-    (subst (λ (steps : List WordStep). Walks (at_rwlock c.args.self.now.word.number) (rwlock_begin c.args.self.now.word.number c.args.self.now.settings.admission (Downgrade c.args.downgrade)) steps (view_of c.call.new.token).steps c.call.result) (ap (λ (v : View). v.steps) c.join.ensures.joined) c.call.ensures.path))
+    courses_between (at_rwlock n) (rwlock_begin n c.args.self.now.settings.admission (Downgrade c.args.downgrade)) Ok
+    c.args.token.now c.join.new.token c.call.new.token c.split.new.token c.join.ensures.own.0.1
+    (ap (λ (v : View). v.steps) c.join.ensures.joined) c.join.ensures.untold
+    (ap (λ (v : View). v.steps) c.split.ensures.left) c.split.ensures.untold
+    (subst (λ (answer : Answer). HasWalkedRwLock c.args.self.now.word.number c.args.self.now.settings.admission (Downgrade c.args.downgrade) answer c.join.new.token c.call.new.token) over.0 c.call.ensures.path)

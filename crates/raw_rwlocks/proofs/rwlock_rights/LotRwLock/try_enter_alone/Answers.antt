@@ -1,14 +1,14 @@
-use Rattle.std.proofs.Common.{rules, ◌≡◌, ◌==◌, ◌∙◌, true, false, ap, subst, sym, List, eq-eqb}
+use Rattle.std.proofs.Common.{rules, ◌≡◌, ◌==◌, ◌∙◌, true, false, ap, refl, eq-eqb}
 use Rattle.spec_locks.specs.declared.calls.Access.TheVariants as access
 use Rattle.spec_locks.specs.declared.calls.Patience.TheVariants.{Try}
 use Rattle.steps_rwlock.specs.declared.purposes.RwLockPurpose.TheVariants.{Enter}
 use Rattle.spec_locks.specs.declared.outcomes.Answer.TheVariants.{Yes}
 use Rattle.core_words.specs.declared.owners.Owner.TheVariants as owners
 use Rattle.core_words.specs.declared.views.View.{View}
-use Rattle.core_words.specs.declared.views.WordStep.{WordStep}
 use Rattle.parking_lot_core.specs.Tokens.{view_of}
-use Rattle.run_base.specs.Paths.{Walks, at_rwlock}
+use Rattle.run_base.specs.Paths.{at_rwlock}
 use Rattle.run_base.specs.RwLockCalls.{rwlock_begin}
+use Rattle.run_base.proofs.Courses.{courses_between}
 use Rattle.run_base.proofs.RwLockNeeds.{has_right, left_beside}
 use Rattle.run_locks.proofs.RwLockRights.{took, tried}
 use Rattle.raw_rwlocks.proofs.rwlock_rights.LotRwLock.try_enter_alone.Goals as goal
@@ -25,9 +25,13 @@ returns-then-seen-eq0-clause-token c = let zero : c.word-seen.result ≡ 0 = sea
 
 pub returns-then-seen-eq0-clause-path : goal.returns-then-seen-eq0-clause-path
 returns-then-seen-eq0-clause-path c = let zero : c.word-seen.result ≡ 0 = search rules in let lock = c.args.self.now in
-    subst (λ (steps : List WordStep). Walks (at_rwlock c.args.self.now.word.number) (rwlock_begin c.args.self.now.word.number c.args.self.now.settings.admission (Enter access.Exclusive Try)) (view_of c.args.token.now).steps steps Yes) (sym (ap (λ (v : View). v.steps) c.split.ensures.left))
-    (tried lock.word lock.drawn.1 lock.settings.admission lock.drawn.3 c.word-seen.result c.args.token.now c.word-seen.new.token c.word-seen.ensures.stepped true (eq-eqb c.word-seen.result 0 zero))
+    courses_between (at_rwlock lock.word.number) (rwlock_begin lock.word.number lock.settings.admission (Enter access.Exclusive Try))
+    Yes c.args.token.now c.args.token.now c.word-seen.new.token c.split.new.token refl refl refl
+    (ap (λ (v : View). v.steps) c.split.ensures.left) c.split.ensures.untold
+    (tried lock.word lock.drawn.1 lock.settings.admission lock.drawn.3 c.word-seen.result c.args.token.now c.word-seen.new.token
+    c.word-seen.ensures.stepped c.word-seen.ensures.untold true (eq-eqb c.word-seen.result 0 zero))
 
 pub returns-clause-path : goal.returns-clause-path
 returns-clause-path c = let some : (c.word-seen.result == 0) ≡ false = search rules in let lock = c.args.self.now in
-    tried lock.word lock.drawn.1 lock.settings.admission lock.drawn.3 c.word-seen.result c.args.token.now c.word-seen.new.token c.word-seen.ensures.stepped false some
+    tried lock.word lock.drawn.1 lock.settings.admission lock.drawn.3 c.word-seen.result c.args.token.now c.word-seen.new.token c.word-seen.ensures.stepped
+    c.word-seen.ensures.untold false some

@@ -2,14 +2,16 @@ use Rattle.std.proofs.Common.{rules, List, Option, ap, ◌∙◌, sym, subst, re
 use Rattle.core_base.specs.Clocks.{IsUp}
 use Rattle.steps_rwlock.specs.declared.purposes.RwLockPurpose.TheVariants.{Upgrade}
 use Rattle.spec_locks.specs.declared.outcomes.Answer.{Answer}
+use Rattle.spec_locks.specs.declared.outcomes.Answer.TheVariants.{No}
 use Rattle.steps_rwlock.specs.RwLockSteps.{entered}
 use Rattle.core_words.specs.declared.owners.Owner.TheVariants as owners
 use Rattle.core_words.specs.declared.views.View.{View}
 use Rattle.core_words.specs.declared.views.WordStep.{WordStep}
 use Rattle.parking_lot_core.specs.Tokens.{last_of, view_of}
 use Rattle.parking_lot_core.specs.declared.tokens.SectionRecord.{SectionRecord}
-use Rattle.run_base.specs.Paths.{Walks, at_rwlock}
-use Rattle.run_base.specs.RwLockCalls.{rwlock_begin}
+use Rattle.run_base.specs.Paths.{at_rwlock}
+use Rattle.run_base.specs.RwLockCalls.{HasWalkedRwLock, rwlock_begin}
+use Rattle.run_base.proofs.Courses.{courses_between}
 use Rattle.run_base.specs.RwLockFitting.{LeftBy}
 use Rattle.run_base.specs.Stages.{stage_of}
 use Rattle.run_base.proofs.RwLockNeeds.{has_right, left_beside}
@@ -36,6 +38,14 @@ returns-in-No-clause-token g c = let n = c.args.self.now.word.number in let owns
     let right = (fell_back (IsUp g.C.Clock.tells c.args.limit.now) n owns c.args.self.now.settings.admission c.args.patience c.call-answer.result (stage_of c.call-answer.new.token None) over c.in-No.is).1 in
     (search rules, (search rules, λ settled. ap (λ (v : View). v.owns) c.split.ensures.left ∙ left_beside n owners.Upgradable owns (view_of c.call-answer.new.token).owns right settled))
 
+pub returns-in-No-clause-path : goal.returns-in-No-clause-path
+returns-in-No-clause-path g c = let n = c.args.self.now.word.number in
+    courses_between (at_rwlock n) (rwlock_begin n c.args.self.now.settings.admission (Upgrade c.args.patience)) No
+    c.args.token.now c.join.new.token c.call-answer.new.token c.split.new.token c.join.ensures.own.0.1
+    (ap (λ (v : View). v.steps) c.join.ensures.joined) c.join.ensures.untold
+    (ap (λ (v : View). v.steps) c.split.ensures.left) c.split.ensures.untold
+    (subst (λ (answer : Answer). HasWalkedRwLock c.args.self.now.word.number c.args.self.now.settings.admission (Upgrade c.args.patience) answer c.join.new.token c.call-answer.new.token) c.in-No.is c.call-answer.ensures.path)
+
 pub returns-in-No-clause-late : goal.returns-in-No-clause-late
 returns-in-No-clause-late g c = let n = c.args.self.now.word.number in let owns = (view_of c.args.token.now).owns in
     let over = c.call-answer.ensures.over owns (begins_upgrading n c.args.patience owns (view_of c.join.new.token).owns (owners.Upgradable, owns, refl, (λ settled. refl), ap (λ (v : View). v.owns) c.join.ensures.joined)) in
@@ -53,9 +63,11 @@ returns-in_default g c = let n = c.args.self.now.word.number in let owns = (view
     let right = upgraded (IsUp g.C.Clock.tells c.args.limit.now) n owns c.args.self.now.settings.admission c.args.patience c.call-answer.result (stage_of c.call-answer.new.token None) over c.in_default.not-No in record {
       token = (search rules, (search rules, λ settled. ap (λ (v : View). v.owns) c.split-in_default.ensures.left ∙ left_beside n owners.Exclusive owns (view_of c.call-answer.new.token).owns right.1 settled));
       right = search rules;
-      path = subst (λ (steps : List WordStep). Walks (at_rwlock c.args.self.now.word.number) (rwlock_begin c.args.self.now.word.number c.args.self.now.settings.admission (Upgrade c.args.patience)) (view_of c.args.token.now).steps steps (entered c.args.patience)) (sym (ap (λ (v : View). v.steps) c.split-in_default.ensures.left))
-          (subst (λ (answer : Answer). Walks (at_rwlock c.args.self.now.word.number) (rwlock_begin c.args.self.now.word.number c.args.self.now.settings.admission (Upgrade c.args.patience)) (view_of c.args.token.now).steps (view_of c.call-answer.new.token).steps answer) right.0
-          (subst (λ (steps : List WordStep). Walks (at_rwlock c.args.self.now.word.number) (rwlock_begin c.args.self.now.word.number c.args.self.now.settings.admission (Upgrade c.args.patience)) steps (view_of c.call-answer.new.token).steps c.call-answer.result) (ap (λ (v : View). v.steps) c.join.ensures.joined) c.call-answer.ensures.path));
+      path = courses_between (at_rwlock n) (rwlock_begin n c.args.self.now.settings.admission (Upgrade c.args.patience))
+          (entered c.args.patience) c.args.token.now c.join.new.token c.call-answer.new.token c.split-in_default.new.token c.join.ensures.own.0.1
+          (ap (λ (v : View). v.steps) c.join.ensures.joined) c.join.ensures.untold
+          (ap (λ (v : View). v.steps) c.split-in_default.ensures.left) c.split-in_default.ensures.untold
+          (subst (λ (answer : Answer). HasWalkedRwLock c.args.self.now.word.number c.args.self.now.settings.admission (Upgrade c.args.patience) answer c.join.new.token c.call-answer.new.token) right.0 c.call-answer.ensures.path);
       late = tt;
       left = tt;
     }
