@@ -1,5 +1,5 @@
 -- The names that clauses of users cite.
-use Rattle.std.specs.Prelude.{ℕ, ◌≡◌, ◌≤◌, ◌<◌, ◌+◌, ◌*◌, ◌++◌, ◌^◌, ◌/◌}
+use Rattle.std.specs.Prelude.{ℕ, ◌≡◌, ◌≤◌, ◌<◌, ◌+◌, ◌*◌, ◌++◌, ◌^◌, ◌/◌, min}
 use Rattle.std.specs.Arc.{arc_value}
 pub use Rattle.parking_lot_core.specs.Tokens.{IsTicketOf, IsTokenOf, view_of, last_of}
 use Rattle.core_base.specs.declared.ops.Op.TheVariants.{Add, Load}
@@ -37,14 +37,11 @@ HasMade permits semaphore old new = (mid : Token) × (seen : ℕ)
     × Drew (kinds.TheVariants.Semaphore permits) (lot_of semaphore) (word_of semaphore) old mid
     × (steps_of new ≡ steps_of mid ++ step (semaphore_at (number_of semaphore)) (Add (2 * permits)) seen)
 
--- one load of the word saw so many permits free
-abbrev pub SawFree : ℕ → ℕ → Token → Token → Type 0
-SawFree n free old new = (seen : ℕ) × (free ≡ seen / 2)
+-- one load of the word saw so many permits free, or more than there are; with those that the thread holds
+-- itself they are no more than all, which are known to the thread that drew the word
+abbrev pub SawFree : ℕ → ℕ → ℕ → Token → Token → Type 0
+SawFree n permits free old new = (seen : ℕ) × (all : ℕ)
     × (steps_of new ≡ steps_of old ++ step (semaphore_at n) Load seen)
-
--- with those that the thread holds itself they are no more than all, which are known to the thread that drew
--- the word
-abbrev pub AreWithin : ℕ → ℕ → Token → Type 0
-AreWithin n free token = (all : ℕ)
-    × (free + owned (semaphore_at n) shared (owns_of token) ≤ all) × (all ≤ 2 ^ 62)
-    × (0 < drew_permits n (view_of token) → all ≡ drew_permits n (view_of token))
+    × (free ≡ min (seen / 2) permits)
+    × (seen / 2 + owned (semaphore_at n) shared (owns_of old) ≤ all) × (all ≤ 2 ^ 62)
+    × (0 < drew_permits n (view_of old) → all ≡ drew_permits n (view_of old))

@@ -62,7 +62,7 @@ pub struct Permit<'a> {
 }
 
 impl Semaphore {
-    ghost use Rattle.run_signals.specs.SemaphoreUsers.{AreWithin, HasMade, SawFree, lot_of, number_of, permits_of, semaphore_of, word_of};
+    ghost use Rattle.run_signals.specs.SemaphoreUsers.{HasMade, SawFree, lot_of, number_of, permits_of, semaphore_of, word_of};
 
     /// A semaphore with so many permits, 1 to 2^62, all of them free.
     ///
@@ -276,16 +276,17 @@ impl Semaphore {
         self.wait(rt, token, &Some((clock, deadline)), true)
     }
 
-    /// How many permits are free, by one load. With those that the token's own view names they are
-    /// no more than the semaphore's permits.
+    /// How many permits are free, by one load, and at most `permits`. The load sees no more: with those
+    /// that the token's own view names they are those of the draw, which the thread that drew it knows.
     #[inline]
     pub fn available(&self, token: &mut Token) -> u64
         requires { IsTokenOf (lot_of self.now) token.old }
         ensures token { IsTokenOf (lot_of self.now) token.new × StaysAs token.old token.new }
-        ensures seen { SawFree (number_of self.now) result token.old token.new }
-        ensures within { AreWithin (number_of self.now) result token.old }
+        ensures most { result ≤ permits_of self.now }
+        ensures seen { SawFree (number_of self.now) (permits_of self.now) result token.old
+            token.new }
     {
-        free_permits(self.lot.look_free(token, self.word))
+        free_permits(self.lot.look_free(token, self.word)).min(self.permits)
     }
 }
 

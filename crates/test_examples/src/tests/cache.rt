@@ -72,8 +72,12 @@ fn fill_in<R: Wait>(
     cache.with_upgradable(
         rt,
         token,
-        |known: &Vec<Priced>| find(known, net).map(Ok),
-        |known: &mut Vec<Priced>| {
+        |known: &Vec<Priced>|
+            ensures { IfSome result (λ found. IfOk found (λ gross. gross ≡ net + net * 19 / 100)) }
+        { find(known, net).map(Ok) },
+        |known: &mut Vec<Priced>|
+            ensures { IfOk result (λ gross. gross ≡ net + net * 19 / 100) }
+        {
             let priced = work_out(net);
             known.push(priced)?;
             Ok(priced.gross)
