@@ -26,7 +26,7 @@ LOTEXPLORE = os.path.join(CRATES, "lotexplore", "out", "lotexplore")
 NO_ROOM = re.compile(
     r"no memory\n|nothing found in \d+ states, complete to depth \d+, grain auto; memory was refused\n", re.ASCII
 )
-NO_SCHEDULE = re.compile(r"wrong after \d+ moves; no memory for the schedule\n", re.ASCII)
+NO_SCHEDULE = re.compile(r"wrong after \d+ turns; no memory for the schedule\n", re.ASCII)
 NO_WAITS = "no memory to tell what the threads wait for\n"
 RUNS = [["lot", "2"], ["mutex", "1", "1"]]
 MESSAGE = "lotbench: no memory, or no thread could be started\n"

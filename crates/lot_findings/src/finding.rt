@@ -10,11 +10,21 @@ use lot_world::{Step, World};
 use state_search::NoRoom;
 use std::alloc::Global;
 
+/// Turns at the end of a run that come again and again, and keep a thread from its end.
+#[derive(Clone, Copy, Debug, PartialEq, Eq)]
+pub struct Lap {
+    /// The line that says that the thread comes to its end.
+    pub line: u32,
+    pub turns: usize,
+    pub steps: usize,
+}
+
 /// A run: its turns, its steps, the world to which they lead, and what is wrong there.
 #[derive(Drop)]
 pub struct Finding<'a> {
     pub source: Source<'a>,
     pub wrong: Option<Wrong>,
+    pub lap: Option<Lap>,
     pub walk: Walk<'a, ListQueues>,
     pub steps: Vec<Step>,
     pub world: World<ListQueues>,
@@ -44,6 +54,7 @@ impl<'a> Finding<'a> {
         Ok(Finding {
             source,
             wrong,
+            lap: None,
             walk,
             steps: run.steps,
             world,
@@ -64,13 +75,14 @@ impl<'a> Finding<'a> {
         }
     }
 
-    /// Returns the line of the property that is broken.
+    /// Returns the line of the property or the ending that is broken.
     pub fn property_line(&self) -> Option<u32> {
         match self.wrong {
             Some(Wrong::Broken { property }) => {
                 self.source.parsed.property_lines.get(property).copied()
             }
-            Some(Wrong::Deadlock | Wrong::Refused { .. } | Wrong::Failed { .. }) | None => None,
+            Some(Wrong::Deadlock | Wrong::Refused { .. } | Wrong::Failed { .. }) => None,
+            None => self.lap.map(|lap| lap.line),
         }
     }
 }

@@ -32,6 +32,12 @@ pub enum Headline<'a> {
         /// That of the walk that found it.
         seed: Option<u64>,
     },
+    /// After so many turns so many others come again and again, and keep a thread from its end.
+    Endless {
+        turns: usize,
+        lap: usize,
+        grain: &'a str,
+    },
     /// One goes wrong, and there is no memory to print it.
     NoSchedule {
         turns: usize,
@@ -119,6 +125,10 @@ impl fmt::Display for Headline<'_> {
                     Some(seed) => write!(f, ", seed {seed}"),
                     None => Ok(()),
                 }
+            }
+            Headline::Endless { turns, lap, grain } => {
+                write!(f, "endless after {turns} turns, by {lap} again and again, ")?;
+                write!(f, "grain {grain}")
             }
             Headline::NoSchedule { turns } => {
                 write!(f, "wrong after {turns} turns; no memory for the schedule")

@@ -19,6 +19,7 @@ struct Report<'h, 'f, 's> {
     depth: Option<usize>,
     walks: Option<u64>,
     turns: Option<usize>,
+    lap: Option<usize>,
     seed: Option<u64>,
     line: Option<u32>,
     threads: Vec<ThreadReport<'f>>,
@@ -112,6 +113,7 @@ fn report_of<'h, 'f, 's>(alloc: Global, headline: &Headline<'h>) -> Report<'h, '
         depth: None,
         walks: None,
         turns: None,
+        lap: None,
         seed: None,
         line: None,
         threads: Vec::new(alloc),
@@ -155,6 +157,12 @@ fn report_of<'h, 'f, 's>(alloc: Global, headline: &Headline<'h>) -> Report<'h, '
             report.turns = Some(turns);
             report.grain = Some(grain);
             report.seed = seed;
+        }
+        Headline::Endless { turns, lap, grain } => {
+            report.verdict = "endless";
+            report.turns = Some(turns);
+            report.lap = Some(lap);
+            report.grain = Some(grain);
         }
         Headline::NoSchedule { turns } => {
             report.verdict = "wrong";

@@ -11,7 +11,7 @@ pub mod telling;
 pub mod waits;
 pub mod words;
 
-pub use finding::Finding;
+pub use finding::{Finding, Lap};
 pub use headline::Headline;
 pub use json::{write_headline, write_json};
 pub use schedule::write_schedule;

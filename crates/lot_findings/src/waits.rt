@@ -9,8 +9,8 @@ use std::alloc::{AllocError, Global};
 use std::io;
 use std::io::Write;
 
-/// A thread that is not through: its line, its locks, and the lock in whose queue it is, with the other threads
-/// that have that lock.
+/// A thread that is not through: its line, its locks, and the lock in whose queue it is, with the other
+/// threads that have that lock.
 #[derive(Drop)]
 pub struct Waiting {
     pub thread: usize,

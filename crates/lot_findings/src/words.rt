@@ -19,8 +19,8 @@ pub fn line_of(walk: &Walk<'_, ListQueues>, thread: usize) -> u32 {
         .unwrap_or(0)
 }
 
-/// Returns what became of a thread by its turn, which was at an instruction: nothing where there is nothing to
-/// say.
+/// Returns what became of a thread by its turn, which was at an instruction: nothing where there is nothing
+/// to say.
 pub fn end_of(walk: &Walk<'_, ListQueues>, thread: usize, instruction: usize) -> &'static str {
     let calls = matches!(
         walk.program().instruction(thread, instruction),

@@ -12,5 +12,5 @@ pub mod warnings;
 pub mod words;
 
 pub use malformed::TextError;
-pub use parser::{ProgramText, parse};
+pub use parser::{Ending, ProgramText, parse};
 pub use warnings::{Warning, warnings_of};

@@ -23,6 +23,13 @@ const MOST_LOCKS: usize = 64;
 /// The most shared variables of a program.
 const MOST_VARIABLES: usize = 64;
 
+/// A thread of which a line says that it comes to its end.
+#[derive(Clone, Copy, Debug, PartialEq, Eq)]
+pub struct Ending {
+    pub thread: usize,
+    pub line: u32,
+}
+
 /// A program with the names and lines of its text.
 #[derive(Drop)]
 pub struct ProgramText {
@@ -33,12 +40,14 @@ pub struct ProgramText {
     pub header: String,
     /// The line of each property.
     pub property_lines: Vec<u32>,
+    pub endings: Vec<Ending>,
 }
 
 impl ProgramText {
     /// Leaves out the assertion and the property of a line: the assertion becomes a step that tests nothing.
     pub fn set_aside(&mut self, line: u32) {
         self.drop_property(line);
+        self.endings.retain(|ending| ending.line != line);
         let Program { code, lines, .. } = &mut self.program;
         for (thread, own) in lines.iter().enumerate() {
             if let Some(code) = code.get_mut(thread) {
@@ -87,6 +96,7 @@ struct Parser {
     lines: Vec<Vec<u32>>,
     properties: Vec<Property>,
     property_lines: Vec<u32>,
+    endings: Vec<Ending>,
 }
 
 /// Reads a program.
@@ -121,6 +131,7 @@ impl Parser {
             lines: Vec::new(alloc),
             properties: Vec::new(alloc),
             property_lines: Vec::new(alloc),
+            endings: Vec::new(alloc),
         }
     }
 
@@ -138,8 +149,9 @@ impl Parser {
         };
         match first {
             "always" | "finally" | "never" => self.add_property(line, words),
-            _ if !self.properties.is_empty() => {
-                let expected = "`always`, `finally` or `never`, which end a program";
+            "ends" => self.add_ending(line, words, threads),
+            _ if !self.properties.is_empty() || !self.endings.is_empty() => {
+                let expected = "`always`, `finally`, `never` or `ends`, which end a program";
                 Err(self.wrong(line, first, expected))
             }
             "lock" if self.runners.is_empty() => self.declare_lock(line, words, threads),
@@ -289,6 +301,22 @@ impl Parser {
         Ok(())
     }
 
+    // Adds a thread that is said to come to its end.
+    fn add_ending(&mut self, line: u32, words: &[&str], threads: usize) -> Result<(), TextError> {
+        self.end_section()?;
+        if words.len() > 2 {
+            return Err(self.wrong(line, word_at(words, 2), "the end of the line"));
+        }
+        match number(word_at(words, 1), MOST_THREADS) {
+            Some(thread) if (thread as usize) < threads => {
+                let thread = thread as usize;
+                self.endings.push(Ending { thread, line })?;
+                Ok(())
+            }
+            _ => Err(self.wrong(line, word_at(words, 1), "a thread's number, as in `ends 0`")),
+        }
+    }
+
     fn end(mut self, last: u32) -> Result<ProgramText, TextError> {
         if self.threads.is_none() {
             let expected = "the first line is `threads N`, as in `threads 3`";
@@ -308,6 +336,7 @@ impl Parser {
             lines,
             properties,
             property_lines,
+            endings,
         } = self;
         Ok(ProgramText {
             program: Program {
@@ -323,6 +352,7 @@ impl Parser {
             variables,
             header,
             property_lines,
+            endings,
         })
     }
 

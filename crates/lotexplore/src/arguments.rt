@@ -40,6 +40,10 @@ pub enum Way {
     All,
     /// Walks at random: how many, and from which seed on.
     Random { walks: u64, seed: u64 },
+    /// One, in which threads in calls go on till none of them can.
+    Settled,
+    /// One, by orders.
+    ByOrders,
 }
 
 /// What is searched, and what is printed of it.
@@ -47,6 +51,8 @@ pub enum Way {
 pub struct Arguments<'a> {
     /// The file of the program, if it is not on standard input.
     pub program: Option<&'a str>,
+    /// The file of the schedule that comes first.
+    pub from: Option<&'a str>,
     pub way: Way,
     pub limits: Limits,
     pub depth: Option<u32>,
@@ -54,6 +60,8 @@ pub struct Arguments<'a> {
     pub grain: GrainName,
     pub deadlines: Deadlines,
     pub form: Form,
+    /// Whether it goes on after a finding, without the line that is broken.
+    pub goes_on: bool,
     /// Whether moves are left out of what is found.
     pub shrinks: bool,
     /// Whether standard error is told how far the search is.
@@ -96,6 +104,7 @@ pub fn arguments_from<'a>(alloc: Global, words: &'a [String]) -> Result<Argument
 fn arguments_in<'a>(matches: &ArgMatches<'a>) -> Arguments<'a> {
     Arguments {
         program: matches.get_str("program"),
+        from: matches.get_str("from"),
         way: way_in(matches),
         limits: Limits {
             states: matches.get_one::<u32>("states").unwrap_or(0),
@@ -110,6 +119,7 @@ fn arguments_in<'a>(matches: &ArgMatches<'a>) -> Arguments<'a> {
             Deadlines::Pass
         },
         form: form_in(matches),
+        goes_on: matches.get_flag("all"),
         shrinks: matches.get_flag("shrink"),
         tells: matches.get_flag("progress"),
         schedule: matches.get_str("schedule"),
@@ -118,6 +128,12 @@ fn arguments_in<'a>(matches: &ArgMatches<'a>) -> Arguments<'a> {
 }
 
 fn way_in(matches: &ArgMatches<'_>) -> Way {
+    if matches.get_flag("step") {
+        return Way::ByOrders;
+    }
+    if matches.get_flag("settle") {
+        return Way::Settled;
+    }
     match matches.get_one::<u64>("random") {
         Some(walks) => Way::Random {
             walks,
@@ -147,7 +163,8 @@ fn command<'a>(alloc: Global) -> Result<Command<'a>, Error> {
                 "The file of the program, else it is read from standard input",
             ),
         )?;
-    with_forms(alloc, with_limits(alloc, with_ways(alloc, command)?)?)
+    let command = with_walks(alloc, with_ways(alloc, command)?)?;
+    with_forms(alloc, with_limits(alloc, command)?)
 }
 
 // The arguments that say which schedules are tried.
@@ -162,21 +179,42 @@ fn with_ways<'a>(alloc: Global, command: Command<'a>) -> Result<Command<'a>, Err
                 .help("Ends a turn after each step, or with the call, or as the program needs it"),
         )?
         .arg(flag(alloc, "no-late", "Lets no timed sleep end by its deadline"))?
-        .arg(number(
+        .arg(flag(
             alloc,
-            "random",
-            "Takes so many walks at random in place of a search",
-        ))?
-        .arg(number(
-            alloc,
-            "seed",
-            "The seed of the first walk, 0 if nothing is said",
+            "all",
+            "Searches on without each assertion and property that is broken",
         ))?
         .arg(flag(
             alloc,
             "shrink",
             "Leaves out turns of what is found while it goes wrong",
         ))?;
+    Ok(command)
+}
+
+// The arguments that say which walks are taken in place of a search, and where it begins.
+fn with_walks<'a>(alloc: Global, command: Command<'a>) -> Result<Command<'a>, Error> {
+    let random = number(
+        alloc,
+        "random",
+        "Takes so many walks at random in place of a search",
+    );
+    let settle = flag(
+        alloc,
+        "settle",
+        "Lets threads in calls go on till none can, in place of a search",
+    );
+    let step = flag(alloc, "step", "Takes turns by orders, a line each");
+    let command = command
+        .arg(random.conflicts_with_all(&["from", "settle", "step"])?)?
+        .arg(number(
+            alloc,
+            "seed",
+            "The seed of the first walk, 0 if nothing is said",
+        ))?
+        .arg(file(alloc, "from", "Begins after the schedule of a file"))?
+        .arg(settle.conflicts_with("step")?)?
+        .arg(step.requires_arg("program")?)?;
     Ok(command)
 }
 

@@ -2,9 +2,16 @@
 #![tactic(auto)]
 
 mod arguments;
+mod by_orders;
+mod endings;
+mod first;
 mod picture;
+mod printing;
 mod report;
+mod searches;
+mod settling;
 mod status;
+mod warnings;
 mod watch;
 
 use crate::arguments::{Arguments, arguments_from};
@@ -57,7 +64,7 @@ fn search_program(rt: &HostRuntime, arguments: Arguments<'_>) -> io::Result<u8> 
         }
     };
     match parse(rt.alloc(), text.as_str()) {
-        Ok(parsed) => report(rt, parsed, text.as_str(), arguments),
+        Ok(mut parsed) => report(rt, &mut parsed, text.as_str(), arguments),
         Err(TextError::NoMemory) => {
             println!(rt; "no memory")?;
             Ok(status::NOT_ALL)

@@ -1,6 +1,7 @@
 //! Programs, and what a search of all their schedules finds.
 mod damaged;
 mod grains;
+mod loops;
 mod packs;
 mod programs;
 mod properties;

@@ -11,7 +11,7 @@ const WHOLE: &str = "threads 2\nlock m mutex\nlock c condvar\nlock o once\nvar f
     thread 0\nrepeat 2\nlock m\nwhile full = 1\nwait c m\nend\nset full 1\nnotify_one c\nunlock m\nend\n\
     call_once o\nok\nif ok\nadd full 1\nelse\nloop\nassert full < 2\nend\nend\n\
     thread 1\nlock_timed m\nif yes\nunlock m\nend\n\
-    always full <= 2\nfinally full = 2\nnever 0 at 8 1 at 26\n";
+    always full <= 2\nfinally full = 2\nnever 0 at 8 1 at 26\nends 1\n";
 
 /// A short one, of which each byte is changed.
 const SHORT: &str =

@@ -40,6 +40,10 @@ const TEXTS: &[(&str, u32, &str)] = &[
     ("threads 1\nvar x 0\nalways x = 1 2\n", 3, "2"),
     ("threads 1\nvar x 0\nthread 0\nloop\nalways x = 0\n", 4, ""),
     ("threads 1\nvar x 0\nalways x = 0\nthread 0\n", 4, "thread"),
+    ("threads 2\nends\n", 2, ""),
+    ("threads 2\nends 2\n", 2, "2"),
+    ("threads 2\nends 0 1\n", 2, "1"),
+    ("threads 2\nends 0\nthread 0\n", 3, "thread"),
     (
         "threads 1\nvar x 0\nalways x = 0\nlock m mutex\n",
         4,

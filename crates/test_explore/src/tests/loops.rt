@@ -1,0 +1,132 @@
+//! Threads that never come to their end, though no thread is held up.
+use super::check_eq;
+use core_base::ListQueues;
+use lot_explore::Walk;
+use lot_loops::{FairLoop, find_loop};
+use lot_program::Program;
+use lot_program_text::{ProgramText, parse};
+use state_search::{NoRoom, Unobserved};
+use std::alloc::Global;
+
+/// What is found of a thread's end.
+#[derive(Clone, Copy, Debug, PartialEq, Eq)]
+enum Ending {
+    /// A loop of so many moves after so many.
+    Loop { way: usize, lap: usize },
+    /// No loop within so many states, which are all.
+    NoLoop(usize),
+    /// None within so many states, which are not all.
+    NoneYet(usize),
+    /// The moves of a loop are not possible, or its thread is through.
+    NotALoop,
+    NoMemory,
+    NoProgram,
+}
+
+/// Returns the program of a text, in whose turns calls are cut where the program sees it.
+fn by_cut_calls(alloc: Global, text: &str) -> Option<ProgramText> {
+    let mut parsed = parse(alloc, text).ok()?;
+    parsed.program.by_cut_calls(alloc).ok()?;
+    Some(parsed)
+}
+
+/// Returns what is found of a thread's end within so many states.
+fn ending_of(alloc: Global, text: &str, thread: usize, most: usize) -> Ending {
+    let Some(parsed) = by_cut_calls(alloc, text) else {
+        return Ending::NoProgram;
+    };
+    match looked_for(alloc, &parsed.program, thread, most) {
+        Ok(ending) => ending,
+        Err(NoRoom) => Ending::NoMemory,
+    }
+}
+
+fn looked_for(
+    alloc: Global,
+    program: &Program,
+    thread: usize,
+    most: usize,
+) -> Result<Ending, NoRoom> {
+    if !program.is_fit() {
+        return Ok(Ending::NoProgram);
+    }
+    let walk = Walk::<ListQueues>::new(alloc, program)?;
+    let looked = find_loop(alloc, &walk, thread, most, &mut Unobserved)?;
+    match looked.found {
+        Some(found) => ending_by(walk, thread, &found),
+        None if looked.is_whole => Ok(Ending::NoLoop(looked.states)),
+        None => Ok(Ending::NoneYet(looked.states)),
+    }
+}
+
+/// Takes the moves of a loop twice, and returns what is found of it.
+fn ending_by(
+    mut walk: Walk<'_, ListQueues>,
+    thread: usize,
+    found: &FairLoop,
+) -> Result<Ending, NoRoom> {
+    let moves = found.way.iter().chain(found.lap.iter());
+    for by in moves.chain(found.lap.iter()) {
+        if !walk.turn(*by)? {
+            return Ok(Ending::NotALoop);
+        }
+    }
+    if walk.scene().is_through(walk.program(), thread) {
+        return Ok(Ending::NotALoop);
+    }
+    Ok(Ending::Loop {
+        way: found.way.len(),
+        lap: found.lap.len(),
+    })
+}
+
+/// A thread that looks till another tells it.
+const TOLD: &str = "threads 2\nvar x 0\nthread 0\nwhile x = 0\nend\nthread 1\nset x 1\n";
+
+/// One that nobody tells.
+const NOT_TOLD: &str =
+    "threads 2\nlock m mutex\nvar x 0\nthread 0\nwhile x = 0\nend\nthread 1\nlock m\nunlock m\n";
+
+/// One that waits for a mutex which another takes again and again.
+const TAKEN_AGAIN: &str =
+    "threads 2\nlock m mutex\nthread 0\nloop\nlock m\nunlock m\nend\nthread 1\nlock m\nunlock m\n";
+
+/// One that waits for a mutex which is handed over.
+const HANDED_OVER: &str =
+    "threads 2\nlock m mutex\nthread 0\nloop\nlock m\nunlock_fair m\nend\nthread 1\nlock m\nunlock m\n";
+
+#[test]
+fn a_thread_that_nobody_tells_looks_for_ever(rt: HostRuntime) {
+    let endless = Ending::Loop { way: 2, lap: 2 };
+    check_eq(&rt, ending_of(rt.alloc(), NOT_TOLD, 0, 1000), endless);
+    check_eq(
+        &rt,
+        ending_of(rt.alloc(), NOT_TOLD, 1, 1000),
+        Ending::NoLoop(6),
+    );
+    check_eq(
+        &rt,
+        ending_of(rt.alloc(), NOT_TOLD, 0, 3),
+        Ending::NoneYet(5),
+    );
+}
+
+#[test]
+fn a_thread_that_is_told_ends(rt: HostRuntime) {
+    check_eq(&rt, ending_of(rt.alloc(), TOLD, 0, 1000), Ending::NoLoop(5));
+}
+
+#[test]
+fn a_mutex_is_taken_before_a_waiter_again_and_again(rt: HostRuntime) {
+    let endless = Ending::Loop { way: 2, lap: 4 };
+    check_eq(&rt, ending_of(rt.alloc(), TAKEN_AGAIN, 1, 1000), endless);
+}
+
+#[test]
+fn a_mutex_that_is_handed_over_lets_a_waiter_in(rt: HostRuntime) {
+    check_eq(
+        &rt,
+        ending_of(rt.alloc(), HANDED_OVER, 1, 1000),
+        Ending::NoLoop(17),
+    );
+}
