@@ -1,7 +1,9 @@
 -- Why there is no picture.
 use Rattle.std.specs.Prelude.{Bool, true, false}
-use Rattle.lot_draw.specs.declared.lines.Failure.{Failure}
-use Rattle.lot_draw.specs.declared.lines.Failure.TheVariants.{Malformed, NoMemory, Unread, Undrawn, Unwritten}
+use Rattle.lot_picture.specs.declared.lines.Failure.{Failure}
+use Rattle.lot_picture.specs.declared.lines.Failure.TheVariants.{Malformed, NoMemory, Unread, Undrawn, Unwritten}
+use Rattle.lot_draw.specs.declared.start.Unfit.{Unfit}
+use Rattle.lot_draw.specs.declared.start.Unfit as unfit
 
 -- whether a line has another form
 abbrev pub is_malformed : Failure → Bool
@@ -10,3 +12,8 @@ is_malformed (NoMemory n) = false
 is_malformed Unread = false
 is_malformed Undrawn = false
 is_malformed Unwritten = false
+
+-- whether nothing may be written: a line has another form, or what was asked for isn't in the schedule
+abbrev pub is_silent : Unfit → Bool
+is_silent (unfit.TheVariants.Failed failure) = is_malformed failure
+is_silent (unfit.TheVariants.Lacks said) = true

@@ -1,3 +1,1 @@
-pub mod Escapes
 pub mod Endings
-pub mod Cells

@@ -1,8 +1,9 @@
-//! A schedule on standard input, its picture as SVG on standard output.
+//! A schedule on standard input, its picture as SVG or its page as HTML on standard output.
 #![tactic(auto)]
 
 use core_queues::BucketQueues;
 use lot_draw::start::start;
+use lot_draw::{Options, Refused, options_from};
 use lot_replay::status;
 use std::io::{BufReader, BufWriter, ErrorKind};
 use std::process::ExitCode;
@@ -19,25 +20,27 @@ fn main(rt: HostRuntime) -> ExitCode {
 }
 
 fn run(rt: &HostRuntime) -> io::Result<u8> {
-    let args = match env::args(rt) {
-        Ok(args) => args.skip(1).collect(rt.alloc())?,
-        // An argument that is no text is an argument.
-        Err(e) if e.kind() == ErrorKind::InvalidData => vec![in rt.alloc();
-            String::new(rt.alloc()),
-        ]?,
-        Err(e) => return Err(e),
-    };
-    let words = args
-        .iter()
-        .map(|arg| arg.as_str())
-        .collect::<Vec<&str>>(rt.alloc())?;
+    let asked = asked_for(rt)?;
     let mut reader = BufReader::new(rt.alloc(), rt.reader())?;
     let mut writer = BufWriter::new(rt.alloc(), io::writer(rt))?;
     Ok(start::<BucketQueues, _, _, _>(
         rt.alloc(),
-        words.as_slice(),
+        asked,
         &mut reader,
         &mut writer,
         &mut rt.stderr(),
     ))
+}
+
+// What the arguments of the process ask for.
+fn asked_for(rt: &HostRuntime) -> io::Result<Result<Options, Refused>> {
+    let words = match env::args(rt) {
+        Ok(args) => args.collect::<Vec<String>>(rt.alloc())?,
+        Err(e) if e.kind() == ErrorKind::InvalidData => {
+            let said = String::from_str(rt.alloc(), "an argument is not text\n")?;
+            return Ok(Err(Refused::Wrong(said)));
+        }
+        Err(e) => return Err(e),
+    };
+    Ok(options_from(rt.alloc(), words.as_slice()))
 }

@@ -206,7 +206,12 @@ fn with_walks<'a>(alloc: Global, command: Command<'a>) -> Result<Command<'a>, Er
     );
     let step = flag(alloc, "step", "Takes turns by orders, a line each");
     let command = command
-        .arg(random.conflicts_with_all(&["from", "settle", "step"])?)?
+        .arg(
+            random
+                .conflicts_with("from")?
+                .conflicts_with("settle")?
+                .conflicts_with("step")?,
+        )?
         .arg(number(
             alloc,
             "seed",

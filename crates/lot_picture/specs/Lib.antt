@@ -1,0 +1,3 @@
+pub mod Cells
+pub mod Effects
+pub mod Dues
