@@ -4,7 +4,7 @@
 `lotbench lot 2` makes a lot for two threads, and `lotbench mutex 1 1` a lot with locks of every sort. Such a run has to end
 with its text and status 0, with the message for no memory and status 3, or, where its arguments had no room, with status 4.
 `lotexplore` searches its stored program. It has to find what it finds otherwise, to say that memory was refused, with
-status 3, or for the schedule alone, with status 1, or to end with status 4.
+status 3, for the schedule alone with status 1, or for the arguments with status 2, or to end with status 4.
 The tests are the modules `refusals` of `test_drain` and `test_mutexes`: whatever is refused, they see the fault, find
 nothing lost, and pass.
 
@@ -27,6 +27,7 @@ NO_ROOM = re.compile(
     r"no memory\n|nothing found in \d+ states, complete to depth \d+, grain auto; memory was refused\n", re.ASCII
 )
 NO_SCHEDULE = re.compile(r"wrong after \d+ turns; no memory for the schedule\n", re.ASCII)
+NO_ARGUMENTS = "error: out of memory\n"
 NO_WAITS = "no memory to tell what the threads wait for\n"
 RUNS = [["lot", "2"], ["mutex", "1", "1"]]
 MESSAGE = "lotbench: no memory, or no thread could be started\n"
@@ -59,6 +60,8 @@ def is_search_right(whole, printed, message, status):
     untold = re.sub(r"^thread .*\n", "", whole, flags=re.MULTILINE).replace("\n", "\n" + NO_WAITS, 1)
     if status == 1 and printed in (whole, untold):
         return True
+    if status == 2:
+        return not printed and message == NO_ARGUMENTS
     # A device of text that has no room ends a run, with what was printed before.
     if status == 4:
         return whole.startswith(printed) or bool(NO_ROOM.match(printed) or NO_SCHEDULE.match(printed))
