@@ -5,7 +5,6 @@ pub mod finding;
 pub mod headline;
 pub mod json;
 pub mod schedule;
-pub mod shown;
 pub mod source;
 pub mod telling;
 pub mod waits;

@@ -1,9 +1,9 @@
 //! Turns, each with its line of the program and what became of it.
 use crate::finding::{Finding, new_world};
-use crate::shown::{lock_lines, write_changes};
 use crate::source::Source;
 use crate::words::{end_of, instruction_of};
 use core_base::ListQueues;
+use lot_explain::{lock_lines, write_changes};
 use lot_explore::Walk;
 use lot_program::Program;
 use lot_world::{Step, World};
@@ -53,7 +53,9 @@ impl<'a> Telling<'a> {
             return Err(NoRoom);
         }
         let world = new_world(alloc, program)?;
-        let shown = lock_lines(alloc, source.parsed.locks.as_slice(), &world);
+        let Ok(shown) = lock_lines(alloc, source.parsed.locks.as_slice(), &world) else {
+            return Err(NoRoom);
+        };
         Ok(Telling {
             source,
             walk: Walk::new(alloc, program)?,
@@ -78,7 +80,10 @@ impl<'a> Telling<'a> {
         for by in moves {
             telling.take(*by)?;
         }
-        telling.shown = lock_lines(alloc, source.parsed.locks.as_slice(), &telling.world);
+        let Ok(shown) = lock_lines(alloc, source.parsed.locks.as_slice(), &telling.world) else {
+            return Err(NoRoom);
+        };
+        telling.shown = shown;
         Ok(telling)
     }
 
@@ -179,7 +184,9 @@ impl<'a> Telling<'a> {
 
     // Tells the lines of `show` that are others than before.
     fn tell_locks<W: Write>(&mut self, alloc: Global, out: &mut W) -> io::Result<()> {
-        let shown = lock_lines(alloc, self.source.parsed.locks.as_slice(), &self.world);
+        let Ok(shown) = lock_lines(alloc, self.source.parsed.locks.as_slice(), &self.world) else {
+            return writeln!(out, "    no memory to tell of locks");
+        };
         write_changes(out, self.shown.as_slice(), shown.as_slice())?;
         self.shown = shown;
         Ok(())

@@ -33,6 +33,14 @@ pub enum Form {
     JsonLines,
 }
 
+/// What is done.
+#[derive(Clone, Copy, Drop)]
+pub enum Job<'a> {
+    Search(Arguments<'a>),
+    /// A schedule is replayed in words: that of the file, if it is not on standard input.
+    Explain { schedule: Option<&'a str> },
+}
+
 /// Which schedules are tried.
 #[derive(Clone, Copy, Debug, PartialEq, Eq)]
 pub enum Way {
@@ -96,9 +104,14 @@ impl GrainName {
 /// # Errors
 ///
 /// Clap's, also where help is asked for.
-pub fn arguments_from<'a>(alloc: Global, words: &'a [String]) -> Result<Arguments<'a>, Error> {
+pub fn job_from<'a>(alloc: Global, words: &'a [String]) -> Result<Job<'a>, Error> {
     let matches = command(alloc)?.try_get_matches_from(words)?;
-    Ok(arguments_in(&matches))
+    Ok(match matches.subcommand_matches("explain") {
+        Some(explaining) => Job::Explain {
+            schedule: explaining.get_str("schedule"),
+        },
+        None => Job::Search(arguments_in(&matches)),
+    })
 }
 
 fn arguments_in<'a>(matches: &ArgMatches<'a>) -> Arguments<'a> {
@@ -162,9 +175,22 @@ fn command<'a>(alloc: Global) -> Result<Command<'a>, Error> {
             Arg::new(alloc, "program").value_name("PROGRAM").help(
                 "The file of the program, else it is read from standard input",
             ),
-        )?;
+        )?
+        .subcommand(explaining(alloc)?)?;
     let command = with_walks(alloc, with_ways(alloc, command)?)?;
     with_forms(alloc, with_limits(alloc, command)?)
+}
+
+// The command that replays a schedule in words.
+fn explaining<'a>(alloc: Global) -> Result<Command<'a>, Error> {
+    let command = Command::new(alloc, "explain")
+        .about("Replays a schedule, and says of each line what it changed or why it was refused")
+        .arg(
+            Arg::new(alloc, "schedule").value_name("SCHEDULE").help(
+                "The file of the schedule, else it is read from standard input",
+            ),
+        )?;
+    Ok(command)
 }
 
 // The arguments that say which schedules are tried.

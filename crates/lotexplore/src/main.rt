@@ -4,6 +4,7 @@
 mod arguments;
 mod by_orders;
 mod endings;
+mod explaining;
 mod first;
 mod picture;
 mod printing;
@@ -14,7 +15,8 @@ mod status;
 mod warnings;
 mod watch;
 
-use crate::arguments::{Arguments, arguments_from};
+use crate::arguments::{Arguments, Job, job_from};
+use crate::explaining::explain_schedule;
 use crate::report::report;
 use lot_program_text::{TextError, parse};
 use std::io::ErrorKind;
@@ -40,8 +42,9 @@ fn run(rt: &HostRuntime) -> io::Result<u8> {
         }
         Err(e) => return Err(e),
     };
-    match arguments_from(rt.alloc(), words.as_slice()) {
-        Ok(arguments) => search_program(rt, arguments),
+    match job_from(rt.alloc(), words.as_slice()) {
+        Ok(Job::Search(arguments)) => search_program(rt, arguments),
+        Ok(Job::Explain { schedule }) => explain_schedule(rt, schedule),
         Err(error) => {
             error.print(rt)?;
             Ok(error.exit_code() as u8)

@@ -1,5 +1,5 @@
 //! The lines that `show` prints, and which of them have changed.
-use core_base::Queues;
+use core_base::{Fault, Queues};
 use lot_replay::show::show_locks;
 use lot_text::{Name, Page};
 use lot_world::{MOST_LOCKS, World};
@@ -7,15 +7,27 @@ use std::alloc::Global;
 use std::io;
 use std::io::Write;
 
-/// Returns the lines that `show` prints of a world: none, where memory was refused.
-pub fn lock_lines<Q: Queues + Drop>(alloc: Global, names: &[Name], world: &World<Q>) -> Vec<u8> {
+/// Returns the lines that `show` prints of a world: none, where its locks are others than those named.
+///
+/// # Errors
+///
+/// `NoMemory`.
+pub fn lock_lines<Q: Queues + Drop>(
+    alloc: Global,
+    names: &[Name],
+    world: &World<Q>,
+) -> Result<Vec<u8>, Fault> {
     let mut lines = Vec::new(alloc);
-    if names.len() == world.locks() && names.len() <= MOST_LOCKS {
-        let mut page = Page::new();
-        show_locks(&mut page, &mut lines, names, world);
-        page.finish(&mut lines);
+    if names.len() != world.locks() || names.len() > MOST_LOCKS {
+        return Ok(lines);
     }
-    lines
+    let mut page = Page::new();
+    show_locks(&mut page, &mut lines, names, world);
+    page.finish(&mut lines);
+    if page.is_lost() {
+        return Err(Fault::NoMemory);
+    }
+    Ok(lines)
 }
 
 /// Writes the lines that are others than before, with four spaces before each.
