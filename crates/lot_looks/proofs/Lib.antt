@@ -1,0 +1,13 @@
+pub mod Rows
+pub mod Mutexes
+pub mod Semaphores
+pub mod Onces
+pub mod RwLocks
+pub mod RwLockCalls
+pub mod Condvars
+pub mod Places
+pub mod Acted
+pub mod Turns
+pub mod World
+pub mod Spins
+pub mod Runs
