@@ -25,6 +25,8 @@ struct Report<'h, 'f, 's> {
     threads: Vec<ThreadReport<'f>>,
     variables: Vec<VariableReport<'f>>,
     schedule: Vec<&'s str>,
+    /// The lines of the program that it doesn't need, where they were left out.
+    left_out: Vec<u32>,
 }
 
 /// A thread that is not through.
@@ -84,11 +86,14 @@ fn write_found<W: Write>(
     let threads = threads_of(alloc, finding)?;
     let variables = variables_of(alloc, finding)?;
     let lines = lines_in(alloc, schedule)?;
+    let mut left_out = Vec::from_slice(alloc, finding.source.parsed.left_out.as_slice())?;
+    left_out.reverse();
     let mut report = report_of(alloc, headline);
     report.line = finding.property_line();
     report.threads = threads;
     report.variables = variables;
     report.schedule = lines;
+    report.left_out = left_out;
     write_report(alloc, out, &report)
 }
 
@@ -119,6 +124,7 @@ fn report_of<'h, 'f, 's>(alloc: Global, headline: &Headline<'h>) -> Report<'h, '
         threads: Vec::new(alloc),
         variables: Vec::new(alloc),
         schedule: Vec::new(alloc),
+        left_out: Vec::new(alloc),
     };
     match *headline {
         Headline::Nothing { states, grain } => {

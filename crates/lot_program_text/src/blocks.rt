@@ -52,3 +52,15 @@ pub(crate) fn shifted(instruction: Instruction, by: usize) -> Instruction {
         other => other,
     }
 }
+
+/// Returns an instruction whose target, where it has one, is the same instruction as before one was removed.
+pub(crate) fn drawn_up(instruction: Instruction, gone: usize) -> Instruction {
+    match instruction {
+        Instruction::Jump { target }
+        | Instruction::JumpUnless { test: _, target }
+        | Instruction::JumpUnlessTold { told: _, target }
+        | Instruction::JumpUnlessRunning { target }
+            if target > gone => { aimed(instruction, target - 1) }
+        other => other,
+    }
+}

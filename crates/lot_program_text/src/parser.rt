@@ -2,7 +2,7 @@
 ghost use Rattle.std.specs.Prelude.{◌≡◌, None, IfOk};
 ghost use Rattle.lot_text.specs.Names.{lock_named};
 
-use crate::blocks::{Block, BlockSort, shifted};
+use crate::blocks::{Block, BlockSort, drawn_up, shifted};
 use crate::calls::{Locks, call, declared};
 use crate::conditions::{test, value, variable};
 use crate::malformed::{TextError, malformed};
@@ -41,6 +41,8 @@ pub struct ProgramText {
     /// The line of each property.
     pub property_lines: Vec<u32>,
     pub endings: Vec<Ending>,
+    /// The lines whose instructions are left out.
+    pub left_out: Vec<u32>,
 }
 
 impl ProgramText {
@@ -54,6 +56,28 @@ impl ProgramText {
                 drop_assertion(code.as_mut_slice(), own.as_slice(), line);
             }
         }
+    }
+
+    /// Leaves out the calls, assertions and changes of variables of a line, and answers whether it has any.
+    ///
+    /// # Errors
+    ///
+    /// `TextError::NoMemory`, where memory was refused. The program is as before.
+    pub fn leave_out(&mut self, line: u32) -> Result<bool, TextError> {
+        self.left_out.reserve(1)?;
+        let mut has_any = false;
+        let Program { code, lines, .. } = &mut self.program;
+        for thread in 0..code.len() {
+            if let Some(code) = code.get_mut(thread) {
+                if let Some(lines) = lines.get_mut(thread) {
+                    has_any |= cut_line(code, lines, line);
+                }
+            }
+        }
+        if has_any {
+            self.left_out.push_reserved(line);
+        }
+        Ok(has_any)
     }
 
     fn drop_property(&mut self, line: u32) {
@@ -76,6 +100,40 @@ fn drop_assertion(code: &mut [Instruction], lines: &[u32], line: u32) {
                 *instruction = Instruction::Jump { target };
             }
         }
+    }
+}
+
+// Removes the instructions of a line that do something, and answers whether there were any.
+fn cut_line(code: &mut Vec<Instruction>, lines: &mut Vec<u32>, line: u32) -> bool {
+    let mut has_any = false;
+    let last = lines.len();
+    for back in 0..last {
+        let at = last - 1 - back;
+        if at < code.len() && at < lines.len() && lines[at] == line && is_act(code[at]) {
+            code.remove(at);
+            lines.remove(at);
+            draw_up(code.as_mut_slice(), at);
+            has_any = true;
+        }
+    }
+    has_any
+}
+
+// Answers whether an instruction does something, and leads nowhere else.
+fn is_act(instruction: Instruction) -> bool {
+    match instruction {
+        Instruction::Call(_) | Instruction::Assert(_) => true,
+        Instruction::Set { .. } | Instruction::Add { .. } => true,
+        Instruction::Close { .. } | Instruction::Jump { .. } => false,
+        Instruction::JumpUnless { .. } | Instruction::JumpUnlessTold { .. } => false,
+        Instruction::JumpUnlessRunning { .. } => false,
+    }
+}
+
+// Lets each instruction lead where it led, where that of a place is gone.
+fn draw_up(code: &mut [Instruction], gone: usize) {
+    for instruction in code.iter_mut() {
+        *instruction = drawn_up(*instruction, gone);
     }
 }
 
@@ -324,7 +382,7 @@ impl Parser {
         }
         self.end_section()?;
         let Parser {
-            alloc: _,
+            alloc,
             threads: _,
             locks: Locks { names, kinds },
             variables,
@@ -353,6 +411,7 @@ impl Parser {
             header,
             property_lines,
             endings,
+            left_out: Vec::new(alloc),
         })
     }
 

@@ -8,6 +8,7 @@ mod explaining;
 mod first;
 mod picture;
 mod printing;
+mod reducing;
 mod report;
 mod searches;
 mod settling;

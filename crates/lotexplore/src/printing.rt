@@ -58,6 +58,7 @@ fn print_story<W: Write>(
     if let Some(line) = finding.property_line() {
         writeln!(out, "line {line}: {}", finding.source.line(line))?;
     }
+    print_left_out(out, finding.source.parsed.left_out.as_slice())?;
     if let Some(lap) = finding.lap {
         print_lap(out, finding.walk.moves().len(), lap)?;
     }
@@ -69,6 +70,18 @@ fn print_story<W: Write>(
         explain(rt.alloc(), out, finding)?;
     }
     Ok(())
+}
+
+// Prints which lines are left out, if any are.
+fn print_left_out<W: Write>(out: &mut W, lines: &[u32]) -> io::Result<()> {
+    let Some((first, others)) = lines.split_last() else {
+        return Ok(());
+    };
+    write!(out, "left out: line {first}")?;
+    for line in others.iter().rev() {
+        write!(out, ", line {line}")?;
+    }
+    writeln!(out)
 }
 
 // Prints which turns come again and again.
