@@ -14,11 +14,12 @@ WORDS = 25
 BEGINNINGS = re.compile(r"^(Who|Whom|Whoever|Whose|Of|Behind|What|So|The same)\b")
 BANNED = re.compile(r"\b(whom|whomever|whoever)\b", re.IGNORECASE)
 MARKED = re.compile(r"`([^`]+)`")
+# Rows of README's table of speeds, and those of SPEED's that each sums up.
 ROWS = {
-    "a mutex": ["mutex"], "a raw mutex": ["raw mutex"], "a fair mutex": ["fair mutex"],
-    "a reentrant mutex": ["reentrant mutex", "locked twice"],
-    "a `Once` that is done": ["`Once` that is done"], "64 mutexes of one lot, or fair ones": ["64 mutexes", "64 fair ones"],
-    "a notification where nobody waits": ["notification, nobody waits"],
+    "mutexes, raw or with a value": ["mutex", "raw mutex"], "a reentrant mutex": ["reentrant mutex", "locked twice"],
+    "reader-writer locks": ["raw reader", "raw writer", "read, recursive read", "write", "reads and writes mixed",
+                            "upgradable right", "upgrade"],
+    "a `Once` that is done": ["done `Once`"], "turns, queues and meetings": ["meeting", "turns", "turns of many pairs", "queue"],
 }
 
 
@@ -212,14 +213,18 @@ def numbers(cell):
 
 
 def wrong_numbers():
-    speeds = {cells[0]: numbers(" ".join(cells[2:3] + cells[4:])) for cells in table_rows("docs/SPEED.md", 7)}
-    for cells in table_rows("README.md", 3):
+    speeds = {cells[0]: numbers(" ".join(cells[1:7])) for cells in table_rows("docs/SPEED.md", 8)}
+    found = set()
+    for cells in table_rows("README.md", 5):
         if cells[0] not in ROWS:
             continue
+        found.add(cells[0])
         wanted = [number for name in ROWS[cells[0]] for number in speeds.get(name, [])]
-        for number in numbers(" ".join(cells[1:]).split("tries")[0]):
+        for number in numbers(" ".join(cells[1:])):
             if not any(abs(number - one) < 0.051 for one in wanted):
                 yield f"README.md: {cells[0]}: {number} is none of SPEED's {wanted}"
+    for name in set(ROWS) - found:
+        yield f"README.md: no row of {name}"
 
 
 def main():

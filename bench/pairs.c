@@ -54,6 +54,16 @@ volatile uint8_t flag;
 #define LOOK "mov (%[lock]),%%rax\n mov 8(%[lock]),%%rcx\n movb $0,(%[token])\n mov 8(%%rax),%%rax\n" \
              "mov (%%rax,%%rcx,8),%%rcx\n test %%rcx,%%rcx\n jne 9f\n"
 
+/* A reentrant mutex that is locked, and one that is locked twice, where a word a cache line on has its thread's number and the count:
+   what is asked of that word, what is stored there, and how it is found. */
+#define WORD "mov (%[lock]),%%rcx\n mov 8(%[lock]),%%rdx\n mov 8(%%rcx),%%rsi\n"
+#define COUNT "mov 64(%%rsi,%%rdx,8),%%rax\n"
+#define STORED "xchg %%rax,64(%%rsi,%%rdx,8)\n"
+#define NAMES "mov %%rax,%%rdi\n shr $32,%%rdi\n cmp 16(%[token]),%%edi\n"
+#define AGAIN WORD COUNT NAMES "je 9f\n" LOCK WORD "mov 16(%[token]),%%rax\n shl $32,%%rax\n inc %%rax\n" STORED FLAG
+#define INSIDE WORD COUNT NAMES "jne 9f\n" WORD "inc %%rax\n" STORED FLAG WORD COUNT "cmp $1,%%eax\n je 9f\n dec %%rax\n" STORED FLAG
+#define LAST WORD COUNT "cmp $1,%%eax\n jne 9f\n xor %%eax,%%eax\n" STORED UNLOCK "jne 9f\n" FLAG
+
 #define AT(at) \
     LOOP(glance, at, GLANCE) \
     LOOP(look, at, LOOK FLAG) \
@@ -66,18 +76,20 @@ volatile uint8_t flag;
     LOOP(near_kept, at, LOCK_NEAR SPLIT_NEAR FLAG UNLOCK_NEAR JOIN_NEAR "jne 9f\n" FLAG) \
     LOOP(near_dropped, at, LOCK_NEAR SPLIT_NEAR FLAG UNLOCK_NEAR "jne 9f\n" FLAG) \
     LOOP(near_alone, at, LOCK_NEAR FLAG UNLOCK_NEAR "jne 9f\n" FLAG) \
-    LOOP(told, at, TOLD LOCK SPLIT FLAG TOLD UNLOCK JOIN "jne 9f\n" FLAG)
+    LOOP(told, at, TOLD LOCK SPLIT FLAG TOLD UNLOCK JOIN "jne 9f\n" FLAG) \
+    LOOP(once, at, AGAIN LAST) \
+    LOOP(twice, at, AGAIN INSIDE LAST)
 AT(0) AT(4) AT(8) AT(12) AT(16) AT(20) AT(24) AT(28) AT(32) AT(36) AT(40) AT(44) AT(48) AT(52) AT(56) AT(60)
 
 typedef void (*loop)(struct lock *, struct token *, uint64_t);
-enum { POSITIONS = 16, LOOPS = 12, RUNS = 25, PAIRS = 300000 };
+enum { POSITIONS = 16, LOOPS = 14, RUNS = 25, PAIRS = 300000 };
 static const char *names[LOOPS] = {"a look in a register", "a look through a table", "a pair in a register", "a pair through a table",
     "an owner apart, dropped", "an owner apart, joined", "a section told by numbers", "the same, by one load", "by one load, kept",
-    "by one load, dropped", "by one load, no owner", "a told section"};
+    "by one load, dropped", "by one load, no owner", "a told section", "reentrant", "reentrant, twice"};
 /* The loops of a lock that has the address of the words. */
 static int is_near(int which) { return 7 <= which && which <= 10; }
 #define ROW(at) {glance_##at, look_##at, bare_##at, take_##at, dropped_##at, hold_##at, numbers_##at, near_##at, near_kept_##at, \
-    near_dropped_##at, near_alone_##at, told_##at}
+    near_dropped_##at, near_alone_##at, told_##at, once_##at, twice_##at}
 static const loop loops[POSITIONS][LOOPS] = {ROW(0), ROW(4), ROW(8), ROW(12), ROW(16), ROW(20), ROW(24), ROW(28),
     ROW(32), ROW(36), ROW(40), ROW(44), ROW(48), ROW(52), ROW(56), ROW(60)};
 
@@ -94,14 +106,14 @@ int main(void) {
     struct table *table = (struct table *)page;
     struct lock *lock = (struct lock *)(page + 1024);
     struct token *token = (struct token *)(page + 2048);
-    table->words = (uint64_t *)(page + 3072);
+    table->words = (uint64_t *)(page + 2560);
     lock->table = table;
     lock->index = 8;
     struct lock near = {(struct table *)table->words, 8};
     for (int run = 0; run < RUNS; run++)
         for (int at = 0; at < POSITIONS; at++)
             for (int which = 0; which < LOOPS; which++) {
-                table->words[8] = 0;
+                table->words[8] = table->words[16] = 0;
                 *token = (struct token){.told = 0, .from = 0, .by = 1};
                 double start = now();
                 loops[at][which](is_near(which) ? &near : lock, token, PAIRS);

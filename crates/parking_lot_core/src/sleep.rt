@@ -132,8 +132,11 @@ impl ParkingLot {
         let mut limit = limit;
         self.spin(token.number);
         for _ in rt.forever() {
-            if let Some(told) = self.take_note(rt, token.number, word, want) {
-                return told;
+            // Asks by a load: to take the record is two locked instructions.
+            if self.records.is_marked(token.number) {
+                if let Some(told) = self.take_note(rt, token.number, word, want) {
+                    return told;
+                }
             }
             match limit {
                 None => token.parker.park(rt),
