@@ -1,9 +1,10 @@
 #!/usr/bin/env python3
-"""Times searches of `lotexplore`: states, seconds of a processor, states a second, and the most memory that a run took.
+"""Times searches of `lotexplore`: states, seconds of the processors and of the clock, and the most memory that a run took.
 
 In each program all threads lock and unlock one mutex so often, or two mutexes in one order. `rt run` has built the program
-before. Where `spin` and `gcc` are installed, SPIN searches a model of the same steps of one mutex, `mutex.pml`, by turns with
-`lotexplore`. The script fails where the two count different states.
+before. By turns with `lotexplore` other tools search models of the same steps of one mutex, where they and `gcc` are
+installed: SPIN `mutex.pml`, and rumur `mutex.m`. The script fails where one counts other states, but for SPIN's partial
+order reduction, which is there to leave states out.
 
 python3 bench/explore.py [RUNS], else three runs a program
 """
@@ -14,13 +15,18 @@ import shutil
 import subprocess
 import sys
 import tempfile
+import time
 from typing import NamedTuple
 
 HERE = os.path.dirname(os.path.abspath(__file__))
 PROGRAM = os.path.join(HERE, "..", "crates", "lotexplore", "out", "lotexplore")
-MODEL = os.path.join(HERE, "mutex.pml")
+SPIN_MODEL = os.path.join(HERE, "mutex.pml")
+RUMUR_MODEL = os.path.join(HERE, "mutex.m")
 OURS = re.compile(r"nothing found: (\d+) states")
-THEIRS = re.compile(r"(\d+) states, stored")
+OF_SPIN = re.compile(r"(\d+) states, stored")
+OF_RUMUR = re.compile(r"(\d+) states, \d+ rules fired in")
+# Processors that the searches in several threads take.
+JOBS = 4
 # Threads, locks, and how often each thread takes them.
 PROGRAMS = [(2, 1, 3), (3, 1, 2), (3, 1, 3), (3, 2, 1), (3, 2, 2), (4, 1, 2)]
 # So many states are kept at most.
@@ -38,67 +44,118 @@ def text_of(threads, locks, times):
 class Search(NamedTuple):
     states: int
     seconds: float
+    clock: float
     kilobytes: int
 
 
-def timed(command, told, text=""):
+class Tool(NamedTuple):
+    name: str
+    command: list
+    told: re.Pattern
+    text: str = ""
+    counts_all: bool = True
+
+
+def timed(tool):
     """What a search has counted, and what it took."""
     with tempfile.TemporaryFile("w+") as given, tempfile.TemporaryFile("w+") as printed:
-        given.write(text)
+        given.write(tool.text)
         given.seek(0)
-        child = subprocess.Popen(command, stdin=given, stdout=printed, stderr=subprocess.STDOUT)
+        began = time.monotonic()
+        child = subprocess.Popen(tool.command, stdin=given, stdout=printed, stderr=subprocess.STDOUT, cwd=tempfile.gettempdir())
         _, status, usage = os.wait4(child.pid, 0)
+        clock = time.monotonic() - began
         printed.seek(0)
         answer = printed.read()
-    found = told.search(answer)
+    found = tool.told.search(answer)
     if not found:
-        sys.exit(f"{command[0]}, status {status}: {answer}")
-    return Search(int(found[1]), usage.ru_utime + usage.ru_stime, usage.ru_maxrss)
+        sys.exit(f"{tool.name}, status {status}: {answer}")
+    return Search(int(found[1]), usage.ru_utime + usage.ru_stime, clock, usage.ru_maxrss)
 
 
-def checker(folder, threads, times):
+def run(command, folder):
+    subprocess.run(command, cwd=folder, check=True, stdout=subprocess.DEVNULL, stderr=subprocess.DEVNULL)
+
+
+def spin_checker(folder, threads, times, name, *flags):
     """SPIN's program for so many threads that take a mutex so often."""
-    sizes = [f"-DN={threads}", f"-DR={times}"]
-    quiet = {"cwd": folder, "check": True, "stdout": subprocess.DEVNULL, "stderr": subprocess.DEVNULL}
-    subprocess.run(["spin", "-o1", "-o2", "-o3", *sizes, "-a", MODEL], **quiet)
-    made = os.path.join(folder, f"pan_{threads}_{times}")
-    subprocess.run(["gcc", "-O2", "-w", "-DSAFETY", "-DNOREDUCE", "-o", made, "pan.c"], **quiet)
+    run(["spin", "-o1", "-o2", "-o3", f"-DN={threads}", f"-DR={times}", "-a", SPIN_MODEL], folder)
+    made = os.path.join(folder, f"{name}_{threads}_{times}")
+    run(["gcc", "-O2", "-w", "-DSAFETY", *flags, "-o", made, "pan.c"], folder)
     return made
 
 
-def row(name, program, found):
+def rumur_checker(folder, threads, times):
+    """Rumur's program for so many threads that take a mutex so often."""
+    with open(RUMUR_MODEL, encoding="utf-8") as model:
+        text = re.sub(r"\bR: \d+;", f"R: {times};", re.sub(r"\bN: \d+;", f"N: {threads};", model.read()))
+    with open(os.path.join(folder, "mutex.m"), "w", encoding="utf-8") as model:
+        model.write(text)
+    run(["rumur", "--deadlock-detection", "off", "--output", "mutex.c", "mutex.m"], folder)
+    made = os.path.join(folder, f"rumur_{threads}_{times}")
+    run(["gcc", "-std=c11", "-O3", "-march=native", "-mcx16", "-w", "-o", made, "mutex.c", "-lpthread", "-latomic"], folder)
+    return made
+
+
+def spin_tools(folder, threads, times, width):
+    """SPIN without and with its partial order reduction, and in several processes."""
+    # SPIN clears its table first, so that is no larger than the states need.
+    sizes = ["-m1000000", f"-w{width}"]
+    return [
+        Tool("SPIN", [spin_checker(folder, threads, times, "full", "-DNOREDUCE"), *sizes], OF_SPIN),
+        Tool("SPIN, reduced", [spin_checker(folder, threads, times, "reduced"), *sizes], OF_SPIN, "", False),
+        Tool(
+            f"SPIN, {JOBS} processes",
+            [spin_checker(folder, threads, times, "cores", "-DNOREDUCE", f"-DNCORE={JOBS}", "-DMEMLIM=6000"), *sizes],
+            OF_SPIN,
+        ),
+    ]
+
+
+def rumur_tools(folder, threads, times):
+    made = rumur_checker(folder, threads, times)
+    return [Tool(f"rumur, {jobs} threads", [made, "--threads", str(jobs)], OF_RUMUR) for jobs in (1, JOBS)]
+
+
+def row(tool, program, found):
     states = found[0].states
-    seconds = [search.seconds for search in found]
+    seconds = min(search.seconds for search in found)
+    clock = min(search.clock for search in found)
     words = " | ".join(str(word) for word in program)
     memory = max(search.kilobytes for search in found) * 1024
     print(
-        f"{name} | {words} | {states} | {min(seconds):.2f} to {max(seconds):.2f} | "
-        f"{states / min(seconds):.0f} | {memory / states:.0f}",
+        f"{tool.name} | {words} | {states} | {seconds:.2f} | {clock:.2f} | {states / clock:.0f} | {memory / states:.0f}",
         flush=True,
     )
-    return states
+
+
+def tools_for(folder, program, installed):
+    threads, locks, times = program
+    text = text_of(threads, locks, times)
+    ours = Tool("lotexplore", [PROGRAM, "--grain", "step", "--states", MOST], OURS, text)
+    tools = [ours]
+    if locks == 1 and "spin" in installed:
+        tools += spin_tools(folder, threads, times, timed(ours).states.bit_length() + 1)
+    if locks == 1 and "rumur" in installed:
+        tools += rumur_tools(folder, threads, times)
+    return tools
 
 
 def main():
     runs = int(sys.argv[1]) if len(sys.argv) > 1 else 3
-    has_spin = shutil.which("spin") and shutil.which("gcc")
-    if not has_spin:
-        print("spin or gcc is not installed: its rows are left out")
-    print("program | threads | locks | times | states | seconds | states a second | bytes a state")
+    installed = [name for name in ("spin", "rumur") if shutil.which(name) and shutil.which("gcc")]
+    for name in ("spin", "rumur"):
+        if name not in installed:
+            print(f"{name} or gcc is not installed: its rows are left out")
+    print("program | threads | locks | times | states | processor s | clock s | states a second | bytes a state")
     with tempfile.TemporaryDirectory() as folder:
         for program in PROGRAMS:
-            threads, locks, times = program
-            ours, theirs = [], []
-            model = checker(folder, threads, times) if has_spin and locks == 1 else None
-            for _ in range(runs):
-                ours.append(timed([PROGRAM, "--grain", "step", "--states", MOST], OURS, text_of(threads, locks, times)))
-                if model:
-                    # SPIN clears its table first, so that is no larger than the states need.
-                    width = ours[0].states.bit_length() + 1
-                    theirs.append(timed([model, "-m1000000", f"-w{width}"], THEIRS))
-            states = row("lotexplore", program, ours)
-            if model and row("spin", program, theirs) != states:
-                sys.exit("they count different states")
+            tools = tools_for(folder, program, installed)
+            rounds = [[timed(tool) for tool in tools] for _ in range(runs)]
+            for tool, *found in zip(tools, *rounds):
+                row(tool, program, found)
+                if tool.counts_all and found[0].states != rounds[0][0].states:
+                    sys.exit("they count different states")
 
 
 main()
