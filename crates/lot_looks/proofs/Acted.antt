@@ -131,7 +131,7 @@ told_so r h (u ∷ us) ps all =
     ∙ ap (set (map unlooked ps) u) (befallen_so (get_or ps u Idle) (all u) r h)
     ∙ sym (map-set unlooked ps u (next_place (get_or ps u Idle) r)))
     ∙ told_so r h us (set ps u (next_place (get_or ps u Idle) r))
-        (set_sane ps u _ all (befallen_sane (get_or ps u Idle) r h (all u)))
+    (set_sane ps u _ all (befallen_sane (get_or ps u Idle) r h (all u)))
 
 telling_so : (t : ℕ) (r : Reply) → Befalls r → (ps : List Place) → AllSane ps
     → map (place_after_telling t r) (map unlooked ps) ≡ map unlooked (map (place_after_telling t r) ps)
@@ -142,7 +142,7 @@ telling_so t r h (p ∷ ps) all = ap (λ q. q ∷ map (place_after_telling t r) 
   where
     one : (b : Bool) → is_thread t (taker (unlooked p)) ≡ b
         → (if is_thread t (taker (unlooked p)) then next_place (unlooked p) r else unlooked p)
-            ≡ unlooked (if b then next_place p r else p)
+        ≡ unlooked (if b then next_place p r else p)
     one true e = rw e (befallen_so p (all 0) r h)
     one false e = rw e refl
 
@@ -187,7 +187,7 @@ one_more t p ps n is false e = rw e is
 
 one_held : (t : ℕ) (h : Option Taken) (hs : List (Option Taken)) (b : Bool) → shares_in_hand t h ≡ b
     → length (filter (shares_in_hand t) (h ∷ hs)) ≡ (if b then suc (length (filter (shares_in_hand t) hs))
-        else length (filter (shares_in_hand t) hs))
+    else length (filter (shares_in_hand t) hs))
 one_held t h hs true e = rw e refl
 one_held t h hs false e = rw e refl
 
@@ -231,14 +231,18 @@ module _ (w : State) (all : AllSane w.places) where
       (λ (ss : List (List ℕ)). record (before_looks (with_word w l (apply f (word_at w l))
       (owners_after p t (word_at w l) (owners_at w l)))) { shares = ss })
       (numbers_so l t (shares_after p (word_at w l) (share_at b l t))
-          ∙ ap (λ n. shares_with w l t (shares_after p (word_at w l) n))
-          (ap (λ ns. get_or ns t 0) (shares_so l)))
+      ∙ ap (λ n. shares_with w l t (shares_after p (word_at w l) n))
+      (ap (λ ns. get_or ns t 0) (shares_so l)))
 
   hand_over_so : (t : ℕ) (p : Place) (l : ℕ) (f : Op) → state_after_hand_over b t p l f
       ≡ before_looks (state_after_hand_over w t p l f)
   hand_over_so t p l f = let helds = helds_so w.places all in
-      rw (shares_so l, given_so t b.places w.places (shares_at w l) helds, successor_so t 0 b.places w.places
-          helds) refl
+      rw (
+        shares_so l,
+        given_so t b.places w.places (shares_at w l) helds,
+        successor_so t 0 b.places w.places
+            helds,
+      ) refl
 
   hand_over_told_so : (t l : ℕ) → hand_over_told b t l ≡ hand_over_told w t l
   hand_over_told_so t l = let helds = helds_so w.places all
@@ -276,7 +280,7 @@ acted_so w all t p (act.HandOver l f) = by_effect (takes_effect f (word_at w l))
     by_effect true = ap (λ v. state_after_telling v t (hand_over_told (before_looks w) t l))
         (hand_over_so w all t p l f)
         ∙ ap (state_after_telling (before_looks (state_after_hand_over w t p l f)) t)
-            (hand_over_told_so w all t l)
+        (hand_over_told_so w all t l)
         ∙ telling_state_so (state_after_hand_over w t p l f) all t (hand_over_told w t l) tt
 acted_so w all t p (act.Enter keys) = sections_so w all keys (Some t)
 acted_so w all t p (act.Park l key check x) = by_check (holds check (word_at w l))
@@ -289,18 +293,20 @@ acted_so w all t p (act.Park l key check x) = by_check (holds check (word_at w l
 acted_so w all t p (act.Take key whom.First) = takes_so w all t (queues_without_first w.queues key)
     (first_of (queue_at w key))
 acted_so w all t p (act.Take key (whom.Picked start recursive)) =
-    ap (λ ps. record w { queues = set w.queues key (without_lock_picked start recursive key (queue_at w key));
-        places = ps })
+    ap (λ ps. record w {
+      queues = set w.queues key (without_lock_picked start recursive key (queue_at w key));
+      places = ps;
+    })
     (told_so (TakenBy t) tt (threads_of (lock_picked start recursive (queue_at w key))) w.places all)
 acted_so w all t p (act.Take key whom.All) =
     ap (λ ps. record w { queues = set w.queues key []; places = ps })
-        (told_so (TakenBy t) tt (threads_of (queue_at w key)) w.places all)
+    (told_so (TakenBy t) tt (threads_of (queue_at w key)) w.places all)
 acted_so w all t p (act.Requeue from to how) =
     ap (λ ps. record w { queues = queues_requeued w.queues from to how; places = ps })
     (ap (places_told (MovedTo to) (moved_threads how (threads_of (queue_at w from))))
-        (told_so (TakenBy t) tt (listed (taken_by how (queue_at w from))) w.places all)
+    (told_so (TakenBy t) tt (listed (taken_by how (queue_at w from))) w.places all)
     ∙ told_so (MovedTo to) tt (moved_threads how (threads_of (queue_at w from)))
-        (places_told (TakenBy t) (listed (taken_by how (queue_at w from))) w.places)
+    (places_told (TakenBy t) (listed (taken_by how (queue_at w from))) w.places)
     (told_sane (TakenBy t) tt (listed (taken_by how (queue_at w from))) w.places all))
 acted_so w all t p (act.Leave (One key) wakes.Nobody) = refl
 acted_so w all t p (act.Leave (One key) (wakes.All n)) = telling_state_so
@@ -319,13 +325,15 @@ reply_so w all t (act.Take key whom.First) = refl
 reply_so w all t (act.Take key (whom.Picked start recursive)) =
     let us = threads_of (lock_picked start recursive (queue_at w key)) in
     let helds : map held (places_told (TakenBy t) us (map unlooked w.places))
-        ≡ map held (places_told (TakenBy t) us w.places) =
-        ap (map held) (told_so (TakenBy t) tt us w.places all)
-            ∙ helds_so (places_told (TakenBy t) us w.places) (told_sane (TakenBy t) tt us w.places all) in
-    rw (sharers_so t (places_told (TakenBy t) us (map unlooked w.places))
-        (places_told (TakenBy t) us w.places) helds,
-        successor_so t 0 (places_told (TakenBy t) us (map unlooked w.places))
-            (places_told (TakenBy t) us w.places) helds) refl
+    ≡ map held (places_told (TakenBy t) us w.places) =
+    ap (map held) (told_so (TakenBy t) tt us w.places all)
+    ∙ helds_so (places_told (TakenBy t) us w.places) (told_sane (TakenBy t) tt us w.places all) in
+    rw (
+      sharers_so t (places_told (TakenBy t) us (map unlooked w.places))
+          (places_told (TakenBy t) us w.places) helds,
+      successor_so t 0 (places_told (TakenBy t) us (map unlooked w.places))
+          (places_told (TakenBy t) us w.places) helds,
+    ) refl
 reply_so w all t (act.Take key whom.All) = refl
 reply_so w all t (act.Requeue from to how) = refl
 reply_so w all t (act.Remove key) = refl

@@ -105,8 +105,12 @@ module _ (l : ℕ) where
       unlooked = ap (in_lock m timed late) h.unlooked;
       sound = tt;
       alike = record { hand = refl; wants = ap wants_there h.alike.wants; late = refl; late_too = refl };
-      alike_beside = record { hand = h.alike.hand; wants = ap wants_beside h.alike.wants; late = refl;
-          late_too = refl };
+      alike_beside = record {
+        hand = h.alike.hand;
+        wants = ap wants_beside h.alike.wants;
+        late = refl;
+        late_too = refl;
+      };
     }
 
     locks_on : (p : MutexPlace) → HasNotLooked (mutex_table m) p → HasNotLooked (condvar_table l) (on p)
@@ -234,8 +238,14 @@ module _ (l : ℕ) where
       where
         by_word : (b : Bool) → is_locked v ≡ b → (Then (in_notify all m (At (marks v))) ≡ None)
             ⊎ Looks (condvar_table l) (Notify all m notify.Mark) v
-        by_word true f = inr (record { lock = m; load = refl; again = rw f refl; owners = λ t o. refl; shares
-            = λ n. refl })
+        by_word true f = inr (record {
+          lock = m;
+          load = refl;
+          again = rw f refl;
+          owners = λ t o. refl;
+          shares
+              = λ n. refl;
+        })
         by_word false f = inl (rw f refl)
 
     set_befell : (seen : ℕ) (r : Reply) → Befalls r
@@ -301,8 +311,8 @@ module _ (l : ℕ) where
       where
         by_tests : (b c : Bool)
             → Then (in_notify all m
-                (if b then At (if c then notify.MarkMoved number else notify.Leave (not locked) number)
-                else At (moved_one false none_left))) ≡ None
+            (if b then At (if c then notify.MarkMoved number else notify.Leave (not locked) number)
+            else At (moved_one false none_left))) ≡ None
         by_tests true true = refl
         by_tests true false = refl
         by_tests false c = one_then false none_left
@@ -396,8 +406,8 @@ module _ (l : ℕ) where
       where
         by_tests : (b c : Bool)
             → SaneThen (condvar_table l)
-                (in_notify all m (if b then At (if c then notify.MarkMoved number else notify.Leave
-                (not locked) number) else At (moved_one false none_left)))
+            (in_notify all m (if b then At (if c then notify.MarkMoved number else notify.Leave
+            (not locked) number) else At (moved_one false none_left)))
         by_tests true true = tt
         by_tests true false = tt
         by_tests false c = one_sane false none_left

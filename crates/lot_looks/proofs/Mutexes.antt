@@ -58,7 +58,7 @@ module _ (l : ℕ) where
 
       by_word : (a b : Bool) → is_locked v ≡ a → (v == 1) ≡ b
           → (Then (At (Lock e again (lock.Decide v))) ≡ None) ⊎ Looks (mutex_table l) (Lock e again lock.Load)
-              v
+          v
       by_word false b f g = inr (here (rw f refl))
       by_word true true f g = inr (here (rw (f, g) refl))
       by_word true false f g = inl (rw (f, g) refl)
@@ -114,8 +114,14 @@ module _ (l : ℕ) where
       load = refl;
       exchange = rw free refl;
       sees = refl;
-      looks = record { lock = l; load = refl; again = rw free refl; owners = λ t o. refl; shares
-          = λ n. refl };
+      looks = record {
+        lock = l;
+        load = refl;
+        again = rw free refl;
+        owners = λ t o. refl;
+        shares
+            = λ n. refl;
+      };
       misses = missed;
       leads = λ v. loads e again v;
       hits = let same : (seen == seen) ≡ true = grind (arith, nat_tests) in rw (same, free) refl;
@@ -173,8 +179,8 @@ module _ (l : ℕ) where
     where
       by_word : (a b : Bool) → is_locked seen ≡ a → (seen == 1) ≡ b
           → HasLookedBy (mutex_table l) (Lock e again (lock.Decide seen))
-              (if not a then Some (Lock e again lock.Load) else if b then Some (Lock e again lock.Load)
-              else None)
+          (if not a then Some (Lock e again lock.Load) else if b then Some (Lock e again lock.Load)
+          else None)
       by_word false b f g = takes e again seen f
       by_word true true f g = subst (λ v. HasLooked (mutex_table l) (Lock e again (lock.Decide v))
           (Lock e again lock.Load)) (sym (eqb-true seen 1 g)) (marks e again)
@@ -302,5 +308,8 @@ module _ (l : ℕ) where
   sane_then (End answer) = tt
 
   pub mutex_looks_right : LooksRight (mutex_table l)
-  mutex_looks_right = record { place = λ p sane. place p; keeps = λ p r fits sane. sane_then (mutex_next p
-      r) }
+  mutex_looks_right = record {
+    place = λ p sane. place p;
+    keeps = λ p r fits sane. sane_then (mutex_next p
+        r);
+  }

@@ -79,7 +79,7 @@ marked_parks c v is = by_tests (is_done v) (is_poisoned v && not (is_forced c)) 
     by_tests : (a b d : Bool) → is_done v ≡ a → (is_poisoned v && not (is_forced c)) ≡ b
         → (runs c && not (is_running v)) ≡ d
         → (if a then Ends (when_done c) else if b then Ends answer.Poisoned else if d then Runs
-            else if is_marked v then Parks else Marks) ≡ Marks
+        else if is_marked v then Parks else Marks) ≡ Marks
         → course_of c (marked v) ≡ Parks
     by_tests true b d e f g is = absurd cc
     by_tests false true d e f g is = absurd cc
@@ -139,8 +139,14 @@ module _ (l : ℕ) where
       load = refl;
       exchange = rw is refl;
       sees = rw is refl;
-      looks = record { lock = l; load = refl; again = rw (is, is) refl; owners = λ t o. refl; shares
-          = λ n. refl };
+      looks = record {
+        lock = l;
+        load = refl;
+        again = rw (is, is) refl;
+        owners = λ t o. refl;
+        shares
+            = λ n. refl;
+      };
       misses = missed;
       leads = λ v. loads c again v;
       hits = rw (same, is) refl;
@@ -161,8 +167,14 @@ module _ (l : ℕ) where
       load = refl;
       exchange = rw is refl;
       sees = rw is refl;
-      looks = record { lock = l; load = refl; again = rw (is, is) refl; owners = λ t o. refl; shares
-          = λ n. refl };
+      looks = record {
+        lock = l;
+        load = refl;
+        again = rw (is, is) refl;
+        owners = λ t o. refl;
+        shares
+            = λ n. refl;
+      };
       misses = missed;
       leads = λ v. loads c again v;
       hits = rw (same, is) (ap (once_looked_by c again) (marked_parks c seen is));
@@ -277,7 +289,7 @@ module _ (l : ℕ) where
     where
       by_course : (b : Bool) (k : Course) → course_of c v ≡ k
           → SaneThen (once_table l) (if b && is_run k then At (Run (is_forced c) (closure_begun (Value v)))
-              else in_look c again (if b && is_mark k then At (look.Decide (marked v)) else looked_by v k))
+          else in_look c again (if b && is_mark k then At (look.Decide (marked v)) else looked_by v k))
       by_course true Runs is = tt
       by_course true Marks is = rw (marked_parks c v is) tt
       by_course true (Ends answer) is = tt

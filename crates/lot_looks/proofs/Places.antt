@@ -178,8 +178,15 @@ module _ {P : Type 0} (s : Table P) (w : Wraps s) (so : (p : P) → s.sane p →
     sound = so q h.sound;
     taker = rw (w.row p, w.row q, w.beside p, w.beside q, h.alike.hand, h.alike_beside.hand) refl;
     wants = rw (w.row p, w.row q, w.beside p, w.beside q, h.alike.wants, h.alike_beside.wants) refl;
-    late = rw (w.row p, w.beside p, h.alike.late, h.alike_beside.late, no_key (beside_of (w.wrap p)), no_key
-        (called_lock (w.wrap p))) refl;
+    late = rw (
+      w.row p,
+      w.beside p,
+      h.alike.late,
+      h.alike_beside.late,
+      no_key (beside_of (w.wrap p)),
+      no_key
+          (called_lock (w.wrap p)),
+    ) refl;
     busy = w.busy p;
     busy_too = w.busy q;
   }
@@ -343,16 +350,16 @@ unfolding wraps_mutex wraps_rwlock wraps_once wraps_condvar wraps_semaphore
 stays_sane Idle r fits sane = tt
 stays_sane (Mutex l at) r fits sane =
     sane_goes (mutex_table l) (wraps_mutex l) (λ p h. tt) (mutex_next at r)
-        ((mutex_looks_right l).keeps at r (any_fits (mutex_table l) (λ v. tt) r) tt)
+    ((mutex_looks_right l).keeps at r (any_fits (mutex_table l) (λ v. tt) r) tt)
 stays_sane (RwLock l a c) r fits sane =
     sane_goes (call_table l a) (wraps_rwlock l a) (λ p h. h) (call_next a c r)
-        ((call_looks_right l a).keeps c r fits sane)
+    ((call_looks_right l a).keeps c r fits sane)
 stays_sane (Once l at) r fits sane =
     sane_goes (once_table l) (wraps_once l) (λ p h. h) (once_next at r)
-        ((once_looks_right l).keeps at r (any_fits (once_table l) (λ v. tt) r) sane)
+    ((once_looks_right l).keeps at r (any_fits (once_table l) (λ v. tt) r) sane)
 stays_sane (Condvar l at) r fits sane =
     sane_goes (condvar_table l) (wraps_condvar l) (λ p h. h) (condvar_next at r)
-        ((condvar_looks_right l).keeps at r (any_fits (condvar_table l) (λ v. tt) r) sane)
+    ((condvar_looks_right l).keeps at r (any_fits (condvar_table l) (λ v. tt) r) sane)
 stays_sane (Semaphore l at) r fits sane =
     sane_goes (semaphore_table l) (wraps_semaphore l) (λ p h. h) (semaphore_next at r)
-        ((semaphore_looks_right l).keeps at r (any_fits (semaphore_table l) (λ v. tt) r) sane)
+    ((semaphore_looks_right l).keeps at r (any_fits (semaphore_table l) (λ v. tt) r) sane)

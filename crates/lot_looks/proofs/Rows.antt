@@ -54,7 +54,7 @@ abbrev pub IsNoValue : Reply → Type 0
 IsNoValue (Value seen) = ⊥
 IsNoValue r = Unit {0}
 
--- the rows of two places agree about who has the thread in hand, what it waits for, and where it may give up
+-- the rows of two places agree about the hand that holds the thread, its want, and where it may give up
 pub record AreAlike (x y : Profile) : Type 0 where
   pub hand : x.hand ≡ y.hand
   pub wants : x.wants ≡ y.wants

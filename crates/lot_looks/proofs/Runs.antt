@@ -145,7 +145,7 @@ module _ (w : State) (all : AllSane w.places) (t l : ℕ) (forced ok : Bool) (is
       ∙ ap (λ x. put (state_after_act w t closing (act_of closing)) t (next_place x (Value (word_at w l))))
       is))
       (set_sane w.places t (next_place closing (Value (word_at w l))) all
-          (stays_sane closing (Value (word_at w l)) tt tt))
+      (stays_sane closing (Value (word_at w l)) tt tt))
 
   closing_tells : go_outcome (before_looks w) t ≡ go_outcome w t
   closing_tells = plain_tells w t closing closing all is refl is refl
@@ -171,16 +171,20 @@ module _ (w : State) (h : IsWorld w) (all : AllSane w.places) (t : ℕ) (there :
   -- ---------------------------------------------------------------- a call begins
 
   begin_possible : (c : Call) → can_turn w t (turn.Begin c) ≡ true → can_turn b t (turn.Begin c) ≡ true
-  begin_possible c can = rw (place_so w all t, idle_so (place_at w t) (all t), shares_so w all
-      (lock_of_right c)) can
+  begin_possible c can = rw (
+    place_so w all t,
+    idle_so (place_at w t) (all t),
+    shares_so w all
+        (lock_of_right c),
+  ) can
 
   begins : (c : Call) → can_turn w t (turn.Begin c) ≡ true → Comes w (state_after_begin w t c) t outcome.Step
   begins c can = one_turn w (state_after_begin w t c) outcome.Step
       (record { thread = t; turn = turn.Begin c })
       (possible_too (turn.Begin c) (begin_possible c can)) refl
       (ap (λ o. put b t (or_here o (first_place (kind_at w (lock_in c)) c)))
-          (sym (first_looked (kind_at w (lock_in c)) c).0)
-          ∙ put_so w all t (first_place (kind_at w (lock_in c)) c))
+      (sym (first_looked (kind_at w (lock_in c)) c).0)
+      ∙ put_so w all t (first_place (kind_at w (lock_in c)) c))
       refl
 
   -- ---------------------------------------------------------------- a thread gives up
@@ -204,7 +208,7 @@ module _ (w : State) (h : IsWorld w) (all : AllSane w.places) (t : ℕ) (there :
       ap (λ x. state_after_late_on b t (late_key x)) (free_here free) ∙ ap (state_after_late_on b t) late
       ∙ ap (λ x. put (state_with_sections b (One key) (Some t)) t (next_place x Late)) (free_here free)
       ∙ ap (λ o. put (state_with_sections b (One key) (Some t)) t
-          (or_here o (next_place (place_at w t) Late))) (sym (late_then free))
+      (or_here o (next_place (place_at w t) Late))) (sym (late_then free))
       ∙ put_so (state_with_sections w (One key) (Some t)) all t (next_place (place_at w t) Late)
       ∙ ap before_looks (sym (ap (state_after_late_on w t) late))
 
@@ -266,10 +270,10 @@ module _ (w : State) (h : IsWorld w) (all : AllSane w.places) (t : ℕ) (there :
       → Comes w (state_after_close w t ok) t (close_outcome w t ok)
   closes ok can u turns hit leads tells =
       let one = runs_one (place_at w t) (both (runs_closure (act_of (place_at w t)))
-          (can_do w (act_of (closed_place w t ok))) can).0 in
+      (can_do w (act_of (closed_place w t ok))) can).0 in
       one_turn w (state_after_close w t ok) (close_outcome w t ok) (record { thread = t; turn = u })
       (possible_too u (turns (close_possible ok one can))) hit (leads ∙ close_leads ok one) (tells
-          ∙ close_tells ok one)
+      ∙ close_tells ok one)
 
   -- ---------------------------------------------------------------- a thread looks once more
 
@@ -280,7 +284,7 @@ module _ (w : State) (h : IsWorld w) (all : AllSane w.places) (t : ℕ) (there :
       let q = some_of (looked_from (place_at w t)) for_one in
       let same : m.0 ≡ q.0 = looking_is (place_at w t) m.0 q.0 m.1 q.1 in
       moved w w (state_after_spin w t) (state_after_go (put w t q.0) t) t (spin_outcome w t)
-          (go_outcome (put w t q.0) t) refl
+      (go_outcome (put w t q.0) t) refl
       (ap (λ x. state_after_go (put w t x) t) (sym same) ∙ ap (state_after_look w t) (sym m.1))
       (ap (λ x. go_outcome (put w t x) t) (sym same) ∙ ap (look_outcome w t) (sym m.1))
       (looks_anew w h all t there q.0 q.1)
@@ -302,9 +306,9 @@ module _ (w : State) (h : IsWorld w) (all : AllSane w.places) (t : ℕ) (there :
   close_sane : (ok : Bool) → can_close w t ok ≡ true → AllSane (state_after_close w t ok).places
   close_sane ok can =
       let one = runs_one (place_at w t) (both (runs_closure (act_of (place_at w t)))
-          (can_do w (act_of (closed_place w t ok))) can).0 in
+      (can_do w (act_of (closed_place w t ok))) can).0 in
       closing_sane (put w t (closed_place w t ok)) (closed_sane w h all t there ok one) t one.lock one.forced
-          ok (closed_here w h all t there ok one)
+      ok (closed_here w h all t there ok one)
 
   turn_sane : (u : Turn) → can_turn w t u ≡ true → LooksFor w t u → AllSane (state_after_turn w t u).places
   turn_sane (turn.Begin c) can for_one = set_sane w.places t (first_place (kind_at w (lock_in c)) c) all
@@ -315,7 +319,7 @@ module _ (w : State) (h : IsWorld w) (all : AllSane w.places) (t : ℕ) (there :
       let q = some_of (looked_from (place_at w t)) for_one in
       let same : m.0 ≡ q.0 = looking_is (place_at w t) m.0 q.0 m.1 q.1 in
       subst (λ v. AllSane v.places) (ap (λ x. state_after_go (put w t x) t) (sym same)
-          ∙ ap (state_after_look w t) (sym m.1)) (look_sane w h all t there q.0 q.1)
+      ∙ ap (state_after_look w t) (sym m.1)) (look_sane w h all t there q.0 q.1)
   turn_sane turn.Late can for_one = late_sane (late_key (place_at w t))
     where
       late_sane : (o : Option ℕ) → AllSane (state_after_late_on w t o).places
@@ -369,7 +373,7 @@ news_both : (xs ys : List Step) (w : State) → news w (xs ++ ys) ≡ news w xs 
 news_both [] ys w = refl
 news_both (x ∷ xs) ys w = ap (λ ns. news_of x.thread (step_outcome w x) ++ ns) (news_both xs ys (after w x))
     ∙ sym (append_assoc (news_of x.thread (step_outcome w x)) (news (after w x) xs)
-        (news (after_steps (after w x) xs) ys))
+    (news (after_steps (after w x) xs) ys))
 
 hits_both : (xs ys : List Step) (w : State) → GoesWithoutMiss w xs → GoesWithoutMiss (after_steps w xs) ys
     → GoesWithoutMiss w (xs ++ ys)
@@ -432,7 +436,7 @@ rests_so v all still = ap (λ ps. record v { places = ps }) (none_looked v.place
         → is_possible v (go_of u) ≡ true
     goes u q lt looked =
         let by : GoesByLook (place_at v u) q = subst (GoesBy (place_at v u)) looked
-            (goes_so (place_at v u) (all u)) in
+        (goes_so (place_at v u) (all u)) in
         let lets : nat_lt u (length v.places) ≡ true = grind (arith, nat_tests) in
         rw (lets, by.exchange) (can_exchange v by.hands by.lock by.from by.to)
 

@@ -1,5 +1,5 @@
--- Looks of each call of a reader-writer lock: one that enters or bumps goes as an entering one, and a fair release
--- looks at whom it lets in.
+-- Looks of each call of a reader-writer lock: a bump enters as any entering call does, and a fair release looks
+-- at the waiters that it lets in.
 use Rattle.std.proofs.Common.{ℕ, arith, Bool, true, false, Option, Some, None, if◌then◌else◌, ◌==◌, ◌^◌, ◌<◌}
 use Rattle.std.proofs.Common.{◌≡◌, ◌⊎◌, inl, inr, refl, sym, ◌∙◌, ap, subst}
 use Rattle.std.proofs.lemmas.Bool.Decides.{nat_tests}
@@ -209,7 +209,7 @@ module _ (l : ℕ) (a : Admission) where
     leads_so : (q : RwLockPlace) (v : ℕ) → (Inner (rwlock_next a q (Value v)) ≡ None)
         ⊎ Looks (rwlock_table l a) q v
         → (Then (call_next a (entering bumps q) (Value v)) ≡ None) ⊎ Looks (call_table l a) (entering bumps q)
-            v
+        v
     leads_so q v (inl none) = inl (ap (λ n. Then n) (next_so q (Value v))
         ∙ inner_then q.purpose (rwlock_next a q (Value v)) ∙ ap (in_call bumps) none)
     leads_so q v (inr h) = inr (looks_so q v h)
@@ -283,7 +283,7 @@ module _ (l : ℕ) (a : Admission) where
       befell r b = subst (λ n. Precedes (call_table l a) n (call_next a (entering bumps p) r))
           (sym (up_next q r ups.1))
           (subst (λ n. Precedes (call_table l a) (next_by bumps p.purpose (rwlock_next a q r)) n)
-              (sym (up_next p r ups.0))
+          (sym (up_next p r ups.0))
           (precedes_so p.purpose (rwlock_next a q r) (rwlock_next a p r) (h.befallen r b)))
 
       entered : HasLooked (call_table l a) (entering bumps p) (entering bumps q)
@@ -311,7 +311,7 @@ module _ (l : ℕ) (a : Admission) where
         → Then (call_next a (entering bumps p) r) ≡ None
     no_value p r none = ap (λ n. Then n) (next_so p r)
         ∙ given_then bumps p r (next_by bumps p.purpose (rwlock_next a p r))
-            (inner_then p.purpose (rwlock_next a p r) ∙ ap (in_call bumps) none)
+        (inner_then p.purpose (rwlock_next a p r) ∙ ap (in_call bumps) none)
 
     not_entered : (p : RwLockPlace) → HasNotLooked (rwlock_table l a) p
         → HasNotLooked (call_table l a) (entering bumps p)
@@ -354,8 +354,14 @@ module _ (l : ℕ) (a : Admission) where
         by_bit : (b : Bool) → has_parked v ≡ b → (Then (At (HandOver access.Upgradable bumps (looked v)))
             ≡ None) ⊎ Looks (call_table l a) upgradable v
         by_bit true f = inl (rw f refl)
-        by_bit false f = inr (record { lock = l; load = refl; again = rw f refl; owners = λ t o. refl; shares
-            = λ n. refl })
+        by_bit false f = inr (record {
+          lock = l;
+          load = refl;
+          again = rw f refl;
+          owners = λ t o. refl;
+          shares
+              = λ n. refl;
+        })
 
     free_befell : (seen : ℕ) (r : Reply) → Befalls r → Precedes (call_table l a) (call_next a upgradable r)
         (call_next a (HandOver access.Upgradable bumps (handing.Free seen)) r)
@@ -607,7 +613,7 @@ module _ (l : ℕ) (a : Admission) where
       → SaneThen (call_table l a) (call_next a (entering bumps p) r)
   enters_sane bumps p r few sane = subst (λ n. SaneThen (call_table l a) n) (sym (next_so bumps p r))
       (given_sane bumps p r (next_by bumps p.purpose (rwlock_next a p r))
-          (next_sane bumps p.purpose (rwlock_next a p r) ((rwlock_looks_right l a).keeps p r few sane)))
+      (next_sane bumps p.purpose (rwlock_next a p r) ((rwlock_looks_right l a).keeps p r few sane)))
 
   looked_sane : (x : Access) (bumps : Bool) (v : ℕ) → IsSaneCall (HandOver x bumps (looked v))
   looked_sane access.Shared bumps v = either (has_parked v)

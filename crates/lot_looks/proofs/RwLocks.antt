@@ -93,8 +93,14 @@ module _ (l : ℕ) (a : Admission) where
     loads : (v : ℕ) → (Then (looked a (on at.Load) v) ≡ None) ⊎ Looks (rwlock_table l a) (on at.Load) v
     loads v = elim (looked_row v (decided_for a q v) refl) [
       | inl none ↦ inl none
-      | inr some ↦ inr (record { lock = l; load = refl; again = some; owners = λ t o. refl; shares
-          = λ n. refl })
+      | inr some ↦ inr (record {
+        lock = l;
+        load = refl;
+        again = some;
+        owners = λ t o. refl;
+        shares
+            = λ n. refl;
+      })
     ]
 
     -- the look is the one of the other place
@@ -135,17 +141,25 @@ module _ (l : ℕ) (a : Admission) where
 
       missed_taking : decided_for a q seen ≡ decisions.Take → (v : ℕ) → (v == seen) ≡ false
           → Misses (rwlock_table l a) (on at.Load) (on (at.Decide seen)) v
-      missed_taking is v other = record { next = rw (is, other) (looked_same (at.Decide seen) at.Load v
-          (decided_for a q v)); owners = λ t o. rw other refl; shares = λ n. rw other refl }
+      missed_taking is v other = record {
+        next = rw (is, other) (looked_same (at.Decide seen) at.Load v
+            (decided_for a q v));
+        owners = λ t o. rw other refl;
+        shares = λ n. rw other refl;
+      }
 
       missed_marking : decided_for a q seen ≡ decisions.Mark → (v : ℕ) → (v == seen) ≡ false
           → Misses (rwlock_table l a) (on at.Load) (on (at.Decide seen)) v
-      missed_marking is v other = record { next = rw (is, other) (looked_same (at.Decide seen) at.Load v
-          (decided_for a q v)); owners = λ t o. rw other refl; shares = λ n. rw other refl }
+      missed_marking is v other = record {
+        next = rw (is, other) (looked_same (at.Decide seen) at.Load v
+            (decided_for a q v));
+        owners = λ t o. rw other refl;
+        shares = λ n. rw other refl;
+      }
 
       befell : rwlock_looked_by (decided_for a q seen) ≡ Some at.Load
           → (r : Reply) → Befalls r → Precedes (rwlock_table l a) (rwlock_next a (on at.Load) r)
-              (rwlock_next a (on (at.Decide seen)) r)
+          (rwlock_next a (on (at.Decide seen)) r)
       befell is (TakenBy t) h = rw is refl
       befell is (MovedTo key) h = rw is refl
       befell is (HandedBy t alone) h = rw is refl
@@ -243,8 +257,14 @@ module _ (l : ℕ) (a : Admission) where
         by_tests true c f g = inl (rw f refl)
         by_tests false true f g = inl (rw (f, g) refl)
         by_tests false false f g = inr
-            (record { lock = l; load = refl; again = rw (f, g) refl; owners = λ t o. rw f refl; shares
-            = λ n. rw f refl })
+            (record {
+              lock = l;
+              load = refl;
+              again = rw (f, g) refl;
+              owners = λ t o. rw f refl;
+              shares
+                  = λ n. rw f refl;
+            })
 
     module _ (seen : ℕ) (some : (count_in seen == 0) ≡ false) where
       count_befell : has_aside seen ≡ false → (r : Reply) → Befalls r
@@ -264,10 +284,19 @@ module _ (l : ℕ) (a : Admission) where
         load = refl;
         exchange = rw is refl;
         sees = rw some refl;
-        looks = record { lock = l; load = refl; again = rw (some, is) refl; owners = λ t o. rw some refl;
-            shares = λ n. rw some refl };
-        misses = λ v other. record { next = rw other refl; owners = λ t o. rw other refl; shares = λ n. rw
-            other refl };
+        looks = record {
+          lock = l;
+          load = refl;
+          again = rw (some, is) refl;
+          owners = λ t o. rw some refl;
+          shares = λ n. rw some refl;
+        };
+        misses = λ v other. record {
+          next = rw other refl;
+          owners = λ t o. rw other refl;
+          shares = λ n. rw
+              other refl;
+        };
         leads = counts;
         hits = let same : (seen == seen) ≡ true = grind (arith, nat_tests) in rw same refl;
         befallen = count_befell is;

@@ -63,7 +63,7 @@ module _ (l : ℕ) where
 
       by_word : (a b : Bool) → is_free v ≡ a → (v == 0) ≡ b
           → (Then (At (Acquire timed again (acquire.Decide v))) ≡ None) ⊎ Looks (semaphore_table l)
-              (Acquire timed again acquire.Load) v
+          (Acquire timed again acquire.Load) v
       by_word true b f g = inr (here (rw f refl))
       by_word false true f g = inr (here (rw (f, g) refl))
       by_word false false f g = inl (rw (f, g) refl)
@@ -98,8 +98,14 @@ module _ (l : ℕ) where
       load = refl;
       exchange = rw free refl;
       sees = refl;
-      looks = record { lock = l; load = refl; again = rw free refl; owners = λ t o. refl; shares
-          = λ n. refl };
+      looks = record {
+        lock = l;
+        load = refl;
+        again = rw free refl;
+        owners = λ t o. refl;
+        shares
+            = λ n. refl;
+      };
       misses = missed;
       leads = λ v. loads timed again v;
       hits = let same : (seen == seen) ≡ true = grind (arith, nat_tests) in rw (same, free) refl;
@@ -157,8 +163,8 @@ module _ (l : ℕ) where
     where
       by_word : (a b : Bool) → is_free seen ≡ a → (seen == 0) ≡ b
           → HasLookedBy (semaphore_table l) (Acquire timed again (acquire.Decide seen))
-              (if a then Some (Acquire timed again acquire.Load) else if b
-              then Some (Acquire timed again acquire.Load) else None)
+          (if a then Some (Acquire timed again acquire.Load) else if b
+          then Some (Acquire timed again acquire.Load) else None)
       by_word true b f g = takes timed again seen f
       by_word false true f g = subst (λ v. HasLooked (semaphore_table l)
           (Acquire timed again (acquire.Decide v)) (Acquire timed again acquire.Load))
@@ -224,8 +230,14 @@ module _ (l : ℕ) where
     where
       by_word : (b : Bool) → is_free v ≡ b → (Then (in_try (looked v)) ≡ None) ⊎ Looks (semaphore_table l)
           (Try tries.Load) v
-      by_word true f = inr (record { lock = l; load = refl; again = rw f refl; owners = λ t o. refl; shares
-          = λ n. refl })
+      by_word true f = inr (record {
+        lock = l;
+        load = refl;
+        again = rw f refl;
+        owners = λ t o. refl;
+        shares
+            = λ n. refl;
+      })
       by_word false f = inl (rw f refl)
 
   tries_loaded : (r : Reply) → IsNoValue r → Then (semaphore_next (Try tries.Load) r) ≡ None

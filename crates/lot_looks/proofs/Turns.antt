@@ -113,7 +113,7 @@ looked_goes_on : (p q : Place) (r : Reply) → IsSane (next_place p r) → looke
     → outcome_of (next_act p r) ≡ outcome.Step
 looked_goes_on p q r sane is =
     let by : GoesByLook (next_place p r) q = subst (GoesBy (next_place p r)) is
-        (goes_so (next_place p r) sane) in
+    (goes_so (next_place p r) sane) in
     ap outcome_of (next_is p r by.busy ∙ by.exchange) ∙ exchange_step by.hands by.lock by.from by.to
 
 -- ---------------------------------------------------------------- locks that stay
@@ -124,14 +124,16 @@ AllNoted w = (l : ℕ) → (filled_at w l || fills (rules_of (kind_at w l)) (wor
 
 same_locks : (w : State) → AllNoted w → (l : ℕ) → with_word w l (word_at w l) (owners_at w l) ≡ w
 same_locks w noted l = ap
-    (λ b. record w { locks = set w.locks l
-    (record { kind = kind_at w l; word = word_at w l; owners = owners_at w l; filled = b }) }) (noted l)
+    (λ b. record w {
+      locks = set w.locks l
+          (record { kind = kind_at w l; word = word_at w l; owners = owners_at w l; filled = b });
+    }) (noted l)
     ∙ ap (λ ls. record w { locks = ls }) (set-get_or w.locks l (unlocked _))
 
 nothing_done : (w : State) → AllNoted w → (t : ℕ) (p : Place) (l : ℕ) (f : Op) → apply f (word_at w l)
     ≡ word_at w l
     → owners_after p t (word_at w l) (owners_at w l) ≡ owners_at w l
-        → shares_after p (word_at w l) (share_at w l t) ≡ None
+    → shares_after p (word_at w l) (share_at w l t) ≡ None
     → state_after_operation w t p l f ≡ w
 nothing_done w noted t p l f word owners shares = rw (word, owners, shares) (same_locks w noted l)
 
@@ -142,7 +144,7 @@ operation_put w t p q l f = ap
     (λ (ss : List (List ℕ)). record (put (with_word w l (apply f (word_at w l))
     (owners_after p t (word_at w l) (owners_at w l))) t q) { shares = ss })
     (numbers (shares_after p (word_at w l) (share_at (put w t q) l t))
-        ∙ ap (λ n. shares_with w l t (shares_after p (word_at w l) n)) (ap (λ ns. get_or ns t 0) so))
+    ∙ ap (λ n. shares_with w l t (shares_after p (word_at w l) n)) (ap (λ ns. get_or ns t 0) so))
   where
     so : shares_at (put w t q) l ≡ shares_at w l
     so = ap (λ n. get_or w.shares l (replicate n 0)) (length-set w.places t q)
@@ -169,7 +171,7 @@ waits w v t told same none = record { steps = []; hits = tt; leads = same; tells
 pub one_turn : (w v : State) (told : Outcome) (s : Step) → is_possible (before_looks w) s ≡ true
     → misses (before_looks w) s ≡ false
     → state_after_turn (before_looks w) s.thread s.turn ≡ before_looks v
-        → turn_outcome (before_looks w) s.thread s.turn ≡ told → Comes w v s.thread told
+    → turn_outcome (before_looks w) s.thread s.turn ≡ told → Comes w v s.thread told
 one_turn w v told s possible hit leads tells = record {
   steps = s ∷ [];
   hits = (possible, hit, tt);
@@ -214,19 +216,19 @@ look_goes w t q l all noted there is free load sane leads = by_lead leads
         (went_by_word (before_looks w) t q here l Load load
         ∙ ap (λ x. put x t (next_place q (Value (word_at w l)))) (operation_so w all t q l Load)
         ∙ ap (put (before_looks (state_after_operation w t q l Load)) t)
-            (sym (ap (λ o. or_here o (next_place q (Value (word_at w l)))) none))
+        (sym (ap (λ o. or_here o (next_place q (Value (word_at w l)))) none))
         ∙ put_so (state_after_operation w t q l Load) all t (next_place q (Value (word_at w l)))
         ∙ ap before_looks (sym (went_by_word w t q is l Load load)))
         (told_by_word (before_looks w) t q here l Load load ∙ sym (told_by_word w t q is l Load load))
     by_lead (inr look) = waits w (state_after_go w t) t (go_outcome w t)
         (sym (ap before_looks (went_by_word w t q is l Load load
         ∙ ap (λ x. put x t (next_place q (Value (word_at w l)))) (nothing_done w noted t q l Load refl
-            (look.owners t (owners_at w l)) (look.shares (share_at w l t))))
+        (look.owners t (owners_at w l)) (look.shares (share_at w l t))))
         ∙ sym (put_so w all t (next_place q (Value (word_at w l))))
         ∙ ap (λ o. put (before_looks w) t (or_here o (next_place q (Value (word_at w l))))) look.again
         ∙ put_here (before_looks w) t q here))
         (ap (news_of t) (told_by_word w t q is l Load load ∙ looked_goes_on q q (Value (word_at w l)) sane
-            look.again))
+        look.again))
 
 -- the same turns, from what is the same where no thread has looked
 pub moved : (w w2 v v2 : State) (t : ℕ) (told told2 : Outcome) → before_looks w2 ≡ before_looks w → v2 ≡ v
@@ -266,7 +268,7 @@ module _ (w : State) (t : ℕ) (p q : Place) (all : AllSane w.places) (noted : A
   looks_again sane = moved w (put w t q) (state_after_go (put w t q) t) (state_after_go (put w t q) t) t
       (go_outcome (put w t q) t) (go_outcome (put w t q) t) back refl refl
       (look_goes (put w t q) t q h.lock (set_sane w.places t q all h.sound) noted
-          (rw (length-set w.places t q) there) (there_now w t q there) h.unlooked h.load sane (h.leads v))
+      (rw (length-set w.places t q) there) (there_now w t q there) h.unlooked h.load sane (h.leads v))
 
   -- ---------------------------------------------------------------- it misses
 
@@ -277,25 +279,33 @@ module _ (w : State) (t : ℕ) (p q : Place) (all : AllSane w.places) (noted : A
 
     went_missed : (hands : Bool) → act_of p ≡ exchange_by hands h.lock h.from h.to
         → (state_after_go w t ≡ put (state_after_operation w t p h.lock exchange) t (next_place p (Value v)))
-            × (go_outcome w t ≡ outcome_of (next_act p (Value v)))
-    went_missed false does = (went_by_word w t p is h.lock exchange does, told_by_word w t p is h.lock
-        exchange does)
+        × (go_outcome w t ≡ outcome_of (next_act p (Value v)))
+    went_missed false does = (
+      went_by_word w t p is h.lock exchange does,
+      told_by_word w t p is h.lock
+          exchange does,
+    )
     went_missed true does = (
-        ap (state_after_going w t) is
-        ∙ ap (λ a. put (state_after_act w t p a) t (next_place (place_at (state_after_act w t p a) t)
-            (reply_to w t a))) does
-        ∙ ap (λ x. put x t (next_place (place_at x t) (Value v))) hands_nothing
-        ∙ ap (λ x. put (state_after_operation w t p h.lock exchange) t (next_place x (Value v))) is,
-        ap (going_outcome w t) is
-        ∙ ap (λ a. outcome_of (next_act (place_at (state_after_act w t p a) t) (reply_to w t a))) does
-        ∙ ap (λ x. outcome_of (next_act (place_at x t) (Value v))) hands_nothing
-        ∙ ap (λ x. outcome_of (next_act x (Value v))) is)
+      ap (state_after_going w t) is
+          ∙ ap (λ a. put (state_after_act w t p a) t (next_place (place_at (state_after_act w t p a) t)
+          (reply_to w t a))) does
+          ∙ ap (λ x. put x t (next_place (place_at x t) (Value v))) hands_nothing
+          ∙ ap (λ x. put (state_after_operation w t p h.lock exchange) t (next_place x (Value v))) is,
+      ap (going_outcome w t) is
+          ∙ ap (λ a. outcome_of (next_act (place_at (state_after_act w t p a) t) (reply_to w t a))) does
+          ∙ ap (λ x. outcome_of (next_act (place_at x t) (Value v))) hands_nothing
+          ∙ ap (λ x. outcome_of (next_act x (Value v))) is,
+    )
 
     -- as a look does
     missed_as_looked : state_after_operation w t p h.lock exchange ≡ state_after_operation w t q h.lock Load
     missed_as_looked = let miss = h.misses v other in
-        rw (exchange_missed h.from h.to v other, miss.owners t (owners_at w h.lock), miss.shares
-            (share_at w h.lock t)) refl
+        rw (
+          exchange_missed h.from h.to v other,
+          miss.owners t (owners_at w h.lock),
+          miss.shares
+              (share_at w h.lock t),
+        ) refl
 
     missed_leads : state_after_go w t ≡ state_after_go (put w t q) t
     missed_leads = (went_missed h.hands h.exchange).0
@@ -335,9 +345,9 @@ module _ (w : State) (t : ℕ) (p q : Place) (all : AllSane w.places) (noted : A
         ∙ ap (λ y. put y t (next_place q (Value v))) (operation_so w all t q h.lock Load
         ∙ ap before_looks (nothing_done w noted t q h.lock Load refl
         (subst (λ n. owners_after q t n (owners_at w h.lock) ≡ owners_at w h.lock) (sym at_from)
-            (h.looks.owners t (owners_at w h.lock)))
+        (h.looks.owners t (owners_at w h.lock)))
         (subst (λ n. shares_after q n (share_at w h.lock t) ≡ None) (sym at_from)
-            (h.looks.shares (share_at w h.lock t)))))
+        (h.looks.shares (share_at w h.lock t)))))
         ∙ ap (put (before_looks w) t) sees_now
 
     first_tells : go_outcome (before_looks w) t ≡ outcome.Step
@@ -375,12 +385,19 @@ module _ (w : State) (t : ℕ) (p q : Place) (all : AllSane w.places) (noted : A
 
     x_hands : state_after_hand_over x t p h.lock exchange
         ≡ put (state_after_hand_over (before_looks w) t p h.lock exchange) t p
-    x_hands = rw (x_shares, given_so t x.places (before_looks w).places (shares_at (before_looks w) h.lock)
-        x_helds, successor_so t 0 x.places (before_looks w).places x_helds) refl
+    x_hands = rw (
+      x_shares,
+      given_so t x.places (before_looks w).places (shares_at (before_looks w) h.lock)
+          x_helds,
+      successor_so t 0 x.places (before_looks w).places x_helds,
+    ) refl
 
     x_told : hand_over_told x t h.lock ≡ hand_over_told (before_looks w) t h.lock
-    x_told = rw (x_shares, given_so t x.places (before_looks w).places (shares_at (before_looks w) h.lock)
-        x_helds) refl
+    x_told = rw (
+      x_shares,
+      given_so t x.places (before_looks w).places (shares_at (before_looks w) h.lock)
+          x_helds,
+    ) refl
 
     abbrev told : Reply
     told = hand_over_told (before_looks w) t h.lock
@@ -400,13 +417,16 @@ module _ (w : State) (t : ℕ) (p q : Place) (all : AllSane w.places) (noted : A
           ∙ acted_so w all t p (act.HandOver h.lock exchange)
 
       told_same : told ≡ hand_over_told w t h.lock
-      told_same = rw (shares_so w all h.lock, given_so t (before_looks w).places w.places (shares_at w h.lock)
-          (helds_so w.places all)) refl
+      told_same = rw (
+        shares_so w all h.lock,
+        given_so t (before_looks w).places w.places (shares_at w h.lock)
+            (helds_so w.places all),
+      ) refl
 
       deaf : place_after_telling t told p ≡ p
       deaf = ap (λ r. place_after_telling t r p) told_same
           ∙ sym (get_or-map (place_after_telling t (hand_over_told w t h.lock)) w.places t Idle
-              ∙ ap (place_after_telling t (hand_over_told w t h.lock)) is)
+          ∙ ap (place_after_telling t (hand_over_told w t h.lock)) is)
           ∙ ap (λ y. place_at y t) (sym gives)
           ∙ ap (λ b. place_at (state_after_act w t p (exchange_by b h.lock h.from h.to)) t) (sym hands)
           ∙ owns
@@ -416,11 +436,11 @@ module _ (w : State) (t : ℕ) (p q : Place) (all : AllSane w.places) (noted : A
       x_gives = ap (λ e. state_after_hand_over_by e x t p h.lock exchange) same
           ∙ ap (λ y. state_after_telling y t (hand_over_told x t h.lock)) x_hands
           ∙ ap (state_after_telling (put (state_after_hand_over (before_looks w) t p h.lock exchange) t p) t)
-              x_told
+          x_told
           ∙ ap (λ ps. record (state_after_hand_over (before_looks w) t p h.lock exchange) { places = ps })
-              (map-set (place_after_telling t told) (before_looks w).places t p)
+          (map-set (place_after_telling t told) (before_looks w).places t p)
           ∙ ap (put (state_after_telling (state_after_hand_over (before_looks w) t p h.lock exchange) t told)
-              t) deaf
+          t) deaf
           ∙ ap (λ y. put y t p) gives_before
 
     x_acts : state_after_act x t p (exchange_by h.hands h.lock h.from h.to) ≡ put (before_looks V) t p
@@ -441,8 +461,10 @@ module _ (w : State) (t : ℕ) (p q : Place) (all : AllSane w.places) (noted : A
     hit_none = ap (λ u. looked_from (next_place p (Value u))) at_from ∙ h.hits
 
     V_there : t < length (before_looks V).places
-    V_there = rw (length-map V.places unlooked,
-        (performed_counts w t p (exchange_by h.hands h.lock h.from h.to)).0) there
+    V_there = rw (
+      length-map V.places unlooked,
+      (performed_counts w t p (exchange_by h.hands h.lock h.from h.to)).0,
+    ) there
 
     x_owns : place_at (put (before_looks V) t p) t ≡ p
     x_owns = there_now (before_looks V) t p V_there
@@ -450,18 +472,18 @@ module _ (w : State) (t : ℕ) (p q : Place) (all : AllSane w.places) (noted : A
     second_leads : state_after_go x t ≡ before_looks (state_after_go w t)
     second_leads = ap (state_after_going x t) x_place
         ∙ ap (λ a. put (state_after_act x t p a) t (next_place (place_at (state_after_act x t p a) t)
-            (reply_to x t a))) h.exchange
+        (reply_to x t a))) h.exchange
         ∙ ap (λ y. put y t (next_place (place_at y t)
-            (reply_to x t (exchange_by h.hands h.lock h.from h.to)))) x_acts
+        (reply_to x t (exchange_by h.hands h.lock h.from h.to)))) x_acts
         ∙ ap (λ r. put (put (before_looks V) t p) t (next_place (place_at (put (before_looks V) t p) t) r))
-            (tells_value x h.hands refl)
+        (tells_value x h.hands refl)
         ∙ ap (λ y. put (put (before_looks V) t p) t (next_place y (Value v))) x_owns
         ∙ put_put (before_looks V) t p (next_place p (Value v))
         ∙ ap (λ o. put (before_looks V) t (or_here o (next_place p (Value v)))) (sym hit_none)
         ∙ put_so V (acted_sane w all t p (exchange_by h.hands h.lock h.from h.to)) t (next_place p (Value v))
         ∙ ap before_looks (sym (ap (state_after_going w t) is
         ∙ ap (λ a. put (state_after_act w t p a) t (next_place (place_at (state_after_act w t p a) t)
-            (reply_to w t a))) h.exchange
+        (reply_to w t a))) h.exchange
         ∙ ap (λ r. put V t (next_place (place_at V t) r)) (tells_value w h.hands refl)
         ∙ ap (λ y. put V t (next_place y (Value v))) owns))
 
@@ -469,9 +491,9 @@ module _ (w : State) (t : ℕ) (p q : Place) (all : AllSane w.places) (noted : A
     second_tells = ap (going_outcome x t) x_place
         ∙ ap (λ a. outcome_of (next_act (place_at (state_after_act x t p a) t) (reply_to x t a))) h.exchange
         ∙ ap (λ y. outcome_of
-            (next_act (place_at y t) (reply_to x t (exchange_by h.hands h.lock h.from h.to)))) x_acts
+        (next_act (place_at y t) (reply_to x t (exchange_by h.hands h.lock h.from h.to)))) x_acts
         ∙ ap (λ r. outcome_of (next_act (place_at (put (before_looks V) t p) t) r))
-            (tells_value x h.hands refl)
+        (tells_value x h.hands refl)
         ∙ ap (λ y. outcome_of (next_act y (Value v))) x_owns
         ∙ sym (ap (going_outcome w t) is
         ∙ ap (λ a. outcome_of (next_act (place_at (state_after_act w t p a) t) (reply_to w t a))) h.exchange
@@ -506,8 +528,12 @@ module _ (w : State) (t : ℕ) (p q : Place) (all : AllSane w.places) (noted : A
     pub hits_so : Comes w (state_after_go w t) t (go_outcome w t)
     hits_so = record {
       steps = go_of t ∷ go_of t ∷ [];
-      hits = (first_possible, first_hits, subst (λ y. GoesWithoutMiss y (go_of t ∷ [])) (sym after_first)
-          (second_possible, second_hits, tt));
+      hits = (
+        first_possible,
+        first_hits,
+        subst (λ y. GoesWithoutMiss y (go_of t ∷ [])) (sym after_first)
+            (second_possible, second_hits, tt),
+      );
       leads = ap (λ y. after y (go_of t)) after_first ∙ last_leads;
       tells = ap (λ o. news_of t o ++ news (after (before_looks w) (go_of t)) (go_of t ∷ [])) first_outcome
           ∙ ap (λ y. news y (go_of t ∷ [])) after_first

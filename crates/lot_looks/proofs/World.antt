@@ -115,7 +115,7 @@ look_tells w steady p q fits looked k load = by_place p q fits looked load
     by_option l a c None fits q e load = absurd cc
     by_option l a c (Some d) fits q e load = let here : RwLock l a d ≡ q = cc in
         subst (λ x. Tells x (Value (word_at w k))) here
-            (by_call l a d (λ t x own. word_told w steady l a c fits t x own) (ap act_of here ∙ load))
+        (by_call l a d (λ t x own. word_told w steady l a c fits t x own) (ap act_of here ∙ load))
 
     away : (q : Place) → ((l : ℕ) (a : Admission) (c : RwLockCallPlace) → q ≡ RwLock l a c → ⊥)
         → Tells q (Value (word_at w k))
@@ -199,9 +199,9 @@ module _ (w : State) (t : ℕ) (p o : Place) (all : AllSane w.places) (is : plac
   pub plain_leads : state_after_go (before_looks w) t ≡ before_looks (state_after_go w t)
   plain_leads = ap (state_after_going (before_looks w) t) plain_here
       ∙ ap (λ x. put x t (next_place (place_at x t) (reply_to (before_looks w) t (act_of p))))
-          (acted_so w all t p (act_of p))
+      (acted_so w all t p (act_of p))
       ∙ ap (λ x. put (before_looks V) t (next_place (place_at (before_looks V) t) x))
-          (reply_so w all t (act_of p))
+      (reply_so w all t (act_of p))
       ∙ ap (λ x. put (before_looks V) t (next_place x r)) V_place
       ∙ ap (λ x. put (before_looks V) t (or_here x (next_place o r))) (sym none)
       ∙ put_so V (acted_sane w all t p (act_of p)) t (next_place o r)
@@ -210,7 +210,7 @@ module _ (w : State) (t : ℕ) (p o : Place) (all : AllSane w.places) (is : plac
   pub plain_tells : go_outcome (before_looks w) t ≡ go_outcome w t
   plain_tells = ap (going_outcome (before_looks w) t) plain_here
       ∙ ap (λ x. outcome_of (next_act (place_at x t) (reply_to (before_looks w) t (act_of p))))
-          (acted_so w all t p (act_of p))
+      (acted_so w all t p (act_of p))
       ∙ ap (λ x. outcome_of (next_act (place_at (before_looks V) t) x)) (reply_so w all t (act_of p))
       ∙ ap (λ x. outcome_of (next_act x r)) V_place
       ∙ sym (ap (going_outcome w t) is ∙ ap (λ x. outcome_of (next_act x r)) own)
@@ -219,7 +219,7 @@ module _ (w : State) (t : ℕ) (p o : Place) (all : AllSane w.places) (is : plac
       → Comes w (state_after_go w t) t (go_outcome w t)
   plain_goes there can = one_turn w (state_after_go w t) (go_outcome w t) (go_of t)
       (go_possible (before_looks w) t (rw (length-map w.places unlooked) there)
-          (rw (plain_here, can_so w (act_of p), can) refl))
+      (rw (plain_here, can_so w (act_of p), can) refl))
       (rw (plain_here, free) refl) plain_leads plain_tells
 
 -- a reply tells a word's value, or none
@@ -278,7 +278,7 @@ module _ (w : State) (h : IsWorld w) (all : AllSane w.places) (t : ℕ) (there :
         by_load load = look_goes w t (place_at w t) look.lock all (all_noted w h) there refl free load
             (stays_sane (place_at w t) (Value (word_at w look.lock))
             (subst (λ x. Tells (place_at w t) (reply_to w t x)) load (tells_own w t h.steady (place_at w t)
-                (h.steady.stands.calls t))) (all t))
+            (h.steady.stands.calls t))) (all t))
             (here_by.acts (word_at w look.lock) (subst IsOfWord (sym load) tt))
 
     pub goes_freely : Comes w (state_after_go w t) t (go_outcome w t)
@@ -334,6 +334,6 @@ module _ (w : State) (h : IsWorld w) (all : AllSane w.places) (t : ℕ) (there :
       → AllSane (state_after_go (put w t q) t).places
   look_sane q looked = let by = by_look q looked in
       subst (λ v. AllSane v.places)
-          (sym (went_by_word (put w t q) t q (get_or-set_same w.places t q Idle there) by.lock Load by.load))
+      (sym (went_by_word (put w t q) t q (get_or-set_same w.places t q Idle there) by.lock Load by.load))
       (set_sane (put w t q).places t (next_place q (Value (word_at w by.lock)))
-          (set_sane w.places t q all by.sound) (looked_sane q looked))
+      (set_sane w.places t q all by.sound) (looked_sane q looked))

@@ -94,7 +94,7 @@ rwlock_looked a p (at.Decide seen) = rwlock_looked_by (decided a p seen)
 rwlock_looked a p (at.Count seen) = if has_aside seen then None else Some at.Look
 rwlock_looked a p to = None
 
--- an upgradable owner that gives its right up fairly has looked at whom it lets in
+-- an upgradable owner that gives its right up fairly has looked, before it lets others in
 abbrev pub freeing : Access → Bool → Option RwLockCallPlace
 freeing access.Shared bumps = None
 freeing access.Upgradable bumps = Some (call.HandOver access.Upgradable bumps handing.Load)
