@@ -1,5 +1,5 @@
 /*
- * Replays of lock schedules, for programs in C and Rust. docs/LIBRARY.md says how to link.
+ * Replays and searches of lock schedules, for programs in C and Rust. docs/LIBRARY.md says how to link.
  *
  * At each call:
  *
@@ -23,14 +23,16 @@
 extern "C" {
 #endif
 
-/* The statuses, which are those of the program `lotsim`, and one more. */
+/* The statuses, which are those of the programs `lotsim` and `lotexplore`, and one more. */
 enum {
-    /* All lines are answered. */
+    /* All lines are answered; or all schedules were searched, and nothing was found. */
     LOT_DONE = 0,
+    /* A schedule goes wrong (lot_explore). */
+    LOT_FOUND = 1,
     /* A line is malformed: the text says which. */
     LOT_MALFORMED = 2,
-    /* Memory was refused at a line, which the text names. */
-    LOT_NO_MEMORY = 3,
+    /* Memory was refused at a line, which the text names; or not all schedules were searched (lot_explore). */
+    LOT_NOT_ALL = 3,
     /* Memory was refused for the text: nothing is written, and `*written` is 0. */
     LOT_BROKEN = 4,
     /* `output` is too short: nothing is written, and `*written` is the length that it takes. */
@@ -46,7 +48,7 @@ enum {
 /*
  * Replays the schedule of `length` bytes at `input`, as `lotsim replay` does.
  *
- * Returns LOT_DONE, LOT_MALFORMED or LOT_NO_MEMORY with the text that the schedule has; LOT_BROKEN or LOT_NO_ROOM.
+ * Returns LOT_DONE, LOT_MALFORMED or LOT_NOT_ALL with the text that the schedule has; LOT_BROKEN or LOT_NO_ROOM.
  */
 uint32_t lot_replay(const uint8_t *input, size_t length, uint8_t *output, size_t capacity, size_t *written);
 
@@ -63,6 +65,17 @@ uint32_t lot_replay(const uint8_t *input, size_t length, uint8_t *output, size_t
  */
 uint32_t lot_step(const uint8_t *state, size_t state_length, const uint8_t *lines, size_t lines_length,
                   size_t told, uint8_t *output, size_t capacity, size_t *written);
+
+/*
+ * Searches all schedules of the program of `length` bytes at `program`, as `lotexplore` does without flags.
+ * It keeps at most `states` states; `lotexplore` itself keeps 2000000. A state takes some 100 bytes, and a
+ * search of `states` states may take minutes: nothing stops it before.
+ *
+ * Returns LOT_DONE, LOT_FOUND, LOT_MALFORMED or LOT_NOT_ALL with the text that `lotexplore` prints on standard
+ * output; LOT_BROKEN or LOT_NO_ROOM, after which the next call searches anew.
+ */
+uint32_t lot_explore(const uint8_t *program, size_t length, uint32_t states, uint8_t *output, size_t capacity,
+                     size_t *written);
 
 #ifdef __cplusplus
 }

@@ -15,7 +15,7 @@
 #include <string.h>
 #include <sys/mman.h>
 
-enum { PAGE = 4096, PAGES = 4, ROOM = PAGE * PAGES, FILLING = 0xa5 };
+enum { PAGE = 4096, PAGES = 4, ROOM = PAGE * PAGES, FILLING = 0xa5, STATES = 20000 };
 
 static int wrong;
 
@@ -86,8 +86,9 @@ static const uint8_t *placed(uint8_t *room, const uint8_t *bytes, size_t length,
 /* What is called: of lot_step the first `cut` bytes are the state. */
 struct call {
     const char *name;
-    int is_step;
+    int is_step, is_search;
     size_t cut, told;
+    uint32_t states;
 };
 
 static uint32_t make(const struct call *call, const uint8_t *bytes, size_t length, int at_end, uint8_t *output,
@@ -97,6 +98,9 @@ static uint32_t make(const struct call *call, const uint8_t *bytes, size_t lengt
     if (call->is_step) {
         const uint8_t *state = placed(others, bytes, cut, at_end);
         return lot_step(state, cut, input, length - cut, call->told, output, capacity, written);
+    }
+    if (call->is_search) {
+        return lot_explore(input, length, call->states, output, capacity, written);
     }
     return lot_replay(input, length, output, capacity, written);
 }
@@ -110,7 +114,7 @@ struct text {
 /* The text of a call whose buffer is long. */
 static void tell(const struct call *call, const uint8_t *bytes, size_t length, struct text *text) {
     text->status = make(call, bytes, length, 1, text->bytes, ROOM, &text->length);
-    expect(text->status <= LOT_NO_MEMORY, call->name, text->status, length);
+    expect(text->status <= LOT_NOT_ALL, call->name, text->status, length);
 }
 
 /* The same call with a buffer of this size, which lies at the end or the beginning of its pages. */
@@ -142,6 +146,11 @@ static void try_sizes(const struct call *call, const uint8_t *bytes, size_t leng
     }
 }
 
+/* Answers whether a program says that a thread comes to its end. */
+static int has_look(const uint8_t *bytes, size_t length) {
+    return memmem(bytes, length, "ends ", 5) != NULL;
+}
+
 /* Refuses each request for memory in turn. */
 static void try_refusals(const struct call *call, const uint8_t *bytes, size_t length) {
     static struct text text;
@@ -162,9 +171,12 @@ static void try_refusals(const struct call *call, const uint8_t *bytes, size_t l
         if (status == LOT_BROKEN) {
             expect(written == 0, "the length where memory is refused", request, written);
         } else if (status == text.status) {
-            expect(written == text.length, "the text beside a refusal", request, written);
+            /* A search that finds a schedule may lack the memory to tell it whole. */
+            expect(call->is_search || written == text.length, "the text beside a refusal", request, written);
         } else {
-            expect(status == LOT_NO_MEMORY, "the status where memory is refused", request, status);
+            /* A look for loops that lacks memory says that it saw no state, as that of lotexplore does. */
+            int is_look = has_look(bytes, length) && status == LOT_DONE;
+            expect(status == LOT_NOT_ALL || is_look, "the status where memory is refused", request, status);
         }
         for (size_t at = written; at < ROOM; at++) {
             expect(output[at] == FILLING, "a byte where memory is refused", request, at);
@@ -187,10 +199,22 @@ static const char *schedules[] = {
     "threads 0\n",
 };
 
+static const char *programs[] = {
+    "",
+    "threads 2\nlock m mutex\nthread 0 1\nlock m\nunlock m\n",
+    "threads 2\nlock a mutex\nlock b mutex\nthread 0\nlock a\nlock b\nthread 1\nlock b\nlock a\n",
+    "threads 2\nlock m mutex\nthread 0\nloop\nlock m\nunlock m\nend\nthread 1\nlock m\nunlock m\nends 1\n",
+    "threads 1\nlock m mutex\nthread 0\nlock m\nends 0\n",
+    "threads 1\nvar x 0\nthread 0\nset x 1\nassert x = 2\n",
+    "threads 9\nlock m mutex\nthread 0\nlock m\n",
+    "threads 2\n\377\n",
+    "threads 2\nlock m mutexx\n",
+};
+
 static void try_schedule(const uint8_t *bytes, size_t length) {
     static struct text whole, part, rest;
-    struct call replay = {"lot_replay", 0, 0, 0};
-    struct call step = {"lot_step", 1, 0, 0};
+    struct call replay = {"lot_replay", 0, 0, 0, 0, 0};
+    struct call step = {"lot_step", 1, 0, 0, 0, 0};
     tell(&replay, bytes, length, &whole);
     try_sizes(&replay, bytes, length);
     try_refusals(&replay, bytes, length);
@@ -220,6 +244,20 @@ static void try_schedule(const uint8_t *bytes, size_t length) {
     try_refusals(&step, bytes, length);
 }
 
+static void try_program(const uint8_t *bytes, size_t length) {
+    static struct text cut_short;
+    uint32_t limits[] = {0, 1, 2, STATES};
+    for (size_t i = 0; i < 4; i++) {
+        struct call search = {"lot_explore", 0, 1, 0, 0, limits[i]};
+        try_sizes(&search, bytes, length);
+    }
+    struct call search = {"lot_explore", 0, 1, 0, 0, STATES};
+    for (size_t cut = 0; cut < length; cut++) {
+        tell(&search, bytes, cut, &cut_short);
+    }
+    try_refusals(&search, bytes, length);
+}
+
 /* Bytes without sense, some of them words. */
 static void try_noise(void) {
     static const char *words[] = {"threads ", "lock ", "m ", "mutex", "\n", "0 ", "1 ", "go", "show", "begin ", "do ",
@@ -235,8 +273,10 @@ static void try_noise(void) {
             memcpy(bytes + length, word, strlen(word));
             length += strlen(word);
         }
-        struct call replay = {"lot_replay", 0, 0, 0};
+        struct call replay = {"lot_replay", 0, 0, 0, 0, 0};
+        struct call search = {"lot_explore", 0, 1, 0, 0, 50};
         tell(&replay, bytes, state % (length + 1), text);
+        tell(&search, bytes, state % (length + 1), text);
     }
     free(text);
 }
@@ -244,6 +284,9 @@ static void try_noise(void) {
 static void *run(void *unused) {
     for (size_t i = 0; i < sizeof schedules / sizeof *schedules; i++) {
         try_schedule((const uint8_t *)schedules[i], strlen(schedules[i]));
+    }
+    for (size_t i = 0; i < sizeof programs / sizeof *programs; i++) {
+        try_program((const uint8_t *)programs[i], strlen(programs[i]));
     }
     try_noise();
     return unused;

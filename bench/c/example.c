@@ -1,11 +1,11 @@
-/* Replays a schedule, and goes through it line by line: `example SCHEDULE`. */
+/* Replays a schedule, goes through it line by line, and searches a program: `example SCHEDULE PROGRAM`. */
 #include "lot.h"
 
 #include <stdio.h>
 #include <stdlib.h>
 #include <string.h>
 
-enum { MOST = 1 << 20 };
+enum { MOST = 1 << 20, STATES = 2000000 };
 
 static uint8_t input[MOST], output[MOST];
 
@@ -47,8 +47,8 @@ static void step_through(size_t length) {
 
 int main(int count, char **words) {
     size_t written = 0;
-    if (count != 2) {
-        fprintf(stderr, "usage: example SCHEDULE\n");
+    if (count != 3) {
+        fprintf(stderr, "usage: example SCHEDULE PROGRAM\n");
         return LOT_MALFORMED;
     }
     size_t length = read_file(words[1]);
@@ -56,5 +56,8 @@ int main(int count, char **words) {
     print("lot_replay", status, written);
     printf("by lines:\n");
     step_through(length);
+    length = read_file(words[2]);
+    status = lot_explore(input, length, STATES, output, MOST, &written);
+    print("lot_explore", status, written);
     return 0;
 }

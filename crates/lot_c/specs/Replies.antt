@@ -29,3 +29,9 @@ Replies input told old new written status =
 abbrev pub RepliesTo : Option (List ℕ) → ℕ → List ℕ → List ℕ → ℕ → ℕ → Type 0
 RepliesTo None told old new written status = ⊤
 RepliesTo (Some input) told old new written status = Replies input told old new written status
+
+-- some text, and the buffer is as it was after it
+abbrev pub LeavesRest : List ℕ → List ℕ → ℕ → ℕ → Type 0
+LeavesRest old new written status =
+    ((text : List ℕ) × (ending : ℕ) × Delivers old new written text ending status)
+    ⊎ DeliversNothing old new written status

@@ -1,14 +1,21 @@
-//! Replays for programs in C and Rust: bytes in, bytes out. `include/lot.h` declares the functions.
+//! Replays and searches for programs in C and Rust: bytes in, bytes out. `include/lot.h` declares the functions.
 #![tactic(auto)]
 
 ghost use Rattle.std.specs.Prelude.{◌++◌};
-ghost use Rattle.lot_c.specs.Replies.{Replies};
+ghost use Rattle.lot_c.specs.Replies.{LeavesRest, Replies};
 
 mod delivery;
+mod endings;
+mod found;
 mod replies;
+mod search;
 mod status;
+mod walking;
 
+use crate::delivery::deliver;
 use crate::replies::reply;
+use crate::search::search_text;
+use crate::status::BROKEN;
 use std::alloc::Global;
 use std::io::Read;
 
@@ -45,4 +52,27 @@ pub extern "C" fn lot_step(
 {
     let mut reader = state.chain(lines);
     reply(alloc, &mut reader, told, output, written)
+}
+
+/// Searches all schedules of a program of lock calls, within so many states: the text that `lotexplore`
+/// prints of it goes to the front of `output`, and `written` gets its length in bytes. Returns the status
+/// of the search: 0 where nothing goes wrong, 1 where a schedule does, 2 where the program is malformed,
+/// 3 where a limit was reached or memory was refused. 4 and 5 are as at `lot_replay`.
+#[unsafe(no_mangle)]
+pub extern "C" fn lot_explore(
+    alloc: Global,
+    program: &[u8],
+    states: u32,
+    output: &mut [u8],
+    written: &mut usize,
+) -> u32
+    ensures rest { LeavesRest output.old output.new written.new result }
+{
+    match search_text(alloc, program, states) {
+        Ok(searched) => deliver(searched.text.as_slice(), searched.status, output, written),
+        Err(_) => {
+            *written = 0;
+            BROKEN as u32
+        }
+    }
 }

@@ -1,7 +1,22 @@
-//! How a call ends, where a replay doesn't say it.
+//! How a call ends, and the word for how long a turn goes on.
+
+/// All schedules were searched, and nothing was found.
+pub const NOTHING: u8 = 0;
+
+/// A schedule goes wrong.
+pub const FOUND: u8 = 1;
+
+/// The program is malformed.
+pub const MALFORMED: u8 = 2;
+
+/// A limit was reached, or memory was refused.
+pub const NOT_ALL: u8 = 3;
 
 /// Memory was refused for the text.
 pub const BROKEN: u8 = 4;
 
 /// The caller's buffer is too short for the text.
 pub const NO_ROOM: u32 = 5;
+
+/// The word for turns that end where a call of the program could see one half done.
+pub const GRAIN: &str = "auto";

@@ -3,12 +3,16 @@
 use crate::Refusal;
 
 pub const DONE: u32 = 0;
+pub const FOUND: u32 = 1;
 pub const MALFORMED: u32 = 2;
 const BROKEN: u32 = 4;
 const NO_ROOM: u32 = 5;
 
 /// How long the buffer is at first, in bytes. A text that is longer takes a second call.
 const ROOM: usize = 4096;
+
+/// The same of a search, whose second call searches anew.
+const ROOM_OF_SEARCH: usize = 1 << 16;
 
 extern "C" {
     fn lot_replay(
@@ -25,6 +29,15 @@ extern "C" {
         lines: *const u8,
         lines_length: usize,
         told: usize,
+        output: *mut u8,
+        capacity: usize,
+        written: *mut usize,
+    ) -> u32;
+
+    fn lot_explore(
+        program: *const u8,
+        length: usize,
+        states: u32,
         output: *mut u8,
         capacity: usize,
         written: *mut usize,
@@ -61,6 +74,20 @@ pub fn step(state: &[u8], lines: &[u8], from: usize) -> Result<(String, u32), Re
     })
 }
 
+pub fn explore(program: &[u8], states: u32) -> Result<(String, u32), Refusal> {
+    // SAFETY: as at `replay`.
+    told(ROOM_OF_SEARCH, |output, written| unsafe {
+        lot_explore(
+            program.as_ptr(),
+            program.len(),
+            states,
+            output.as_mut_ptr(),
+            output.len(),
+            written,
+        )
+    })
+}
+
 /// Makes a call, once more where its text needs a longer buffer. Returns the text and the status.
 fn told(room: usize, mut call: impl FnMut(&mut [u8], &mut usize) -> u32) -> Result<(String, u32), Refusal> {
     let mut output = vec![0; room];
@@ -74,6 +101,6 @@ fn told(room: usize, mut call: impl FnMut(&mut [u8], &mut usize) -> u32) -> Resu
         return Err(Refusal::NoMemory);
     }
     output.truncate(written);
-    // A text names only locks, whose names are ASCII.
+    // A malformed program's word may be cut from any bytes.
     Ok((String::from_utf8_lossy(&output).into_owned(), status))
 }

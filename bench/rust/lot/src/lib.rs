@@ -1,12 +1,12 @@
-//! The proved world of locks, for tests and fuzzers: schedules are replayed, whole or line by line.
+//! The proved world of locks, for tests and fuzzers: schedules are replayed, and programs of lock calls searched.
 //!
-//! `docs/LIBRARY.md` says what of it is proved, and how a schedule is written.
+//! `docs/LIBRARY.md` says what of it is proved, and how a schedule and a program are written.
 
 use std::fmt;
 
 mod calls;
 
-use calls::{replay, step};
+use calls::{explore, replay, step};
 
 /// Why there is no answer.
 #[derive(Clone, Debug, PartialEq, Eq)]
@@ -132,6 +132,64 @@ impl World {
             (text, calls::DONE) => Ok((text, line)),
             (said, calls::MALFORMED) => Err(Refusal::Malformed(said)),
             _ => Err(Refusal::NoMemory),
+        }
+    }
+}
+
+/// What a search has found. The text is that of `lotexplore`.
+#[derive(Clone, Debug, PartialEq, Eq)]
+pub enum Verdict {
+    /// No schedule of the program goes wrong.
+    Nothing(String),
+    /// A schedule goes wrong, and none is shorter. The text ends with it.
+    Found(String),
+    /// Not all schedules were searched.
+    NotAll(String),
+}
+
+/// A search of all schedules of a program.
+#[derive(Clone, Copy, Debug, PartialEq, Eq)]
+pub struct Explorer {
+    /// The most states that are kept.
+    pub states: u32,
+}
+
+impl Default for Explorer {
+    fn default() -> Explorer {
+        Explorer { states: 2_000_000 }
+    }
+}
+
+impl Explorer {
+    /// Searches a program of lock calls.
+    ///
+    /// # Errors
+    ///
+    /// `Malformed`, where the text is no program, and `NoMemory`, where memory was refused for the text.
+    pub fn search(self, program: &str) -> Result<Verdict, Refusal> {
+        let (text, status) = explore(program.as_bytes(), self.states)?;
+        match status {
+            calls::DONE => Ok(Verdict::Nothing(text)),
+            calls::FOUND => Ok(Verdict::Found(text)),
+            calls::MALFORMED => Err(Refusal::Malformed(text)),
+            _ => Ok(Verdict::NotAll(text)),
+        }
+    }
+}
+
+impl Verdict {
+    /// Returns the text.
+    pub fn text(&self) -> &str {
+        match self {
+            Verdict::Nothing(text) | Verdict::Found(text) | Verdict::NotAll(text) => text,
+        }
+    }
+
+    /// Returns the schedule that was found, as `Replay::of` takes it.
+    pub fn schedule(&self) -> Option<&str> {
+        match self {
+            Verdict::Found(text) => text.find("\nthreads ").map(|at| &text[at + 1..]),
+            Verdict::Nothing(_) | Verdict::NotAll(_) => None,
         }
     }
 }
